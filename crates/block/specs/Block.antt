@@ -1,0 +1,58 @@
+-- A block: what its bytes say, and its refusals 1 to 7 in document 01's order. A place is the bond's number from 1, or 0.
+use Prim.Native.Nat.{ℕ, zero, suc, _+_, _*_, _%_}
+use mathlib.Core.Bool.{Bool, true, false, _||_, not, cond}
+use mathlib.Core.List.{List, [], _∷_}
+use lib.Dec.{eqb, leb, ltb}
+use lib.ListN.{length}
+use Rattle.graph.specs.Graph.{Graph, Bond, bond, anyJoins, connected, degree}
+use Rattle.block.specs.Read.{Read, refused, read, _then_, refuseIf, refuseFor}
+use Rattle.block.specs.declared.Reply.{Reply}
+use Rattle.block.specs.declared.Reply.the-variants.{Fine, Refused}
+
+-- the most atoms of a block, the most bonds of an atom, and the most bytes that the bonds take: two bytes a bond, which is one of the bonds of two atoms
+abbrev pub mostAtoms : ℕ
+mostAtoms = 64
+
+abbrev pub limit : ℕ
+limit = 4
+
+abbrev pub mostBytes : ℕ
+mostBytes = mostAtoms * limit
+
+-- the bonds that the bytes say
+unfoldable pub bondsOf : List ℕ → List Bond
+bondsOf [] = []
+bondsOf (a ∷ []) = []
+bondsOf (a ∷ (b ∷ xs)) = bond a b ∷ bondsOf xs
+
+abbrev pub graphOf : ℕ → List ℕ → Graph
+graphOf n xs = record { atoms = n; bonds = bondsOf xs }
+
+-- 0 or above n
+abbrev pub isOutside : ℕ → ℕ → Bool
+isOutside n v = eqb v 0 || ltb n v
+
+-- the refusal number of a bond that is listed after others, or 0
+unfoldable pub bondFault : ℕ → List Bond → Bond → ℕ
+bondFault n before b =
+    cond (isOutside n (b .one) || isOutside n (b .two)) 3
+    (cond (eqb (b .one) (b .two)) 4
+    (cond (anyJoins before (b .one) (b .two)) 5
+    (cond (leb limit (degree before (b .one)) || leb limit (degree before (b .two))) 6 0)))
+
+-- the bonds one by one, each with its number from 1; `before` are those that passed, the last first
+unfoldable pub bondsReply : ℕ → List Bond → List Bond → Read (Unit {0})
+bondsReply n before [] = read tt
+bondsReply n before (b ∷ bs) = refuseFor (bondFault n before b) (suc (length before)) then λ _. bondsReply n (b ∷ before) bs
+
+unfoldable pub blockReply : ℕ → List ℕ → Read (Unit {0})
+blockReply n xs =
+    refuseIf (isOutside mostAtoms n) 1 0 then λ _.
+    refuseIf (not (eqb (length xs % 2) 0) || ltb mostBytes (length xs)) 2 0 then λ _.
+    bondsReply n [] (bondsOf xs) then λ _.
+    refuseIf (not (connected (graphOf n xs))) 7 0
+
+-- how the code says it
+abbrev pub saidBlock : Read (Unit {0}) → Reply
+saidBlock (refused r) = Refused r
+saidBlock (read u) = Fine

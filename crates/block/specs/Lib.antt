@@ -1,0 +1,5 @@
+-- What a block is told.
+pub mod Read
+pub mod Block
+pub mod Rows
+pub mod Index

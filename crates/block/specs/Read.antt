@@ -1,0 +1,27 @@
+-- An answer that is a refusal or a value. A refusing definition is a chain of such answers, in the order of document 01.
+use Prim.Native.Nat.{ℕ, zero, suc}
+use mathlib.Core.Bool.{Bool, true, false}
+use Rattle.block.specs.declared.Refusal.{Refusal}
+
+abbrev pub refusal : ℕ → ℕ → Refusal
+refusal n p = record { number = n; place = p }
+
+pub data Read (A : Type 0) : Type 0 where
+  refused : Refusal → Read A
+  read : A → Read A
+
+-- the first answer if it is a refusal, else the second
+infixr 20 _then_
+abbrev pub _then_ : {A B : Type 0} → Read A → (A → Read B) → Read B
+refused r then f = refused r
+read a then f = f a
+
+-- refuses with a number at a place where a test holds
+abbrev pub refuseIf : Bool → ℕ → ℕ → Read (Unit {0})
+refuseIf true n p = refused (refusal n p)
+refuseIf false n p = read tt
+
+-- refuses with a number at a place unless the number is 0
+abbrev pub refuseFor : ℕ → ℕ → Read (Unit {0})
+refuseFor zero p = read tt
+refuseFor (suc n) p = refused (refusal (suc n) p)

@@ -1,0 +1,32 @@
+-- The distances of a block: 64 rows of 64, 0 beyond its atoms and where it is refused.
+use Prim.Native.Nat.{ℕ, zero, suc}
+use mathlib.Core.Bool.{Bool, true, false, cond}
+use mathlib.Core.List.{List, [], _∷_}
+use lib.Dec.{ltb}
+use Rattle.graph.specs.Graph.{Graph, distance}
+use Rattle.block.specs.Read.{Read, refused, read, _then_, refuseIf}
+use Rattle.block.specs.Block.{mostAtoms, graphOf, isOutside, blockReply}
+
+-- f 0 to f (n - 1)
+unfoldable pub table : {A : Type 0} → ℕ → (ℕ → A) → List A
+table zero f = []
+table (suc n) f = f zero ∷ table n (λ k. f (suc k))
+
+-- the distances from atom i, that of atom j at place j - 1
+unfoldable pub rowOf : Graph → ℕ → List ℕ
+rowOf g i = table mostAtoms (λ j. cond (ltb j (g .atoms)) (distance g i (suc j)) 0)
+
+unfoldable pub noRow : List ℕ
+noRow = table mostAtoms (λ j. 0)
+
+abbrev pub saidRow : Read (List ℕ) → List ℕ
+saidRow (refused r) = noRow
+saidRow (read row) = row
+
+-- the row of one atom
+unfoldable pub rowReply : ℕ → List ℕ → ℕ → Read (List ℕ)
+rowReply n xs i = blockReply n xs then λ _. refuseIf (isOutside n i) 18 0 then λ _. read (rowOf (graphOf n xs) i)
+
+-- the row of atom i at place i - 1
+unfoldable pub rowsOf : ℕ → List ℕ → List (List ℕ)
+rowsOf n xs = table mostAtoms (λ i. saidRow (rowReply n xs (suc i)))

@@ -1,0 +1,11 @@
+-- What a molecular graph is, what is counted on it, and the laws of both.
+pub mod Graph
+pub mod Assembly
+pub mod Bonds
+pub mod Walk
+pub mod Distance
+pub mod Sums
+pub mod Join
+pub mod Rules
+pub mod Parts
+pub mod Table
