@@ -4,7 +4,9 @@ pub mod Assembly
 pub mod Bonds
 pub mod Walk
 pub mod Distance
+pub mod Search
 pub mod Sums
+pub mod Connected
 pub mod Join
 pub mod Rules
 pub mod Parts
