@@ -3,3 +3,5 @@ pub mod Faults
 pub mod Listing
 pub mod Reading
 pub mod Replies
+pub mod Tables
+pub mod Meeting

@@ -1,5 +1,6 @@
 // One block: its refusals 1 to 7, its distances, indices and vertex sums.
 mod lists;
+mod search;
 
 // The most atoms of a block, the most bonds of an atom, and the most bytes that a block's bonds take.
 pub const ATOMS: usize = 64;
