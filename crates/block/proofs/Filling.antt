@@ -1,4 +1,4 @@
--- The rows are filled one by one. Assumes nothing.
+-- The rows are filled one by one, and a row is looked up. Assumes nothing.
 use Prim.Native.Nat.{ℕ, zero, suc, _≤_, _<_}
 use mathlib.Core.Bool.{true}
 use mathlib.Core.List.{List, []}
@@ -9,12 +9,15 @@ use lib.ListN.{length, getD, set, length-set, replicate, getD-replicate}
 use lib.Seq.{getD-set-same, getD-set-other, ext-getD}
 use borrow.Author.Tests.{lt-ltb, ne-eqb}
 use Rattle.graph.specs.Graph.{Within}
-use Rattle.block.specs.Read.{Read, refused, read}
+use Rattle.block.specs.Read.{Read, refused, read, refusal}
 use Rattle.block.specs.Block.{mostAtoms, isOutside, graphOf, blockReply}
 use Rattle.block.specs.Rows.{table, rowOf, noRow, saidRow, rowReply, rowsOf}
 use Rattle.block.specs.Tables.{length-table, getD-table}
 use Rattle.block.specs.Told.{row-read}
+use Rattle.block.specs.Found.{Viewing}
 use Rattle.block.specs.declared.Refusal.{Refusal}
+use Rattle.block.specs.declared.Reply.the-variants.{Fine, Refused}
+use Rattle.block.specs.declared.View.{View}
 
 -- the first i rows are filled
 pub record Filled (n : ℕ) (xs : List ℕ) (all : List (List ℕ)) (i : ℕ) : Type 0 where
@@ -71,3 +74,15 @@ module _ (n : ℕ) (xs : List ℕ) where
   pub refused-rows : (r : Refusal) → blockReply n xs ≡ refused r → emptyRows ≡ rowsOf n xs
   unfolding rowsOf rowReply table noRow
   refused-rows r e = rw e
+
+  pub view-refused : (i : ℕ) (v : View) (r : Refusal) → blockReply n xs ≡ refused r → v .reply ≡ Refused r → v .row ≡ emptyRow → Viewing n xs i v
+  unfolding rowReply
+  view-refused i v r b p q = record { replied = rw b p; shown = rw b (q ∙ no-row) }
+
+  module _ (fine : blockReply n xs ≡ read tt) (i : ℕ) (v : View) where
+    pub view-outside : isOutside n i ≡ true → v .reply ≡ Refused (refusal 18 0) → v .row ≡ emptyRow → Viewing n xs i v
+    unfolding rowReply
+    view-outside o p q = record { replied = rw (fine, o) p; shown = rw (fine, o) (q ∙ no-row) }
+
+    pub view-row : Within n i → v .reply ≡ Fine → v .row ≡ rowOf (graphOf n xs) i → Viewing n xs i v
+    view-row w p q = record { replied = rw (row-read n xs fine w) p; shown = rw (row-read n xs fine w) q }

@@ -157,3 +157,40 @@ pub fn rows(n: usize, bonds: &[u8]) -> [[u8; ATOMS]; ATOMS]
     let near = admitted.near;
     search::from_all(near, n)
 }
+
+// The row of atom i, or why there is none: the block's refusal, or 18 where it has no such atom.
+fn look(n: usize, bonds: &[u8], i: usize) -> View
+    ensures { λ r. ⌜ Viewing n (now (bonds .entry)) i r ⌝ }
+{
+    let admitted = admit(n, bonds);
+    let reply = admitted.reply;
+    let Reply::Fine = reply else {
+        return View {
+            reply,
+            row: [0u8; ATOMS],
+        };
+    };
+    if lists::outside(n, i) {
+        return View {
+            reply: Reply::Refused(Refusal {
+                number: 18,
+                place: 0,
+            }),
+            row: [0u8; ATOMS],
+        };
+    }
+    let near = admitted.near;
+    let count = near.count;
+    let list = near.list;
+    let found = search::from_atom(&count, &list, i as u8);
+    let row = found.row;
+    View { reply, row }
+}
+
+// The distances from atom i, that to atom j at j - 1: all 0 where the block is refused or has no such atom.
+pub fn row(n: usize, bonds: &[u8], i: usize) -> [u8; ATOMS]
+    ensures { λ r. ⌜ r ≡ saidRow (rowReply n (now (bonds .entry)) i) ⌝ }
+{
+    let seen = look(n, bonds, i);
+    seen.row
+}
