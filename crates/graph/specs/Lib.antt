@@ -1,5 +1,6 @@
 -- What a molecular graph is, what is counted on it, and the laws of both.
 pub mod Graph
+pub mod Examples
 pub mod Assembly
 pub mod Bonds
 pub mod Walk
