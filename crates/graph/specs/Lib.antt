@@ -7,5 +7,7 @@ pub mod Distance
 pub mod Sums
 pub mod Join
 pub mod Rules
+pub mod Climb
+pub mod Bounds
 pub mod Parts
 pub mod Table
