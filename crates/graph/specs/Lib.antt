@@ -10,5 +10,7 @@ pub mod Sums
 pub mod Connected
 pub mod Join
 pub mod Rules
+pub mod Climb
+pub mod Bounds
 pub mod Parts
 pub mod Table
