@@ -42,9 +42,13 @@ unfoldable pub kindReply : List Kind → List ℕ → ℕ → Read Kind
 kindReply [] d at = refused (refusal 12 at)
 kindReply (k ∷ ks) d at = cond (eqb (kindAt d at) (k .number)) (read k) (kindReply ks d at)
 
--- The record at a place where some kinds may stand. A payload too short to hold its counts never has the length wanted.
+-- a payload too short to hold its counts never has the length wanted
+unfoldable pub lengthReply : Kind → List ℕ → ℕ → Read (Unit {0})
+lengthReply k d at = refuseIf (not (eqb (lengthAt d at) (wanted k d at))) 13 at
+
+-- the record at a place where some kinds may stand
 unfoldable pub recordReply : List Kind → List ℕ → ℕ → Read (Unit {0})
 recordReply kinds d at =
     refuseIf (ltb (length d) (endAt d at)) 11 at then λ _.
     kindReply kinds d at then λ k.
-    refuseIf (not (eqb (lengthAt d at) (wanted k d at))) 13 at
+    lengthReply k d at
