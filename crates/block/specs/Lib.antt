@@ -3,8 +3,10 @@ pub mod Read
 pub mod Block
 pub mod Rows
 pub mod Index
+pub mod Sums
 pub mod Near
 pub mod Found
+pub mod Tally
 pub mod Chain
 pub mod Faults
 pub mod Tables
