@@ -6,3 +6,4 @@ pub mod Meeting
 pub mod Filling
 pub mod Tallies
 pub mod Summing
+pub mod Answers

@@ -11,3 +11,4 @@ pub mod Chain
 pub mod Faults
 pub mod Tables
 pub mod Told
+pub mod Measures

@@ -252,3 +252,58 @@ pub fn around_row(row: [u8; ATOMS], n: usize) -> Vertex
         twos: t.twos,
     }
 }
+
+// The indices of a block, or its refusal.
+pub fn measure(n: usize, bonds: &[u8]) -> Measured
+    ensures { λ r. ⌜ r ≡ saidIndices (indicesReply n (now (bonds .entry))) ⌝ }
+{
+    let admitted = admit(n, bonds);
+    let reply = admitted.reply;
+    match reply {
+        Reply::Refused(refusal) => Measured::Refused(refusal),
+        Reply::Fine => {
+            let near = admitted.near;
+            let rows = search::from_all(near, n);
+            let indices = sums(rows, n);
+            Measured::Of(indices)
+        }
+    }
+}
+
+// The distance of two atoms of a block, or its refusal; 18 at place 0 where there is no such atom.
+pub fn distance(n: usize, bonds: &[u8], i: usize, j: usize) -> Apart
+    ensures { λ r. ⌜ r ≡ saidDistance (distanceReply n (now (bonds .entry)) i j) ⌝ }
+{
+    let seen = look(n, bonds, i);
+    let reply = seen.reply;
+    match reply {
+        Reply::Refused(refusal) => Apart::Refused(refusal),
+        Reply::Fine => {
+            if lists::outside(n, j) {
+                return Apart::Refused(Refusal {
+                    number: 18,
+                    place: 0,
+                });
+            }
+            let row = seen.row;
+            let d = totals::wide(row[j - 1]);
+            Apart::Of(d)
+        }
+    }
+}
+
+// The vertex sum of atom a of a block and what goes with it, or its refusal; 18 at place 0 where there is no such atom.
+pub fn vertex_sums(n: usize, bonds: &[u8], a: usize) -> Around
+    ensures { λ r. ⌜ r ≡ saidVertex (vertexReply n (now (bonds .entry)) a) ⌝ }
+{
+    let seen = look(n, bonds, a);
+    let reply = seen.reply;
+    match reply {
+        Reply::Refused(refusal) => Around::Refused(refusal),
+        Reply::Fine => {
+            let row = seen.row;
+            let vertex = around_row(row, n);
+            Around::Of(vertex)
+        }
+    }
+}

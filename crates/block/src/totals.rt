@@ -6,7 +6,7 @@ ghost use Prim.Native.Nat.{min, _≤_};
 ghost use Rattle.block.specs.Block.{mostAtoms};
 ghost use Rattle.block.specs.Tally.{Tallied};
 
-fn wide(x: u8) -> u64
+pub(crate) fn wide(x: u8) -> u64
     ensures { λ r. ⌜ (r ≡ x) × (r ≤ 255) ⌝ }
 {
     x as u64
