@@ -5,8 +5,8 @@ ghost use Prim.Native.Nat.{_+_, _*_, _-_, _<_, _≤_, suc};
 ghost use lib.ListN.{length, take};
 ghost use Rattle.graph.specs.Graph.{degree};
 ghost use Rattle.block.specs.Block.{bondsOf, isOutside, saidBlock};
-ghost use Rattle.assembly.specs.Book.{find, isNumbered, bondBytes, bookOf};
-ghost use Rattle.assembly.specs.Placements.{placementAt, joinsOn, joinOn, mostPlacements, firstFault, parentFault, laterFault, fault, assemblyReply};
+ghost use Rattle.assembly.specs.Book.{find, isNumbered, bondBytes, blockGraph, bookOf};
+ghost use Rattle.assembly.specs.Placements.{placementAt, joinsOn, joinOn, isFull, mostPlacements, firstFault, parentFault, joinFault, laterFault, fault, assemblyReply};
 use block::LIMIT;
 use block::Refusal;
 use block::Reply;
@@ -151,4 +151,114 @@ fn joins_on(xs: &[u8], last: usize, p: usize, a: u8) -> usize
             + (one_if((q.parent as usize) == p, q.site == a) + one_if(k + 1 == p, q.own == a));
     }
     total
+}
+
+// Whether atom a of placement number p, which is of block b, has as many bonds as it may, before the placement at index k is joined.
+fn is_full(d: &[u8], b: BlockAt, xs: &[u8], k: usize, p: usize, a: u8) -> bool
+    requires { ⌜ (1 ≤ k) × (k < mostPlacements) ⌝ }
+    ensures { λ r. ⌜ r ≡ isFull (blockGraph (now (d .entry)) b) (joinOn (placementAt (now (xs .entry)))) k p a ⌝ }
+{
+    let bonds = bonds_part(d, b);
+    LIMIT <= degree_of(bonds, a) + joins_on(xs, k - 1, p, a)
+}
+
+// What is wrong with the first placement's join fields: 17, or 0.
+fn first_fault(q: Placement) -> usize
+    ensures { λ r. ⌜ r ≡ firstFault q ⌝ }
+{
+    if q.parent != 0 {
+        return 17;
+    }
+    if q.site != 0 {
+        return 17;
+    }
+    if q.own != 0 {
+        return 17;
+    }
+    0
+}
+
+// The number for a later placement's parent that is 0 or not earlier.
+fn parent_fault(parent: usize) -> usize
+    ensures { λ r. ⌜ r ≡ parentFault parent ⌝ }
+{
+    17
+}
+
+// What is wrong with the join at index k, from a placement of block `here` to one of block `there`: 18, 19, or 0.
+fn join_fault(d: &[u8], there: BlockAt, here: BlockAt, xs: &[u8], k: usize) -> usize
+    requires { ⌜ (1 ≤ k) × (k < mostPlacements) ⌝ }
+    ensures { λ r. ⌜ r ≡ joinFault (blockGraph (now (d .entry)) there) (blockGraph (now (d .entry)) here) (joinOn (placementAt (now (xs .entry)))) k ⌝ }
+{
+    let q = placement_at(xs, k);
+    if is_outside(there.atoms as usize, q.site as usize) {
+        return 18;
+    }
+    if is_outside(here.atoms as usize, q.own as usize) {
+        return 18;
+    }
+    if is_full(d, there, xs, k, q.parent as usize, q.site) {
+        return 19;
+    }
+    if is_full(d, here, xs, k, k + 1, q.own) {
+        return 19;
+    }
+    0
+}
+
+// What is wrong with a later placement, at index k: 17, 18, 19, or 0.
+fn later_fault(d: &[u8], blocks: [BlockAt; BLOCKS], count: usize, xs: &[u8], k: usize) -> usize
+    requires { ⌜ (1 ≤ k) × (k < mostPlacements) ⌝ }
+    ensures { λ r. ⌜ r ≡ laterFault (bookOf (now (d .entry)) (take count blocks)) (placementAt (now (xs .entry))) k ⌝ }
+{
+    let q = placement_at(xs, k);
+    let parent = q.parent as usize;
+    if is_outside(k, parent) {
+        return parent_fault(parent);
+    }
+    let onto = placement_at(xs, parent - 1);
+    let there = find_block(blocks, count, onto.block as usize);
+    let here = find_block(blocks, count, q.block as usize);
+    join_fault(d, there, here, xs, k)
+}
+
+// What is wrong with the placement at index k: 16, 17, 18, 19, or 0.
+fn fault_of(d: &[u8], blocks: [BlockAt; BLOCKS], count: usize, xs: &[u8], k: usize) -> usize
+    requires { ⌜ k < mostPlacements ⌝ }
+    ensures { λ r. ⌜ r ≡ fault (bookOf (now (d .entry)) (take count blocks)) (placementAt (now (xs .entry))) k ⌝ }
+{
+    let q = placement_at(xs, k);
+    let number = q.block as usize;
+    if !is_numbered(find_block(blocks, count, number), number) {
+        return 16;
+    }
+    if k == 0 {
+        return first_fault(q);
+    }
+    later_fault(d, blocks, count, xs, k)
+}
+
+// Refusals 15 to 19 of an assembly's payload, over the first `count` blocks, which stand in d.
+pub fn check(d: &[u8], blocks: [BlockAt; BLOCKS], count: usize, xs: &[u8]) -> Reply
+    ensures { λ r. ⌜ r ≡ saidBlock (assemblyReply (bookOf (now (d .entry)) (take count blocks)) (now (xs .entry))) ⌝ }
+{
+    let p = le16_at(xs, 0) as usize;
+    if is_outside(PLACEMENTS, p) {
+        return Reply::Refused(Refusal {
+            number: 15,
+            place: 0,
+        });
+    }
+    let mut k = 0;
+    while k < p {
+        let f = fault_of(d, blocks, count, xs, k);
+        k += 1;
+        if f != 0 {
+            return Reply::Refused(Refusal {
+                number: f,
+                place: k,
+            });
+        }
+    }
+    Reply::Fine
 }
