@@ -10,12 +10,12 @@ use borrow.Author.Tests.{eqb-true}
 use lib.Dec.{eqb}
 use Rattle.graph.specs.Graph.{Graph, Bond, Within, Molecule, joins, anyJoins, distance, sum}
 use Rattle.graph.specs.Bonds.{both}
-use Rattle.graph.specs.Distance.{distance-below}
+use Rattle.graph.specs.Distance.{distance-below, distance-zero}
 use Rattle.graph.specs.Sums.{sum-cong, sum-add, sum-none, sum-scale, sum-scaled, sum-swap, sum-pick}
 use Rattle.paths.specs.Paths.{pathCount, pathsUsing, denominator, share}
 use Rattle.paths.specs.Notions.{near, Near, sumBonds, across, Inside, Plain, weight, onward, gathered}
 use Rattle.paths.specs.Choices.{cond-and, cond-swap, cond-or, cond-add, cond-left, cond-right}
-use Rattle.paths.specs.Steps.{near-at, near-cong, near-none, using-step, using-self, at-start}
+use Rattle.paths.specs.Steps.{near-at, near-cong, near-none, using-step, using-self}
 use Rattle.paths.specs.Uses.{join-other, using-joined, share-rows}
 
 -- U carries its sources along m, T gathers its weights against m: both ways of adding them up agree
@@ -109,7 +109,7 @@ module _ {g : Graph} (m : Molecule g) {i : ℕ} (hi : Within (g .atoms) i) (e : 
       split v hv y true h = omega (arith, using-joined m hi e v j hv (y .one) h)
 
       go : (k : ℕ) → distance g i j ≡ k → pathsUsing g e i j ≡ source j + sum (g .atoms) (λ v. cond (near g i v j) (pathsUsing g e i v) 0)
-      go zero d = ap (pathsUsing g e i) (sym (at-start m hi hj d)) ∙ using-self m hi e ∙ sym (ap₂ _+_ (none (λ v. cond (joins e v j) (pathCount g i v) 0) d) (none (pathsUsing g e i) d))
+      go zero d = ap (pathsUsing g e i) (sym (distance-zero m hi hj d)) ∙ using-self m hi e ∙ sym (ap₂ _+_ (none (λ v. cond (joins e v j) (pathCount g i v) 0) d) (none (pathsUsing g e i) d))
       go (suc k) d =
           using-step m hi e k j d
           ∙ near-cong g i j (λ v hv y. split v hv y (joins e v j) refl)

@@ -12,7 +12,6 @@ use lib.ListN.{length}
 use Rattle.graph.specs.Graph.{Graph, Bond, Walk, Within, Sound, Molecule, joins, bonded, distance, sum}
 use Rattle.graph.specs.Graph.Walk.{stay, step}
 use Rattle.graph.specs.Distance.{distance-shortest, distance-self, distance-bond}
-use Rattle.graph.specs.Parts.{walk-zero}
 use Rattle.graph.specs.Sums.{sum-cong, sum-none, sum-at, sum-some}
 use Rattle.paths.specs.Paths.{gather, walks, shortestPaths, uses, count, pathCount, pathsUsing}
 use Rattle.paths.specs.Notions.{near, Near}
@@ -189,11 +188,6 @@ module _ {g : Graph} (m : Molecule g) {i : ℕ} (hi : Within (g .atoms) i) where
   unfolding pathsUsing shortestPaths walks count uses
   using-self e = rw (distance-self (m .sound) hi, eq-eqb i i refl)
 
-  module _ {j : ℕ} (hj : Within (g .atoms) j) where
-    pub count-pos : 0 < pathCount g i j
-    unfolding pathCount shortestPaths
-    count-pos = walks-of-walk (m .sound) (distance-shortest m hi hj .walk)
-
-    -- at distance 0 there is only i
-    pub at-start : distance g i j ≡ 0 → i ≡ j
-    at-start z = walk-zero (subst (Walk g i j) z (distance-shortest m hi hj .walk))
+  pub count-pos : {j : ℕ} → Within (g .atoms) j → 0 < pathCount g i j
+  unfolding pathCount shortestPaths
+  count-pos hj = walks-of-walk (m .sound) (distance-shortest m hi hj .walk)

@@ -13,7 +13,8 @@ use Rattle.graph.specs.Sums.{sum-cong, sum-none, sum-add, sum-scaled, sum-le, s
 use Rattle.paths.specs.Paths.{pathCount, pathsUsing, denominator, share}
 use Rattle.paths.specs.Notions.{near, Near, sumBonds, Plain, weight}
 use Rattle.paths.specs.Choices.{cond-left, cond-right}
-use Rattle.paths.specs.Steps.{near-cong, near-none, count-step, using-step, using-self, using-le, at-start}
+use Rattle.graph.specs.Distance.{distance-zero}
+use Rattle.paths.specs.Steps.{near-cong, near-none, count-step, using-step, using-self, using-le}
 use Rattle.paths.specs.Backwards.{count-dvd}
 
 bonds-cong : (bs : List Bond) {f h : Bond → ℕ} → ((b : Bond) → f b ≡ h b) → sumBonds bs f ≡ sumBonds bs h
@@ -68,7 +69,7 @@ module _ {g : Graph} (m : Molecule g) {i : ℕ} (hi : Within (g .atoms) i) where
   -- a bond that is not all within distance k of i is used by no shortest path of k bonds
   using-none : (e : Bond) (k : ℕ) → ((v w : ℕ) → joins e v w ≡ true → distance g i v ≤ k → distance g i w ≤ k → ⊥)
       → (j : ℕ) → Within (g .atoms) j → distance g i j ≡ k → pathsUsing g e i j ≡ 0
-  using-none e zero far j hj d = rw (sym (at-start m hi hj d)) (using-self m hi e)
+  using-none e zero far j hj d = rw (sym (distance-zero m hi hj d)) (using-self m hi e)
   using-none e (suc k) far j hj d =
       using-step m hi e k j d
       ∙ near-none g i j (λ v hv y. go v y (joins e v j) refl (using-none e k (λ p q h l r. far p q h (omega arith) (omega arith)) v hv (omega (arith, y .one))))
@@ -87,7 +88,7 @@ module _ {g : Graph} (m : Molecule g) {i : ℕ} (hi : Within (g .atoms) i) where
   using-total : Plain (g .atoms) (g .bonds) → (k j : ℕ) → Within (g .atoms) j → distance g i j ≡ k
       → sumBonds (g .bonds) (λ e. pathsUsing g e i j) ≡ k * pathCount g i j
   using-total plain zero j hj d =
-      bonds-cong (g .bonds) (λ e. rw (sym (at-start m hi hj d)) (using-self m hi e)) ∙ bonds-none (g .bonds) ∙ omega arith
+      bonds-cong (g .bonds) (λ e. rw (sym (distance-zero m hi hj d)) (using-self m hi e)) ∙ bonds-none (g .bonds) ∙ omega arith
   using-total plain (suc k) j hj d =
       bonds-cong (g .bonds) (λ e. using-step m hi e k j d)
       ∙ bonds-swap (g .bonds) (g .atoms) (λ e v. cond (near g i v j) (cond (joins e v j) (pathCount g i v) (pathsUsing g e i v)) 0)
