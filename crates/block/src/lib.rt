@@ -1,4 +1,6 @@
 // One block: its refusals 1 to 7, its distances, indices and vertex sums.
+mod lists;
+mod search;
 
 // The most atoms of a block, the most bonds of an atom, and the most bytes that a block's bonds take.
 pub const ATOMS: usize = 64;
@@ -58,4 +60,26 @@ pub enum Apart {
 pub struct Pairs {
     pub reply: Reply,
     pub at: [u16; ATOMS],
+}
+
+// Neighbour lists. Atom u has count[u] neighbours, which stand in order from LIMIT * u on; atom 0 is none.
+const SEATS: usize = ATOMS + 1;
+
+const PLACES: usize = SEATS * LIMIT;
+
+struct Near {
+    pub count: [u8; SEATS],
+    pub list: [u8; PLACES],
+}
+
+// What reading the bonds gives.
+struct Built {
+    pub reply: Reply,
+    pub near: Near,
+}
+
+// A search from one atom: the distances found, and how many atoms were met.
+struct Found {
+    pub row: [u8; ATOMS],
+    pub met: usize,
 }
