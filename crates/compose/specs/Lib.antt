@@ -1,0 +1,2 @@
+-- What composing counts.
+pub mod Counted
