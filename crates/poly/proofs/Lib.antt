@@ -5,3 +5,4 @@ pub mod Floats
 pub mod Exact
 pub mod Finite
 pub mod Reply
+pub mod Examples
