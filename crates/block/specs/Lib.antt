@@ -3,3 +3,9 @@ pub mod Read
 pub mod Block
 pub mod Rows
 pub mod Index
+pub mod Near
+pub mod Found
+pub mod Chain
+pub mod Faults
+pub mod Tables
+pub mod Told
