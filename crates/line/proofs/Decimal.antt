@@ -1,9 +1,9 @@
 -- `io::decimal` writes what `decimal` says: the fewest digits that hold n are its decimal digits, at most 20 of them.
-use mathlib.Core.Path.{_≡_, refl, sym, ap, _∙_, subst}
+use mathlib.Core.Path.{_≡_, sym, ap, _∙_, subst}
 use mathlib.Core.Bool.{Bool, true, false, not, cond}
 use mathlib.Core.List.{List, [], _∷_, _++_}
 use Prim.Native.Nat.{ℕ, zero, suc, _+_, _-_, _*_, _/_, _%_, _^_, _≤_, _<_}
-use native.Mathlib.Nat.{le-trans, lt-of-lt-of-le, not-le-of-lt, lt-of-not-le, le-of-suc-le-suc, le-div-iff-mul-le, div-lt-iff-lt-mul, pow-suc, one-le-pow, pow-le-pow-right, mul-le-mul-right, not-suc-le-zero, suc-sub-suc, sub-zero}
+use native.Mathlib.Nat.{le-trans, lt-of-lt-of-le, not-le-of-lt, le-div-iff-mul-le, div-lt-iff-lt-mul, pow-suc, one-le-pow, mul-le-mul-right, not-suc-le-zero, suc-sub-suc, sub-zero}
 use native.Mathlib.Omega.{arith}
 use lib.ListN.{length, length-append}
 use lib.Dec.{T, ltb, ltb→lt, nltb→le, lit<, lit≤}

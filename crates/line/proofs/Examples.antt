@@ -1,10 +1,9 @@
 -- Worked examples, computed from the definitions.
 use mathlib.Core.Path.{_≡_, refl}
-use mathlib.Core.List.{List, [], _∷_, _++_}
 use Rattle.block.specs.Read.{refusal}
 use Rattle.block.specs.declared.Measured.the-variants as measured
 use Rattle.line.specs.Text.{ascii, decimalIn, decimal, indicesText, refusalText, measuredText, unreadText}
-use Rattle.line.specs.Label.{hasRoom, labelReply, labelled}
+use Rattle.line.specs.Label.{hasRoom, labelled}
 
 -- document 01's lines
 two-rings : measuredText (measured.Of (record { atoms = 12; w = 198; even = 96; odd = 102; polarity = 14 })) ≡ ascii "atoms 12 W 198 even 96 odd 102 polarity 14\n"

@@ -1,13 +1,12 @@
 -- No line is longer than the longest.
-use Prim.Native.Nat.{ℕ, _+_, _≤_}
-use mathlib.Core.List.{List, _++_}
+use Prim.Native.Nat.{_≤_}
 use native.Mathlib.Omega.{arith}
 use lib.ListN.{length, length-append}
 use Rattle.block.specs.declared.Refusal.{Refusal}
 use Rattle.block.specs.declared.Indices.{Indices}
 use Rattle.block.specs.declared.Measured.{Measured}
 use Rattle.block.specs.declared.Measured.the-variants as measured
-use Rattle.line.specs.Text.{longest, decimal, indicesText, refusalText, measuredText}
+use Rattle.line.specs.Text.{longest, indicesText, refusalText, measuredText}
 use Rattle.line.proofs.Decimal.{digits-most}
 
 pub indices-fit : (x : Indices) → length (indicesText x) ≤ longest

@@ -1,7 +1,7 @@
 -- Lines: a word pasted behind a text, and words added one after the other.
 use Prim.Native.Nat.{ℕ, _+_, _-_, _≤_}
-use mathlib.Core.Path.{_≡_, refl, sym, ap, ap₂, _∙_}
-use mathlib.Core.List.{List, [], _∷_, _++_, append-assoc}
+use mathlib.Core.Path.{_≡_, sym, ap, ap₂, _∙_}
+use mathlib.Core.List.{List, [], _++_, append-assoc}
 use native.Mathlib.Omega.{arith}
 use lib.ListN.{length, take, drop, length-append, length-replicate, replicate-append-replicate}
 use lib.Seq.{paste, take-paste, drop-paste, take-length, take-append-seam, drop-append-add, drop-drop, drop-at}

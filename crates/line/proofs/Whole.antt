@@ -1,12 +1,11 @@
 -- What is proved of every line beside its promise: nothing of the text is cut off, and the promise allows no other line.
-use Prim.Native.Nat.{ℕ, _≤_, _-_}
+use Prim.Native.Nat.{ℕ, _-_}
 use mathlib.Core.Path.{_≡_, sym, ap, _∙_}
 use mathlib.Core.List.{List}
 use lib.ListN.{length, take}
 use lib.Seq.{take-append-seam}
-use Rattle.block.specs.declared.Measured.{Measured}
 use Rattle.line.specs.declared.Line.{Line}
-use Rattle.line.specs.Text.{longest, zeros, padded, lined, measuredText, unreadText}
+use Rattle.line.specs.Text.{longest, zeros, padded, lined}
 use Rattle.line.specs.Label.{labelReply, labelled}
 
 -- the bytes that a line counts are its text

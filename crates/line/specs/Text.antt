@@ -1,6 +1,6 @@
 -- The line that is printed for a reply, byte by byte: document 01, "Proved numbers and run numbers".
 use Prim.Native.Nat.{ℕ, zero, suc, _+_, _*_, _-_, _/_, _%_}
-use Prim.Native.Char.{Char, code}
+use Prim.Native.Char.{code}
 use Prim.Native.String.{String}
 use Prim.Native.String as S
 use mathlib.Core.Bool.{true, false}

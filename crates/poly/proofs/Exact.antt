@@ -2,7 +2,7 @@
 use mathlib.Core.Path.{_≡_, refl, sym, ap, _∙_, subst, subst₂}
 use mathlib.Core.Bool.{Bool, true, false, cond}
 use Prim.Native.Nat.{ℕ, zero, suc, _+_, _-_, _*_, _^_, _%_, _≤_, _<_, zero-le}
-use native.Mathlib.Nat.{le-refl, le-trans, le-of-eq, mul-one, zero-mul, mul-le-mul-left, mul-le-mul-right, le-mul-of-pos-right, pow-suc, two-pow-succ, mul-add, add-suc, add-zero, zero-add, sub-zero, sub-le}
+use native.Mathlib.Nat.{le-refl, le-trans, mul-one, zero-mul, mul-le-mul-left, mul-le-mul-right, le-mul-of-pos-right, pow-suc, two-pow-succ, mul-add, add-suc, add-zero, zero-add, sub-zero, sub-le}
 use native.Mathlib.Omega.{arith}
 use lib.Dec.{eqb, lit<, lit≤}
 use lib.IntN.{pos}

@@ -6,3 +6,4 @@ pub mod Exact
 pub mod Finite
 pub mod Reply
 pub mod Examples
+pub mod Pairs

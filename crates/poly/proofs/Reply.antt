@@ -1,24 +1,21 @@
 -- What is proved of every reply of `polynomial`: it is the only one, none of its values is a NaN or infinite, and at x = 0.5 they are exact.
-use Prim.Native.Nat.{ℕ, _*_, _^_, _≤_, _<_}
+use Prim.Native.Nat.{ℕ, _*_, _^_, _≤_}
 use mathlib.Core.Path.{_≡_, refl, sym, ap, _∙_, subst}
 use mathlib.Core.Bool.{Bool, true, false}
 use mathlib.Core.List.{List}
-use native.Mathlib.Omega.{arith}
-use native.Mathlib.Decide.{decLt}
 use lib.Dec.{T}
 use lib.Ieee.{Float, eq, lt, isNan}
 use lib.Ieee.Fits.{and-i}
 use lib.Ieee.Exact.{HasValue}
 use lib.Ieee.Scale.{finite}
-use borrow.Author.Tests.{ne-eqb, lt-ltb}
 use Rattle.graph.specs.Graph.{Graph, pairsAt}
-use Rattle.block.specs.Read.{Read, refused, read, _then_, refuseIf, refusal}
+use Rattle.block.specs.Read.{Read, refused, read, _then_, refuseIf}
 use Rattle.block.specs.Block.{mostAtoms, graphOf, blockReply}
-use Rattle.block.specs.declared.Refusal.{Refusal}
+use Rattle.block.specs.Told.{few-atoms}
 use Rattle.poly.specs.Poly.{half, unusable, value, valuesOf, valuesReply, polynomialReply, saidPolynomial}
 use Rattle.poly.specs.Exact.{allFinite, exactTo, Across, scaled, Exact}
 use Rattle.poly.specs.declared.Answer.{Answer}
-use Rattle.poly.proofs.Counts.{pairs-most, none-beyond}
+use Rattle.poly.proofs.Counts.{count-most, none-beyond}
 use Rattle.poly.proofs.Exact.{exact-at-half}
 use Rattle.poly.proofs.Finite.{always-finite}
 
@@ -27,15 +24,8 @@ pub one-reply : (n : ℕ) (xs : List ℕ) (x : Float) (r s : Answer) → r ≡ s
 one-reply n xs x r s p q = p ∙ sym q
 
 -- a block that is not refused has at most 64 atoms, so that no count is above the square of that
-too-many : (n : ℕ) (xs : List ℕ) → mostAtoms < n → blockReply n xs ≡ refused (refusal 1 0)
-unfolding blockReply
-too-many n xs h = let z : n ≡ 0 → ⊥ = omega arith in rw (ne-eqb n 0 z, lt-ltb mostAtoms n h)
-
 few : (n : ℕ) (xs : List ℕ) → blockReply n xs ≡ read tt → (k : ℕ) → pairsAt (graphOf n xs) k ≤ mostAtoms * mostAtoms
-few n xs fine k = pairs-most (graphOf n xs) k mostAtoms (elim (decLt mostAtoms n) [ yes h ↦ absurd (never (too-many n xs h) fine) | no h ↦ omega arith ])
-  where
-    never : {r : Refusal} → blockReply n xs ≡ refused r → blockReply n xs ≡ read tt → ⊥
-    never p q = let z : _≡_ {A = ℕ} 0 1 = cc in omega arith
+few n xs fine k = count-most (graphOf n xs) k mostAtoms (few-atoms n xs fine .high)
 
 -- no value is a NaN or infinite
 pub finite-reply : (n : ℕ) (xs : List ℕ) (x : Float) (r : Answer) → r ≡ saidPolynomial (polynomialReply n xs x) → T (allFinite r)

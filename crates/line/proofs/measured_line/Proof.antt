@@ -1,5 +1,5 @@
 -- `line::measured_line` meets its contract: each case is its function's line.
-use mathlib.Core.Path.{_≡_, sym, ap, _∙_}
+use mathlib.Core.Path.{sym, ap, _∙_}
 use Rattle.block.specs.declared.Measured.{Measured}
 use Rattle.line.specs.Text.{measuredText, lined}
 use Rattle.line.proofs.Lines.{shown}

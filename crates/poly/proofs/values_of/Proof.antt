@@ -1,6 +1,6 @@
 -- `poly::values_of` meets its contract: the two tests are those of `unusable`, the other way round, and each value is what `value_of` ensures.
 use Prim.Native.Nat.{ℕ}
-use mathlib.Core.Path.{_≡_, refl, sym, ap, ap₂, _∙_}
+use mathlib.Core.Path.{_≡_, refl, ap₂, _∙_}
 use mathlib.Core.Bool.{Bool, true, false, not, _&&_}
 use lib.Ieee.{Float, ofBits, lt, le}
 use borrow.Author.Needs.{needs}
