@@ -16,9 +16,9 @@ told : ℕ → List ℕ → Float → Read Values
 unfolding joins anyJoins bonded anyAtom reaches firstFrom distance allAtoms connected degree sum sumPairs isAt total bondsOf bondFault bondsReply blockReply unusable ofParity horner value valuesOf valuesReply polynomialReply lib.Ieee.add lib.Ieee.mul lib.Ieee.ofInt lib.Ieee.eq lib.Ieee.lt lib.Ieee.isNan
 told n xs x = polynomialReply n xs x
 
--- document 001's naphthalene
+-- document 001's naphthalene, its bonds in the order of table 2
 naphthalene : List ℕ
-naphthalene = 1 ∷ 2 ∷ 2 ∷ 3 ∷ 3 ∷ 4 ∷ 4 ∷ 5 ∷ 5 ∷ 6 ∷ 6 ∷ 7 ∷ 7 ∷ 8 ∷ 8 ∷ 9 ∷ 9 ∷ 10 ∷ 10 ∷ 1 ∷ 3 ∷ 8 ∷ []
+naphthalene = 1 ∷ 10 ∷ 1 ∷ 2 ∷ 2 ∷ 3 ∷ 3 ∷ 8 ∷ 3 ∷ 4 ∷ 4 ∷ 5 ∷ 5 ∷ 6 ∷ 6 ∷ 7 ∷ 7 ∷ 8 ∷ 8 ∷ 9 ∷ 9 ∷ 10 ∷ []
 
 at-half : told 10 naphthalene half ≡ read (record { even = fin false 31 (negsuc 2); odd = fin false 113 (negsuc 3) })
 unfolding told naphthalene
