@@ -85,7 +85,7 @@ fn fused_rings(random: &mut Random, atoms: usize) -> BlockPlan {
 }
 
 /// A tree and up to `extra` further bonds wherever two atoms have room.
-fn with_more_bonds(random: &mut Random, atoms: usize, extra: usize) -> BlockPlan {
+pub fn with_more_bonds(random: &mut Random, atoms: usize, extra: usize) -> BlockPlan {
     let mut block = tree(random, atoms);
     for _ in 0..extra {
         let free = free_atoms(&block);

@@ -11,37 +11,32 @@ pub fn random_deck(random: &mut Random) -> DeckPlan {
         12..=18 => (random.between(1, 8), random.between(1, 12), 32),
         _ => (random.between(1, 16), random.between(1, 32), 64),
     };
-    deck_of(random, blocks, placements, atoms)
+    let blocks = (0..blocks).map(|_| random_block(random, atoms)).collect();
+    let numbered = number_blocks(random, blocks);
+    let order: Vec<usize> = (0..placements).map(|_| random.below(numbered.len())).collect();
+    assemble(random, numbered, &order)
 }
 
-/// So many blocks of at most so many atoms, in at most so many placements: fewer where no atom has room for a join.
-pub fn deck_of(random: &mut Random, blocks: usize, placements: usize, most_atoms: usize) -> DeckPlan {
-    let mut deck = DeckPlan { blocks: Vec::new(), placements: Vec::new(), sheet: None };
-    while deck.blocks.len() < blocks {
-        let mut block = random_block(random, most_atoms);
-        block.number = fresh_number(random, &deck.blocks);
-        deck.blocks.push(block);
-    }
+/// Places these blocks in this order, each but the first joined to some earlier placement by atoms that have room; a
+/// block that has no such atom, or finds none, is left out.
+pub fn assemble(random: &mut Random, blocks: Vec<BlockPlan>, order: &[usize]) -> DeckPlan {
+    let mut deck = DeckPlan { blocks, placements: Vec::new(), sheet: None };
     let mut free: Vec<Vec<u8>> = Vec::new();
-    for _ in 0..placements {
-        let block = random.below(blocks);
-        let mut own_free = free_atoms(&deck.blocks[block]);
+    for &block in order {
         let number = deck.blocks[block].number;
+        let mut own_free = free_atoms(&deck.blocks[block]);
         let open: Vec<usize> = (0..free.len()).filter(|&parent| !free[parent].is_empty()).collect();
         if deck.placements.is_empty() {
             deck.placements.push(PlacementPlan::first(number));
-        } else if open.is_empty() {
-            break;
-        } else if own_free.is_empty() {
+        } else if open.is_empty() || own_free.is_empty() {
             continue;
         } else {
             let parent = *random.pick(&open);
             let parent_atom = *random.pick(&free[parent]);
             let own_atom = *random.pick(&own_free);
-            let joined = PlacementPlan::joined(number, parent as u16 + 1, parent_atom, own_atom);
-            deck.placements.push(joined);
-            keep_free(&deck, &mut free[parent], parent, parent_atom);
-            keep_free(&deck, &mut own_free, deck.placements.len() - 1, own_atom);
+            deck.placements.push(PlacementPlan::joined(number, parent as u16 + 1, parent_atom, own_atom));
+            drop_if_full(&deck, &mut free[parent], parent, parent_atom);
+            drop_if_full(&deck, &mut own_free, deck.placements.len() - 1, own_atom);
         }
         free.push(own_free);
     }
@@ -49,7 +44,7 @@ pub fn deck_of(random: &mut Random, blocks: usize, placements: usize, most_atoms
 }
 
 /// Takes an atom off a placement's free atoms where the join just made was its fourth bond.
-fn keep_free(deck: &DeckPlan, free: &mut Vec<u8>, placed: usize, atom: u8) {
+fn drop_if_full(deck: &DeckPlan, free: &mut Vec<u8>, placed: usize, atom: u8) {
     if bonds_at(deck, placed, atom) == 4 {
         free.retain(|&other| other != atom);
     }
@@ -65,12 +60,18 @@ pub fn bonds_at(deck: &DeckPlan, placed: usize, atom: u8) -> usize {
     own + up as usize + joins.count()
 }
 
-/// A block number that no block has yet; small numbers come often, also those that need two bytes.
-fn fresh_number(random: &mut Random, taken: &[BlockPlan]) -> u16 {
-    loop {
-        let number = if random.once_in(3) { random.between(1, 65_535) } else { random.between(1, 20) } as u16;
-        if taken.iter().all(|block| block.number != number) {
-            return number;
+/// Gives each block a number of its own; small numbers come often, also those that need two bytes.
+fn number_blocks(random: &mut Random, mut blocks: Vec<BlockPlan>) -> Vec<BlockPlan> {
+    let mut taken = Vec::new();
+    for block in &mut blocks {
+        loop {
+            let most = if random.once_in(3) { 65_535 } else { 20 };
+            block.number = random.between(1, most) as u16;
+            if !taken.contains(&block.number) {
+                break;
+            }
         }
+        taken.push(block.number);
     }
+    blocks
 }
