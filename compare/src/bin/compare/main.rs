@@ -1,34 +1,40 @@
 //! Compares libtteuyomal.a with the second opinion. The last line is 'N passed, M failed'; the exit status is 0 when
 //! nothing failed.
 //!
-//!     compare [--seed N] [--cases N] [--first N]
+//!     compare [--seed N] [--cases N] [--first N] [--programs FOLDER]
+//!
+//! With a folder, the programs `sheet` and `judge` in it are run and their lines compared too.
 
 #[path = "../../archive.rs"]
 mod archive;
 mod checker;
 mod fixed;
 mod lent;
+mod programs;
 mod random;
 
 use checker::Checker;
+use std::path::PathBuf;
 use std::process::ExitCode;
 
 struct Options {
     seed: u64,
     cases: u64,
     first: u64,
+    programs: Option<PathBuf>,
 }
 
 /// The options of the command line, or what is wrong with it.
 fn options(mut words: impl Iterator<Item = String>) -> Result<Options, String> {
-    let mut options = Options { seed: 20_011, cases: 4_000, first: 0 };
+    let mut options = Options { seed: 20_011, cases: 4_000, first: 0, programs: None };
     while let Some(word) = words.next() {
-        let number = words.next().ok_or(format!("{word} wants a number"))?;
-        let number: u64 = number.parse().map_err(|_| format!("{number} is no number"))?;
+        let value = words.next().ok_or(format!("{word} wants a value"))?;
+        let number = || value.parse::<u64>().map_err(|_| format!("{value} is no number"));
         match word.as_str() {
-            "--seed" => options.seed = number,
-            "--cases" => options.cases = number,
-            "--first" => options.first = number,
+            "--seed" => options.seed = number()?,
+            "--cases" => options.cases = number()?,
+            "--first" => options.first = number()?,
+            "--programs" => options.programs = Some(PathBuf::from(&value)),
             _ => return Err(format!("{word} is no option")),
         }
     }
@@ -39,13 +45,16 @@ fn main() -> ExitCode {
     let options = match options(std::env::args().skip(1)) {
         Ok(options) => options,
         Err(fault) => {
-            eprintln!("compare: {fault}\nusage: compare [--seed N] [--cases N] [--first N]");
+            eprintln!("compare: {fault}\nusage: compare [--seed N] [--cases N] [--first N] [--programs FOLDER]");
             return ExitCode::from(2);
         }
     };
     let checker = &mut Checker::default();
     fixed::run(checker);
     random::run(checker, options.seed, options.first, options.cases);
+    if let Some(folder) = &options.programs {
+        programs::run(checker, folder, options.seed);
+    }
     report(checker, &options);
     if checker.failed == 0 {
         ExitCode::SUCCESS
