@@ -3,7 +3,7 @@
 use crate::archive;
 use crate::checker::Checker;
 use opinion::deck::{read_deck, sheet_record, Form};
-use opinion::make::blocks::random_block;
+use opinion::make::blocks::{block_of_many_paths, random_block};
 use opinion::make::damage::{damage_block, damage_plan};
 use opinion::make::damage_bytes::{damage_bytes, damage_records};
 use opinion::make::decks::random_deck;
@@ -50,6 +50,17 @@ fn good_deck(checker: &mut Checker, random: &mut Random, deck: DeckPlan) {
         checker.judge(&[&bytes[..], &sheet_record(sheet)].concat());
     }
     own_sheet(checker, &bytes);
+    if bytes.len() < 200 && random.once_in(20) {
+        every_cut(checker, &[&bytes[..], &sheet_record(right)].concat());
+    }
+}
+
+/// A deck with its sheet, cut at every length.
+fn every_cut(checker: &mut Checker, judged: &[u8]) {
+    for length in 0..judged.len() {
+        checker.judge(&judged[..length]);
+        checker.compose(&judged[..length], 5);
+    }
 }
 
 /// The sheet that the library writes, put behind the same deck, must be accepted, and must not be composed.
@@ -121,7 +132,7 @@ fn about(random: &mut Random, needed: usize) -> usize {
 }
 
 fn block(checker: &mut Checker, random: &mut Random) {
-    let mut block = random_block(random, 64);
+    let mut block = if random.once_in(10) { block_of_many_paths(random) } else { random_block(random, 64) };
     if random.once_in(2) {
         for _ in 0..random.between(1, 3) {
             damage_block(random, &mut block);
