@@ -13,6 +13,9 @@ const MOST: u64 = 1_000_000;
 
 const CAP: u64 = MOST + 1;
 
+// The most that a bond is passed from one start: D for each atom.
+const FULL: u64 = ATOMS as u64 * MOST;
+
 // D, or why there is none.
 pub enum Shares {
     Refused(Refusal),
