@@ -16,7 +16,7 @@ use Rattle.graph.specs.Distance.{not-true}
 use Rattle.block.specs.Block.{limit, mostAtoms}
 use Rattle.block.specs.Near.{counted, neighbour, putting, Draws, Holds}
 use Rattle.block.specs.declared.Near.{Near}
-use Rattle.block.proofs.Faults.{Faultless}
+use Rattle.block.specs.Faults.{Faultless}
 
 module _ (n : ℕ) (R : ℕ → ℕ → Bool) (t : Near) (D : Draws n R t) (a b : ℕ) where
   pub listed-yes : (k : ℕ) → k < counted t a → neighbour t a k ≡ b → true ≡ R a b

@@ -22,7 +22,7 @@ use Rattle.block.specs.Found.{Task, Searched}
 use Rattle.block.specs.declared.Near.{Near}
 use Rattle.block.specs.declared.Found.{Found}
 use Rattle.block.proofs.Reading.{zeros}
-use Rattle.block.proofs.Tables.{length-table, getD-table}
+use Rattle.block.specs.Tables.{length-table, getD-table}
 
 -- the search from i whose row of distances, order of atoms and count of those met are given: an atom is met if it is i or its distance is not 0
 abbrev pub view : ℕ → List ℕ → List ℕ → ℕ → State

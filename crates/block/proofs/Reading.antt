@@ -15,7 +15,7 @@ use Rattle.block.specs.Read.{Read, refused, read, _then_, refuseFor, ref
 use Rattle.block.specs.Block.{limit, mostAtoms, bondsOf, graphOf, bondFault, bondsReply}
 use Rattle.block.specs.Near.{counted, near, putting, Draws, Holds, Lists}
 use Rattle.block.specs.declared.Near.{Near}
-use Rattle.block.proofs.Faults.{Faultless, faultless}
+use Rattle.block.specs.Faults.{Faultless, faultless}
 use Rattle.block.proofs.Listing.{put-holds, room-one, room-two}
 
 -- the bond at place k from 0, and the first k bonds, the last of them first

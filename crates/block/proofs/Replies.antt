@@ -9,6 +9,8 @@ use native.Mathlib.Omega.{arith}
 use Rattle.graph.specs.Graph.{connected}
 use Rattle.block.specs.Read.{Read, refused, read, _then_, refuseIf, refusal}
 use Rattle.block.specs.Block.{mostAtoms, mostBytes, isOutside, bondsOf, graphOf, bondsReply, blockReply, saidBlock}
+use Rattle.block.specs.Near.{Admitting}
+use Rattle.block.specs.declared.Built.{Built}
 use Rattle.block.specs.declared.Refusal.{Refusal}
 use Rattle.block.specs.declared.Reply.{Reply}
 use Rattle.block.specs.declared.Reply.the-variants.{Fine, Refused}
@@ -56,3 +58,7 @@ module _ (n : ℕ) (xs : List ℕ) where
 
         pub reply-apart : Fine ≡ saidBlock (bondsReply n [] (bondsOf xs)) → connected (graphOf n xs) ≡ false → replies (Refused (refusal 7 0))
         reply-apart e c = rw (reply-bonds, said-fine (bondsReply n [] (bondsOf xs)) e, c)
+
+-- a refused block has no lists to give
+pub admit-refused : (n : ℕ) (xs : List ℕ) (b : Built) (f : Refusal) → b .reply ≡ Refused f → Refused f ≡ saidBlock (blockReply n xs) → Admitting n xs b
+admit-refused n xs b f e r = record { replied = e ∙ r; ready = λ q. absurd (not-fine (sym e ∙ q)) }

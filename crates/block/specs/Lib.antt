@@ -5,3 +5,7 @@ pub mod Rows
 pub mod Index
 pub mod Near
 pub mod Found
+pub mod Chain
+pub mod Faults
+pub mod Tables
+pub mod Told

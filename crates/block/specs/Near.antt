@@ -5,6 +5,7 @@ use mathlib.Core.List.{List, []}
 use mathlib.Core.Path.{_≡_}
 use lib.ListN.{length, getD, set}
 use Rattle.graph.specs.Graph.{Graph, Bond, Within, anyJoins, bonded, degree}
+use Rattle.block.specs.Read.{read}
 use Rattle.block.specs.Block.{limit, mostAtoms, bondsOf, graphOf, bondsReply, blockReply, saidBlock}
 use Rattle.block.specs.declared.Near.{Near}
 use Rattle.block.specs.declared.Built.{Built}
@@ -43,12 +44,17 @@ pub record Holds (n : ℕ) (bs : List Bond) (t : Near) : Type 0 where
 abbrev pub Lists : Graph → Near → Type 0
 Lists g t = Draws (g .atoms) (bonded g) t
 
+-- the lists are those of a block that is fine
+pub record Ready (n : ℕ) (xs : List ℕ) (t : Near) : Type 0 where
+  pub fine : blockReply n xs ≡ read tt
+  pub lists : Lists (graphOf n xs) t
+
 -- what reading the bonds gives: the reply to them and, where they are fine, their lists
 pub record Reading (n : ℕ) (xs : List ℕ) (r : Built) : Type 0 where
   pub replied : r .reply ≡ saidBlock (bondsReply n [] (bondsOf xs))
   pub drawn : r .reply ≡ Fine → Lists (graphOf n xs) (r .near)
 
--- what opening a block gives: the reply to it and, where it is fine, its lists
-pub record Opening (n : ℕ) (xs : List ℕ) (r : Built) : Type 0 where
+-- what a block gives: the reply to it and, where it is fine, its lists
+pub record Admitting (n : ℕ) (xs : List ℕ) (r : Built) : Type 0 where
   pub replied : r .reply ≡ saidBlock (blockReply n xs)
-  pub drawn : r .reply ≡ Fine → Lists (graphOf n xs) (r .near)
+  pub ready : r .reply ≡ Fine → Ready n xs (r .near)

@@ -1,4 +1,11 @@
 // One block: its refusals 1 to 7, its distances, indices and vertex sums.
+ghost use mathlib.Core.Path.{_≡_};
+ghost use Rattle.block.specs.Read.{refusal};
+ghost use Rattle.block.specs.Block.{blockReply, saidBlock};
+ghost use Rattle.block.specs.Rows.{rowsOf, rowReply, saidRow};
+ghost use Rattle.block.specs.Near.{Admitting};
+ghost use Rattle.block.specs.Found.{Viewing};
+
 mod lists;
 mod search;
 
@@ -82,4 +89,108 @@ struct Built {
 struct Found {
     pub row: [u8; ATOMS],
     pub met: usize,
+}
+
+// The row of one atom, or why there is none.
+struct View {
+    pub reply: Reply,
+    pub row: [u8; ATOMS],
+}
+
+// A refusal at place 0.
+fn refused(number: usize) -> Built
+    ensures { λ r. ⌜ r .reply ≡ Reply.Refused (refusal number 0) ⌝ }
+{
+    Built {
+        reply: Reply::Refused(Refusal { number, place: 0 }),
+        near: Near {
+            count: [0u8; SEATS],
+            list: [0u8; PLACES],
+        },
+    }
+}
+
+// The reply to a block and, where it is fine, its neighbour lists.
+fn admit(n: usize, bonds: &[u8]) -> Built
+    ensures { λ r. ⌜ Admitting n (now (bonds .entry)) r ⌝ }
+{
+    if lists::outside(ATOMS, n) {
+        return refused(1);
+    }
+    if bonds.len() % 2 != 0 {
+        return refused(2);
+    }
+    if bonds.len() > BYTES {
+        return refused(2);
+    }
+    let built = lists::build(n, bonds);
+    let reply = built.reply;
+    let Reply::Fine = reply else {
+        return built;
+    };
+    let near = built.near;
+    if search::connected(near, n) {
+        built
+    } else {
+        refused(7)
+    }
+}
+
+// Whether a block is refused, with which number and where: the bond's number from 1, or 0.
+pub fn check(n: usize, bonds: &[u8]) -> Reply
+    ensures { λ r. ⌜ r ≡ saidBlock (blockReply n (now (bonds .entry))) ⌝ }
+{
+    let admitted = admit(n, bonds);
+    admitted.reply
+}
+
+// The distances of a block: those from atom i are row i - 1, and that to atom j stands there at j - 1. All is 0 beyond the atoms, and
+// where the block is refused.
+pub fn rows(n: usize, bonds: &[u8]) -> [[u8; ATOMS]; ATOMS]
+    ensures { λ r. ⌜ r ≡ rowsOf n (now (bonds .entry)) ⌝ }
+{
+    let admitted = admit(n, bonds);
+    let reply = admitted.reply;
+    let Reply::Fine = reply else {
+        return [[0u8; ATOMS]; ATOMS];
+    };
+    let near = admitted.near;
+    search::from_all(near, n)
+}
+
+// The row of atom i, or why there is none: the block's refusal, or 18 where it has no such atom.
+fn look(n: usize, bonds: &[u8], i: usize) -> View
+    ensures { λ r. ⌜ Viewing n (now (bonds .entry)) i r ⌝ }
+{
+    let admitted = admit(n, bonds);
+    let reply = admitted.reply;
+    let Reply::Fine = reply else {
+        return View {
+            reply,
+            row: [0u8; ATOMS],
+        };
+    };
+    if lists::outside(n, i) {
+        return View {
+            reply: Reply::Refused(Refusal {
+                number: 18,
+                place: 0,
+            }),
+            row: [0u8; ATOMS],
+        };
+    }
+    let near = admitted.near;
+    let count = near.count;
+    let list = near.list;
+    let found = search::from_atom(&count, &list, i as u8);
+    let row = found.row;
+    View { reply, row }
+}
+
+// The distances from atom i, that to atom j at j - 1: all 0 where the block is refused or has no such atom.
+pub fn row(n: usize, bonds: &[u8], i: usize) -> [u8; ATOMS]
+    ensures { λ r. ⌜ r ≡ saidRow (rowReply n (now (bonds .entry)) i) ⌝ }
+{
+    let seen = look(n, bonds, i);
+    seen.row
 }

@@ -2,10 +2,16 @@
 use super::ATOMS;
 use super::Found;
 use super::LIMIT;
+use super::Near;
 use super::PLACES;
 use super::SEATS;
-ghost use Rattle.graph.specs.Graph.{Graph};
-ghost use Rattle.block.specs.Near.{near};
+ghost use mathlib.Core.Path.{_≡_};
+ghost use mathlib.Core.List.{List};
+ghost use Prim.Native.Nat.{ℕ};
+ghost use Rattle.graph.specs.Graph.{Graph, connected as isConnected};
+ghost use Rattle.block.specs.Block.{graphOf};
+ghost use Rattle.block.specs.Rows.{rowsOf};
+ghost use Rattle.block.specs.Near.{near, Ready};
 ghost use Rattle.block.specs.Found.{Task, Searched};
 
 // The search from atom i: u is the atom at place h of the order in which atoms are met, and k of its neighbours are passed.
@@ -36,4 +42,33 @@ pub(crate) fn from_atom(count: &[u8; SEATS], list: &[u8; PLACES], i: u8) -> Foun
         }
     }
     Found { row, met }
+}
+
+// Whether every pair of n atoms has a path.
+pub(crate) fn connected(near: Near, n: usize) -> bool
+    requires { ⌜ ((xs : List ℕ) × Task (graphOf n xs) near 1) ⌝ }
+    ensures { λ r. ⌜ ((xs : List ℕ) → Task (graphOf n xs) near 1 → r ≡ isConnected (graphOf n xs)) ⌝ }
+{
+    let count = near.count;
+    let list = near.list;
+    let found = from_atom(&count, &list, 1);
+    found.met == n
+}
+
+// The rows of a block of n atoms, filled one by one.
+pub(crate) fn from_all(near: Near, n: usize) -> [[u8; ATOMS]; ATOMS]
+    requires { ⌜ ((xs : List ℕ) × Ready n xs near) ⌝ }
+    ensures { λ r. ⌜ ((xs : List ℕ) → Ready n xs near → r ≡ rowsOf n xs) ⌝ }
+{
+    let count = near.count;
+    let list = near.list;
+    let mut all = [[0u8; ATOMS]; ATOMS];
+    let mut i = 0;
+    while i < n {
+        let found = from_atom(&count, &list, i as u8 + 1);
+        let row = found.row;
+        all[i] = row;
+        i += 1;
+    }
+    all
 }

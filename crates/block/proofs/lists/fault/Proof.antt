@@ -8,7 +8,7 @@ use borrow.Author.Tests.{eq-eqb, ne-eqb}
 use Rattle.graph.specs.Graph.{Bond, Within, anyJoins, degree}
 use Rattle.block.specs.Block.{limit, isOutside}
 use Rattle.block.specs.Near.{near, Holds}
-use Rattle.block.proofs.Faults.{inside, three, three′, four, five, six, six′, none}
+use Rattle.block.specs.Faults.{inside, three, three′, four, five, six, six′, none}
 use Rattle.block.proofs.Listing.{full, room}
 use Rattle.block.proofs.lists.fault.Statement.{statement}
 use Rattle.block.proofs.lists.fault.Tie as tie
