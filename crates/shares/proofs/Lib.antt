@@ -3,3 +3,4 @@ pub mod Rows
 pub mod Lists
 pub mod Chains
 pub mod Sweeping
+pub mod Counting

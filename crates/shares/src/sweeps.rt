@@ -185,7 +185,12 @@ fn swept(
 }
 
 // The counts of shortest paths from the atom start, up to the cap.
-pub(crate) fn counts(n: usize, near: &[[u8; SEATS]; SEATS], row: &[u8; ATOMS], start: usize) -> [u64; SEATS]
+pub(crate) fn counts(
+    n: usize,
+    near: &[[u8; SEATS]; SEATS],
+    row: &[u8; ATOMS],
+    start: usize,
+) -> [u64; SEATS]
     requires { ⌜ ((bs : List Bond) × Start n bs (now near) (now row) start) ⌝ }
     ensures { λ r. ⌜
         ((bs : List Bond) → Start n bs (now (near .entry)) (now (row .entry)) start → Holds n cap (pathCount (graph n bs) start) r)
