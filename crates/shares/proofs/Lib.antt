@@ -4,3 +4,4 @@ pub mod Lists
 pub mod Chains
 pub mod Sweeping
 pub mod Counting
+pub mod Tallying

@@ -77,3 +77,18 @@ pub record Start (n : ℕ) (bs : List Bond) (near : List (List ℕ)) (row : List
   pub lists : (v : ℕ) → Within n v → Listed n (beside (graph n bs) v) (listOf near v)
   pub far : Shows n (distance (graph n bs) i) row
   pub start : Within n i
+
+-- the rows of a block, and the lists of its neighbours
+pub record Given (n : ℕ) (bs : List Bond) (near rows : List (List ℕ)) : Type 0 where
+  pub small : n ≤ mostAtoms
+  pub molecule : Molecule (graph n bs)
+  pub lists : (v : ℕ) → Within n v → Listed n (beside (graph n bs) v) (listOf near v)
+  pub far : (i : ℕ) → i < n → Shows n (distance (graph n bs) (suc i)) (listOf rows i)
+
+-- positive counts f and a positive number m, up to the cap
+pub record Tally (n : ℕ) (f : ℕ → ℕ) (m : ℕ) (c : List ℕ) (before : ℕ) : Type 0 where
+  pub small : n ≤ mostAtoms
+  pub counts : Holds n cap f c
+  pub positive : (v : ℕ) → Within n v → 0 < f v
+  pub first : 0 < m
+  pub capped : before ≡ min cap m

@@ -3,6 +3,7 @@ ghost use mathlib.Core.Path.{_≡_};
 use block::ATOMS;
 use block::Refusal;
 
+mod common;
 mod sweeps;
 
 // A seat for each atom, numbered from 1; seat 0 is free.
