@@ -206,8 +206,8 @@ fn look(n: usize, bonds: &[u8], i: usize) -> View
 pub fn row(n: usize, bonds: &[u8], i: usize) -> [u8; ATOMS]
     ensures { λ r. ⌜ r ≡ saidRow (rowReply n (now (bonds .entry)) i) ⌝ }
 {
-    let seen = look(n, bonds, i);
-    seen.row
+    let view = look(n, bonds, i);
+    view.row
 }
 
 // The indices of the first n atoms, at most ATOMS, by rows of their distances: the pair i < j is read in the row of j.
