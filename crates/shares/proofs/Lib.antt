@@ -8,3 +8,4 @@ pub mod Tallying
 pub mod Entries
 pub mod Flowing
 pub mod Listing
+pub mod Starting
