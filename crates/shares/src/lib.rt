@@ -4,6 +4,7 @@ use block::ATOMS;
 use block::Refusal;
 
 mod common;
+mod flows;
 mod sweeps;
 
 // A seat for each atom, numbered from 1; seat 0 is free.
