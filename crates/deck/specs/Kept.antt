@@ -48,7 +48,7 @@ chosen : {A : Type 0} {b : A} (t : Bool) (f g : Unit {0} → A) → ifElse t f g
 chosen true f g e = inl (refl, e)
 chosen false f g e = inr (refl, e)
 
-unmoved : (place : Refusal → ℕ) (x : Read (Unit {0})) → moved place x ≡ read tt → x ≡ read tt
+pub unmoved : (place : Refusal → ℕ) (x : Read (Unit {0})) → moved place x ≡ read tt → x ≡ read tt
 unmoved place (refused r) e = absurd (not-read e)
 unmoved place (read u) e = refl
 

@@ -3,4 +3,5 @@ pub mod Deck
 pub mod Molecule
 pub mod Said
 pub mod Kept
+pub mod Sound
 pub mod Examples
