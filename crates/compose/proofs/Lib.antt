@@ -3,3 +3,4 @@ pub mod Counting
 pub mod Joining
 pub mod Ports
 pub mod Seeing
+pub mod Steps
