@@ -1,5 +1,4 @@
 // The joins of an assembly: how far their atoms are apart, and what is counted from both ends of each.
-use super::counts::counted;
 use super::counts::grown;
 use super::counts::wide;
 use assembly::BLOCKS;
@@ -7,10 +6,12 @@ use assembly::PLACEMENTS;
 use block::ATOMS;
 use block::Indices;
 use block::Vertex;
+use block::around_row;
 ghost use mathlib.Core.Path.{_≡_};
-ghost use Prim.Native.Nat.{ℕ, _+_, _*_, _-_, _≤_, _<_};
-ghost use Rattle.graph.specs.Graph.{Graph, Within, sum};
+ghost use Prim.Native.Nat.{ℕ, _+_, _*_, _-_, _<_, min};
+ghost use Rattle.graph.specs.Graph.{Graph, Within};
 ghost use Rattle.block.specs.Block.{mostAtoms};
+ghost use Rattle.block.specs.Sums.{vertexBy};
 ghost use Rattle.assembly.specs.Placements.{mostPlacements};
 ghost use Rattle.compose.specs.Counted.{Counts};
 ghost use Rattle.deck.specs.Deck.{mostBlocks};
@@ -82,12 +83,12 @@ fn end_counts(
     numbers: [Indices; BLOCKS],
     block: usize,
 ) -> Vertex
-    requires { ⌜ (end < ends) × (block < mostBlocks) × (numbersAt numbers block .atoms ≤ mostAtoms) ⌝ }
-    ensures { λ r. ⌜ Counts r (λ f. sum (numbersAt numbers block .atoms) (λ j. f (entry (now (rows .entry)) end j))) ⌝ }
+    requires { ⌜ (end < ends) × (block < mostBlocks) ⌝ }
+    ensures { λ r. ⌜ r ≡ vertexBy (min (numbersAt numbers block .atoms) mostAtoms) (entry (now (rows .entry)) end) ⌝ }
 {
     let all = numbers[block];
     let row = rows[end];
-    counted(row, all.atoms as usize)
+    around_row(row, all.atoms as usize)
 }
 
 // What is counted from the parent's atom of the placement at index k, in the molecule up to the parent.

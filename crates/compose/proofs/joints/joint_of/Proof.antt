@@ -1,7 +1,7 @@
 -- `compose::joints::joint_of` meets its contract. Assumes nothing.
 use borrow.Author.Needs.{needs}
 use native.Mathlib.Omega.{arith}
-use Rattle.compose.proofs.Seeing.{size-small, own-counts}
+use Rattle.compose.proofs.Seeing.{own-counts}
 use Rattle.compose.proofs.joints.joint_of.Statement.{statement}
 use Rattle.compose.proofs.joints.joint_of.Tie as tie
 
@@ -18,7 +18,7 @@ end-counts-requires : tie.Need-end-counts-requires
 end-counts-requires c κs =
     let p = c .before .pre in
     let w = p .3 .index in
-    (omega (arith, w, p .2 .laid .few), p .2 .listed _ (w .high), size-small (p .2) _ (w .high))
+    (omega (arith, w, p .2 .laid .few), p .2 .listed _ (w .high))
 
 begun-requires : tie.Need-begun-requires
 begun-requires c κs = search needs
