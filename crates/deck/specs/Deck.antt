@@ -30,15 +30,15 @@ pub record Deck : Type 0 where
   pub sheet : ℕ
 
 -- What may stand first is a block, then a block or the last kind; after the assembly, in a deck to be judged, the sheet.
-abbrev pub kindsAfter : Kind → List BlockAt → List Kind
-kindsAfter last [] = blockKind ∷ []
-kindsAfter last (b ∷ bs) = blockKind ∷ last ∷ []
+abbrev pub kindsAfter : List BlockAt → Kind → List Kind
+kindsAfter [] last = blockKind ∷ []
+kindsAfter (b ∷ bs) last = blockKind ∷ last ∷ []
 
 abbrev pub sheetKinds : List Kind
 sheetKinds = sheetKind ∷ []
 
 -- what the block record at a place says
-unfoldable pub blockAt : List ℕ → ℕ → BlockAt
+abbrev pub blockAt : List ℕ → ℕ → BlockAt
 blockAt d at = record { number = le16 d (at + 4); start = at + 4; atoms = le16 d (at + 6); bonds = le16 d (at + 8) }
 
 -- the same refusal at another place
@@ -47,11 +47,11 @@ moved place (refused r) = refused (refusal (r .number) (place r))
 moved place (read u) = read u
 
 -- the place of a block's refusal, by its record's first byte
-unfoldable pub blockPlace : ℕ → Refusal → ℕ
+abbrev pub blockPlace : ℕ → Refusal → ℕ
 blockPlace at r = at
 
 -- the place of an assembly's refusal: the placement's first byte, or the record's
-unfoldable pub placementPlace : ℕ → Refusal → ℕ
+abbrev pub placementPlace : ℕ → Refusal → ℕ
 placementPlace at r = at + 6 * r .place
 
 -- 14 and the block's own of the block record at a place, after the blocks of `done`
@@ -79,7 +79,7 @@ ifElse false f g = g tt
 unfoldable pub blocksFrom : ℕ → Kind → List ℕ → ℕ → List BlockAt → Read Blocks
 blocksFrom zero last d at done = refused (refusal 14 at)
 blocksFrom (suc fuel) last d at done =
-    recordReply (kindsAfter last done) d at then λ _.
+    recordReply (kindsAfter done last) d at then λ _.
     ifElse (eqb (kindAt d at) (blockKind .number))
     (λ _. blockReplyAt d at done then λ _. blocksFrom fuel last d (endAt d at) (done ++ blockAt d at ∷ []))
     (λ _. read (record { blocks = done; next = at }))

@@ -2,11 +2,13 @@
 use Prim.Native.Nat.{ℕ}
 use mathlib.Core.List.{List, [], _++_}
 use lib.ListN.{length, drop, replicate}
-use Rattle.block.specs.Read.{Read, refused, read}
+use Rattle.block.specs.Read.{Read, refused, read, refusal}
+use Rattle.block.specs.declared.Refusal.{Refusal}
+use Rattle.block.specs.declared.Reply.{Reply}
 use Rattle.block.specs.declared.Reply.the-variants.{Fine, Refused}
 use Rattle.assembly.specs.declared.BlockAt.{BlockAt}
 use Rattle.assembly.specs.Book.{noBlock}
-use Rattle.deck.specs.Deck.{Deck, mostBlocks}
+use Rattle.deck.specs.Deck.{Deck, Blocks, mostBlocks}
 use Rattle.deck.specs.declared.Layout.{Layout}
 use Rattle.deck.specs.declared.DeckRead.{DeckRead}
 
@@ -20,6 +22,19 @@ layoutOf k = record { count = length (k .blocks); blocks = tableOf (k .blocks); 
 abbrev pub nothing : Deck
 nothing = record { blocks = []; assembly = 0; placements = 0; sheet = 0 }
 
+abbrev pub refusedDeck : Reply → DeckRead
+refusedDeck r = record { reply = r; layout = layoutOf nothing }
+
 abbrev pub saidDeck : Read Deck → DeckRead
-saidDeck (refused r) = record { reply = Refused r; layout = layoutOf nothing }
+saidDeck (refused r) = refusedDeck (Refused r)
 saidDeck (read k) = record { reply = Fine; layout = layoutOf k }
+
+-- the blocks alone
+abbrev pub saidBlocks : Read Blocks → DeckRead
+saidBlocks (refused r) = refusedDeck (Refused r)
+saidBlocks (read b) = record { reply = Fine; layout = layoutOf (record { blocks = b .blocks; assembly = b .next; placements = 0; sheet = 0 }) }
+
+-- a reply at another place
+abbrev pub movedReply : (Refusal → ℕ) → Reply → Reply
+movedReply place Fine = Fine
+movedReply place (Refused r) = Refused (refusal (r .number) (place r))

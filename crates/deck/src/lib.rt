@@ -1,7 +1,28 @@
 // The deck: its records one after the other, and the lookup of a block.
+ghost use mathlib.Core.Path.{_≡_};
+ghost use mathlib.Core.Bool.{_||_, cond};
+ghost use Prim.Native.Nat.{_+_, _≤_};
+ghost use lib.Dec.{eqb, leb};
+ghost use lib.ListN.{length, take};
+ghost use Rattle.block.specs.Block.{saidBlock};
+ghost use Rattle.records.specs.Records.{blockKind, payloadAt, endAt};
+ghost use Rattle.assembly.specs.Book.{used};
+ghost use Rattle.assembly.specs.Placements.{mostPlacements, placementAt};
+ghost use Rattle.deck.specs.Deck.{mostBlocks, longestDeck, blockAt, blockPlace, placementPlace, blockReplyAt, blocksReply, endReply, sheetReply, deckReply, payload, blockPart};
+ghost use Rattle.deck.specs.Molecule.{claimedAt, saidFields};
+ghost use Rattle.deck.specs.Said.{refusedDeck, movedReply, saidBlocks, saidDeck};
 use assembly::BLOCKS;
 use assembly::BlockAt;
+use assembly::Placement;
+use block::Indices;
+use block::Refusal;
 use block::Reply;
+use records::ASSEMBLY;
+use records::BLOCK;
+use records::Kind;
+use records::SHEET;
+use records::le16_at;
+use records::record_at;
 
 // The most bytes of a deck.
 pub const LONGEST: usize = 32768;
@@ -25,4 +46,145 @@ pub struct Layout {
 pub struct DeckRead {
     pub reply: Reply,
     pub layout: Layout,
+}
+
+// The place of a block's refusal in a deck, by its record's first byte.
+fn block_place(at: usize, r: Refusal) -> usize
+    ensures { λ p. ⌜ p ≡ blockPlace at r ⌝ }
+{
+    at
+}
+
+fn block_moved(at: usize, reply: Reply) -> Reply
+    ensures { λ r. ⌜ r ≡ movedReply (blockPlace at) reply ⌝ }
+{
+    match reply {
+        Reply::Fine => Reply::Fine,
+        Reply::Refused(r) => Reply::Refused(Refusal {
+            number: r.number,
+            place: block_place(at, r),
+        }),
+    }
+}
+
+// The place of an assembly's refusal in a deck: the placement's first byte, or the record's.
+fn placement_place(at: usize, r: Refusal) -> usize
+    requires { ⌜ (at ≤ longestDeck) × (r .place ≤ mostPlacements) ⌝ }
+    ensures { λ p. ⌜ p ≡ placementPlace at r ⌝ }
+{
+    at + 6 * r.place
+}
+
+// What the block record at a place says.
+fn block_at(d: &[u8], at: usize) -> BlockAt
+    requires { ⌜ at ≤ length (now d) ⌝ }
+    ensures { λ r. ⌜ r ≡ blockAt (now (d .entry)) at ⌝ }
+{
+    BlockAt {
+        number: le16_at(d, at + 4),
+        start: at + 4,
+        atoms: le16_at(d, at + 6),
+        bonds: le16_at(d, at + 8),
+    }
+}
+
+// Whether a block's number is 0 or was used before, or there is no room for a block.
+fn is_unfit(blocks: [BlockAt; BLOCKS], count: usize, number: usize) -> bool
+    requires { ⌜ count ≤ mostBlocks ⌝ }
+    ensures { λ r. ⌜ r ≡ (eqb number 0 || used (take count blocks) number || leb mostBlocks (length (take count blocks))) ⌝ }
+{
+    if number == 0 {
+        return true;
+    }
+    if assembly::is_numbered(assembly::find_block(blocks, count, number), number) {
+        return true;
+    }
+    BLOCKS <= count
+}
+
+// Refusal 14 and the block's own of the record at a place, after the first `count` blocks.
+fn block_reply(d: &[u8], at: usize, b: BlockAt, blocks: [BlockAt; BLOCKS], count: usize) -> Reply
+    requires { ⌜ (count ≤ mostBlocks) × (b ≡ blockAt (now d) at) ⌝ }
+    ensures { λ r. ⌜ r ≡ saidBlock (blockReplyAt (now (d .entry)) at (take count blocks)) ⌝ }
+{
+    if is_unfit(blocks, count, b.number as usize) {
+        return Reply::Refused(Refusal {
+            number: 14,
+            place: at,
+        });
+    }
+    let bonds = assembly::bonds_part(d, b);
+    block_moved(at, block::check(b.atoms as usize, bonds))
+}
+
+// The second kind that may stand after `count` blocks.
+fn second_kind(count: usize, last: Kind) -> Kind
+    ensures { λ r. ⌜ r ≡ cond (eqb count 0) blockKind last ⌝ }
+{
+    if count == 0 {
+        return BLOCK;
+    }
+    last
+}
+
+fn deck_refused(reply: Reply) -> DeckRead
+    ensures { λ r. ⌜ r ≡ refusedDeck reply ⌝ }
+{
+    let none = BlockAt {
+        number: 0,
+        start: 0,
+        atoms: 0,
+        bonds: 0,
+    };
+    let blocks = [none; BLOCKS];
+    let layout = Layout {
+        count: 0,
+        blocks,
+        assembly: 0,
+        placements: 0,
+        sheet: 0,
+    };
+    DeckRead { reply, layout }
+}
+
+// The blocks of a deck, up to a record of the kind `last`.
+fn read_blocks(d: &[u8], last: Kind) -> DeckRead
+    ensures { λ r. ⌜ r ≡ saidBlocks (blocksReply last (now (d .entry))) ⌝ }
+{
+    let none = BlockAt {
+        number: 0,
+        start: 0,
+        atoms: 0,
+        bonds: 0,
+    };
+    let mut blocks = [none; BLOCKS];
+    let mut count = 0;
+    let mut next = 0;
+    loop {
+        let r = record_at(d, next, BLOCK, second_kind(count, last));
+        let Reply::Fine = r else {
+            return deck_refused(r);
+        };
+        if le16_at(d, next + 2) != BLOCK.number {
+            let layout = Layout {
+                count,
+                blocks,
+                assembly: next,
+                placements: 0,
+                sheet: 0,
+            };
+            return DeckRead {
+                reply: Reply::Fine,
+                layout,
+            };
+        }
+        let b = block_at(d, next);
+        let s = block_reply(d, next, b, blocks, count);
+        let Reply::Fine = s else {
+            return deck_refused(s);
+        };
+        blocks[count] = b;
+        count += 1;
+        next = next + 4 + (le16_at(d, next) as usize);
+    }
 }
