@@ -16,7 +16,7 @@ use Rattle.block.specs.declared.Vertex.{Vertex}
 use Rattle.block.specs.Block.{mostAtoms}
 use Rattle.block.specs.Sums.{vertexBy}
 use Rattle.assembly.specs.Placements.{mostPlacements}
-use Rattle.compose.specs.declared.joints.Link.{Link}
+use Rattle.compose.specs.declared.links.Link.{Link}
 use Rattle.compose.specs.declared.joints.Joint.{Joint}
 use Rattle.compose.specs.Counted.{Counts, Below}
 use Rattle.compose.specs.Joints.{link, joinsOf, entry, between, numbersAt, jointAt, sightAt, Laid, Task, Jointed, Turn}
@@ -124,4 +124,4 @@ module _ {blocks : ℕ → Graph} {last : ℕ} {ls : List Link} {rs : List (List
     up-earlier = stands (t .laid) up .parent .high
 
     pub up-joint : Jointed blocks ls (jointAt js (link ls k .parent - 1)) (link ls k .parent - 1)
-    up-joint = t .known (link ls k .parent - 1) (up .low) (omega (arith, stands (t .laid) (t .index) .parent))
+    up-joint = t .known (link ls k .parent - 1) (omega (arith, stands (t .laid) (t .index) .parent)) (up .low)

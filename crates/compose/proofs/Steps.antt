@@ -2,11 +2,8 @@
 use Prim.Native.Nat.{ℕ, zero, suc, _+_, _*_, _-_, _^_, _≤_, _<_}
 use mathlib.Core.List.{List}
 use mathlib.Core.Path.{_≡_, refl, sym, _∙_, ap, subst}
-use mathlib.Core.Logic.{⊎-elim}
-use native.Mathlib.Nat.{mul-le-mul, eq-or-lt-of-le}
+use native.Mathlib.Nat.{mul-le-mul}
 use native.Mathlib.Omega.{arith}
-use lib.ListN.{length, set}
-use lib.Seq.{getD-set-same, getD-set-other}
 use Rattle.graph.specs.Graph.{Graph, Within, Molecule, itself, evenOf, oddOf, isAt, total}
 use Rattle.graph.specs.Assembly.{Join, joined, written}
 use Rattle.graph.specs.Climb.{siteOf, sooner, placed-within, written-molecule}
@@ -15,10 +12,9 @@ use Rattle.block.specs.declared.Indices.{Indices}
 use Rattle.block.specs.Block.{mostAtoms}
 use Rattle.block.specs.Index.{indicesOf}
 use Rattle.assembly.specs.Placements.{mostPlacements}
-use Rattle.compose.specs.declared.joints.Link.{Link}
-use Rattle.compose.specs.declared.joints.Joint.{Joint}
+use Rattle.compose.specs.declared.links.Link.{Link}
 use Rattle.compose.specs.Counted.{Room, Bridge}
-use Rattle.compose.specs.Joints.{link, joinsOf, numbersAt, noVertex, jointAt, Laid, Task, Jointed}
+use Rattle.compose.specs.Joints.{link, joinsOf, numbersAt, Laid, Task}
 use Rattle.compose.proofs.Joining.{measures}
 use Rattle.compose.proofs.Ports.{few-atoms, stands}
 use Rattle.compose.proofs.Seeing.{sighted}
@@ -67,12 +63,3 @@ pub first-numbers : {blocks : ℕ → Graph} {last : ℕ} {ls : List Link} {rs :
     → numbersAt ns (link ls 0 .block) ≡ indicesOf (written blocks (joinsOf ls) 0)
 unfolding written
 first-numbers t = t .measured 0 (omega arith)
-
--- a joint more is known
-pub known-more : {blocks : ℕ → Graph} {ls : List Link} {j : Joint} (js : List Joint) (k : ℕ) → k < length js → ((m : ℕ) → 1 ≤ m → m < k → Jointed blocks ls (jointAt js m) m) → Jointed blocks ls j k
-    → (m : ℕ) → 1 ≤ m → m < k + 1 → Jointed blocks ls (jointAt (set js k j) m) m
-known-more {blocks} {ls} {j} js k n known here m h l =
-    ⊎-elim
-    (λ e. subst (λ (m : ℕ). Jointed blocks ls (jointAt (set js k j) m) m) (sym e) (rw (getD-set-same js k j (record { core = noVertex; own = noVertex }) n) here))
-    (λ q. rw (getD-set-other js k m j (record { core = noVertex; own = noVertex }) (λ e. omega arith)) (known m h q))
-    (eq-or-lt-of-le {n = m} {m = k} (omega arith))

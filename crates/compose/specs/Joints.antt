@@ -13,15 +13,18 @@ use Rattle.block.specs.declared.Indices.{Indices}
 use Rattle.block.specs.declared.Vertex.{Vertex}
 use Rattle.deck.specs.Deck.{mostBlocks}
 use Rattle.compose.specs.Counted.{Counts}
-use Rattle.compose.specs.declared.joints.Link.{Link}
+use Rattle.compose.specs.declared.links.Link.{Link}
 use Rattle.compose.specs.declared.joints.Joint.{Joint}
 
 abbrev pub ends : ℕ
 ends = 2 * mostPlacements
 
 -- the link at an index, and the join that it says
+abbrev pub noLink : Link
+noLink = record { block = 0; parent = 0; site = 0; own = 0 }
+
 abbrev pub link : List Link → ℕ → Link
-link ls k = getD ls k (record { block = 0; parent = 0; site = 0; own = 0 })
+link ls k = getD ls k noLink
 
 abbrev pub joinsOf : List Link → ℕ → Join
 joinsOf ls k = record { parent = link ls k .parent; site = link ls k .site; own = link ls k .own }
@@ -45,8 +48,11 @@ numbersAt ns b = getD ns b (record { atoms = 0; w = 0; even = 0; odd = 0; polari
 abbrev pub noVertex : Vertex
 noVertex = record { sum = 0; even = 0; odd = 0; evens = 0; odds = 0; ones = 0; twos = 0 }
 
+abbrev pub noJoint : Joint
+noJoint = record { core = noVertex; own = noVertex }
+
 abbrev pub jointAt : List Joint → ℕ → Joint
-jointAt js k = getD js k (record { core = noVertex; own = noVertex })
+jointAt js k = getD js k noJoint
 
 -- The links are an assembly of the blocks. At 2 k and 2 k + 1 stand the rows of the own atom of the placement at index k and of its parent's atom.
 pub record Laid (blocks : ℕ → Graph) (last : ℕ) (ls : List Link) (rs : List (List ℕ)) : Type 0 where
@@ -71,4 +77,4 @@ pub record Jointed (blocks : ℕ → Graph) (ls : List Link) (j : Joint) (k : �
 pub record Turn (blocks : ℕ → Graph) (last : ℕ) (ls : List Link) (rs : List (List ℕ)) (js : List Joint) (k : ℕ) : Type 0 where
   pub laid : Laid blocks last ls rs
   pub index : Within last k
-  pub known : (m : ℕ) → 1 ≤ m → m < k → Jointed blocks ls (jointAt js m) m
+  pub known : (m : ℕ) → m < k → 1 ≤ m → Jointed blocks ls (jointAt js m) m

@@ -1,3 +1,4 @@
 -- What composing counts.
 pub mod Counted
+pub mod Links
 pub mod Joints

@@ -1,6 +1,8 @@
 // The joins of an assembly: how far their atoms are apart, and what is counted from both ends of each.
 use super::counts::grown;
 use super::counts::wide;
+use super::links::ENDS;
+use super::links::Link;
 use assembly::BLOCKS;
 use assembly::PLACEMENTS;
 use block::ATOMS;
@@ -16,17 +18,6 @@ ghost use Rattle.assembly.specs.Placements.{mostPlacements};
 ghost use Rattle.compose.specs.Counted.{Counts};
 ghost use Rattle.deck.specs.Deck.{mostBlocks};
 ghost use Rattle.compose.specs.Joints.{ends, entry, link, numbersAt, between, sightAt, Laid, Task, Jointed, Turn};
-
-// Both ends of each join.
-pub(crate) const ENDS: usize = 2 * PLACEMENTS;
-
-// A placement: the place of its block in the table, its parent's number, the parent's atom and its own atom.
-pub(crate) struct Link {
-    pub(crate) block: usize,
-    pub(crate) parent: usize,
-    pub(crate) site: usize,
-    pub(crate) own: usize,
-}
 
 // What is counted from both ends of a join before it is made: from the parent's atom in the molecule, from the own atom in the block.
 pub(crate) struct Joint {

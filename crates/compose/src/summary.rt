@@ -1,8 +1,8 @@
 // The running summary: the five numbers of the molecule as far as it is built, and how they grow with one placement more.
 use super::counts::times;
-use super::joints::ENDS;
 use super::joints::Joint;
-use super::joints::Link;
+use super::links::ENDS;
+use super::links::Link;
 use super::joints::joint_of;
 use assembly::BLOCKS;
 use assembly::PLACEMENTS;

@@ -9,10 +9,11 @@ use Rattle.graph.specs.Graph.{Graph, Within}
 use Rattle.graph.specs.Assembly.{written}
 use Rattle.block.specs.Index.{indicesOf}
 use Rattle.assembly.specs.Placements.{mostPlacements}
-use Rattle.compose.specs.Joints.{joinsOf, jointAt, Task, Jointed, Turn}
+use Rattle.compose.specs.Joints.{joinsOf, noJoint, jointAt, Task, Jointed, Turn}
 use Rattle.compose.proofs.Ports.{stands}
 use Rattle.compose.proofs.Seeing.{sight-below, own-below}
-use Rattle.compose.proofs.Steps.{room-before, room-block, bridge, joined-next, first-numbers, known-more}
+use Rattle.compose.proofs.Steps.{room-before, room-block, bridge, joined-next, first-numbers}
+use Rattle.compose.proofs.Stored.{stored-more}
 use Rattle.compose.proofs.summary.composed.Statement.{statement}
 use Rattle.compose.proofs.summary.composed.Tie as tie
 
@@ -20,7 +21,7 @@ abbrev Inv-loop : tie.InvT-loop
 Inv-loop rows count links numbers b s₀ joints₀ k₀ s joints k =
     (1 ≤ k) × (k - 1 ≤ count - 1) × (length joints ≡ mostPlacements)
     × ((blocks : ℕ → Graph) → Task blocks (count - 1) links rows numbers
-    → (s .fields ≡ indicesOf (written blocks (joinsOf links) (k - 1))) × ((m : ℕ) → 1 ≤ m → m < k → Jointed blocks links (jointAt joints m) m))
+    → (s .fields ≡ indicesOf (written blocks (joinsOf links) (k - 1))) × ((m : ℕ) → m < k → 1 ≤ m → Jointed blocks links (jointAt joints m) m))
 
 abbrev μ-loop : tie.MeasureT-loop
 μ-loop rows count links numbers b s₀ joints₀ k₀ s joints k = count - k
@@ -38,7 +39,7 @@ no-joints-requires : tie.Need-no-joints-requires Inv-loop μ-loop
 no-joints-requires c κs = search needs
 
 loop-holds : tie.Need-loop-holds Inv-loop μ-loop
-loop-holds c = (omega arith, omega arith, search needs, λ blocks t. (first-numbers t, λ m h l. absurd (omega arith)))
+loop-holds c = (omega arith, omega arith, search needs, λ blocks t. (first-numbers t, λ m l h. absurd (omega arith)))
 
 -- the next placement's turn
 module _ (c : tie.In-loop Inv-loop μ-loop) where
@@ -102,7 +103,7 @@ loop-again c =
           let i = s .before .loop .inv .3 blocks t in
           let j = c .before .before .before .joint-of .ensures blocks _ t (turn s t) in (
             rw e (joined-next l w (c .joined .ensures _ _ _ _ (bridge l w) (i .0) (t .measured _ (w .high)) (j .core) (j .own))),
-            known-more js k (omega (arith, w, l .few, s .before .loop .inv .2)) (i .1) j,
+            stored-more (λ m j. 1 ≤ m → Jointed blocks (s .before .before .before .before .before .args .t1) j m) noJoint js k _ (omega (arith, w, l .few, s .before .loop .inv .2)) (i .1) (λ h. j),
           ),
     )
 
