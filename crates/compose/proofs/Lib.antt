@@ -5,3 +5,4 @@ pub mod Joining
 pub mod Ports
 pub mod Seeing
 pub mod Steps
+pub mod Copying

@@ -11,7 +11,6 @@ use Rattle.assembly.specs.Placements.{mostPlacements}
 use Rattle.block.specs.Index.{indicesOf}
 use Rattle.block.specs.declared.Indices.{Indices}
 use Rattle.block.specs.declared.Vertex.{Vertex}
-use Rattle.deck.specs.Deck.{mostBlocks}
 use Rattle.compose.specs.Counted.{Counts}
 use Rattle.compose.specs.declared.links.Link.{Link}
 use Rattle.compose.specs.declared.joints.Joint.{Joint}
@@ -41,7 +40,7 @@ between blocks ls last x y = apart blocks (joinsOf ls) last (link ls x .parent) 
 abbrev pub sightAt : (ℕ → Graph) → List Link → ℕ → ℕ → (ℕ → ℕ) → ℕ
 sightAt blocks ls m k = seen blocks (joinsOf ls) (m - 1) (link ls k .parent) (link ls k .site)
 
--- the five numbers at a place of the table, and what is counted at the join of the placement at an index
+-- the five numbers of the block of a placement that has it first, and what is counted at the join of the placement at an index
 abbrev pub numbersAt : List Indices → ℕ → Indices
 numbersAt ns b = getD ns b (record { atoms = 0; w = 0; even = 0; odd = 0; polarity = 0 })
 
@@ -62,10 +61,10 @@ pub record Laid (blocks : ℕ → Graph) (last : ℕ) (ls : List Link) (rs : Lis
   pub own : (k j : ℕ) → Within last k → Within (blocks k .atoms) j → entry rs (2 * k) j ≡ distance (blocks k) (link ls k .own) j
   pub site : (k j : ℕ) → Within last k → Within (blocks (link ls k .parent - 1) .atoms) j → entry rs (2 * k + 1) j ≡ distance (blocks (link ls k .parent - 1)) (link ls k .site) j
 
--- the table has the five numbers of each placed block
+-- and the five numbers of each block stand at the first placement that has it
 pub record Task (blocks : ℕ → Graph) (last : ℕ) (ls : List Link) (rs : List (List ℕ)) (ns : List Indices) : Type 0 where
   pub laid : Laid blocks last ls rs
-  pub listed : (k : ℕ) → k ≤ last → link ls k .block < mostBlocks
+  pub listed : (k : ℕ) → k ≤ last → link ls k .block < mostPlacements
   pub measured : (k : ℕ) → k ≤ last → numbersAt ns (link ls k .block) ≡ indicesOf (blocks k)
 
 -- a joint has what is counted at the join of the placement at index k

@@ -2,3 +2,4 @@
 pub mod Counted
 pub mod Links
 pub mod Joints
+pub mod Tables

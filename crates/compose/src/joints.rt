@@ -3,7 +3,6 @@ use super::counts::grown;
 use super::counts::wide;
 use super::links::ENDS;
 use super::links::Link;
-use assembly::BLOCKS;
 use assembly::PLACEMENTS;
 use block::ATOMS;
 use block::Indices;
@@ -16,7 +15,6 @@ ghost use Rattle.block.specs.Block.{mostAtoms};
 ghost use Rattle.block.specs.Sums.{vertexBy};
 ghost use Rattle.assembly.specs.Placements.{mostPlacements};
 ghost use Rattle.compose.specs.Counted.{Counts};
-ghost use Rattle.deck.specs.Deck.{mostBlocks};
 ghost use Rattle.compose.specs.Joints.{ends, entry, link, numbersAt, between, sightAt, Laid, Task, Jointed, Turn};
 
 // What is counted from both ends of a join before it is made: from the parent's atom in the molecule, from the own atom in the block.
@@ -71,10 +69,10 @@ fn apart(links: [Link; PLACEMENTS], rows: &[[u8; ATOMS]; ENDS], x: usize, y: usi
 fn end_counts(
     rows: &[[u8; ATOMS]; ENDS],
     end: usize,
-    numbers: [Indices; BLOCKS],
+    numbers: [Indices; PLACEMENTS],
     block: usize,
 ) -> Vertex
-    requires { ⌜ (end < ends) × (block < mostBlocks) ⌝ }
+    requires { ⌜ (end < ends) × (block < mostPlacements) ⌝ }
     ensures { λ r. ⌜ r ≡ vertexBy (min (numbersAt numbers block .atoms) mostAtoms) (entry (now (rows .entry)) end) ⌝ }
 {
     let all = numbers[block];
@@ -86,7 +84,7 @@ fn end_counts(
 fn begun(
     links: [Link; PLACEMENTS],
     rows: &[[u8; ATOMS]; ENDS],
-    numbers: [Indices; BLOCKS],
+    numbers: [Indices; PLACEMENTS],
     joints: [Joint; PLACEMENTS],
     k: usize,
 ) -> Vertex
@@ -132,7 +130,7 @@ fn since(
 pub(crate) fn joint_of(
     links: [Link; PLACEMENTS],
     rows: &[[u8; ATOMS]; ENDS],
-    numbers: [Indices; BLOCKS],
+    numbers: [Indices; PLACEMENTS],
     joints: [Joint; PLACEMENTS],
     k: usize,
 ) -> Joint

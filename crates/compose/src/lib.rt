@@ -3,3 +3,4 @@ mod counts;
 mod joints;
 mod links;
 mod summary;
+mod tables;

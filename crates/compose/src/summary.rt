@@ -4,7 +4,6 @@ use super::joints::Joint;
 use super::links::ENDS;
 use super::links::Link;
 use super::joints::joint_of;
-use assembly::BLOCKS;
 use assembly::PLACEMENTS;
 use block::ATOMS;
 use block::Indices;
@@ -122,7 +121,7 @@ fn no_joints() -> [Joint; PLACEMENTS] {
 pub(crate) fn composed(
     links: [Link; PLACEMENTS],
     rows: &[[u8; ATOMS]; ENDS],
-    numbers: [Indices; BLOCKS],
+    numbers: [Indices; PLACEMENTS],
     count: usize,
 ) -> Indices
     requires { ⌜ ((blocks : ℕ → Graph) × Task blocks (count - 1) links (now rows) numbers) ⌝ }
