@@ -6,3 +6,4 @@ pub mod Ports
 pub mod Seeing
 pub mod Steps
 pub mod Copying
+pub mod Filling

@@ -41,8 +41,11 @@ abbrev pub sightAt : (ℕ → Graph) → List Link → ℕ → ℕ → (ℕ → 
 sightAt blocks ls m k = seen blocks (joinsOf ls) (m - 1) (link ls k .parent) (link ls k .site)
 
 -- the five numbers of the block of a placement that has it first, and what is counted at the join of the placement at an index
+abbrev pub noIndices : Indices
+noIndices = record { atoms = 0; w = 0; even = 0; odd = 0; polarity = 0 }
+
 abbrev pub numbersAt : List Indices → ℕ → Indices
-numbersAt ns b = getD ns b (record { atoms = 0; w = 0; even = 0; odd = 0; polarity = 0 })
+numbersAt ns b = getD ns b noIndices
 
 abbrev pub noVertex : Vertex
 noVertex = record { sum = 0; even = 0; odd = 0; evens = 0; odds = 0; ones = 0; twos = 0 }

@@ -3,3 +3,4 @@ pub mod Counted
 pub mod Links
 pub mod Joints
 pub mod Tables
+pub mod Ready

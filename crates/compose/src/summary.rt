@@ -1,9 +1,9 @@
 // The running summary: the five numbers of the molecule as far as it is built, and how they grow with one placement more.
 use super::counts::times;
 use super::joints::Joint;
+use super::joints::joint_of;
 use super::links::ENDS;
 use super::links::Link;
-use super::joints::joint_of;
 use assembly::PLACEMENTS;
 use block::ATOMS;
 use block::Indices;

@@ -45,7 +45,7 @@ loop-again c =
     let s = c .before .before .before .before in (
       omega arith,
       below-more _ _ (s .loop .inv .1)
-      (λ e. c .if1 .left (ap (λ (q : Placement). q .block) (c .before .before .placement-at2 .ensures) ∙ e ∙ sym (ap (λ (q : Placement). q .block) (s .before .placement-at .ensures)))),
+          (λ e. c .if1 .left (ap (λ (q : Placement). q .block) (c .before .before .placement-at2 .ensures) ∙ e ∙ sym (ap (λ (q : Placement). q .block) (s .before .placement-at .ensures)))),
     )
 
 returns-2 : tie.Need-returns-2 Inv-loop μ-loop

@@ -85,10 +85,10 @@ loop-again c =
     let at : link (a .t2) (o .end-of .result .home) .block ≡ homeOf (a .t2) e = ap (λ (h : ℕ). link (a .t2) h .block) (home o) in (
       omega arith,
       ⊎-elim
-      (λ w. rw (w .3)
-      (copy-one e (s .loop .inv .1) _ (omega (arith, s .before .pre .few, o .before .loop-test .taken)) (sym at ∙ w .0 .taken) (ap (λ (i : ℕ). getD (a .table .now) (i - 1) []) (atom o))))
-      (λ w. rw (w .1) (copy-none e (s .loop .inv .1) (λ q. w .0 .left (at ∙ q))))
-      (c .if1 .came),
+          (λ w. rw (w .3)
+          (copy-one e (s .loop .inv .1) _ (omega (arith, s .before .pre .few, o .before .loop-test .taken)) (sym at ∙ w .0 .taken) (ap (λ (i : ℕ). getD (a .table .now) (i - 1) []) (atom o))))
+          (λ w. rw (w .1) (copy-none e (s .loop .inv .1) (λ q. w .0 .left (at ∙ q))))
+          (c .if1 .came),
     )
 
 returns : tie.Need-returns Inv-loop μ-loop
