@@ -5,24 +5,19 @@ use mathlib.Core.List.{List, [], _∷_, _++_}
 use mathlib.Core.Path.{_≡_, refl, sym, _∙_, ap}
 use native.Mathlib.Numerals.{add-one}
 use native.Mathlib.Omega.{arith}
-use borrow.Author.Tests.{eq-eqb, ne-eqb, leb-false}
+use borrow.Author.Tests.{eq-eqb, ne-eqb}
 use lib.Dec.{eqb, leb}
 use lib.ListN.{length, take, drop, set, replicate, take-append-drop}
 use lib.Seq.{length-take-le, take-suc-set, drop-set-lt, drop-drop}
-use Rattle.block.specs.Read.{Read, refused, read, _then_, refuseIf, refusal}
+use Rattle.block.specs.Read.{Read, refused, read, refusal}
 use Rattle.block.specs.Block.{blockReply, saidBlock}
-use Rattle.block.specs.Chain.{then-read, if-read}
-use Rattle.block.specs.Faults.{neither}
 use Rattle.block.specs.declared.Refusal.{Refusal}
-use Rattle.block.specs.declared.Reply.{Reply}
-use Rattle.block.specs.declared.Reply.the-variants.{Fine, Refused}
 use Rattle.records.specs.Records.{blockKind, sheetKind, kindAt, endAt, kindReply, recordReply}
 use Rattle.records.specs.declared.Kind.{Kind}
 use Rattle.assembly.specs.Book.{noBlock, used, bondBytes}
 use Rattle.assembly.specs.declared.BlockAt.{BlockAt}
-use Rattle.deck.specs.Deck.{mostBlocks, kindsAfter, sheetKinds, blockAt, moved, blockPlace, blockReplyAt, Blocks, blocksFrom}
-use Rattle.deck.specs.Said.{tableOf, movedReply, saidBlocks}
-use Rattle.deck.specs.declared.DeckRead.{DeckRead}
+use Rattle.deck.specs.Deck.{mostBlocks, kindsAfter, sheetKinds, blockAt, moved, blockPlace, blockReplyAt, deckAt, blocksFrom}
+use Rattle.deck.specs.Said.{tableOf, tabledDeck, movedReply, saidDeck}
 
 -- a kind that is named twice
 twice : (t : Bool) (x y : Read Kind) → cond t x (cond t x y) ≡ cond t x y
@@ -55,14 +50,6 @@ module _ (d : List ℕ) (at : ℕ) (done : List BlockAt) where
   unfolding blockReplyAt
   number-fit e = rw e
 
--- a block that is taken has room
-pub block-room : (d : List ℕ) (at : ℕ) (done : List BlockAt) → blockReplyAt d at done ≡ read tt → length done < mostBlocks
-unfolding blockReplyAt
-block-room d at done e =
-    let (u, p, f) = then-read (refuseIf (unfit d at done) 14 at) _ e in
-    let number = blockAt d at .number in
-    leb-false mostBlocks (length done) (neither (eqb number 0 || used done number) (leb mostBlocks (length done)) (if-read (unfit d at done) 14 at p) .1)
-
 -- a turn of the loop over blocks
 module _ (fuel : ℕ) (last : Kind) (d : List ℕ) (at : ℕ) (done : List BlockAt) where
   pub no-record : (r : Refusal) → recordReply (kindsAfter done last) d at ≡ refused r → blocksFrom (suc fuel) last d at done ≡ refused r
@@ -70,7 +57,7 @@ module _ (fuel : ℕ) (last : Kind) (d : List ℕ) (at : ℕ) (done : List Block
   no-record r e = rw e
 
   module _ (e : recordReply (kindsAfter done last) d at ≡ read tt) where
-    pub no-block : (kindAt d at ≡ 1 → ⊥) → blocksFrom (suc fuel) last d at done ≡ read (record { blocks = done; next = at })
+    pub no-block : (kindAt d at ≡ 1 → ⊥) → blocksFrom (suc fuel) last d at done ≡ read (deckAt d done at)
     unfolding blocksFrom
     no-block k = rw (e, ne-eqb (kindAt d at) 1 k)
 
@@ -100,7 +87,6 @@ table-next t count b e =
     ∙ ap (λ (x : List BlockAt). drop 1 x) e
     ∙ drop-drop 1 count (replicate mostBlocks noBlock)
 
--- the blocks as the code has them
-pub said : {count next : ℕ} {t : List BlockAt} (bs : List BlockAt) → t ≡ tableOf bs → count ≡ length bs
-    → _≡_ {A = DeckRead} (record { reply = Fine; layout = record { count = count; blocks = t; assembly = next; placements = 0; sheet = 0 } }) (saidBlocks (read (record { blocks = bs; next = next })))
-said bs e f = rw (e, f)
+-- a deck as the code has it
+pub said : (d : List ℕ) (table bs : List BlockAt) (count at : ℕ) → table ≡ tableOf bs → count ≡ length bs → tabledDeck d table count at ≡ saidDeck (read (deckAt d bs at))
+said d table bs count at e f = rw (e, f)

@@ -2,4 +2,5 @@
 pub mod Deck
 pub mod Molecule
 pub mod Said
+pub mod Kept
 pub mod Examples

@@ -6,9 +6,11 @@ use Rattle.block.specs.Read.{Read, refused, read, refusal}
 use Rattle.block.specs.declared.Refusal.{Refusal}
 use Rattle.block.specs.declared.Reply.{Reply}
 use Rattle.block.specs.declared.Reply.the-variants.{Fine, Refused}
+use Rattle.records.specs.Records.{payloadAt, endAt}
+use Rattle.assembly.specs.Placements.{placementCount}
 use Rattle.assembly.specs.declared.BlockAt.{BlockAt}
 use Rattle.assembly.specs.Book.{noBlock}
-use Rattle.deck.specs.Deck.{Deck, Blocks, mostBlocks}
+use Rattle.deck.specs.Deck.{Deck, mostBlocks}
 use Rattle.deck.specs.declared.Layout.{Layout}
 use Rattle.deck.specs.declared.DeckRead.{DeckRead}
 
@@ -25,14 +27,16 @@ nothing = record { blocks = []; assembly = 0; placements = 0; sheet = 0 }
 abbrev pub refusedDeck : Reply → DeckRead
 refusedDeck r = record { reply = r; layout = layoutOf nothing }
 
+-- one with a table of blocks, of which `count` are there
+abbrev pub tabledDeck : List ℕ → List BlockAt → ℕ → ℕ → DeckRead
+tabledDeck d table count at = record {
+  reply = Fine;
+  layout = record { count = count; blocks = table; assembly = at; placements = placementCount (payloadAt d at); sheet = endAt d at };
+}
+
 abbrev pub saidDeck : Read Deck → DeckRead
 saidDeck (refused r) = refusedDeck (Refused r)
 saidDeck (read k) = record { reply = Fine; layout = layoutOf k }
-
--- the blocks alone
-abbrev pub saidBlocks : Read Blocks → DeckRead
-saidBlocks (refused r) = refusedDeck (Refused r)
-saidBlocks (read b) = record { reply = Fine; layout = layoutOf (record { blocks = b .blocks; assembly = b .next; placements = 0; sheet = 0 }) }
 
 -- a reply at another place
 abbrev pub movedReply : (Refusal → ℕ) → Reply → Reply

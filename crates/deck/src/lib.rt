@@ -8,9 +8,9 @@ ghost use Rattle.block.specs.Block.{saidBlock};
 ghost use Rattle.records.specs.Records.{blockKind, payloadAt, endAt};
 ghost use Rattle.assembly.specs.Book.{used};
 ghost use Rattle.assembly.specs.Placements.{mostPlacements, placementAt};
-ghost use Rattle.deck.specs.Deck.{mostBlocks, longestDeck, blockAt, blockPlace, placementPlace, blockReplyAt, blocksReply, endReply, sheetReply, deckReply, payload, blockPart};
+ghost use Rattle.deck.specs.Deck.{mostBlocks, longestDeck, blockAt, blockPlace, placementPlace, blockReplyAt, assemblyReplyAt, blocksReply, endReply, sheetReply, deckReply, payload, blockPart};
 ghost use Rattle.deck.specs.Molecule.{claimedAt, saidFields};
-ghost use Rattle.deck.specs.Said.{refusedDeck, movedReply, saidBlocks, saidDeck};
+ghost use Rattle.deck.specs.Said.{refusedDeck, tabledDeck, movedReply, saidDeck};
 use assembly::BLOCKS;
 use assembly::BlockAt;
 use assembly::Placement;
@@ -22,6 +22,10 @@ use records::BLOCK;
 use records::Kind;
 use records::SHEET;
 use records::le16_at;
+use records::le32_at;
+use records::le64_at;
+use records::part;
+use records::payload_at;
 use records::record_at;
 
 // The most bytes of a deck.
@@ -147,9 +151,28 @@ fn deck_refused(reply: Reply) -> DeckRead
     DeckRead { reply, layout }
 }
 
+// A deck whose first `count` blocks end before the record at a place.
+fn deck_at(d: &[u8], blocks: [BlockAt; BLOCKS], count: usize, at: usize) -> DeckRead
+    requires { ⌜ at ≤ length (now d) ⌝ }
+    ensures { λ r. ⌜ r ≡ tabledDeck (now (d .entry)) blocks count at ⌝ }
+{
+    let xs = payload_at(d, at);
+    let layout = Layout {
+        count,
+        blocks,
+        assembly: at,
+        placements: le16_at(xs, 0) as usize,
+        sheet: at + 4 + (le16_at(d, at) as usize),
+    };
+    DeckRead {
+        reply: Reply::Fine,
+        layout,
+    }
+}
+
 // The blocks of a deck, up to a record of the kind `last`.
 fn read_blocks(d: &[u8], last: Kind) -> DeckRead
-    ensures { λ r. ⌜ r ≡ saidBlocks (blocksReply last (now (d .entry))) ⌝ }
+    ensures { λ r. ⌜ r ≡ saidDeck (blocksReply last (now (d .entry))) ⌝ }
 {
     let none = BlockAt {
         number: 0,
@@ -166,17 +189,7 @@ fn read_blocks(d: &[u8], last: Kind) -> DeckRead
             return deck_refused(r);
         };
         if le16_at(d, next + 2) != BLOCK.number {
-            let layout = Layout {
-                count,
-                blocks,
-                assembly: next,
-                placements: 0,
-                sheet: 0,
-            };
-            return DeckRead {
-                reply: Reply::Fine,
-                layout,
-            };
+            return deck_at(d, blocks, count, next);
         }
         let b = block_at(d, next);
         let s = block_reply(d, next, b, blocks, count);
@@ -186,5 +199,143 @@ fn read_blocks(d: &[u8], last: Kind) -> DeckRead
         blocks[count] = b;
         count += 1;
         next = next + 4 + (le16_at(d, next) as usize);
+    }
+}
+
+// Refusals 15 to 19 of the assembly record at a place, over the first `count` blocks.
+fn assembly_reply(d: &[u8], at: usize, blocks: [BlockAt; BLOCKS], count: usize) -> Reply
+    requires { ⌜ at ≤ longestDeck ⌝ }
+    ensures { λ r. ⌜ r ≡ saidBlock (assemblyReplyAt (now (d .entry)) (take count blocks) at) ⌝ }
+{
+    let xs = payload_at(d, at);
+    let reply = assembly::check(d, blocks, count, xs);
+    match reply {
+        Reply::Fine => Reply::Fine,
+        Reply::Refused(r) => Reply::Refused(Refusal {
+            number: r.number,
+            place: placement_place(at, r),
+        }),
+    }
+}
+
+// After the last record nothing follows.
+fn end_reply(d: &[u8], at: usize) -> Reply
+    ensures { λ r. ⌜ r ≡ saidBlock (endReply (now (d .entry)) at) ⌝ }
+{
+    if at < d.len() {
+        return Reply::Refused(Refusal {
+            number: 11,
+            place: at,
+        });
+    }
+    Reply::Fine
+}
+
+// What follows the assembly: in a deck to be judged a sheet, and then nothing.
+fn sheet_reply(form: Form, d: &[u8], at: usize) -> Reply
+    ensures { λ r. ⌜ r ≡ saidBlock (sheetReply form (now (d .entry)) at) ⌝ }
+{
+    let Form::Judged = form else {
+        return end_reply(d, at);
+    };
+    let r = record_at(d, at, SHEET, SHEET);
+    let Reply::Fine = r else {
+        return r;
+    };
+    end_reply(d, at + 4 + (le16_at(d, at) as usize))
+}
+
+// What a deck says: record by record, each taken or refused with its place.
+pub fn read_deck(d: &[u8], form: Form) -> DeckRead
+    ensures { λ r. ⌜ r ≡ saidDeck (deckReply form (now (d .entry))) ⌝ }
+{
+    if LONGEST < d.len() {
+        return deck_refused(Reply::Refused(Refusal {
+            number: 20,
+            place: 0,
+        }));
+    }
+    let k = read_blocks(d, ASSEMBLY);
+    let first = k.reply;
+    let Reply::Fine = first else {
+        return k;
+    };
+    let layout = k.layout;
+    let blocks = layout.blocks;
+    let a = assembly_reply(d, layout.assembly, blocks, layout.count);
+    let Reply::Fine = a else {
+        return deck_refused(a);
+    };
+    let s = sheet_reply(form, d, layout.sheet);
+    let Reply::Fine = s else {
+        return deck_refused(s);
+    };
+    k
+}
+
+// The payload of the block of a number among the first `count`, and nothing where there is no such block.
+fn payload_of(d: &[u8], blocks: [BlockAt; BLOCKS], count: usize, number: usize) -> &[u8]
+    ensures { λ r. ⌜ now r ≡ payload (now (d .entry)) (take count blocks) number ⌝ }
+{
+    let b = assembly::find_block(blocks, count, number);
+    if !assembly::is_numbered(b, number) {
+        return &d[..0];
+    }
+    part(d, b.start, 6 + 2 * (b.bonds as usize))
+}
+
+// The part of a deck that holds the payload of a block: empty exactly where the deck is refused in both forms or has no such block.
+pub fn block_part(d: &[u8], number: usize) -> &[u8]
+    ensures { λ r. ⌜ now r ≡ blockPart (now (d .entry)) number ⌝ }
+{
+    let k = read_deck(d, Form::Composed);
+    let composed = k.reply;
+    let Reply::Fine = composed else {
+        let j = read_deck(d, Form::Judged);
+        let judged = j.reply;
+        let Reply::Fine = judged else {
+            return &d[..0];
+        };
+        let layout = j.layout;
+        let blocks = layout.blocks;
+        return payload_of(d, blocks, layout.count, number);
+    };
+    let layout = k.layout;
+    let blocks = layout.blocks;
+    payload_of(d, blocks, layout.count, number)
+}
+
+// The placement at an index from 0 of the assembly record at a place.
+pub fn placement(d: &[u8], assembly: usize, k: usize) -> Placement
+    ensures { λ r. ⌜ r ≡ placementAt (payloadAt (now (d .entry)) assembly) k ⌝ }
+{
+    let xs = payload_at(d, assembly);
+    assembly::placement_at(xs, k)
+}
+
+// The five fields that the sheet record at a place claims.
+pub fn claimed(d: &[u8], sheet: usize) -> Indices
+    ensures { λ r. ⌜ r ≡ saidFields (claimedAt (now (d .entry)) sheet) ⌝ }
+{
+    if d.len() < sheet {
+        return Indices {
+            atoms: 0,
+            w: 0,
+            even: 0,
+            odd: 0,
+            polarity: 0,
+        };
+    }
+    let atoms = sheet + 4;
+    let w = atoms + 4;
+    let even = w + 8;
+    let odd = even + 8;
+    let polarity = odd + 8;
+    Indices {
+        atoms: le32_at(d, atoms) as u64,
+        w: le64_at(d, w),
+        even: le64_at(d, even),
+        odd: le64_at(d, odd),
+        polarity: le64_at(d, polarity),
     }
 }

@@ -15,8 +15,9 @@ use Rattle.records.specs.declared.Kind.{Kind}
 use Rattle.assembly.specs.Book.{noBlock}
 use Rattle.assembly.specs.declared.BlockAt.{BlockAt}
 use Rattle.deck.specs.Deck.{mostBlocks, kindsAfter, blockReplyAt, blocksFrom, blocksReply}
-use Rattle.deck.specs.Said.{refusedDeck, saidBlocks}
-use Rattle.deck.proofs.Turns.{second, no-record, no-block, bad-block, one-block, block-room, said, table-is, table-grows, table-next}
+use Rattle.deck.specs.Said.{refusedDeck, saidDeck}
+use Rattle.deck.specs.Kept.{fit}
+use Rattle.deck.proofs.Turns.{second, no-record, no-block, bad-block, one-block, said, table-is, table-grows, table-next}
 use Rattle.deck.proofs.read_blocks.Statement.{statement}
 use Rattle.deck.proofs.read_blocks.Tie as tie
 
@@ -56,7 +57,7 @@ record-fine : (c : tie.After-enum-told Inv-loop μ-loop) → let l = c .before .
 record-fine c = fine-read _ (sym (record-is (c .before .before)) ∙ c .enum-told .given .1)
 
 record-whole : (c : tie.After-enum-told Inv-loop μ-loop) → let l = c .before .before .before .before in endAt (deck l) (l .loop .next) ≤ length (deck l)
-record-whole c = let l = c .before .before .before .before in taken (kindsAfter (done l) (last l)) (deck l) (l .loop .next) (record-fine c) .whole
+record-whole c = let l = c .before .before .before .before in taken (deck l) (l .loop .next) (kindsAfter (done l) (last l)) (record-fine c) .whole
 
 -- it is a block
 is-block : (c : tie.Else1 Inv-loop μ-loop) → let l = c .before .before .before .before .before .before .before in kindAt (deck l) (l .loop .next) ≡ 1
@@ -69,7 +70,7 @@ block-fine : (c : tie.After-enum-told3 Inv-loop μ-loop) → let l = c .before .
 block-fine c = fine-read _ (sym (block-is (c .before .before)) ∙ c .enum-told3 .given .1)
 
 room : (c : tie.After-enum-told3 Inv-loop μ-loop) → let l = c .before .before .before .before .before .before .before .before .before .before .before in l .loop .count < mostBlocks
-room c = let l = c .before .before .before .before .before .before .before .before .before .before .before in omega (arith, counted l, block-room (deck l) (l .loop .next) (done l) (block-fine c))
+room c = let l = c .before .before .before .before .before .before .before .before .before .before .before in omega (arith, counted l, fit (deck l) (l .loop .next) (done l) (block-fine c) .room)
 
 loop-holds : tie.Need-loop-holds Inv-loop μ-loop
 unfolding blocksReply
@@ -94,7 +95,7 @@ returns : tie.Need-returns Inv-loop μ-loop
 returns c = let l = c .before .before .before .before .before in
     let r = c .before .enum-told2 .given in
     let e = refused-read _ (r .0 .0) (sym (record-is (c .before .before .before)) ∙ r .1) in
-    c .deck-refused .ensures ∙ ap refusedDeck (r .1) ∙ ap saidBlocks (sym (left l ∙ no-record (mostBlocks - l .loop .count) (last l) (deck l) (l .loop .next) (done l) (r .0 .0) e))
+    c .deck-refused .ensures ∙ ap refusedDeck (r .1) ∙ ap saidDeck (sym (left l ∙ no-record (mostBlocks - l .loop .count) (last l) (deck l) (l .loop .next) (done l) (r .0 .0) e))
 
 add-le16-at : tie.Need-add-le16-at Inv-loop μ-loop
 add-le16-at c = search needs
@@ -102,11 +103,16 @@ add-le16-at c = search needs
 le16-at-requires : tie.Need-le16-at-requires Inv-loop μ-loop
 le16-at-requires c κs = search needs
 
+deck-at-requires : tie.Need-deck-at-requires Inv-loop μ-loop
+deck-at-requires c κs = c .before .before .before .before .before .before .before .loop .inv .0
+
 returns-2 : tie.Need-returns-2 Inv-loop μ-loop
-returns-2 c = let l = c .before .before .before .before .before .before .before in
+returns-2 c = let l = c .before .before .before .before .before .before .before .before in
     let t = table-is (l .loop .blocks) (l .loop .count) (omega arith) (l .loop .inv .4) in
-    let k : (kindAt (deck l) (l .loop .next) ≡ 1 → ⊥) = λ e. c .if1 .taken (c .before .before .le16-at .ensures ∙ e) in
-    said (done l) t (sym (counted l)) ∙ ap saidBlocks (sym (left l ∙ no-block (mostBlocks - l .loop .count) (last l) (deck l) (l .loop .next) (done l) (record-fine (c .before .before .before)) k))
+    let k : (kindAt (deck l) (l .loop .next) ≡ 1 → ⊥) = λ e. c .before .if1 .taken (c .before .before .before .le16-at .ensures ∙ e) in
+    c .deck-at .ensures
+    ∙ said (deck l) (l .loop .blocks) (done l) (l .loop .count) (l .loop .next) t (sym (counted l))
+    ∙ ap saidDeck (sym (left l ∙ no-block (mostBlocks - l .loop .count) (last l) (deck l) (l .loop .next) (done l) (record-fine (c .before .before .before .before)) k))
 
 block-at-requires : tie.Need-block-at-requires Inv-loop μ-loop
 block-at-requires c κs = c .before .before .before .before .before .before .before .loop .inv .0
@@ -129,7 +135,7 @@ returns-3 c = let l = c .before .before .before .before .before .before .before 
     let e = refused-read _ (r .0 .0) (sym (block-is (c .before .before .before)) ∙ r .1) in
     c .deck-refused2 .ensures
     ∙ ap refusedDeck (r .1)
-    ∙ ap saidBlocks (sym (left l ∙ bad-block (mostBlocks - l .loop .count) (last l) (deck l) (l .loop .next) (done l) (record-fine (c .before .before .before .before .before .before .before .before)) (is-block (c .before .before .before .before .before)) (r .0 .0) e))
+    ∙ ap saidDeck (sym (left l ∙ bad-block (mostBlocks - l .loop .count) (last l) (deck l) (l .loop .next) (done l) (record-fine (c .before .before .before .before .before .before .before .before)) (is-block (c .before .before .before .before .before)) (r .0 .0) e))
 
 mul-blocks : tie.Need-mul-blocks Inv-loop μ-loop
 mul-blocks c = search needs
@@ -184,6 +190,7 @@ read-blocks-spec =
     returns
     add-le16-at
     le16-at-requires
+    deck-at-requires
     returns-2
     block-at-requires
     block-reply-requires
