@@ -206,8 +206,8 @@ fn look(n: usize, bonds: &[u8], i: usize) -> View
 pub fn row(n: usize, bonds: &[u8], i: usize) -> [u8; ATOMS]
     ensures { λ r. ⌜ r ≡ saidRow (rowReply n (now (bonds .entry)) i) ⌝ }
 {
-    let seen = look(n, bonds, i);
-    seen.row
+    let view = look(n, bonds, i);
+    view.row
 }
 
 // The indices of the first n atoms, at most ATOMS, by rows of their distances: the pair i < j is read in the row of j.
@@ -306,4 +306,22 @@ pub fn vertex_sums(n: usize, bonds: &[u8], a: usize) -> Around
             Around::Of(vertex)
         }
     }
+}
+
+// How many pairs of atoms of a block lie at each distance; all 0 where it is refused.
+pub fn pair_counts(n: usize, bonds: &[u8]) -> Pairs
+    ensures { λ r. ⌜ r ≡ saidPairs (pairsReply n (now (bonds .entry))) ⌝ }
+{
+    let admitted = admit(n, bonds);
+    let reply = admitted.reply;
+    let Reply::Fine = reply else {
+        return Pairs {
+            reply,
+            at: [0u16; ATOMS],
+        };
+    };
+    let near = admitted.near;
+    let rows = search::from_all(near, n);
+    let at = totals::count_pairs(rows, n);
+    Pairs { reply, at }
 }

@@ -32,7 +32,8 @@ pub(crate) fn from_atom(count: &[u8; SEATS], list: &[u8; PLACES], i: u8) -> Foun
             let at = w as usize - 1;
             k += 1;
             if w != i && row[at] == 0 {
-                row[at] = row[u - 1] + 1;
+                let next = row[u - 1] + 1;
+                row[at] = next;
                 order[met] = w;
                 met += 1;
             }
