@@ -2,4 +2,6 @@
 pub mod Deck
 pub mod Molecule
 pub mod Said
+pub mod Kept
+pub mod Sound
 pub mod Examples

@@ -3,3 +3,9 @@ pub mod Rows
 pub mod Lists
 pub mod Chains
 pub mod Sweeping
+pub mod Counting
+pub mod Tallying
+pub mod Entries
+pub mod Flowing
+pub mod Listing
+pub mod Starting
