@@ -5,4 +5,5 @@ pub mod Said
 pub mod Kept
 pub mod Sound
 pub mod Followed
+pub mod Lookup
 pub mod Examples
