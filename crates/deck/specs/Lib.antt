@@ -4,4 +4,6 @@ pub mod Molecule
 pub mod Said
 pub mod Kept
 pub mod Sound
+pub mod Followed
+pub mod Lookup
 pub mod Examples

@@ -48,7 +48,7 @@ parts form d k e =
     })
 
 -- a block that is found is one of the list
-found : (d : List ℕ) (bs : List BlockAt) (x : ℕ) → Each (Standing d) bs → used bs x ≡ true → Standing d (find bs x)
+pub found : (d : List ℕ) (bs : List BlockAt) (x : ℕ) → Each (Standing d) bs → used bs x ≡ true → Standing d (find bs x)
 unfolding Each find
 found d [] x s u =
     let (p, q) = both (not (eqb x 0)) (eqb 0 x) u in
