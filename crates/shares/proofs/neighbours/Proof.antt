@@ -14,7 +14,7 @@ use Rattle.shares.proofs.neighbours.Statement.{statement}
 use Rattle.shares.proofs.neighbours.Tie as tie
 
 abbrev Inv-loop : tie.InvT-loop
-Inv-loop n rows near₀ i₀ near i =     (i ≤ n) × (length near ≡ suc mostAtoms) × ((k : ℕ) → k < i → (d : ℕ → ℕ) → Shows n d (listOf rows k) → Listed n (λ w. eqb (d w) 1) (listOf near (suc k)))
+Inv-loop n rows near₀ i₀ near i = (i ≤ n) × (length near ≡ suc mostAtoms) × ((k : ℕ) → k < i → (d : ℕ → ℕ) → Shows n d (listOf rows k) → Listed n (λ w. eqb (d w) 1) (listOf near (suc k)))
 
 abbrev μ-loop : tie.MeasureT-loop
 μ-loop n rows near₀ i₀ near i = n - i
