@@ -9,3 +9,5 @@ pub mod Entries
 pub mod Flowing
 pub mod Listing
 pub mod Starting
+pub mod Blocks
+pub mod Reply
