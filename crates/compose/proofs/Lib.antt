@@ -7,3 +7,4 @@ pub mod Seeing
 pub mod Steps
 pub mod Copying
 pub mod Filling
+pub mod Reading

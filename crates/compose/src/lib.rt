@@ -13,18 +13,31 @@ use assembly::find_block;
 use assembly::placement_at;
 use block::ATOMS;
 use block::Indices;
+use block::Measured;
+use block::Reply;
 use block::rows;
 use block::sums;
+use deck::Form;
+use deck::Layout;
+use deck::read_deck;
 use links::ENDS;
 use links::Link;
+use links::links_of;
+use records::payload_at;
 use summary::composed;
 use tables::copied;
 ghost use mathlib.Core.Path.{_≡_};
 ghost use Prim.Native.Nat.{_-_};
 ghost use Rattle.graph.specs.Assembly.{written};
 ghost use Rattle.block.specs.Rows.{rowsOf};
-ghost use Rattle.block.specs.Index.{indicesOf};
+ghost use Rattle.block.specs.Read.{read};
+ghost use Rattle.block.specs.Index.{indicesOf, saidIndices};
 ghost use Rattle.assembly.specs.Book.{bondBytes};
+ghost use Rattle.deck.specs.Deck.{Deck, deckReply};
+ghost use Rattle.deck.specs.Molecule.{moleculeOf};
+ghost use Rattle.deck.specs.Said.{layoutOf};
+ghost use Rattle.deck.specs.declared.Form.{Form};
+ghost use Rattle.compose.specs.Fields.{fieldsReply};
 ghost use Rattle.compose.specs.Joints.{joinsOf};
 ghost use Rattle.compose.specs.Ready.{placedBlock, placedGraph, Ready};
 
@@ -77,4 +90,32 @@ fn filled(
         f += 1;
     }
     composed(links, &ends, numbers, placements)
+}
+
+// The five numbers of the molecule that a layout of the deck describes.
+fn laid_out(d: &[u8], layout: Layout) -> Indices
+    requires { ⌜ ((form : Form) × (k : Deck) × (deckReply form (now d) ≡ read k) × (layout ≡ layoutOf k)) ⌝ }
+    ensures { λ r. ⌜ ((form : Form) (k : Deck) → deckReply form (now (d .entry)) ≡ read k → layout ≡ layoutOf k → r ≡ indicesOf (moleculeOf (now (d .entry)) k)) ⌝ }
+{
+    let blocks = layout.blocks;
+    let placements = layout.placements;
+    let xs = payload_at(d, layout.assembly);
+    let links = links_of(xs, placements);
+    filled(d, xs, blocks, layout.count, placements, links)
+}
+
+// The five fields of a deck in a form: atom count, W, even part, odd part and polarity of its molecule; or the deck's refusal.
+pub fn fields(d: &[u8], form: Form) -> Measured
+    ensures { λ r. ⌜ r ≡ saidIndices (fieldsReply form (now (d .entry))) ⌝ }
+{
+    let k = read_deck(d, form);
+    let reply = k.reply;
+    match reply {
+        Reply::Refused(refusal) => Measured::Refused(refusal),
+        Reply::Fine => {
+            let layout = k.layout;
+            let all = laid_out(d, layout);
+            Measured::Of(all)
+        }
+    }
 }
