@@ -4,3 +4,7 @@ pub mod Reading
 pub mod Replies
 pub mod Meeting
 pub mod Filling
+pub mod Tallies
+pub mod Summing
+pub mod Counting
+pub mod Answers

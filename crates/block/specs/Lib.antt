@@ -3,9 +3,14 @@ pub mod Read
 pub mod Block
 pub mod Rows
 pub mod Index
+pub mod Sums
 pub mod Near
 pub mod Found
+pub mod Tally
 pub mod Chain
 pub mod Faults
 pub mod Tables
 pub mod Told
+pub mod Measures
+pub mod Unique
+pub mod Examples

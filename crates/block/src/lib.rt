@@ -1,13 +1,17 @@
 // One block: its refusals 1 to 7, its distances, indices and vertex sums.
 ghost use mathlib.Core.Path.{_≡_};
+ghost use Prim.Native.Nat.{min};
 ghost use Rattle.block.specs.Read.{refusal};
-ghost use Rattle.block.specs.Block.{blockReply, saidBlock};
+ghost use Rattle.block.specs.Block.{mostAtoms, blockReply, saidBlock};
 ghost use Rattle.block.specs.Rows.{rowsOf, rowReply, saidRow};
+ghost use Rattle.block.specs.Index.{indicesReply, saidIndices, vertexReply, saidVertex, distanceReply, saidDistance, pairsReply, saidPairs};
+ghost use Rattle.block.specs.Sums.{entry, pairEntry, indicesBy, vertexBy};
 ghost use Rattle.block.specs.Near.{Admitting};
 ghost use Rattle.block.specs.Found.{Viewing};
 
 mod lists;
 mod search;
+mod totals;
 
 // The most atoms of a block, the most bonds of an atom, and the most bytes that a block's bonds take.
 pub const ATOMS: usize = 64;
@@ -15,6 +19,11 @@ pub const ATOMS: usize = 64;
 pub const LIMIT: usize = 4;
 
 pub const BYTES: usize = ATOMS * LIMIT;
+
+// The distances from one atom, and those from all, the distance matrix: that of atoms i and j stands in row i - 1 at j - 1.
+pub type DistanceRow = [u8; ATOMS];
+
+pub type DistanceMatrix = [DistanceRow; ATOMS];
 
 // What is wrong, by document 01's number, and where.
 pub struct Refusal {
@@ -87,14 +96,25 @@ struct Built {
 
 // A search from one atom: the distances found, and how many atoms were met.
 struct Found {
-    pub row: [u8; ATOMS],
+    pub row: DistanceRow,
     pub met: usize,
 }
 
 // The row of one atom, or why there is none.
 struct View {
     pub reply: Reply,
-    pub row: [u8; ATOMS],
+    pub row: DistanceRow,
+}
+
+// What some distances add up to: the even ones and the odd ones, how many there are of each, and how many are 1, 2 and 3.
+struct Tally {
+    pub even: u64,
+    pub odd: u64,
+    pub evens: u64,
+    pub odds: u64,
+    pub ones: u64,
+    pub twos: u64,
+    pub threes: u64,
 }
 
 // A refusal at place 0.
@@ -146,7 +166,7 @@ pub fn check(n: usize, bonds: &[u8]) -> Reply
 
 // The distances of a block: those from atom i are row i - 1, and that to atom j stands there at j - 1. All is 0 beyond the atoms, and
 // where the block is refused.
-pub fn rows(n: usize, bonds: &[u8]) -> [[u8; ATOMS]; ATOMS]
+pub fn rows(n: usize, bonds: &[u8]) -> DistanceMatrix
     ensures { λ r. ⌜ r ≡ rowsOf n (now (bonds .entry)) ⌝ }
 {
     let admitted = admit(n, bonds);
@@ -188,9 +208,125 @@ fn look(n: usize, bonds: &[u8], i: usize) -> View
 }
 
 // The distances from atom i, that to atom j at j - 1: all 0 where the block is refused or has no such atom.
-pub fn row(n: usize, bonds: &[u8], i: usize) -> [u8; ATOMS]
+pub fn row(n: usize, bonds: &[u8], i: usize) -> DistanceRow
     ensures { λ r. ⌜ r ≡ saidRow (rowReply n (now (bonds .entry)) i) ⌝ }
 {
+    let view = look(n, bonds, i);
+    view.row
+}
+
+// The indices of the first n atoms, at most ATOMS, by rows of their distances: the pair i < j is read in the row of j.
+pub fn sums(rows: DistanceMatrix, n: usize) -> Indices
+    ensures { λ r. ⌜ r ≡ indicesBy (min n mostAtoms) (pairEntry rows) ⌝ }
+{
+    let m = totals::within(n);
+    let mut even: u64 = 0;
+    let mut odd: u64 = 0;
+    let mut threes: u64 = 0;
+    let mut j = 0;
+    while j < m {
+        let row = rows[j];
+        let t = totals::along(row, j);
+        even += t.even;
+        odd += t.odd;
+        threes += t.threes;
+        j += 1;
+    }
+    Indices {
+        atoms: m as u64,
+        w: even + odd,
+        even,
+        odd,
+        polarity: threes,
+    }
+}
+
+// The vertex sum of an atom and what goes with it, by the row of its distances to the first n atoms, at most ATOMS.
+pub fn around_row(row: DistanceRow, n: usize) -> Vertex
+    ensures { λ r. ⌜ r ≡ vertexBy (min n mostAtoms) (entry row) ⌝ }
+{
+    let m = totals::within(n);
+    let t = totals::along(row, m);
+    Vertex {
+        sum: t.even + t.odd,
+        even: t.even,
+        odd: t.odd,
+        evens: t.evens,
+        odds: t.odds,
+        ones: t.ones,
+        twos: t.twos,
+    }
+}
+
+// The indices of a block, or its refusal.
+pub fn measure(n: usize, bonds: &[u8]) -> Measured
+    ensures { λ r. ⌜ r ≡ saidIndices (indicesReply n (now (bonds .entry))) ⌝ }
+{
+    let admitted = admit(n, bonds);
+    let reply = admitted.reply;
+    match reply {
+        Reply::Refused(refusal) => Measured::Refused(refusal),
+        Reply::Fine => {
+            let near = admitted.near;
+            let rows = search::from_all(near, n);
+            let indices = sums(rows, n);
+            Measured::Of(indices)
+        }
+    }
+}
+
+// The distance of two atoms of a block, or its refusal; 18 at place 0 where there is no such atom.
+pub fn distance(n: usize, bonds: &[u8], i: usize, j: usize) -> Apart
+    ensures { λ r. ⌜ r ≡ saidDistance (distanceReply n (now (bonds .entry)) i j) ⌝ }
+{
     let seen = look(n, bonds, i);
-    seen.row
+    let reply = seen.reply;
+    match reply {
+        Reply::Refused(refusal) => Apart::Refused(refusal),
+        Reply::Fine => {
+            if lists::outside(n, j) {
+                return Apart::Refused(Refusal {
+                    number: 18,
+                    place: 0,
+                });
+            }
+            let row = seen.row;
+            let d = totals::wide(row[j - 1]);
+            Apart::Of(d)
+        }
+    }
+}
+
+// The vertex sum of atom a of a block and what goes with it, or its refusal; 18 at place 0 where there is no such atom.
+pub fn vertex_sums(n: usize, bonds: &[u8], a: usize) -> Around
+    ensures { λ r. ⌜ r ≡ saidVertex (vertexReply n (now (bonds .entry)) a) ⌝ }
+{
+    let seen = look(n, bonds, a);
+    let reply = seen.reply;
+    match reply {
+        Reply::Refused(refusal) => Around::Refused(refusal),
+        Reply::Fine => {
+            let row = seen.row;
+            let vertex = around_row(row, n);
+            Around::Of(vertex)
+        }
+    }
+}
+
+// How many pairs of atoms of a block lie at each distance; all 0 where it is refused.
+pub fn pair_counts(n: usize, bonds: &[u8]) -> Pairs
+    ensures { λ r. ⌜ r ≡ saidPairs (pairsReply n (now (bonds .entry))) ⌝ }
+{
+    let admitted = admit(n, bonds);
+    let reply = admitted.reply;
+    let Reply::Fine = reply else {
+        return Pairs {
+            reply,
+            at: [0u16; ATOMS],
+        };
+    };
+    let near = admitted.near;
+    let rows = search::from_all(near, n);
+    let at = totals::count_pairs(rows, n);
+    Pairs { reply, at }
 }

@@ -1,0 +1,130 @@
+-- What the arrays of the work hold, atom by atom. No promise cites this.
+use Prim.Native.Nat.{ℕ, suc, _+_, _*_, _/_, min, _≤_, _<_}
+use mathlib.Core.Bool.{Bool, true, false, _&&_, cond}
+use mathlib.Core.List.{List, []}
+use mathlib.Core.Path.{_≡_}
+use lib.Dec.{eqb}
+use lib.ListN.{length, getD}
+use Rattle.graph.specs.Graph.{Graph, Bond, bond, Within, Molecule, distance, sum}
+use Rattle.paths.specs.Paths.{pathCount, pathsUsing, denominator}
+use Rattle.paths.specs.Notions.{Plain, weight, gathered}
+use Rattle.block.specs.Block.{mostAtoms, bondsOf, graphOf}
+use Rattle.shares.specs.Reply.{most}
+
+-- where path counts stop, just above the most that D may be, and where what is gathered stops
+abbrev pub cap : ℕ
+cap = most + 1
+
+abbrev pub full : ℕ
+full = mostAtoms * most
+
+-- what an array has for atom v, numbered from 1; a list for each
+abbrev pub at : List ℕ → ℕ → ℕ
+at row v = getD row v 0
+
+abbrev pub listOf : List (List ℕ) → ℕ → List ℕ
+listOf near v = getD near v []
+
+-- a row whose first place is atom 1's has d
+pub record Shows (n : ℕ) (d : ℕ → ℕ) (row : List ℕ) : Type 0 where
+  pub shows : (j : ℕ) → j < n → getD row j 0 ≡ d (suc j)
+
+-- a list of the atoms of 1 to n that pass B: how many, and then each once
+pub record Listed (n : ℕ) (B : ℕ → Bool) (list : List ℕ) : Type 0 where
+  pub count : at list 0 ≤ n
+  pub each : (k : ℕ) → Within (at list 0) k → Within n (at list k)
+  pub sums : (f : ℕ → ℕ) → sum (at list 0) (λ k. f (at list k)) ≡ sum n (λ w. cond (B w) (f w) 0)
+
+-- the atoms by their keys: the last atom with each key, and before each atom the one before it with the same key
+pub record Chained (n : ℕ) (key last before : List ℕ) : Type 0 where
+  pub atLast : (d : ℕ) → (at last d ≡ 0 → ⊥) → Within n (at last d) × (at key (at last d) ≡ d)
+  pub noneLater : (v : ℕ) → Within n v → v ≤ at last (at key v)
+  pub atBefore : (v : ℕ) → Within n v → (at before v ≡ 0 → ⊥) → Within n (at before v) × (at key (at before v) ≡ at key v)
+  pub falls : (v : ℕ) → Within n v → at before v < v
+  pub noneBetween : (v w : ℕ) → Within n v → Within n w → at key w ≡ at key v → w < v → w ≤ at before v
+
+-- lists and keys of the atoms 1 to n
+pub record Keyed (n : ℕ) (B : ℕ → ℕ → Bool) (near : List (List ℕ)) (key : List ℕ) (top : ℕ) : Type 0 where
+  pub small : n ≤ mostAtoms
+  pub lists : (v : ℕ) → Within n v → Listed n (B v) (listOf near v)
+  pub high : (v : ℕ) → Within n v → at key v ≤ top
+  pub low : top < mostAtoms
+
+-- what a sweep goes over
+pub record Ordered (n : ℕ) (B : ℕ → ℕ → Bool) (near : List (List ℕ)) (key last before : List ℕ) (top : ℕ) : Type 0 where
+  pub keyed : Keyed n B near key top
+  pub chain : Chained n key last before
+
+-- F is what each atom has of its own, and what those that B gives it with the next smaller key have
+pub record Rule (n : ℕ) (B : ℕ → ℕ → Bool) (key own F : ℕ → ℕ) : Type 0 where
+  pub rule : (v : ℕ) → Within n v → F v ≡ own v + sum n (λ w. cond (B v w && eqb (suc (key w)) (key v)) (F w) 0)
+
+-- an array that has F, up to a cap
+pub record Holds (n top : ℕ) (F : ℕ → ℕ) (row : List ℕ) : Type 0 where
+  pub holds : (v : ℕ) → Within n v → at row v ≡ min top (F v)
+
+-- a graph of n atoms
+abbrev pub graph : ℕ → List Bond → Graph
+graph n bs = record { atoms = n; bonds = bs }
+
+-- the neighbours of each atom: those at distance 1
+abbrev pub beside : Graph → ℕ → ℕ → Bool
+beside g v w = eqb (distance g v w) 1
+
+-- what one starting atom is worked with
+pub record Start (n : ℕ) (bs : List Bond) (near : List (List ℕ)) (row : List ℕ) (i : ℕ) : Type 0 where
+  pub small : n ≤ mostAtoms
+  pub molecule : Molecule (graph n bs)
+  pub lists : (v : ℕ) → Within n v → Listed n (beside (graph n bs) v) (listOf near v)
+  pub far : Shows n (distance (graph n bs) i) row
+  pub start : Within n i
+
+-- the rows of a block, and the lists of its neighbours
+pub record Given (n : ℕ) (bs : List Bond) (near rows : List (List ℕ)) : Type 0 where
+  pub small : n ≤ mostAtoms
+  pub molecule : Molecule (graph n bs)
+  pub lists : (v : ℕ) → Within n v → Listed n (beside (graph n bs) v) (listOf near v)
+  pub far : (i : ℕ) → i < n → Shows n (distance (graph n bs) (suc i)) (listOf rows i)
+
+-- positive counts f and a positive number m, up to the cap
+pub record Tally (n : ℕ) (f : ℕ → ℕ) (m : ℕ) (c : List ℕ) (before : ℕ) : Type 0 where
+  pub small : n ≤ mostAtoms
+  pub counts : Holds n cap f c
+  pub positive : (v : ℕ) → Within n v → 0 < f v
+  pub first : 0 < m
+  pub capped : before ≡ min cap m
+
+-- bond k of the bytes, from 0
+abbrev pub bondAt : List ℕ → ℕ → Bond
+bondAt xs k = bond (getD xs (2 * k) 0) (getD xs (2 * k + 1) 0)
+
+-- what bond e answers for, over d, in the pairs of i and a later atom
+abbrev pub carried : Graph → ℕ → ℕ → Bond → ℕ
+carried g i d e = sum (g .atoms) (λ j. pathsUsing g e i j * weight g d i j)
+
+-- a block that is not refused, and its D
+pub record Whole (n : ℕ) (xs : List ℕ) (d : ℕ) : Type 0 where
+  pub small : n ≤ mostAtoms
+  pub molecule : Molecule (graphOf n xs)
+  pub plain : Plain n (bondsOf xs)
+  pub is : d ≡ denominator (graphOf n xs)
+  pub low : d ≤ most
+
+-- the rows of one start: distances, counts, and what is gathered
+pub record Ready (n : ℕ) (xs row c t : List ℕ) (i d : ℕ) : Type 0 where
+  pub whole : Whole n xs d
+  pub far : Shows n (distance (graphOf n xs) i) row
+  pub start : Within n i
+  pub counts : Holds n cap (pathCount (graphOf n xs) i) c
+  pub passed : Holds n full (gathered (graphOf n xs) i (weight (graphOf n xs) d i)) t
+
+-- the lent entries have room for the bonds, and each can grow
+pub record Room (xs out : List ℕ) : Type 0 where
+  pub room : length xs / 2 ≤ length out
+  pub low : (k : ℕ) → k < length xs / 2 → getD out k 0 ≤ mostAtoms * full
+
+-- the first m entries are F's, and the others are as they were
+pub record Filled (m : ℕ) (F : ℕ → ℕ) (old new : List ℕ) : Type 0 where
+  pub same : length new ≡ length old
+  pub first : (k : ℕ) → k < m → getD new k 0 ≡ F k
+  pub kept : (k : ℕ) → m ≤ k → getD new k 0 ≡ getD old k 0
