@@ -14,7 +14,7 @@ use Rattle.shares.proofs.flows.fill.Statement.{statement}
 use Rattle.shares.proofs.flows.fill.Tie as tie
 
 abbrev Inv-loop : tie.InvT-loop
-Inv-loop n bonds near rows d out₀ i₀ out i =     (i ≤ n) × Filled (length bonds / 2) (λ k. sum i (λ s. carried (graphOf n bonds) s d (bondAt bonds k))) out₀ out
+Inv-loop n bonds near rows d out₀ i₀ out i = (i ≤ n) × Filled (length bonds / 2) (λ k. sum i (λ s. carried (graphOf n bonds) s d (bondAt bonds k))) out₀ out
 
 abbrev μ-loop : tie.MeasureT-loop
 μ-loop n bonds near rows d out₀ i₀ out i = n - i
