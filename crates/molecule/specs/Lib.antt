@@ -1,0 +1,2 @@
+-- What the judge is told, and the theorems about it.
+pub mod Molecule
