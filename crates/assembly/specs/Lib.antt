@@ -3,3 +3,4 @@ pub mod Book
 pub mod Placements
 pub mod Degrees
 pub mod Sound
+pub mod Unique

@@ -6,4 +6,5 @@ pub mod Kept
 pub mod Sound
 pub mod Followed
 pub mod Lookup
+pub mod Unique
 pub mod Examples

@@ -3,3 +3,4 @@ pub mod Bytes
 pub mod Records
 pub mod Taken
 pub mod Longer
+pub mod Unique
