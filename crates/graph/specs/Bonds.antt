@@ -65,10 +65,14 @@ unfolding anyJoins
 any-none u v e = false≢true e
 
 -- a bond may be read from either end
-anyJoins-sym : (bs : List Bond) (u v : ℕ) → anyJoins bs u v ≡ anyJoins bs v u
-unfolding joins anyJoins
+pub joins-sym : (b : Bond) (u v : ℕ) → joins b u v ≡ joins b v u
+unfolding joins
+joins-sym b u v = or-comm (eqb (b .one) u && eqb (b .two) v) (eqb (b .one) v && eqb (b .two) u)
+
+pub anyJoins-sym : (bs : List Bond) (u v : ℕ) → anyJoins bs u v ≡ anyJoins bs v u
+unfolding anyJoins
 anyJoins-sym [] u v = refl
-anyJoins-sym (b ∷ bs) u v = ap₂ _||_ (or-comm (eqb (b .one) u && eqb (b .two) v) (eqb (b .one) v && eqb (b .two) u)) (anyJoins-sym bs u v)
+anyJoins-sym (b ∷ bs) u v = ap₂ _||_ (joins-sym b u v) (anyJoins-sym bs u v)
 
 pub bonded-sym : (g : Graph) (u v : ℕ) → bonded g u v ≡ true → bonded g v u ≡ true
 unfolding bonded

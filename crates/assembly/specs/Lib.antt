@@ -1,0 +1,3 @@
+-- What an assembly over a book of blocks is told.
+pub mod Book
+pub mod Placements

@@ -1,0 +1,116 @@
+-- The deck: its records one after the other, each refused or taken. Document 01, "The deck", "Refusal numbers", "Order" and "Place".
+use Prim.Native.Nat.{ℕ, zero, suc, _+_, _*_}
+use mathlib.Core.Bool.{Bool, true, false, _||_, cond}
+use mathlib.Core.List.{List, [], _∷_, _++_}
+use lib.Dec.{eqb, leb, ltb}
+use lib.ListN.{length}
+use Rattle.block.specs.declared.Refusal.{Refusal}
+use Rattle.block.specs.Read.{Read, refused, read, _then_, refuseIf, refusal}
+use Rattle.block.specs.Block.{blockReply}
+use Rattle.records.specs.Bytes.{le16, part}
+use Rattle.records.specs.declared.Kind.{Kind}
+use Rattle.records.specs.Records.{blockKind, assemblyKind, sheetKind, kindAt, payloadAt, endAt, recordReply}
+use Rattle.assembly.specs.declared.BlockAt.{BlockAt}
+use Rattle.assembly.specs.Book.{used, find, bondBytes, bookOf}
+use Rattle.assembly.specs.Placements.{placementCount, assemblyReply}
+use Rattle.deck.specs.declared.Form.{Form}
+use Rattle.deck.specs.declared.Form.the-variants.{Composed, Judged}
+
+abbrev pub longestDeck : ℕ
+longestDeck = 32768
+
+abbrev pub mostBlocks : ℕ
+mostBlocks = 16
+
+-- what stands where in a deck: its blocks, its assembly, how many placements that has, and the first byte after it
+pub record Deck : Type 0 where
+  pub blocks : List BlockAt
+  pub assembly : ℕ
+  pub placements : ℕ
+  pub sheet : ℕ
+
+-- What may stand first is a block, then a block or the last kind; after the assembly, in a deck to be judged, the sheet.
+abbrev pub kindsAfter : Kind → List BlockAt → List Kind
+kindsAfter last [] = blockKind ∷ []
+kindsAfter last (b ∷ bs) = blockKind ∷ last ∷ []
+
+abbrev pub sheetKinds : List Kind
+sheetKinds = sheetKind ∷ []
+
+-- what the block record at a place says
+unfoldable pub blockAt : List ℕ → ℕ → BlockAt
+blockAt d at = record { number = le16 d (at + 4); start = at + 4; atoms = le16 d (at + 6); bonds = le16 d (at + 8) }
+
+-- the same refusal at another place
+abbrev pub moved : (Refusal → ℕ) → Read (Unit {0}) → Read (Unit {0})
+moved place (refused r) = refused (refusal (r .number) (place r))
+moved place (read u) = read u
+
+-- the place of a block's refusal, by its record's first byte
+unfoldable pub blockPlace : ℕ → Refusal → ℕ
+blockPlace at r = at
+
+-- the place of an assembly's refusal: the placement's first byte, or the record's
+unfoldable pub placementPlace : ℕ → Refusal → ℕ
+placementPlace at r = at + 6 * r .place
+
+-- 14 and the block's own of the block record at a place, after the blocks of `done`
+unfoldable pub blockReplyAt : List ℕ → ℕ → List BlockAt → Read (Unit {0})
+blockReplyAt d at done =
+    let b = blockAt d at in
+    refuseIf (eqb (b .number) 0 || used done (b .number) || leb mostBlocks (length done)) 14 at then λ _.
+    moved (blockPlace at) (blockReply (b .atoms) (bondBytes d b))
+
+-- 15 to 19 of the assembly record at a place
+unfoldable pub assemblyReplyAt : List BlockAt → List ℕ → ℕ → Read (Unit {0})
+assemblyReplyAt blocks d at = moved (placementPlace at) (assemblyReply (bookOf d blocks) (payloadAt d at))
+
+-- the blocks, and the first byte of the record after them
+pub record Blocks : Type 0 where
+  pub blocks : List BlockAt
+  pub next : ℕ
+
+-- the first where a test holds, else the second; the other is not computed
+abbrev pub ifElse : {A : Type 0} → Bool → (Unit {0} → A) → (Unit {0} → A) → A
+ifElse true f g = f tt
+ifElse false f g = g tt
+
+-- Blocks from a place on, after those of `done`, up to a record of the kind `last`. There is fuel for one turn more than blocks, so it lasts.
+unfoldable pub blocksFrom : ℕ → Kind → List ℕ → ℕ → List BlockAt → Read Blocks
+blocksFrom zero last d at done = refused (refusal 14 at)
+blocksFrom (suc fuel) last d at done =
+    recordReply (kindsAfter last done) d at then λ _.
+    ifElse (eqb (kindAt d at) (blockKind .number))
+    (λ _. blockReplyAt d at done then λ _. blocksFrom fuel last d (endAt d at) (done ++ blockAt d at ∷ []))
+    (λ _. read (record { blocks = done; next = at }))
+
+unfoldable pub blocksReply : Kind → List ℕ → Read Blocks
+blocksReply last d = blocksFrom (suc mostBlocks) last d 0 []
+
+-- after the last record nothing follows
+unfoldable pub endReply : List ℕ → ℕ → Read (Unit {0})
+endReply d at = refuseIf (ltb at (length d)) 11 at
+
+unfoldable pub sheetReply : Form → List ℕ → ℕ → Read (Unit {0})
+sheetReply Composed d at = endReply d at
+sheetReply Judged d at = recordReply sheetKinds d at then λ _. endReply d (endAt d at)
+
+unfoldable pub deckReply : Form → List ℕ → Read Deck
+deckReply form d =
+    refuseIf (ltb longestDeck (length d)) 20 0 then λ _.
+    blocksReply assemblyKind d then λ b.
+    assemblyReplyAt (b .blocks) d (b .next) then λ _.
+    sheetReply form d (endAt d (b .next)) then λ _.
+    read (record { blocks = b .blocks; assembly = b .next; placements = placementCount (payloadAt d (b .next)); sheet = endAt d (b .next) })
+
+-- the payload of the block of a number, and nothing where there is no such block
+unfoldable pub payload : List ℕ → List BlockAt → ℕ → List ℕ
+payload d bs x = let b = find bs x in cond (used bs x) (part d (b .start) (6 + 2 * b .bonds)) []
+
+abbrev pub payloadOr : List ℕ → ℕ → Read Deck → List ℕ → List ℕ
+payloadOr d x (refused r) other = other
+payloadOr d x (read k) other = payload d (k .blocks) x
+
+-- the lookup: the payload of a block, in whichever form the deck is not refused
+unfoldable pub blockPart : List ℕ → ℕ → List ℕ
+blockPart d x = payloadOr d x (deckReply Composed d) (payloadOr d x (deckReply Judged d) [])

@@ -1,0 +1,171 @@
+-- Document 01's deck of 40 bytes, and a deck for each refusal with its place, by computing.
+use Prim.Native.Nat.{ℕ, zero, suc, _+_, _*_, _/_, _%_, _<_}
+use mathlib.Core.Path.{_≡_, refl}
+use mathlib.Core.List.{List, [], _∷_, _++_, map}
+use lib.ListN.{length, replicate}
+use borrow.Author.Tests.{lt-ltb}
+use Rattle.graph.specs.Graph.{joins, anyJoins, bonded, anyAtom, reaches, firstFrom, distance, allAtoms, connected, degree, sum, sumPairs, evenOf, oddOf, isAt, total}
+use Rattle.graph.specs.Assembly.{shifted, joined, startAt, written}
+use Rattle.block.specs.Read.{Read, refused, read, refusal}
+use Rattle.block.specs.declared.Refusal.{Refusal}
+use Rattle.block.specs.Block.{bondsOf, bondFault, bondsReply, blockReply}
+use Rattle.block.specs.Index.{indicesOf}
+use Rattle.records.specs.Bytes.{little}
+use Rattle.records.specs.Records.{kindReply, lengthReply, recordReply}
+use Rattle.assembly.specs.Book.{used, find, bookOf}
+use Rattle.assembly.specs.Placements.{placementAt, joinOf, joinEnds, bondsOn, firstFault, parentFault, laterFault, fault, placedReply, assemblyReply}
+use Rattle.deck.specs.Deck.{longestDeck, Deck, blockAt, blockPlace, placementPlace, blockReplyAt, assemblyReplyAt, blocksFrom, blocksReply, endReply, sheetReply, deckReply, payload, blockPart}
+use Rattle.deck.specs.Molecule.{placedIn, graphAt, joinAt, moleculeOf, fieldsOf, sheetOf, fieldsAt, claimedAt}
+use Rattle.deck.specs.declared.Form.{Form}
+use Rattle.deck.specs.declared.Form.the-variants.{Composed, Judged}
+
+-- a record of a kind, a block, an assembly of some placements, a sheet of small numbers
+record' : ℕ → List ℕ → List ℕ
+record' kind xs = length xs % 256 ∷ length xs / 256 ∷ kind ∷ 0 ∷ xs
+
+block : ℕ → ℕ → List ℕ → List ℕ
+unfolding record'
+block number n bonds = record' 1 (number ∷ 0 ∷ n ∷ 0 ∷ length bonds / 2 ∷ 0 ∷ bonds)
+
+assembly : ℕ → List ℕ → List ℕ
+unfolding record'
+assembly p placements = record' 2 (p ∷ 0 ∷ placements)
+
+sheet : ℕ → ℕ → ℕ → ℕ → ℕ → List ℕ
+unfolding record'
+sheet n w e o p = record' 3 (n ∷ replicate 3 0 ++ w ∷ replicate 7 0 ++ e ∷ replicate 7 0 ++ o ∷ replicate 7 0 ++ p ∷ replicate 7 0)
+
+-- a block of one atom, a ring of six; one placement of block 1, and another joined to it
+atom : List ℕ
+unfolding block record'
+atom = block 1 1 []
+
+ring : List ℕ
+unfolding block record'
+ring = block 1 6 (1 ∷ 2 ∷ 2 ∷ 3 ∷ 3 ∷ 4 ∷ 4 ∷ 5 ∷ 5 ∷ 6 ∷ 6 ∷ 1 ∷ [])
+
+first : List ℕ
+first = 1 ∷ 0 ∷ 0 ∷ 0 ∷ 0 ∷ 0 ∷ []
+
+joinTo : ℕ → ℕ → ℕ → List ℕ
+joinTo parent site own = 1 ∷ 0 ∷ parent ∷ 0 ∷ site ∷ own ∷ []
+
+alone : List ℕ
+unfolding assembly record' first
+alone = assembly 1 first
+
+-- the deck of document 01
+document : List ℕ
+document =
+    18 ∷ 0 ∷ 1 ∷ 0 ∷ 1 ∷ 0 ∷ 6 ∷ 0 ∷ 6 ∷ 0 ∷ 1 ∷ 2 ∷ 2 ∷ 3 ∷ 3 ∷ 4 ∷ 4 ∷ 5 ∷ 5 ∷ 6 ∷ 6 ∷ 1
+    ∷ 14 ∷ 0 ∷ 2 ∷ 0 ∷ 2 ∷ 0 ∷ 1 ∷ 0 ∷ 0 ∷ 0 ∷ 0 ∷ 0 ∷ 1 ∷ 0 ∷ 1 ∷ 0 ∷ 1 ∷ 1 ∷ []
+
+-- the number and the place of a refusal; nothing where a deck is read
+said : Read Deck → List ℕ
+said (refused r) = r .number ∷ r .place ∷ []
+said (read k) = []
+
+told : Form → List ℕ → List ℕ
+unfolding said joins anyJoins bonded anyAtom reaches firstFrom distance allAtoms connected degree sum bondsOf bondFault bondsReply blockReply little kindReply lengthReply recordReply used find bookOf placementAt joinOf joinEnds bondsOn firstFault parentFault laterFault fault placedReply assemblyReply blockAt blockPlace placementPlace blockReplyAt assemblyReplyAt blocksFrom blocksReply endReply sheetReply deckReply
+told form d = said (deckReply form d)
+
+-- the sheet of the molecule of a deck
+sheetFor : List ℕ → Read Deck → List ℕ
+sheetFor d (refused r) = []
+sheetFor d (read k) = sheetOf (moleculeOf d k)
+
+written-out : sheetFor document (deckReply Composed document) ≡ 12 ∷ 198 ∷ 96 ∷ 102 ∷ 14 ∷ []
+unfolding sheetFor document joins anyJoins bonded anyAtom reaches firstFrom distance allAtoms connected degree sum bondsOf bondFault bondsReply blockReply little kindReply lengthReply recordReply used find bookOf placementAt joinOf joinEnds bondsOn firstFault parentFault laterFault fault placedReply assemblyReply blockAt blockPlace placementPlace blockReplyAt assemblyReplyAt blocksFrom blocksReply endReply sheetReply deckReply shifted joined startAt written sumPairs evenOf oddOf isAt total indicesOf placedIn graphAt joinAt moleculeOf fieldsOf sheetOf
+written-out = refl
+
+same-bytes : document ≡ ring ++ assembly 2 (first ++ joinTo 1 1 1)
+unfolding document ring block record' assembly first joinTo
+same-bytes = refl
+
+-- a deck in each form, with and without a sheet
+forms :
+    (told Composed document ∷ told Judged (document ++ sheet 12 198 96 102 14) ∷ told Composed (document ++ sheet 12 198 96 102 14) ∷ told Judged document ∷ told Composed [] ∷ [])
+    ≡ ([] ∷ [] ∷ (11 ∷ 40 ∷ []) ∷ (11 ∷ 40 ∷ []) ∷ (11 ∷ 0 ∷ []) ∷ [])
+unfolding told document sheet record'
+forms = refl
+
+-- a deck that is refused, with the number and the place
+record Case : Type 0 where
+  deck : List ℕ
+  number : ℕ
+  place : ℕ
+
+infix 90 _is_at_
+_is_at_ : List ℕ → ℕ → ℕ → Case
+d is n at p = record { deck = d; number = n; place = p }
+
+-- blocks of one atom, numbered from k on
+atoms : ℕ → ℕ → List ℕ
+unfolding block record'
+atoms zero k = []
+atoms (suc n) k = block k 1 [] ++ atoms n (suc k)
+
+cases : List Case
+unfolding _is_at_ record' block assembly sheet atom ring first joinTo alone atoms
+cases =
+    -- 1 to 7, at the block's record
+    (atom ++ block 2 0 [] ++ alone) is 1 at 10
+    ∷ (block 1 65 [] ++ alone) is 1 at 0
+    ∷ (block 1 64 (replicate 258 1) ++ alone) is 2 at 0
+    ∷ (atom ++ block 2 2 (1 ∷ 3 ∷ []) ++ alone) is 3 at 10
+    ∷ (block 1 2 (1 ∷ 1 ∷ []) ++ alone) is 4 at 0
+    ∷ (block 1 2 (1 ∷ 2 ∷ 2 ∷ 1 ∷ []) ++ alone) is 5 at 0
+    ∷ (block 1 6 (1 ∷ 2 ∷ 1 ∷ 3 ∷ 1 ∷ 4 ∷ 1 ∷ 5 ∷ 1 ∷ 6 ∷ []) ++ alone) is 6 at 0
+    ∷ (atom ++ block 2 2 [] ++ alone) is 7 at 10
+    -- the deck ends early: before a block, before the assembly, within a head, within a payload; bytes follow the last record
+    ∷ [] is 11 at 0
+    ∷ atom is 11 at 10
+    ∷ (6 ∷ 0 ∷ 1 ∷ []) is 11 at 0
+    ∷ (atom ++ 8 ∷ 0 ∷ 2 ∷ 0 ∷ 1 ∷ 0 ∷ []) is 11 at 10
+    ∷ (atom ++ alone ++ 0 ∷ []) is 11 at 22
+    -- an assembly first, a sheet after a block, a kind that there is not
+    ∷ alone is 12 at 0
+    ∷ (atom ++ sheet 1 0 0 0 0) is 12 at 10
+    ∷ record' 9 [] is 12 at 0
+    -- the length and the count differ, the counts do not fit in
+    ∷ (record' 1 (1 ∷ 0 ∷ 1 ∷ 0 ∷ 1 ∷ 0 ∷ []) ++ alone) is 13 at 0
+    ∷ (record' 1 (1 ∷ 0 ∷ []) ++ alone) is 13 at 0
+    ∷ (atom ++ assembly 2 first) is 13 at 10
+    ∷ (atom ++ record' 2 []) is 13 at 10
+    -- number 0, used before, a 17th block
+    ∷ (block 0 1 [] ++ alone) is 14 at 0
+    ∷ (atom ++ atom ++ alone) is 14 at 10
+    ∷ (atoms 17 1 ++ alone) is 14 at 160
+    -- no placement, 33 placements
+    ∷ (atom ++ assembly 0 []) is 15 at 10
+    ∷ (atom ++ assembly 33 (replicate 198 0)) is 15 at 10
+    -- at the placement: no such block, a first placement with a join, a parent that is 0 or not earlier, atoms that there are not, fifth bonds
+    ∷ (block 2 1 [] ++ alone) is 16 at 16
+    ∷ (atom ++ assembly 1 (joinTo 0 0 1)) is 17 at 16
+    ∷ (atom ++ assembly 2 (first ++ joinTo 0 1 1)) is 17 at 22
+    ∷ (atom ++ assembly 2 (first ++ joinTo 2 1 1)) is 17 at 22
+    ∷ (atom ++ assembly 2 (first ++ joinTo 1 2 1)) is 18 at 22
+    ∷ (atom ++ assembly 2 (first ++ joinTo 1 1 0)) is 18 at 22
+    ∷ (atom ++ assembly 6 (first ++ joinTo 1 1 1 ++ joinTo 1 1 1 ++ joinTo 1 1 1 ++ joinTo 1 1 1 ++ joinTo 1 1 1)) is 19 at 46
+    ∷ (block 1 5 (1 ∷ 2 ∷ 1 ∷ 3 ∷ 1 ∷ 4 ∷ 1 ∷ 5 ∷ []) ++ assembly 2 (first ++ joinTo 1 2 1)) is 19 at 30
+    ∷ []
+
+refusals : map (λ (c : Case). told Composed (c .deck)) cases ≡ map (λ (c : Case). c .number ∷ c .place ∷ []) cases
+unfolding told cases _is_at_ record' block assembly sheet atom ring first joinTo alone atoms
+refusals = refl
+
+-- 20 needs no list of 32,769 bytes
+pub too-long : (form : Form) (d : List ℕ) → longestDeck < length d → deckReply form d ≡ refused (refusal 20 0)
+unfolding deckReply
+too-long form d h = rw (lt-ltb longestDeck (length d) h)
+
+-- the lookup: the payload in either form, nothing for another number, nothing of a refused deck
+looked : List ℕ → ℕ → List ℕ
+unfolding joins anyJoins bonded anyAtom reaches firstFrom distance allAtoms connected degree sum bondsOf bondFault bondsReply blockReply little kindReply lengthReply recordReply used find bookOf placementAt joinOf joinEnds bondsOn firstFault parentFault laterFault fault placedReply assemblyReply blockAt blockPlace placementPlace blockReplyAt assemblyReplyAt blocksFrom blocksReply endReply sheetReply deckReply payload blockPart
+looked d x = blockPart d x
+
+lookups :
+    (looked (atom ++ alone) 1 ∷ looked (atom ++ alone ++ sheet 1 0 0 0 0) 1 ∷ looked (atom ++ alone) 2 ∷ looked (atom ++ alone) 0 ∷ looked atom 1 ∷ [])
+    ≡ ((1 ∷ 0 ∷ 1 ∷ 0 ∷ 0 ∷ 0 ∷ []) ∷ (1 ∷ 0 ∷ 1 ∷ 0 ∷ 0 ∷ 0 ∷ []) ∷ [] ∷ [] ∷ [] ∷ [])
+unfolding looked atom alone block assembly sheet record' first
+lookups = refl

@@ -1,0 +1,5 @@
+-- What a deck of document 01 says.
+pub mod Deck
+pub mod Molecule
+pub mod Said
+pub mod Examples

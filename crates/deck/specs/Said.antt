@@ -1,0 +1,25 @@
+-- How the code says what a deck is told.
+use Prim.Native.Nat.{ℕ}
+use mathlib.Core.List.{List, [], _++_}
+use lib.ListN.{length, drop, replicate}
+use Rattle.block.specs.Read.{Read, refused, read}
+use Rattle.block.specs.declared.Reply.the-variants.{Fine, Refused}
+use Rattle.assembly.specs.declared.BlockAt.{BlockAt}
+use Rattle.assembly.specs.Book.{noBlock}
+use Rattle.deck.specs.Deck.{Deck, mostBlocks}
+use Rattle.deck.specs.declared.Layout.{Layout}
+use Rattle.deck.specs.declared.DeckRead.{DeckRead}
+
+-- a table of blocks: as many as there are, then empty places
+abbrev pub tableOf : List BlockAt → List BlockAt
+tableOf bs = bs ++ drop (length bs) (replicate mostBlocks noBlock)
+
+abbrev pub layoutOf : Deck → Layout
+layoutOf k = record { count = length (k .blocks); blocks = tableOf (k .blocks); assembly = k .assembly; placements = k .placements; sheet = k .sheet }
+
+abbrev pub nothing : Deck
+nothing = record { blocks = []; assembly = 0; placements = 0; sheet = 0 }
+
+abbrev pub saidDeck : Read Deck → DeckRead
+saidDeck (refused r) = record { reply = Refused r; layout = layoutOf nothing }
+saidDeck (read k) = record { reply = Fine; layout = layoutOf k }

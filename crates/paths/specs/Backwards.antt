@@ -1,0 +1,140 @@
+-- Shortest paths read backwards: counts and uses are the same both ways, each count divides D, and half the sum over all starts is a share. Assumes nothing.
+use Prim.Native.Nat.{ℕ, zero, suc, _+_, _*_, _/_, _≤_, _<_, _∣_}
+use mathlib.Core.Bool.{Bool, true, false, _&&_, not, cond}
+use mathlib.Core.List.{List, [], _∷_}
+use mathlib.Core.Logic.{_↔_}
+use mathlib.Core.Path.{_≡_, refl, sym, _∙_, ap, ap₂}
+use native.Mathlib.Nat.{dvd-refl, one-dvd}
+use native.Mathlib.Omega.{arith}
+use borrow.Author.Tests.{ltb-true, ltb-false}
+use lib.Dec.{eqb, ltb}
+use lib.ListN.{length}
+use Rattle.graph.specs.Graph.{Graph, Bond, Within, Molecule, joins, bonded, distance, sum, sumPairs}
+use Rattle.graph.specs.Bonds.{joins-sym, anyJoins-sym}
+use Rattle.graph.specs.Distance.{distance-sym}
+use Rattle.graph.specs.Sums.{sum-cong, sum-add, sum-none, sum-swap, sum-pick, sum-square}
+use Rattle.paths.specs.Paths.{walks, shortestPaths, uses, count, pathCount, pathsUsing, lcmPairs, denominator, share}
+use Rattle.paths.specs.Notions.{Pair}
+use Rattle.paths.specs.Choices.{eqb-sym, cond-swap, cond-sum}
+use Rattle.paths.specs.Steps.{walks-suc, walks-length, uses-suc, using-self, count-self, count-pos}
+use Rattle.paths.specs.Lcm.{pairs-dvd}
+
+-- how many ways lead from i to j in k steps along m
+power : ℕ → (ℕ → ℕ → Bool) → ℕ → ℕ → ℕ → ℕ
+power n m zero i j = cond (eqb i j) 1 0
+power n m (suc k) i j = sum n (λ v. cond (m v j) (power n m k i v) 0)
+
+module _ (n : ℕ) (m : ℕ → ℕ → Bool) where
+  -- the first step can be split off as well as the last
+  power-first : (k i j : ℕ) → Within n i → Within n j → power n m (suc k) i j ≡ sum n (λ u. cond (m i u) (power n m k u j) 0)
+  unfolding power
+  power-first zero i j hi hj =
+      sum-cong n (λ v w. cond-swap (m v j) (eqb i v) 1)
+      ∙ sum-pick n i (λ v. cond (m v j) 1 0) hi
+      ∙ sym (sum-cong n (λ u w. ap (λ (t : Bool). cond (m i u) (cond t 1 0) 0) (eqb-sym u j) ∙ cond-swap (m i u) (eqb j u) 1)
+      ∙ sum-pick n j (λ u. cond (m i u) 1 0) hj)
+  power-first (suc k) i j hi hj =
+      sum-cong n (λ v w. ap (λ (x : ℕ). cond (m v j) x 0) (power-first k i v hi w) ∙ cond-sum n (m v j) (λ u. cond (m i u) (power n m k u v) 0))
+      ∙ sum-swap n n (λ v u. cond (m v j) (cond (m i u) (power n m k u v) 0) 0)
+      ∙ sum-cong n (λ u w. sum-cong n (λ v x. cond-swap (m v j) (m i u) (power n m k u v)) ∙ sym (cond-sum n (m i u) (λ v. cond (m v j) (power n m k u v) 0)))
+
+  power-sym : ((u v : ℕ) → m u v ≡ m v u) → (k i j : ℕ) → Within n i → Within n j → power n m k i j ≡ power n m k j i
+  unfolding power
+  power-sym s zero i j hi hj = ap {B = ℕ} (λ (t : Bool). cond t 1 0) (eqb-sym i j)
+  power-sym s (suc k) i j hi hj =
+      sum-cong n (λ v w. ap₂ (λ (t : Bool) (x : ℕ). cond t x 0) (s v j) (power-sym s k i v hi w)) ∙ sym (power-first k j i hj hi)
+
+-- all walks, and those that do not use e: they go along the other bonds
+walks-power : (g : Graph) (k i j : ℕ) → length (walks g k i j) ≡ power (g .atoms) (bonded g) k i j
+unfolding walks power
+walks-power g zero i j = go (eqb i j)
+  where
+    go : (t : Bool) → length (cond t ((j ∷ []) ∷ []) []) ≡ cond t 1 0
+    go true = refl
+    go false = refl
+walks-power g (suc k) i j = walks-length g k i j ∙ sum-cong (g .atoms) (λ v w. ap (λ (x : ℕ). cond (bonded g v j) x 0) (walks-power g k i v))
+
+without : Graph → Bond → ℕ → ℕ → Bool
+without g e u v = bonded g u v && not (joins e u v)
+
+uses-power : (g : Graph) (e : Bond) (k i j : ℕ) → count (uses e) (walks g k i j) + power (g .atoms) (without g e) k i j ≡ length (walks g k i j)
+unfolding walks power without count uses
+uses-power g e zero i j = go (eqb i j)
+  where
+    go : (t : Bool) → count (uses e) (cond t ((j ∷ []) ∷ []) []) + cond t 1 0 ≡ length (cond t ((j ∷ []) ∷ []) [])
+    go true = refl
+    go false = refl
+uses-power g e (suc k) i j =
+    ap (λ (x : ℕ). x + power (g .atoms) (without g e) (suc k) i j)
+    (walks-suc g k i j (uses e) ∙ sum-cong (g .atoms) (λ v w. ap (λ (x : ℕ). cond (bonded g v j) x 0) (uses-suc g e k i v j)))
+    ∙ sym (sum-add (g .atoms) (λ v. cond (bonded g v j) (cond (joins e v j) (length (walks g k i v)) (count (uses e) (walks g k i v))) 0)
+    (λ v. cond (without g e v j) (power (g .atoms) (without g e) k i v) 0))
+    ∙ sum-cong (g .atoms) (λ v w. at v (bonded g v j) (joins e v j) (uses-power g e k i v))
+    ∙ sym (walks-length g k i j)
+  where
+    at : (v : ℕ) (t w : Bool) → count (uses e) (walks g k i v) + power (g .atoms) (without g e) k i v ≡ length (walks g k i v)
+        → cond t (cond w (length (walks g k i v)) (count (uses e) (walks g k i v))) 0 + cond (t && not w) (power (g .atoms) (without g e) k i v) 0
+        ≡ cond t (length (walks g k i v)) 0
+    at v true true h = omega arith
+    at v true false h = h
+    at v false w h = refl
+
+module _ {g : Graph} (m : Molecule g) {i j : ℕ} (hi : Within (g .atoms) i) (hj : Within (g .atoms) j) where
+  walks-sym : (k : ℕ) → length (walks g k i j) ≡ length (walks g k j i)
+  unfolding bonded
+  walks-sym k = walks-power g k i j ∙ power-sym (g .atoms) (bonded g) (anyJoins-sym (g .bonds)) k i j hi hj ∙ sym (walks-power g k j i)
+
+  uses-sym : (e : Bond) (k : ℕ) → count (uses e) (walks g k i j) ≡ count (uses e) (walks g k j i)
+  unfolding without bonded
+  uses-sym e k =
+      omega (
+        arith,
+        uses-power g e k i j,
+        uses-power g e k j i,
+        walks-sym k,
+        power-sym (g .atoms) (without g e) (λ u v. ap₂ (λ (x y : Bool). x && not y) (anyJoins-sym (g .bonds) u v) (joins-sym e u v)) k i j hi hj,
+      )
+
+  pub count-sym : pathCount g i j ≡ pathCount g j i
+  unfolding pathCount shortestPaths
+  count-sym = walks-sym (distance g i j) ∙ ap (λ (k : ℕ). length (walks g k j i)) (distance-sym m hi hj)
+
+  pub using-sym : (e : Bond) → pathsUsing g e i j ≡ pathsUsing g e j i
+  unfolding pathsUsing shortestPaths
+  using-sym e = uses-sym e (distance g i j) ∙ ap (λ (k : ℕ). count (uses e) (walks g k j i)) (distance-sym m hi hj)
+
+module _ {g : Graph} (m : Molecule g) where
+  pub pair-pos : (i j : ℕ) → Pair (g .atoms) i j → 0 < pathCount g i j
+  pair-pos i j p = count-pos m (record { low = p .low; high = omega arith }) (record { low = omega arith; high = p .high })
+
+  -- D is the least common multiple: it divides exactly what all the counts divide
+  pub denominator-dvd : (t : ℕ) → (denominator g ∣ t) ↔ ((i j : ℕ) → Pair (g .atoms) i j → pathCount g i j ∣ t)
+  unfolding denominator
+  denominator-dvd t = pairs-dvd (pathCount g) (g .atoms) pair-pos t
+
+  -- each count divides D, either way round and from an atom to itself too
+  pub count-dvd : {i j : ℕ} → Within (g .atoms) i → Within (g .atoms) j → pathCount g i j ∣ denominator g
+  count-dvd {i} {j} hi hj = go (ltb i j) refl (ltb j i) refl
+    where
+      pair : (u v : ℕ) → Within (g .atoms) u → Within (g .atoms) v → u < v → pathCount g u v ∣ denominator g
+      pair u v hu hv l = denominator-dvd (denominator g) .0 (dvd-refl _) u v (record { low = hu .low; less = l; high = hv .high })
+
+      go : (s : Bool) → ltb i j ≡ s → (t : Bool) → ltb j i ≡ t → pathCount g i j ∣ denominator g
+      go true h t k = pair i j hi hj (ltb-true i j h)
+      go false h true k = rw (count-sym m hi hj) (pair j i hj hi (ltb-true j i k))
+      go false h false k =
+          let e : j ≡ i = omega (arith, ltb-false i j h, ltb-false j i k) in
+          rw (e, count-self m hi) (one-dvd _)
+
+  -- document 001's own form: half the sum over all starts and ends
+  pub share-twice : (e : Bond) → sum (g .atoms) (λ i. sum (g .atoms) (λ j. pathsUsing g e i j * (denominator g / pathCount g i j))) ≡ 2 * share g e
+  unfolding share
+  share-twice e =
+      sum-square (g .atoms) (λ i j. pathsUsing g e i j * (denominator g / pathCount g i j))
+      (λ i j hi hj. ap₂ (λ (x y : ℕ). x * (denominator g / y)) (using-sym m hi hj e) (count-sym m hi hj))
+      ∙ omega (
+        arith,
+        sum-cong (g .atoms) {f = λ i. pathsUsing g e i i * (denominator g / pathCount g i i)} {h = λ i. 0}
+            (λ i hi. ap (λ (x : ℕ). x * (denominator g / pathCount g i i)) (using-self m hi e) ∙ omega arith),
+        sum-none (g .atoms),
+      )

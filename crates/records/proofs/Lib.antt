@@ -1,0 +1,3 @@
+-- Laws that the readers' proofs cite.
+pub mod Numbers
+pub mod Replies

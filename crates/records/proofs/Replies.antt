@@ -1,0 +1,37 @@
+-- What a record is told, test by test. Assumes nothing.
+use Prim.Native.Nat.{ℕ, _+_, _<_, _≤_}
+use mathlib.Core.List.{List, [], _∷_}
+use mathlib.Core.Path.{_≡_}
+use borrow.Author.Tests.{eq-eqb, ne-eqb, lt-ltb, le-ltb}
+use lib.ListN.{length}
+use Rattle.block.specs.Read.{Read, refused, read, refusal}
+use Rattle.records.specs.Records.{lengthAt, kindAt, endAt, wanted, kindReply, lengthReply, recordReply}
+use Rattle.records.specs.declared.Kind.{Kind}
+
+module _ (k : Kind) (d : List ℕ) (at : ℕ) where
+  pub length-wrong : (lengthAt d at ≡ wanted k d at → ⊥) → lengthReply k d at ≡ refused (refusal 13 at)
+  unfolding lengthReply
+  length-wrong h = rw (ne-eqb (lengthAt d at) (wanted k d at) h)
+
+  pub length-right : lengthAt d at ≡ wanted k d at → lengthReply k d at ≡ read tt
+  unfolding lengthReply
+  length-right h = rw (eq-eqb (lengthAt d at) (wanted k d at) h)
+
+module _ (a b : Kind) (d : List ℕ) (at : ℕ) where
+  pub cut-off : length d < endAt d at → recordReply (a ∷ b ∷ []) d at ≡ refused (refusal 11 at)
+  unfolding recordReply
+  cut-off h = rw (lt-ltb (length d) (endAt d at) h)
+
+  module _ (whole : endAt d at ≤ length d) where
+    pub is-one : kindAt d at ≡ a .number → recordReply (a ∷ b ∷ []) d at ≡ lengthReply a d at
+    unfolding recordReply kindReply
+    is-one h = rw (le-ltb (length d) (endAt d at) whole, eq-eqb (kindAt d at) (a .number) h)
+
+    module _ (other : kindAt d at ≡ a .number → ⊥) where
+      pub is-other : kindAt d at ≡ b .number → recordReply (a ∷ b ∷ []) d at ≡ lengthReply b d at
+      unfolding recordReply kindReply
+      is-other h = rw (le-ltb (length d) (endAt d at) whole, ne-eqb (kindAt d at) (a .number) other, eq-eqb (kindAt d at) (b .number) h)
+
+      pub is-neither : (kindAt d at ≡ b .number → ⊥) → recordReply (a ∷ b ∷ []) d at ≡ refused (refusal 12 at)
+      unfolding recordReply kindReply
+      is-neither h = rw (le-ltb (length d) (endAt d at) whole, ne-eqb (kindAt d at) (a .number) other, ne-eqb (kindAt d at) (b .number) h)

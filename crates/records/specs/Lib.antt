@@ -1,0 +1,3 @@
+-- What the bytes of a deck say, and its records one by one.
+pub mod Bytes
+pub mod Records

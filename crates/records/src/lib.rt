@@ -1,0 +1,133 @@
+// Bytes, little-endian numbers and records: refusals 11 to 13.
+ghost use mathlib.Core.Path.{_≡_};
+ghost use mathlib.Core.List.{[], _∷_};
+ghost use Prim.Native.Nat.{_+_, _≤_};
+ghost use lib.ListN.{length};
+ghost use Rattle.block.specs.Block.{saidBlock};
+ghost use Rattle.records.specs.Bytes.{byteAt, little, le16, part};
+ghost use Rattle.records.specs.Records.{lengthReply, recordReply};
+use block::Refusal;
+use block::Reply;
+
+// A kind of record: its number, the bytes of payload that hold its counts, where in the payload the count of its items stands, and the bytes of an item.
+pub struct Kind {
+    pub number: u16,
+    pub fixed: u16,
+    pub count: u16,
+    pub item: u16,
+}
+
+// The kinds of document 01.
+pub const BLOCK: Kind = Kind {
+    number: 1,
+    fixed: 6,
+    count: 4,
+    item: 2,
+};
+
+pub const ASSEMBLY: Kind = Kind {
+    number: 2,
+    fixed: 2,
+    count: 0,
+    item: 6,
+};
+
+pub const SHEET: Kind = Kind {
+    number: 3,
+    fixed: 36,
+    count: 0,
+    item: 0,
+};
+
+// The byte at a place, 0 past the end.
+pub fn byte_at(d: &[u8], at: usize) -> u8
+    ensures { λ r. ⌜ r ≡ byteAt (now (d .entry)) at ⌝ }
+{
+    if at < d.len() { d[at] } else { 0 }
+}
+
+// The little-endian numbers of two, four and eight bytes at a place.
+pub fn le16_at(d: &[u8], at: usize) -> u16
+    ensures { λ r. ⌜ r ≡ le16 (now (d .entry)) at ⌝ }
+{
+    if at < d.len() {
+        return (byte_at(d, at) as u16) + 256 * (byte_at(d, at + 1) as u16);
+    }
+    0
+}
+
+pub fn le32_at(d: &[u8], at: usize) -> u32
+    ensures { λ r. ⌜ r ≡ little 4 (now (d .entry)) at ⌝ }
+{
+    if at < d.len() {
+        return (le16_at(d, at) as u32) + 65536 * (le16_at(d, at + 2) as u32);
+    }
+    0
+}
+
+pub fn le64_at(d: &[u8], at: usize) -> u64
+    ensures { λ r. ⌜ r ≡ little 8 (now (d .entry)) at ⌝ }
+{
+    if at < d.len() {
+        return (le32_at(d, at) as u64) + 4294967296 * (le32_at(d, at + 4) as u64);
+    }
+    0
+}
+
+// The len bytes from a place on, fewer where the slice ends.
+pub fn part(d: &[u8], from: usize, len: usize) -> &[u8]
+    ensures { λ r. ⌜ now r ≡ part (now (d .entry)) from len ⌝ }
+{
+    if d.len() < from {
+        return &d[..0];
+    }
+    if d.len() - from < len {
+        return &d[from..];
+    }
+    let to = from + len;
+    &d[from..to]
+}
+
+// Refusal 13 of the record at a place, which is of a kind.
+fn length_reply(d: &[u8], at: usize, k: Kind) -> Reply
+    requires { ⌜ at + 4 ≤ length (now d) ⌝ }
+    ensures { λ r. ⌜ r ≡ saidBlock (lengthReply k (now (d .entry)) at) ⌝ }
+{
+    let items = le16_at(d, at + 4 + (k.count as usize)) as usize;
+    if (le16_at(d, at) as usize) != (k.fixed as usize) + (k.item as usize) * items {
+        return Reply::Refused(Refusal {
+            number: 13,
+            place: at,
+        });
+    }
+    Reply::Fine
+}
+
+// Refusals 11, 12 and 13 of the record at a place where two kinds may stand.
+pub fn record_at(d: &[u8], at: usize, a: Kind, b: Kind) -> Reply
+    ensures { λ r. ⌜ r ≡ saidBlock (recordReply (a ∷ b ∷ []) (now (d .entry)) at) ⌝ }
+{
+    if d.len() < at {
+        return Reply::Refused(Refusal {
+            number: 11,
+            place: at,
+        });
+    }
+    if d.len() - at < 4 + (le16_at(d, at) as usize) {
+        return Reply::Refused(Refusal {
+            number: 11,
+            place: at,
+        });
+    }
+    let kind = le16_at(d, at + 2);
+    if kind == a.number {
+        return length_reply(d, at, a);
+    }
+    if kind == b.number {
+        return length_reply(d, at, b);
+    }
+    Reply::Refused(Refusal {
+        number: 12,
+        place: at,
+    })
+}
