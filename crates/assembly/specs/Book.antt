@@ -1,6 +1,6 @@
 -- A book: a graph under each of some numbers. The blocks of a list of bytes are one.
 use Prim.Native.Nat.{ℕ, _+_, _*_}
-use mathlib.Core.Bool.{Bool, true, false, _||_, cond}
+use mathlib.Core.Bool.{Bool, true, false, _&&_, not, cond}
 use mathlib.Core.List.{List, [], _∷_}
 use lib.Dec.{eqb}
 use Rattle.graph.specs.Graph.{Graph}
@@ -12,18 +12,20 @@ pub record Book : Type 0 where
   pub has : ℕ → Bool
   pub graph : ℕ → Graph
 
--- whether a block has the number
-unfoldable pub used : List BlockAt → ℕ → Bool
-used [] x = false
-used (b ∷ bs) x = eqb (b .number) x || used bs x
-
--- the block that has it; one of no atoms where there is none
+-- the first block that has a number; one of no atoms where none has it
 abbrev pub noBlock : BlockAt
 noBlock = record { number = 0; start = 0; atoms = 0; bonds = 0 }
 
 unfoldable pub find : List BlockAt → ℕ → BlockAt
 find [] x = noBlock
 find (b ∷ bs) x = cond (eqb (b .number) x) b (find bs x)
+
+-- whether some block has it: 0 is no block's number
+abbrev pub isNumbered : BlockAt → ℕ → Bool
+isNumbered b x = not (eqb x 0) && eqb (b .number) x
+
+abbrev pub used : List BlockAt → ℕ → Bool
+used bs x = isNumbered (find bs x) x
 
 -- a block's bonds stand behind its number, n and m
 abbrev pub bondBytes : List ℕ → BlockAt → List ℕ

@@ -1,3 +1,4 @@
 -- What an assembly over a book of blocks is told.
 pub mod Book
 pub mod Placements
+pub mod Sound

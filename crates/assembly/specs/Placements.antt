@@ -20,7 +20,7 @@ placementCount xs = le16 xs 0
 
 -- Block number (2), parent placement (2), parent's atom (1), own atom (1). Placement number k stands at index k - 1.
 unfoldable pub placementAt : List ℕ → ℕ → Placement
-placementAt xs k = record { block = le16 xs (2 + 6 * k); parent = le16 xs (4 + 6 * k); site = byteAt xs (6 + 6 * k); own = byteAt xs (7 + 6 * k) }
+placementAt xs k = record { block = le16 xs (6 * k + 2); parent = le16 xs (6 * k + 4); site = byteAt xs (6 * k + 6); own = byteAt xs (6 * k + 7) }
 
 unfoldable pub joinOf : Placement → Join
 joinOf q = record { parent = q .parent; site = q .site; own = q .own }
@@ -29,9 +29,17 @@ joinOf q = record { parent = q .parent; site = q .site; own = q .own }
 unfoldable pub joinEnds : Join → ℕ → ℕ → ℕ → ℕ
 joinEnds j k p a = cond (eqb (j .parent) p && eqb (j .site) a) 1 0 + cond (eqb k p && eqb (j .own) a) 1 0
 
--- the bonds on atom a of placement number p: its block's, and the joins at the indices 1 to `last`
-unfoldable pub bondsOn : (ℕ → Graph) → (ℕ → Join) → ℕ → ℕ → ℕ → ℕ
-bondsOn blocks joins last p a = degree (blocks (p - 1) .bonds) a + sum last (λ k. joinEnds (joins k) (suc k) p a)
+-- how many ends the joins at the indices 1 to `last` have there
+unfoldable pub joinsOn : (ℕ → Join) → ℕ → ℕ → ℕ → ℕ
+joinsOn joins last p a = sum last (λ k. joinEnds (joins k) (suc k) p a)
+
+-- the bonds on atom a of placement number p, which is of block g: the block's, and those joins
+unfoldable pub bondsOn : Graph → (ℕ → Join) → ℕ → ℕ → ℕ → ℕ
+bondsOn g joins last p a = degree (g .bonds) a + joinsOn joins last p a
+
+-- whether the atom has as many bonds as it may, before the placement at index k is joined
+abbrev pub isFull : Graph → (ℕ → Join) → ℕ → ℕ → ℕ → Bool
+isFull g joins k p a = leb limit (bondsOn g joins (k - 1) p a)
 
 -- what is wrong with the first placement's join fields: 17 where one is not 0
 unfoldable pub firstFault : Placement → ℕ
@@ -41,25 +49,27 @@ firstFault q = cond (eqb (q .parent) 0 && eqb (q .site) 0 && eqb (q .own) 0) 0 1
 unfoldable pub parentFault : ℕ → ℕ
 parentFault parent = 17
 
+-- what is wrong with the join at index k, from a placement of block h to one of block g: 18, 19, or 0 for nothing
+unfoldable pub joinFault : Graph → Graph → (ℕ → Join) → ℕ → ℕ
+joinFault g h joins k =
+    let j = joins k in
+    cond (isOutside (g .atoms) (j .site) || isOutside (h .atoms) (j .own)) 18
+    (cond (isFull g joins k (j .parent) (j .site) || isFull h joins k (suc k) (j .own)) 19 0)
+
+abbrev pub joinOn : (ℕ → Placement) → ℕ → Join
+joinOn placed k = joinOf (placed k)
+
 module _ (book : Book) (placed : ℕ → Placement) where
   abbrev pub graphOn : ℕ → Graph
   graphOn k = book .graph (placed k .block)
 
-  abbrev pub joinOn : ℕ → Join
-  joinOn k = joinOf (placed k)
-
-  -- whether atom a of placement number p has as many bonds as it may, before the placement at index k is joined
-  abbrev pub isFull : ℕ → ℕ → ℕ → Bool
-  isFull k p a = leb limit (bondsOn graphOn joinOn (k - 1) p a)
-
-  -- what is wrong with the placement at an index k that is not 0: 17, 18, 19, or 0 for nothing
+  -- what is wrong with the placement at an index that is not 0: 17, 18, 19, or 0
   unfoldable pub laterFault : ℕ → ℕ
   laterFault k =
-      let q = placed k in
-      cond (isOutside k (q .parent)) (parentFault (q .parent))
-      (cond (isOutside (graphOn (q .parent - 1) .atoms) (q .site) || isOutside (graphOn k .atoms) (q .own)) 18
-      (cond (isFull k (q .parent) (q .site) || isFull k (suc k) (q .own)) 19 0))
+      let parent = placed k .parent in
+      cond (isOutside k parent) (parentFault parent) (joinFault (graphOn (parent - 1)) (graphOn k) (joinOn placed) k)
 
+  -- what is wrong with the placement at an index: 16, or for the first and for later ones what follows
   unfoldable pub fault : ℕ → ℕ
   fault k = cond (not (book .has (placed k .block))) 16 (cond (eqb k 0) (firstFault (placed k)) (laterFault k))
 

@@ -1,4 +1,18 @@
 // An assembly: placements over any book of blocks, and refusals 15 to 19.
+ghost use mathlib.Core.Path.{_≡_};
+ghost use mathlib.Core.Bool.{_&&_, cond};
+ghost use Prim.Native.Nat.{_+_, _*_, _-_, _<_, _≤_, suc};
+ghost use lib.ListN.{length, take};
+ghost use Rattle.graph.specs.Graph.{degree};
+ghost use Rattle.block.specs.Block.{bondsOf, isOutside, saidBlock};
+ghost use Rattle.assembly.specs.Book.{find, isNumbered, bondBytes, blockGraph, bookOf};
+ghost use Rattle.assembly.specs.Placements.{placementAt, joinsOn, joinOn, isFull, mostPlacements, firstFault, parentFault, joinFault, laterFault, fault, assemblyReply};
+use block::LIMIT;
+use block::Refusal;
+use block::Reply;
+use records::byte_at;
+use records::le16_at;
+use records::part;
 
 // The most blocks of a book, and the most placements.
 pub const BLOCKS: usize = 16;
@@ -19,4 +33,232 @@ pub struct Placement {
     pub parent: u16,
     pub site: u8,
     pub own: u8,
+}
+
+// Which of the first `count` blocks has a number; one of no atoms where none has.
+pub fn find_block(blocks: [BlockAt; BLOCKS], count: usize, number: usize) -> BlockAt
+    ensures { λ r. ⌜ r ≡ find (take count blocks) number ⌝ }
+{
+    let none = BlockAt {
+        number: 0,
+        start: 0,
+        atoms: 0,
+        bonds: 0,
+    };
+    let mut i = 0;
+    while i < BLOCKS {
+        if count <= i {
+            return none;
+        }
+        let b = blocks[i];
+        if (b.number as usize) == number {
+            return b;
+        }
+        i += 1;
+    }
+    none
+}
+
+// Whether a block that was looked for has the number: 0 is no block's.
+pub fn is_numbered(b: BlockAt, number: usize) -> bool
+    ensures { λ r. ⌜ r ≡ isNumbered b number ⌝ }
+{
+    if number == 0 {
+        return false;
+    }
+    (b.number as usize) == number
+}
+
+// The part that holds a block's bonds.
+pub fn bonds_part(d: &[u8], b: BlockAt) -> &[u8]
+    ensures { λ r. ⌜ now r ≡ bondBytes (now (d .entry)) b ⌝ }
+{
+    let start = b.start;
+    if d.len() < start {
+        return &d[..0];
+    }
+    part(d, start + 6, 2 * (b.bonds as usize))
+}
+
+// The placement at an index from 0 of an assembly's payload.
+pub fn placement_at(xs: &[u8], k: usize) -> Placement
+    ensures { λ r. ⌜ r ≡ placementAt (now (xs .entry)) k ⌝ }
+{
+    if xs.len() / 6 < k {
+        return Placement {
+            block: 0,
+            parent: 0,
+            site: 0,
+            own: 0,
+        };
+    }
+    let at = 6 * k;
+    Placement {
+        block: le16_at(xs, at + 2),
+        parent: le16_at(xs, at + 4),
+        site: byte_at(xs, at + 6),
+        own: byte_at(xs, at + 7),
+    }
+}
+
+// 0 or above n.
+fn is_outside(n: usize, v: usize) -> bool
+    ensures { λ r. ⌜ r ≡ isOutside n v ⌝ }
+{
+    if v == 0 {
+        return true;
+    }
+    n < v
+}
+
+// 1 where both hold.
+fn one_if(x: bool, y: bool) -> usize
+    ensures { λ r. ⌜ (r ≡ cond (x && y) 1 0) × (r ≤ 1) ⌝ }
+{
+    if x {
+        if y {
+            return 1;
+        }
+    }
+    0
+}
+
+// How many ends of bonds are at an atom.
+fn degree_of(bonds: &[u8], a: u8) -> usize
+    ensures { λ r. ⌜ (r ≡ degree (bondsOf (now (bonds .entry))) a) × (r ≤ length (now (bonds .entry))) ⌝ }
+{
+    let mut total = 0;
+    let mut i = 0;
+    while 2 <= bonds.len() - i {
+        total = total
+            + (one_if(true, byte_at(bonds, i) == a) + one_if(true, byte_at(bonds, i + 1) == a));
+        i += 2;
+    }
+    total
+}
+
+// How many ends the joins at the indices 1 to `last` have at atom a of placement number p.
+fn joins_on(xs: &[u8], last: usize, p: usize, a: u8) -> usize
+    requires { ⌜ last ≤ mostPlacements ⌝ }
+    ensures { λ r. ⌜ (r ≡ joinsOn (joinOn (placementAt (now (xs .entry)))) last p a) × (r ≤ 2 * last) ⌝ }
+{
+    let mut total = 0;
+    let mut k = 0;
+    while k < last {
+        k += 1;
+        let q = placement_at(xs, k);
+        total = total
+            + (one_if((q.parent as usize) == p, q.site == a) + one_if(k + 1 == p, q.own == a));
+    }
+    total
+}
+
+// Whether atom a of placement number p, which is of block b, has as many bonds as it may, before the placement at index k is joined.
+fn is_full(d: &[u8], b: BlockAt, xs: &[u8], k: usize, p: usize, a: u8) -> bool
+    requires { ⌜ (1 ≤ k) × (k < mostPlacements) ⌝ }
+    ensures { λ r. ⌜ r ≡ isFull (blockGraph (now (d .entry)) b) (joinOn (placementAt (now (xs .entry)))) k p a ⌝ }
+{
+    let bonds = bonds_part(d, b);
+    LIMIT <= degree_of(bonds, a) + joins_on(xs, k - 1, p, a)
+}
+
+// What is wrong with the first placement's join fields: 17, or 0.
+fn first_fault(q: Placement) -> usize
+    ensures { λ r. ⌜ r ≡ firstFault q ⌝ }
+{
+    if q.parent != 0 {
+        return 17;
+    }
+    if q.site != 0 {
+        return 17;
+    }
+    if q.own != 0 {
+        return 17;
+    }
+    0
+}
+
+// The number for a later placement's parent that is 0 or not earlier.
+fn parent_fault(parent: usize) -> usize
+    ensures { λ r. ⌜ r ≡ parentFault parent ⌝ }
+{
+    17
+}
+
+// What is wrong with the join at index k, from a placement of block `here` to one of block `there`: 18, 19, or 0.
+fn join_fault(d: &[u8], there: BlockAt, here: BlockAt, xs: &[u8], k: usize) -> usize
+    requires { ⌜ (1 ≤ k) × (k < mostPlacements) ⌝ }
+    ensures { λ r. ⌜ r ≡ joinFault (blockGraph (now (d .entry)) there) (blockGraph (now (d .entry)) here) (joinOn (placementAt (now (xs .entry)))) k ⌝ }
+{
+    let q = placement_at(xs, k);
+    if is_outside(there.atoms as usize, q.site as usize) {
+        return 18;
+    }
+    if is_outside(here.atoms as usize, q.own as usize) {
+        return 18;
+    }
+    if is_full(d, there, xs, k, q.parent as usize, q.site) {
+        return 19;
+    }
+    if is_full(d, here, xs, k, k + 1, q.own) {
+        return 19;
+    }
+    0
+}
+
+// What is wrong with a later placement, at index k: 17, 18, 19, or 0.
+fn later_fault(d: &[u8], blocks: [BlockAt; BLOCKS], count: usize, xs: &[u8], k: usize) -> usize
+    requires { ⌜ (1 ≤ k) × (k < mostPlacements) ⌝ }
+    ensures { λ r. ⌜ r ≡ laterFault (bookOf (now (d .entry)) (take count blocks)) (placementAt (now (xs .entry))) k ⌝ }
+{
+    let q = placement_at(xs, k);
+    let parent = q.parent as usize;
+    if is_outside(k, parent) {
+        return parent_fault(parent);
+    }
+    let onto = placement_at(xs, parent - 1);
+    let there = find_block(blocks, count, onto.block as usize);
+    let here = find_block(blocks, count, q.block as usize);
+    join_fault(d, there, here, xs, k)
+}
+
+// What is wrong with the placement at index k: 16, 17, 18, 19, or 0.
+fn fault_of(d: &[u8], blocks: [BlockAt; BLOCKS], count: usize, xs: &[u8], k: usize) -> usize
+    requires { ⌜ k < mostPlacements ⌝ }
+    ensures { λ r. ⌜ r ≡ fault (bookOf (now (d .entry)) (take count blocks)) (placementAt (now (xs .entry))) k ⌝ }
+{
+    let q = placement_at(xs, k);
+    let number = q.block as usize;
+    if !is_numbered(find_block(blocks, count, number), number) {
+        return 16;
+    }
+    if k == 0 {
+        return first_fault(q);
+    }
+    later_fault(d, blocks, count, xs, k)
+}
+
+// Refusals 15 to 19 of an assembly's payload, over the first `count` blocks, which stand in d.
+pub fn check(d: &[u8], blocks: [BlockAt; BLOCKS], count: usize, xs: &[u8]) -> Reply
+    ensures { λ r. ⌜ r ≡ saidBlock (assemblyReply (bookOf (now (d .entry)) (take count blocks)) (now (xs .entry))) ⌝ }
+{
+    let p = le16_at(xs, 0) as usize;
+    if is_outside(PLACEMENTS, p) {
+        return Reply::Refused(Refusal {
+            number: 15,
+            place: 0,
+        });
+    }
+    let mut k = 0;
+    while k < p {
+        let f = fault_of(d, blocks, count, xs, k);
+        k += 1;
+        if f != 0 {
+            return Reply::Refused(Refusal {
+                number: f,
+                place: k,
+            });
+        }
+    }
+    Reply::Fine
 }

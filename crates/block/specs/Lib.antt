@@ -3,3 +3,12 @@ pub mod Read
 pub mod Block
 pub mod Rows
 pub mod Index
+pub mod Sums
+pub mod Near
+pub mod Found
+pub mod Tally
+pub mod Chain
+pub mod Faults
+pub mod Tables
+pub mod Told
+pub mod Measures

@@ -1,4 +1,17 @@
 // One block: its refusals 1 to 7, its distances, indices and vertex sums.
+ghost use mathlib.Core.Path.{_≡_};
+ghost use Prim.Native.Nat.{min};
+ghost use Rattle.block.specs.Read.{refusal};
+ghost use Rattle.block.specs.Block.{mostAtoms, blockReply, saidBlock};
+ghost use Rattle.block.specs.Rows.{rowsOf, rowReply, saidRow};
+ghost use Rattle.block.specs.Index.{indicesReply, saidIndices, vertexReply, saidVertex, distanceReply, saidDistance, pairsReply, saidPairs};
+ghost use Rattle.block.specs.Sums.{entry, pairEntry, indicesBy, vertexBy};
+ghost use Rattle.block.specs.Near.{Admitting};
+ghost use Rattle.block.specs.Found.{Viewing};
+
+mod lists;
+mod search;
+mod totals;
 
 // The most atoms of a block, the most bonds of an atom, and the most bytes that a block's bonds take.
 pub const ATOMS: usize = 64;
@@ -58,4 +71,239 @@ pub enum Apart {
 pub struct Pairs {
     pub reply: Reply,
     pub at: [u16; ATOMS],
+}
+
+// Neighbour lists. Atom u has count[u] neighbours, which stand in order from LIMIT * u on; atom 0 is none.
+const SEATS: usize = ATOMS + 1;
+
+const PLACES: usize = SEATS * LIMIT;
+
+struct Near {
+    pub count: [u8; SEATS],
+    pub list: [u8; PLACES],
+}
+
+// What reading the bonds gives.
+struct Built {
+    pub reply: Reply,
+    pub near: Near,
+}
+
+// A search from one atom: the distances found, and how many atoms were met.
+struct Found {
+    pub row: [u8; ATOMS],
+    pub met: usize,
+}
+
+// The row of one atom, or why there is none.
+struct View {
+    pub reply: Reply,
+    pub row: [u8; ATOMS],
+}
+
+// What some distances add up to: the even ones and the odd ones, how many there are of each, and how many are 1, 2 and 3.
+struct Tally {
+    pub even: u64,
+    pub odd: u64,
+    pub evens: u64,
+    pub odds: u64,
+    pub ones: u64,
+    pub twos: u64,
+    pub threes: u64,
+}
+
+// A refusal at place 0.
+fn refused(number: usize) -> Built
+    ensures { λ r. ⌜ r .reply ≡ Reply.Refused (refusal number 0) ⌝ }
+{
+    Built {
+        reply: Reply::Refused(Refusal { number, place: 0 }),
+        near: Near {
+            count: [0u8; SEATS],
+            list: [0u8; PLACES],
+        },
+    }
+}
+
+// The reply to a block and, where it is fine, its neighbour lists.
+fn admit(n: usize, bonds: &[u8]) -> Built
+    ensures { λ r. ⌜ Admitting n (now (bonds .entry)) r ⌝ }
+{
+    if lists::outside(ATOMS, n) {
+        return refused(1);
+    }
+    if bonds.len() % 2 != 0 {
+        return refused(2);
+    }
+    if bonds.len() > BYTES {
+        return refused(2);
+    }
+    let built = lists::build(n, bonds);
+    let reply = built.reply;
+    let Reply::Fine = reply else {
+        return built;
+    };
+    let near = built.near;
+    if search::connected(near, n) {
+        built
+    } else {
+        refused(7)
+    }
+}
+
+// Whether a block is refused, with which number and where: the bond's number from 1, or 0.
+pub fn check(n: usize, bonds: &[u8]) -> Reply
+    ensures { λ r. ⌜ r ≡ saidBlock (blockReply n (now (bonds .entry))) ⌝ }
+{
+    let admitted = admit(n, bonds);
+    admitted.reply
+}
+
+// The distances of a block: those from atom i are row i - 1, and that to atom j stands there at j - 1. All is 0 beyond the atoms, and
+// where the block is refused.
+pub fn rows(n: usize, bonds: &[u8]) -> [[u8; ATOMS]; ATOMS]
+    ensures { λ r. ⌜ r ≡ rowsOf n (now (bonds .entry)) ⌝ }
+{
+    let admitted = admit(n, bonds);
+    let reply = admitted.reply;
+    let Reply::Fine = reply else {
+        return [[0u8; ATOMS]; ATOMS];
+    };
+    let near = admitted.near;
+    search::from_all(near, n)
+}
+
+// The row of atom i, or why there is none: the block's refusal, or 18 where it has no such atom.
+fn look(n: usize, bonds: &[u8], i: usize) -> View
+    ensures { λ r. ⌜ Viewing n (now (bonds .entry)) i r ⌝ }
+{
+    let admitted = admit(n, bonds);
+    let reply = admitted.reply;
+    let Reply::Fine = reply else {
+        return View {
+            reply,
+            row: [0u8; ATOMS],
+        };
+    };
+    if lists::outside(n, i) {
+        return View {
+            reply: Reply::Refused(Refusal {
+                number: 18,
+                place: 0,
+            }),
+            row: [0u8; ATOMS],
+        };
+    }
+    let near = admitted.near;
+    let count = near.count;
+    let list = near.list;
+    let found = search::from_atom(&count, &list, i as u8);
+    let row = found.row;
+    View { reply, row }
+}
+
+// The distances from atom i, that to atom j at j - 1: all 0 where the block is refused or has no such atom.
+pub fn row(n: usize, bonds: &[u8], i: usize) -> [u8; ATOMS]
+    ensures { λ r. ⌜ r ≡ saidRow (rowReply n (now (bonds .entry)) i) ⌝ }
+{
+    let seen = look(n, bonds, i);
+    seen.row
+}
+
+// The indices of the first n atoms, at most ATOMS, by rows of their distances: the pair i < j is read in the row of j.
+pub fn sums(rows: [[u8; ATOMS]; ATOMS], n: usize) -> Indices
+    ensures { λ r. ⌜ r ≡ indicesBy (min n mostAtoms) (pairEntry rows) ⌝ }
+{
+    let m = totals::within(n);
+    let mut even: u64 = 0;
+    let mut odd: u64 = 0;
+    let mut threes: u64 = 0;
+    let mut j = 0;
+    while j < m {
+        let row = rows[j];
+        let t = totals::along(row, j);
+        even += t.even;
+        odd += t.odd;
+        threes += t.threes;
+        j += 1;
+    }
+    Indices {
+        atoms: m as u64,
+        w: even + odd,
+        even,
+        odd,
+        polarity: threes,
+    }
+}
+
+// The vertex sum of an atom and what goes with it, by the row of its distances to the first n atoms, at most ATOMS.
+pub fn around_row(row: [u8; ATOMS], n: usize) -> Vertex
+    ensures { λ r. ⌜ r ≡ vertexBy (min n mostAtoms) (entry row) ⌝ }
+{
+    let m = totals::within(n);
+    let t = totals::along(row, m);
+    Vertex {
+        sum: t.even + t.odd,
+        even: t.even,
+        odd: t.odd,
+        evens: t.evens,
+        odds: t.odds,
+        ones: t.ones,
+        twos: t.twos,
+    }
+}
+
+// The indices of a block, or its refusal.
+pub fn measure(n: usize, bonds: &[u8]) -> Measured
+    ensures { λ r. ⌜ r ≡ saidIndices (indicesReply n (now (bonds .entry))) ⌝ }
+{
+    let admitted = admit(n, bonds);
+    let reply = admitted.reply;
+    match reply {
+        Reply::Refused(refusal) => Measured::Refused(refusal),
+        Reply::Fine => {
+            let near = admitted.near;
+            let rows = search::from_all(near, n);
+            let indices = sums(rows, n);
+            Measured::Of(indices)
+        }
+    }
+}
+
+// The distance of two atoms of a block, or its refusal; 18 at place 0 where there is no such atom.
+pub fn distance(n: usize, bonds: &[u8], i: usize, j: usize) -> Apart
+    ensures { λ r. ⌜ r ≡ saidDistance (distanceReply n (now (bonds .entry)) i j) ⌝ }
+{
+    let seen = look(n, bonds, i);
+    let reply = seen.reply;
+    match reply {
+        Reply::Refused(refusal) => Apart::Refused(refusal),
+        Reply::Fine => {
+            if lists::outside(n, j) {
+                return Apart::Refused(Refusal {
+                    number: 18,
+                    place: 0,
+                });
+            }
+            let row = seen.row;
+            let d = totals::wide(row[j - 1]);
+            Apart::Of(d)
+        }
+    }
+}
+
+// The vertex sum of atom a of a block and what goes with it, or its refusal; 18 at place 0 where there is no such atom.
+pub fn vertex_sums(n: usize, bonds: &[u8], a: usize) -> Around
+    ensures { λ r. ⌜ r ≡ saidVertex (vertexReply n (now (bonds .entry)) a) ⌝ }
+{
+    let seen = look(n, bonds, a);
+    let reply = seen.reply;
+    match reply {
+        Reply::Refused(refusal) => Around::Refused(refusal),
+        Reply::Fine => {
+            let row = seen.row;
+            let vertex = around_row(row, n);
+            Around::Of(vertex)
+        }
+    }
 }

@@ -21,7 +21,7 @@ unfoldable pub graphAt : List ℕ → Deck → ℕ → Graph
 graphAt d k i = graphOn (bookOf d (k .blocks)) (placedIn d k) i
 
 unfoldable pub joinAt : List ℕ → Deck → ℕ → Join
-joinAt d k i = joinOn (bookOf d (k .blocks)) (placedIn d k) i
+joinAt d k i = joinOn (placedIn d k) i
 
 unfoldable pub moleculeOf : List ℕ → Deck → Graph
 moleculeOf d k = written (graphAt d k) (joinAt d k) (k .placements - 1)

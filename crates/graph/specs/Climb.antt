@@ -119,6 +119,16 @@ module _ {blocks : ℕ → Graph} {joins : ℕ → Join} (m : ℕ) (a : Assemble
   unfolding written
   grown-new {i = i} e p = rw (behind i e) (grown-second core block site own (here e p))
 
+-- distances stay as they are with every placement more
+pub apart-keeps : {blocks : ℕ → Graph} {joins : ℕ → Join} {m k i l j : ℕ} (last : ℕ) → m ≤ last → Assembled blocks joins last → Placed blocks m k i → Placed blocks m l j
+    → apart blocks joins last k i l j ≡ apart blocks joins m k i l j
+apart-keeps {blocks} {joins} {m} {k} {i} {l} {j} zero h a p q = let e : 0 ≡ m = omega arith in ap (λ (n : ℕ). apart blocks joins n k i l j) e
+apart-keeps {blocks} {joins} {m} {k} {i} {l} {j} (suc n) h a p q =
+    ⊎-elim
+    (λ s. apart-old n a (placed-later n s p) (placed-later n s q) ∙ apart-keeps n s (sooner n (omega arith) a) p q)
+    (λ s. ap (λ (n : ℕ). apart blocks joins n k i l j) (sym s))
+    (le-suc-iff .0 h)
+
 -- THE CLIMBING RULE: two atoms of one placement are as far apart as in its block; those of two are joined by way of the later one's own atom and
 -- the atom of its parent.
 module _ {blocks : ℕ → Graph} {joins : ℕ → Join} where

@@ -1,2 +1,3 @@
 -- What the C functions reply.
 pub mod Convention
+pub mod Replies

@@ -1,9 +1,15 @@
-// The functions of the library as C calls them.
+// The functions of the library as C calls them: each is the library's under the convention of include/tteuyomal.h.
 ghost use mathlib.Core.Path.{_≡_};
 ghost use Prim.Native.Nat.{_≤_};
 ghost use lib.ListN.{length};
-ghost use Rattle.tteuyomal.specs.Convention.{code, over};
+ghost use Rattle.block.specs.Read.{read};
+ghost use Rattle.block.specs.Block.{blockReply};
+ghost use Rattle.tteuyomal.specs.Convention.{code, coded, fitting, over, after};
+ghost use Rattle.tteuyomal.specs.Replies.{indicesList, vertexList};
+use block::Around;
+use block::Measured;
 use block::Refusal;
+use block::Reply;
 
 const PLACES: usize = 72_057_594_037_927_936;
 
@@ -23,5 +29,58 @@ fn put(out: &mut [u64], numbers: &[u64])
     while i < numbers.len() {
         out[i] = numbers[i];
         i += 1;
+    }
+}
+
+// The same where they fit, and 9 where they do not.
+fn give(out: &mut [u64], numbers: &[u64]) -> u64
+    ensures reply { λ r. ⌜ r ≡ coded (fitting (length (now (out .entry))) (read (now (numbers .entry)))) ⌝ }
+    ensures lent { λ _. ⌜ now (out .exit) ≡ after (fitting (length (now (out .entry))) (read (now (numbers .entry)))) (now (out .entry)) ⌝ }
+{
+    if out.len() < numbers.len() {
+        return 9;
+    }
+    put(out, numbers);
+    0
+}
+
+#[no_mangle]
+pub extern "C" fn tteuyomal_check_block(atoms: usize, bonds: &[u8]) -> u64
+    ensures { λ r. ⌜ r ≡ coded (blockReply atoms (now (bonds .entry))) ⌝ }
+{
+    let reply = block::check(atoms, bonds);
+    match reply {
+        Reply::Fine => 0,
+        Reply::Refused(r) => code_of(r),
+    }
+}
+
+#[no_mangle]
+pub extern "C" fn tteuyomal_indices(atoms: usize, bonds: &[u8], fields: &mut [u64]) -> u64
+    ensures reply { λ r. ⌜ r ≡ coded (fitting (length (now (fields .entry))) (indicesList atoms (now (bonds .entry)))) ⌝ }
+    ensures lent { λ _. ⌜ now (fields .exit) ≡ after (fitting (length (now (fields .entry))) (indicesList atoms (now (bonds .entry)))) (now (fields .entry)) ⌝ }
+{
+    let answer = block::measure(atoms, bonds);
+    match answer {
+        Measured::Refused(r) => code_of(r),
+        Measured::Of(x) => {
+            let numbers = [x.atoms, x.w, x.even, x.odd, x.polarity];
+            give(fields, &numbers)
+        }
+    }
+}
+
+#[no_mangle]
+pub extern "C" fn tteuyomal_vertex(atoms: usize, bonds: &[u8], atom: usize, sums: &mut [u64]) -> u64
+    ensures reply { λ r. ⌜ r ≡ coded (fitting (length (now (sums .entry))) (vertexList atoms (now (bonds .entry)) atom)) ⌝ }
+    ensures lent { λ _. ⌜ now (sums .exit) ≡ after (fitting (length (now (sums .entry))) (vertexList atoms (now (bonds .entry)) atom)) (now (sums .entry)) ⌝ }
+{
+    let answer = block::vertex_sums(atoms, bonds, atom);
+    match answer {
+        Around::Refused(r) => code_of(r),
+        Around::Of(v) => {
+            let numbers = [v.sum, v.even, v.odd, v.evens, v.odds, v.ones, v.twos];
+            give(sums, &numbers)
+        }
     }
 }

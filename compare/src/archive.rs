@@ -1,0 +1,92 @@
+//! The library under test, called through its C functions (include/tteuyomal.h).
+
+mod c {
+    #[link(name = "tteuyomal", kind = "static")]
+    extern "C" {
+        pub fn tteuyomal_judge(deck: *const u8, deck_len: usize) -> u64;
+        pub fn tteuyomal_write_sheet(deck: *const u8, deck_len: usize, out: *mut u8, out_len: usize) -> u64;
+        pub fn tteuyomal_compose(deck: *const u8, deck_len: usize, fields: *mut u64, fields_len: usize) -> u64;
+        pub fn tteuyomal_placed_distance(
+            deck: *const u8,
+            deck_len: usize,
+            k: usize,
+            i: usize,
+            l: usize,
+            j: usize,
+            distance: *mut u64,
+            distance_len: usize,
+        ) -> u64;
+        pub fn tteuyomal_check_block(atoms: usize, bonds: *const u8, bonds_len: usize) -> u64;
+        pub fn tteuyomal_indices(
+            atoms: usize,
+            bonds: *const u8,
+            bonds_len: usize,
+            fields: *mut u64,
+            fields_len: usize,
+        ) -> u64;
+        pub fn tteuyomal_vertex(
+            atoms: usize,
+            bonds: *const u8,
+            bonds_len: usize,
+            atom: usize,
+            sums: *mut u64,
+            sums_len: usize,
+        ) -> u64;
+        pub fn tteuyomal_contributions(
+            atoms: usize,
+            bonds: *const u8,
+            bonds_len: usize,
+            shares: *mut u64,
+            shares_len: usize,
+            denominator: *mut u64,
+            denominator_len: usize,
+        ) -> u64;
+        pub fn tteuyomal_polynomial(
+            atoms: usize,
+            bonds: *const u8,
+            bonds_len: usize,
+            x: f64,
+            values: *mut f64,
+            values_len: usize,
+        ) -> u64;
+    }
+}
+
+pub fn judge(deck: &[u8]) -> u64 {
+    unsafe { c::tteuyomal_judge(deck.as_ptr(), deck.len()) }
+}
+
+pub fn write_sheet(deck: &[u8], out: &mut [u8]) -> u64 {
+    unsafe { c::tteuyomal_write_sheet(deck.as_ptr(), deck.len(), out.as_mut_ptr(), out.len()) }
+}
+
+pub fn compose(deck: &[u8], fields: &mut [u64]) -> u64 {
+    unsafe { c::tteuyomal_compose(deck.as_ptr(), deck.len(), fields.as_mut_ptr(), fields.len()) }
+}
+
+pub fn placed_distance(deck: &[u8], [k, i, l, j]: [usize; 4], distance: &mut [u64]) -> u64 {
+    let (out, room) = (distance.as_mut_ptr(), distance.len());
+    unsafe { c::tteuyomal_placed_distance(deck.as_ptr(), deck.len(), k, i, l, j, out, room) }
+}
+
+pub fn check_block(atoms: usize, bonds: &[u8]) -> u64 {
+    unsafe { c::tteuyomal_check_block(atoms, bonds.as_ptr(), bonds.len()) }
+}
+
+pub fn indices(atoms: usize, bonds: &[u8], fields: &mut [u64]) -> u64 {
+    unsafe { c::tteuyomal_indices(atoms, bonds.as_ptr(), bonds.len(), fields.as_mut_ptr(), fields.len()) }
+}
+
+pub fn vertex(atoms: usize, bonds: &[u8], atom: usize, sums: &mut [u64]) -> u64 {
+    unsafe { c::tteuyomal_vertex(atoms, bonds.as_ptr(), bonds.len(), atom, sums.as_mut_ptr(), sums.len()) }
+}
+
+pub fn contributions(atoms: usize, bonds: &[u8], shares: &mut [u64], denominator: &mut [u64]) -> u64 {
+    let (out, room) = (shares.as_mut_ptr(), shares.len());
+    let (d_out, d_room) = (denominator.as_mut_ptr(), denominator.len());
+    unsafe { c::tteuyomal_contributions(atoms, bonds.as_ptr(), bonds.len(), out, room, d_out, d_room) }
+}
+
+pub fn polynomial(atoms: usize, bonds: &[u8], x: f64, values: &mut [f64]) -> u64 {
+    unsafe { c::tteuyomal_polynomial(atoms, bonds.as_ptr(), bonds.len(), x, values.as_mut_ptr(), values.len()) }
+}

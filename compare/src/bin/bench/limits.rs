@@ -1,0 +1,54 @@
+//! The stack that each function takes on the largest inputs, and whether the archive asks for heap memory.
+
+use crate::{archive, opened, stack};
+use opinion::make::plan::DeckPlan;
+use opinion::make::shapes;
+use std::fs;
+
+const MOST_STACK: usize = 256 << 10;
+
+/// Prints a row for each function, measured over these decks and over large blocks.
+pub fn stack(decks: &[&DeckPlan]) {
+    let judged: Vec<Vec<u8>> = decks.iter().map(|deck| opened(deck).1).collect();
+    let decks: Vec<Vec<u8>> = decks.iter().map(|deck| deck.bytes()).collect();
+    let blocks = [shapes::path(64), shapes::double_ring(64), shapes::doubling(32)].map(|block| block.bond_bytes());
+    let rows = [
+        ("judge", most(&judged, archive::judge)),
+        ("write_sheet", most(&decks, |deck| archive::write_sheet(deck, &mut [0; 40]))),
+        ("compose", most(&decks, |deck| archive::compose(deck, &mut [0; 5]))),
+        ("placed_distance", most(&decks, |deck| archive::placed_distance(deck, [1, 1, 32, 64], &mut [0]))),
+        ("check_block", most(&blocks, |bonds| archive::check_block(64, bonds))),
+        ("indices", most(&blocks, |bonds| archive::indices(64, bonds, &mut [0; 5]))),
+        ("vertex", most(&blocks, |bonds| archive::vertex(64, bonds, 64, &mut [0; 7]))),
+        ("contributions", most(&blocks, |bonds| archive::contributions(64, bonds, &mut [0; 128], &mut [0]))),
+        ("polynomial", most(&blocks, |bonds| archive::polynomial(64, bonds, 0.5, &mut [0.0; 2]))),
+    ];
+    println!("| Function | bytes of stack | goal | |");
+    println!("|---|---|---|---|");
+    for (name, used) in rows {
+        let met = if used <= MOST_STACK { "met" } else { "MISSED" };
+        println!("| {name} | {used} | {MOST_STACK} | {met} |");
+    }
+}
+
+/// The most stack over these inputs.
+fn most(inputs: &[Vec<u8>], call: impl Fn(&[u8]) -> u64) -> usize {
+    let used = |input: &Vec<u8>| {
+        stack::bytes_used(|| {
+            call(input);
+        })
+    };
+    inputs.iter().map(used).max().unwrap_or(0)
+}
+
+/// Looks in the archive for the names of functions that give memory.
+pub fn heap() {
+    let archive = fs::read(env!("TTEUYOMAL_ARCHIVE")).expect("the archive that was linked");
+    let named = |name: &&&str| archive.windows(name.len() + 1).any(|part| part == format!("{name}\0").as_bytes());
+    let found: Vec<&&str> = ["malloc", "calloc", "realloc", "mmap", "brk"].iter().filter(named).collect();
+    if found.is_empty() {
+        println!("Heap: the archive names no function that gives memory: met.");
+    } else {
+        println!("Heap: the archive names {found:?}: MISSED.");
+    }
+}

@@ -1,0 +1,151 @@
+//! Times libtteuyomal.a beside plain search in the same process, and prints a Markdown table. Run it in release.
+
+#[path = "../../archive.rs"]
+mod archive;
+mod limits;
+mod plain;
+mod stack;
+mod timing;
+
+use opinion::deck::{read_deck, sheet_record, Form};
+use opinion::graph::Graph;
+use opinion::make::blocks::with_more_bonds;
+use opinion::make::decks::{assemble, random_deck};
+use opinion::make::plan::{BlockPlan, DeckPlan};
+use opinion::make::random::Random;
+use opinion::make::shapes;
+use opinion::molecule::write_out;
+use plain::{Plain, Shares};
+use std::hint::black_box;
+use timing::medians;
+
+fn main() {
+    println!("| What | library | plain | plain / library | goal | |");
+    println!("|---|---|---|---|---|---|");
+    let decks = [
+        ("32 paths of 64 atoms", shapes::longest_path(), 150.0),
+        ("16 blocks of 64 atoms in 32 placements", many_blocks(64, 16, 32), 30.0),
+        ("five blocks of 20 atoms", many_blocks(20, 5, 5), 5.0),
+        ("two rings of 6", shapes::chained(shapes::ring(6), 2, 1, 1), 1.0 / 2.0),
+    ];
+    for (name, deck, goal) in &decks {
+        time_deck(name, deck, *goal);
+    }
+    for (name, block) in [("path of 64", shapes::path(64)), ("64 atoms, 128 bonds", shapes::double_ring(64))] {
+        time_indices(name, &block, 1.0 / 1.5);
+    }
+    for (name, block) in [("64 atoms, 128 bonds", shapes::double_ring(64)), ("10 squares", shapes::squares(10))] {
+        time_shares(name, &block, 1.0 / 3.0);
+    }
+    println!();
+    let (decks_judged, atoms) = decks_a_second();
+    println!("Judged in a second: {decks_judged:.0} random decks of {atoms:.0} atoms on average.");
+    println!();
+    limits::stack(&[&decks[0].1, &decks[1].1]);
+    println!();
+    limits::heap();
+}
+
+/// Different blocks of so many atoms, from a tree to many rings, each placed in turn.
+fn many_blocks(atoms: usize, blocks: usize, placements: usize) -> DeckPlan {
+    let random = &mut Random::new(64);
+    let extra = |i: usize| 3 * atoms * i / (4 * blocks);
+    let made: Vec<BlockPlan> =
+        (0..blocks).map(|i| BlockPlan { number: i as u16 + 1, ..with_more_bonds(random, atoms, extra(i)) }).collect();
+    let order: Vec<usize> = (0..placements).map(|placed| placed % blocks).collect();
+    let deck = assemble(random, made, &order);
+    assert_eq!(deck.placements.len(), placements);
+    deck
+}
+
+fn row(what: &str, [library, plain]: [f64; 2], goal: f64) {
+    let ratio = plain / library;
+    let met = if ratio >= goal { "met" } else { "MISSED" };
+    println!("| {what} | {} | {} | {ratio:.2} | {goal:.2} | {met} |", duration(library), duration(plain));
+}
+
+fn duration(seconds: f64) -> String {
+    if seconds < 1e-3 {
+        format!("{:.2} µs", seconds * 1e6)
+    } else {
+        format!("{:.2} ms", seconds * 1e3)
+    }
+}
+
+/// The molecule of a deck, and the deck with its right sheet behind it.
+pub fn opened(deck: &DeckPlan) -> (Graph, Vec<u8>, [u64; 5]) {
+    let bytes = deck.bytes();
+    let molecule = write_out(&read_deck(&bytes, Form::Composed).expect("a good deck"));
+    let right = molecule.indices().fields();
+    (molecule, [&bytes[..], &sheet_record(right)].concat(), right)
+}
+
+/// The plain side reads the deck too, with no check.
+fn time_deck(name: &str, deck: &DeckPlan, goal: f64) {
+    let (_, judged, right) = opened(deck);
+    let composed = deck.bytes();
+    let mut plain = Plain::new();
+    let mut fields = [0; 5];
+    assert_eq!(archive::judge(&judged), 0);
+    assert_eq!((archive::compose(&composed, &mut fields), fields), (0, right));
+    let mut search = || {
+        plain.read_deck(black_box(&composed));
+        assert_eq!(plain.indices(), right);
+    };
+    let mut judge = || {
+        black_box(archive::judge(black_box(&judged)));
+    };
+    row(&format!("judge, {name}"), medians(&mut judge, &mut search), goal);
+    let mut compose = || {
+        black_box(archive::compose(black_box(&composed), &mut fields));
+    };
+    row(&format!("compose, {name}"), medians(&mut compose, &mut search), goal);
+}
+
+fn time_indices(name: &str, block: &BlockPlan, goal: f64) {
+    let (atoms, bonds) = (block.atoms as usize, block.bond_bytes());
+    let mut plain = Plain::new();
+    let mut fields = [0; 5];
+    assert_eq!(archive::indices(atoms, &bonds, &mut fields), 0);
+    let right = fields;
+    let mut library = || {
+        black_box(archive::indices(atoms, black_box(&bonds), &mut fields));
+    };
+    let mut search = || {
+        plain.read_block(atoms, black_box(&bonds));
+        assert_eq!(plain.indices(), right);
+    };
+    row(&format!("indices, {name}"), medians(&mut library, &mut search), goal);
+}
+
+fn time_shares(name: &str, block: &BlockPlan, goal: f64) {
+    let (atoms, bonds) = (block.atoms as usize, block.bond_bytes());
+    let mut plain = Plain::new();
+    let mut worked = Shares::new();
+    let (mut shares, mut denominator) = ([0; 128], [0]);
+    assert_eq!(archive::contributions(atoms, &bonds, &mut shares, &mut denominator), 0);
+    let right = (shares, denominator[0]);
+    let mut library = || {
+        black_box(archive::contributions(atoms, black_box(&bonds), &mut shares, &mut denominator));
+    };
+    let mut same = || {
+        plain.read_block(atoms, black_box(&bonds));
+        worked.work(&plain);
+        assert_eq!((worked.shares, worked.denominator), right);
+    };
+    row(&format!("shares, {name}"), medians(&mut library, &mut same), goal);
+}
+
+/// How many random decks with right sheets are judged in a second, and how many atoms they have on average.
+fn decks_a_second() -> (f64, f64) {
+    let random = &mut Random::new(1);
+    let decks: Vec<(Graph, Vec<u8>, [u64; 5])> = (0..500).map(|_| opened(&random_deck(random))).collect();
+    let atoms: usize = decks.iter().map(|(molecule, _, _)| molecule.atoms).sum();
+    let mut all = || {
+        for (_, judged, _) in &decks {
+            assert_eq!(archive::judge(black_box(judged)), 0);
+        }
+    };
+    let [batch, _] = medians(&mut all, &mut || {});
+    (decks.len() as f64 / batch, atoms as f64 / decks.len() as f64)
+}

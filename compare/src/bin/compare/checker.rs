@@ -1,0 +1,191 @@
+//! Calls of the library, each beside the second opinion: the reply and every lent entry must agree.
+
+use crate::archive;
+use crate::lent::Lent;
+use opinion::answers::{self, Verdict};
+use opinion::molecule::Measurer;
+use opinion::refusal::Refusal;
+use std::fmt::Display;
+
+/// Failures told in full; the others are only counted.
+const MOST_TOLD: usize = 20;
+
+#[derive(Default)]
+pub struct Checker {
+    pub passed: usize,
+    pub failed: usize,
+    pub calls: usize,
+    /// How often each refusal number was right.
+    pub refused: [usize; 21],
+    pub accepted: usize,
+    /// How often each field was the first wrong one.
+    pub differed: [usize; 6],
+    measurer: Measurer,
+    faults: Vec<String>,
+}
+
+/// The one number that a C function replies.
+fn code<T>(answer: &Result<T, Refusal>) -> u64 {
+    match answer {
+        Ok(_) => 0,
+        Err(refusal) => refusal.number + 256 * refusal.place,
+    }
+}
+
+fn words(code: u64) -> String {
+    match (code % 256, code / 256) {
+        (0, 0) => String::from("fine"),
+        (255, field) => format!("differs {field}"),
+        (number, place) => format!("refused {number} at {place}"),
+    }
+}
+
+/// The bytes of an input, as far as a line holds them.
+fn hex(bytes: &[u8]) -> String {
+    let shown: Vec<String> = bytes.iter().take(300).map(|byte| format!("{byte:02x}")).collect();
+    let rest = if bytes.len() > 300 { ".." } else { "" };
+    format!("{} bytes {}{rest}", bytes.len(), shown.join(" "))
+}
+
+/// What was written, for an output: nothing where the answer is a refusal.
+fn written<T, E: Clone>(answer: &Result<T, Refusal>, entries: impl Fn(&T) -> Vec<E>) -> Vec<E> {
+    answer.as_ref().map_or(Vec::new(), entries)
+}
+
+impl Checker {
+    /// One case: it passes when every call in it agrees.
+    pub fn case(&mut self, name: impl Display, calls: impl FnOnce(&mut Checker)) {
+        calls(self);
+        if self.faults.is_empty() {
+            self.passed += 1;
+            return;
+        }
+        self.failed += 1;
+        if self.failed <= MOST_TOLD {
+            println!("FAILED {name}");
+            for fault in self.faults.iter().take(3) {
+                println!("  {fault}");
+            }
+        }
+        self.faults.clear();
+    }
+
+    /// A fact that must hold within a case.
+    pub fn holds(&mut self, fact: bool, name: impl Display) {
+        if !fact {
+            self.faults.push(name.to_string());
+        }
+    }
+
+    fn count(&mut self, right: u64) {
+        self.calls += 1;
+        match (right % 256, right / 256) {
+            (0, _) => {}
+            (255, field) => self.differed[field as usize] += 1,
+            (number, _) => self.refused[number as usize] += 1,
+        }
+    }
+
+    fn agree(&mut self, call: impl Fn() -> String, right: u64, reply: u64, fault: Option<String>) {
+        self.count(right);
+        if reply != right {
+            self.faults.push(format!("{}: {}, right is {}", call(), words(reply), words(right)));
+        } else if let Some(fault) = fault {
+            self.faults.push(format!("{}: {}, and {fault}", call(), words(reply)));
+        }
+    }
+
+    /// The library only reads this input: it must be the same afterwards.
+    fn unchanged(&mut self, before: &[u8], after: &[u8]) {
+        self.holds(before == after, "an input was changed");
+    }
+
+    pub fn judge(&mut self, deck: &[u8]) {
+        let lent = deck.to_vec();
+        let reply = archive::judge(&lent);
+        self.unchanged(deck, &lent);
+        let right = match answers::judge(&mut self.measurer, deck) {
+            Verdict::Accepted => 0,
+            Verdict::Differs(field) => 255 + 256 * field,
+            Verdict::Refused(refusal) => refusal.number + 256 * refusal.place,
+        };
+        self.accepted += (right == 0) as usize;
+        self.agree(|| format!("judge {}", hex(deck)), right, reply, None);
+    }
+
+    pub fn write_sheet(&mut self, deck: &[u8], room: usize) {
+        let (lent, mut out) = (deck.to_vec(), Lent::new(room));
+        let reply = archive::write_sheet(&lent, out.part());
+        self.unchanged(deck, &lent);
+        let right = answers::write_sheet(&mut self.measurer, deck, room);
+        let fault = out.fault(&written(&right, |sheet| sheet.clone()));
+        self.agree(|| format!("write_sheet room {room} {}", hex(deck)), code(&right), reply, fault);
+    }
+
+    pub fn compose(&mut self, deck: &[u8], room: usize) {
+        let (lent, mut out) = (deck.to_vec(), Lent::new(room));
+        let reply = archive::compose(&lent, out.part());
+        self.unchanged(deck, &lent);
+        let right = answers::compose(&mut self.measurer, deck, room);
+        let fault = out.fault(&written(&right, |fields| fields.to_vec()));
+        self.agree(|| format!("compose room {room} {}", hex(deck)), code(&right), reply, fault);
+    }
+
+    pub fn placed_distance(&mut self, deck: &[u8], atoms: [usize; 4], room: usize) {
+        let (lent, mut out) = (deck.to_vec(), Lent::new(room));
+        let reply = archive::placed_distance(&lent, atoms, out.part());
+        self.unchanged(deck, &lent);
+        let right = answers::placed_distance(deck, atoms, room);
+        let fault = out.fault(&written(&right, |&distance| vec![distance]));
+        let call = || format!("placed_distance {atoms:?} room {room} {}", hex(deck));
+        self.agree(call, code(&right), reply, fault);
+    }
+
+    pub fn check_block(&mut self, atoms: usize, bonds: &[u8]) {
+        let lent = bonds.to_vec();
+        let reply = archive::check_block(atoms, &lent);
+        self.unchanged(bonds, &lent);
+        let right = answers::check_block(atoms, bonds);
+        self.agree(|| format!("check_block {atoms} {}", hex(bonds)), code(&right), reply, None);
+    }
+
+    pub fn indices(&mut self, atoms: usize, bonds: &[u8], room: usize) {
+        let (lent, mut out) = (bonds.to_vec(), Lent::new(room));
+        let reply = archive::indices(atoms, &lent, out.part());
+        self.unchanged(bonds, &lent);
+        let right = answers::indices(atoms, bonds, room);
+        let fault = out.fault(&written(&right, |fields| fields.to_vec()));
+        self.agree(|| format!("indices {atoms} room {room} {}", hex(bonds)), code(&right), reply, fault);
+    }
+
+    pub fn vertex(&mut self, atoms: usize, bonds: &[u8], atom: usize, room: usize) {
+        let (lent, mut out) = (bonds.to_vec(), Lent::new(room));
+        let reply = archive::vertex(atoms, &lent, atom, out.part());
+        self.unchanged(bonds, &lent);
+        let right = answers::vertex(atoms, bonds, atom, room);
+        let fault = out.fault(&written(&right, |sums| sums.to_vec()));
+        let call = || format!("vertex {atoms} atom {atom} room {room} {}", hex(bonds));
+        self.agree(call, code(&right), reply, fault);
+    }
+
+    pub fn contributions(&mut self, atoms: usize, bonds: &[u8], room: usize, d_room: usize) {
+        let (lent, mut out, mut d_out) = (bonds.to_vec(), Lent::new(room), Lent::new(d_room));
+        let reply = archive::contributions(atoms, &lent, out.part(), d_out.part());
+        self.unchanged(bonds, &lent);
+        let right = answers::contributions(atoms, bonds, room, d_room);
+        let shares_fault = out.fault(&written(&right, |(_, shares)| shares.clone()));
+        let d_fault = d_out.fault(&written(&right, |&(d, _)| vec![d]));
+        let call = || format!("contributions {atoms} room {room} and {d_room} {}", hex(bonds));
+        self.agree(call, code(&right), reply, shares_fault.or(d_fault));
+    }
+
+    pub fn polynomial(&mut self, atoms: usize, bonds: &[u8], x: f64, room: usize) {
+        let (lent, mut out) = (bonds.to_vec(), Lent::new(room));
+        let reply = archive::polynomial(atoms, &lent, x, out.part());
+        self.unchanged(bonds, &lent);
+        let right = answers::polynomial(atoms, bonds, x, room);
+        let fault = out.fault(&written(&right, |values| values.to_vec()));
+        let call = || format!("polynomial {atoms} x {x:e} room {room} {}", hex(bonds));
+        self.agree(call, code(&right), reply, fault);
+    }
+}

@@ -1,0 +1,69 @@
+//! Buffers lent to the library: filled with a pattern, between two margins, every entry looked at afterwards.
+
+/// Entries in front of and behind the lent part, which must never change.
+const MARGIN: usize = 8;
+
+/// An entry, by its bits.
+pub trait Entry: Copy {
+    fn pattern(at: usize) -> Self;
+    fn bits(self) -> u64;
+}
+
+impl Entry for u8 {
+    fn pattern(at: usize) -> u8 {
+        (at * 37 + 171) as u8
+    }
+
+    fn bits(self) -> u64 {
+        self as u64
+    }
+}
+
+impl Entry for u64 {
+    fn pattern(at: usize) -> u64 {
+        0xA5C3_9617_0000_0000 + at as u64 * 0x0101_0101
+    }
+
+    fn bits(self) -> u64 {
+        self
+    }
+}
+
+impl Entry for f64 {
+    fn pattern(at: usize) -> f64 {
+        -1234.5 - at as f64
+    }
+
+    fn bits(self) -> u64 {
+        self.to_bits()
+    }
+}
+
+pub struct Lent<T> {
+    whole: Vec<T>,
+}
+
+impl<T: Entry> Lent<T> {
+    pub fn new(room: usize) -> Lent<T> {
+        Lent { whole: (0..room + 2 * MARGIN).map(T::pattern).collect() }
+    }
+
+    /// The part that is lent.
+    pub fn part(&mut self) -> &mut [T] {
+        let end = self.whole.len() - MARGIN;
+        &mut self.whole[MARGIN..end]
+    }
+
+    /// What is wrong where these entries should have been written to the front and nothing else: None if nothing.
+    pub fn fault(&self, written: &[T]) -> Option<String> {
+        for (at, entry) in self.whole.iter().enumerate() {
+            let in_front = at >= MARGIN && at - MARGIN < written.len();
+            let right = if in_front { written[at - MARGIN] } else { T::pattern(at) };
+            if entry.bits() != right.bits() {
+                let place = at as i64 - MARGIN as i64;
+                return Some(format!("entry {place} holds {:#x}, right is {:#x}", entry.bits(), right.bits()));
+            }
+        }
+        None
+    }
+}

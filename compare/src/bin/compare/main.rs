@@ -1,0 +1,81 @@
+//! Compares libtteuyomal.a with the second opinion. The last line is 'N passed, M failed'; the exit status is 0 when
+//! nothing failed.
+//!
+//!     compare [--seed N] [--cases N] [--first N] [--programs FOLDER]
+//!
+//! With a folder, the programs `sheet` and `judge` in it are run and their lines compared too.
+
+#[path = "../../archive.rs"]
+mod archive;
+mod checker;
+mod fixed;
+mod lent;
+mod programs;
+mod random;
+
+use checker::Checker;
+use std::path::PathBuf;
+use std::process::ExitCode;
+
+struct Options {
+    seed: u64,
+    cases: u64,
+    first: u64,
+    programs: Option<PathBuf>,
+}
+
+/// The options of the command line, or what is wrong with it.
+fn options(mut words: impl Iterator<Item = String>) -> Result<Options, String> {
+    let mut options = Options { seed: 20_011, cases: 4_000, first: 0, programs: None };
+    while let Some(word) = words.next() {
+        let value = words.next().ok_or(format!("{word} wants a value"))?;
+        let number = || value.parse::<u64>().map_err(|_| format!("{value} is no number"));
+        match word.as_str() {
+            "--seed" => options.seed = number()?,
+            "--cases" => options.cases = number()?,
+            "--first" => options.first = number()?,
+            "--programs" => options.programs = Some(PathBuf::from(&value)),
+            _ => return Err(format!("{word} is no option")),
+        }
+    }
+    Ok(options)
+}
+
+fn main() -> ExitCode {
+    let options = match options(std::env::args().skip(1)) {
+        Ok(options) => options,
+        Err(fault) => {
+            eprintln!("compare: {fault}\nusage: compare [--seed N] [--cases N] [--first N] [--programs FOLDER]");
+            return ExitCode::from(2);
+        }
+    };
+    let checker = &mut Checker::default();
+    fixed::run(checker);
+    random::run(checker, options.seed, options.first, options.cases);
+    if let Some(folder) = &options.programs {
+        programs::run(checker, folder, options.seed);
+    }
+    report(checker, &options);
+    if checker.failed == 0 {
+        ExitCode::SUCCESS
+    } else {
+        ExitCode::FAILURE
+    }
+}
+
+/// How often each reply was right; a reply that never was is a failure of the comparison.
+fn report(checker: &mut Checker, options: &Options) {
+    println!("seed {}, random cases {}, calls compared {}", options.seed, options.cases, checker.calls);
+    println!("accepted {} times", checker.accepted);
+    for field in 1..=5 {
+        println!("differs {field}: {} times", checker.differed[field]);
+        let seen = checker.differed[field] > 0;
+        checker.case(format!("differs {field}"), |checker| checker.holds(seen, "never met"));
+    }
+    for number in 1..=20 {
+        println!("refused {number}: {} times", checker.refused[number]);
+        let seen = checker.refused[number] > 0;
+        checker.case(format!("refusal {number}"), |checker| checker.holds(seen, "never met"));
+    }
+    println!("{} passed, {} failed", checker.passed, checker.failed);
+}

@@ -1,0 +1,202 @@
+//! Decks read record by record: refusals 11 to 20, and where each refusal stands in a deck.
+
+use crate::block::{read_block, MOST_DEGREE};
+use crate::graph::Graph;
+use crate::refusal::{refuse, Refusal};
+
+pub const MOST_BYTES: usize = 32_768;
+pub const MOST_BLOCKS: usize = 16;
+pub const MOST_PLACEMENTS: usize = 32;
+pub const SHEET_PAYLOAD: usize = 36;
+
+pub const HEAD: usize = 4;
+pub const BLOCK: usize = 1;
+pub const ASSEMBLY: usize = 2;
+pub const SHEET: usize = 3;
+
+/// A deck to be composed ends with its assembly, a deck to be judged with its sheet.
+#[derive(Clone, Copy, Debug, PartialEq, Eq)]
+pub enum Form {
+    Composed,
+    Judged,
+}
+
+/// A block placed: where its block stands in `Deck::blocks`, and the join to an earlier placement.
+#[derive(Clone, Copy, Debug, PartialEq, Eq)]
+pub struct Placement {
+    pub block: usize,
+    pub parent: usize,
+    pub parent_atom: usize,
+    pub own_atom: usize,
+}
+
+/// A deck that nothing refuses. The sheet's five fields are there in a judged deck.
+#[derive(Clone, Debug)]
+pub struct Deck {
+    pub blocks: Vec<Graph>,
+    pub placements: Vec<Placement>,
+    pub sheet: Option<[u64; 5]>,
+}
+
+struct Record<'a> {
+    first: usize,
+    kind: usize,
+    payload: &'a [u8],
+}
+
+/// A number of `width` bytes, little-endian.
+fn number(bytes: &[u8], at: usize, width: usize) -> u64 {
+    let mut value = 0;
+    for offset in (0..width).rev() {
+        value = value * 256 + bytes[at + offset] as u64;
+    }
+    value
+}
+
+fn pair(bytes: &[u8], at: usize) -> usize {
+    number(bytes, at, 2) as usize
+}
+
+/// The record at this byte: whole (11) and of a kind that may stand here (12).
+fn record<'a>(bytes: &'a [u8], first: usize, kinds: &[usize]) -> Result<Record<'a>, Refusal> {
+    if bytes.len() - first < HEAD {
+        return refuse(11, first);
+    }
+    let length = pair(bytes, first);
+    if bytes.len() - first - HEAD < length {
+        return refuse(11, first);
+    }
+    let kind = pair(bytes, first + 2);
+    if !kinds.contains(&kind) {
+        return refuse(12, first);
+    }
+    Ok(Record { first, kind, payload: &bytes[first + HEAD..first + HEAD + length] })
+}
+
+/// Reads a whole deck of this form.
+pub fn read_deck(bytes: &[u8], form: Form) -> Result<Deck, Refusal> {
+    if bytes.len() > MOST_BYTES {
+        return refuse(20, 0);
+    }
+    let mut numbers = Vec::new();
+    let mut deck = Deck { blocks: Vec::new(), placements: Vec::new(), sheet: None };
+    let mut at = 0;
+    loop {
+        let kinds: &[usize] = if deck.blocks.is_empty() { &[BLOCK] } else { &[BLOCK, ASSEMBLY] };
+        let next = record(bytes, at, kinds)?;
+        at += HEAD + next.payload.len();
+        if next.kind == ASSEMBLY {
+            deck.placements = read_assembly(&next, &numbers, &deck.blocks)?;
+            break;
+        }
+        let (number, block) = read_block_record(&next, &numbers)?;
+        numbers.push(number);
+        deck.blocks.push(block);
+    }
+    if form == Form::Judged {
+        let next = record(bytes, at, &[SHEET])?;
+        at += HEAD + next.payload.len();
+        deck.sheet = Some(read_sheet(&next)?);
+    }
+    if at < bytes.len() {
+        return refuse(11, at);
+    }
+    Ok(deck)
+}
+
+/// A block's record: 13, 14, then the block's own refusals, all at the record's first byte.
+fn read_block_record(record: &Record, earlier: &[usize]) -> Result<(usize, Graph), Refusal> {
+    let payload = record.payload;
+    if payload.len() < 6 || payload.len() != 6 + 2 * pair(payload, 4) {
+        return refuse(13, record.first);
+    }
+    let number = pair(payload, 0);
+    if number == 0 || earlier.contains(&number) || earlier.len() == MOST_BLOCKS {
+        return refuse(14, record.first);
+    }
+    match read_block(pair(payload, 2), &payload[6..]) {
+        Ok(block) => Ok((number, block)),
+        Err(refusal) => refuse(refusal.number, record.first),
+    }
+}
+
+/// The assembly: 13 and 15 at the record's first byte, 16 to 19 at the placement's.
+fn read_assembly(record: &Record, numbers: &[usize], blocks: &[Graph]) -> Result<Vec<Placement>, Refusal> {
+    let payload = record.payload;
+    if payload.len() < 2 || payload.len() != 2 + 6 * pair(payload, 0) {
+        return refuse(13, record.first);
+    }
+    let count = pair(payload, 0);
+    if count == 0 || count > MOST_PLACEMENTS {
+        return refuse(15, record.first);
+    }
+    let mut placements = Vec::new();
+    for index in 0..count {
+        let at = 2 + 6 * index;
+        let place = record.first + HEAD + at;
+        let Some(block) = numbers.iter().position(|&number| number == pair(payload, at)) else {
+            return refuse(16, place);
+        };
+        let placement = Placement {
+            block,
+            parent: pair(payload, at + 2),
+            parent_atom: payload[at + 4] as usize,
+            own_atom: payload[at + 5] as usize,
+        };
+        if let Err(number) = check_join(&placement, &placements, blocks) {
+            return refuse(number, place);
+        }
+        placements.push(placement);
+    }
+    Ok(placements)
+}
+
+/// 17, 18 and 19 of the placement that follows the earlier ones.
+fn check_join(new: &Placement, earlier: &[Placement], blocks: &[Graph]) -> Result<(), u64> {
+    if earlier.is_empty() {
+        let joined = new.parent != 0 || new.parent_atom != 0 || new.own_atom != 0;
+        return if joined { Err(17) } else { Ok(()) };
+    }
+    if new.parent == 0 || new.parent > earlier.len() {
+        return Err(17);
+    }
+    let parent_block = &blocks[earlier[new.parent - 1].block];
+    let own_block = &blocks[new.block];
+    if new.parent_atom == 0 || new.parent_atom > parent_block.atoms {
+        return Err(18);
+    }
+    if new.own_atom == 0 || new.own_atom > own_block.atoms {
+        return Err(18);
+    }
+    let parent_bonds = parent_block.degree(new.parent_atom) + joins_at(earlier, new.parent, new.parent_atom);
+    if parent_bonds == MOST_DEGREE || own_block.degree(new.own_atom) == MOST_DEGREE {
+        return Err(19);
+    }
+    Ok(())
+}
+
+/// How many joins end at this atom of this placement (from 1): its own to its parent, and those of its children.
+fn joins_at(placements: &[Placement], placed: usize, atom: usize) -> usize {
+    let own = placed > 1 && placements[placed - 1].own_atom == atom;
+    let children = placements.iter().filter(|child| child.parent == placed && child.parent_atom == atom);
+    own as usize + children.count()
+}
+
+fn read_sheet(record: &Record) -> Result<[u64; 5], Refusal> {
+    let payload = record.payload;
+    if payload.len() != SHEET_PAYLOAD {
+        return refuse(13, record.first);
+    }
+    let field = |at, width| number(payload, at, width);
+    Ok([field(0, 4), field(4, 8), field(12, 8), field(20, 8), field(28, 8)])
+}
+
+/// A sheet's whole record, as composing writes it.
+pub fn sheet_record(fields: [u64; 5]) -> Vec<u8> {
+    let mut record = vec![SHEET_PAYLOAD as u8, 0, SHEET as u8, 0];
+    record.extend_from_slice(&(fields[0] as u32).to_le_bytes());
+    for field in &fields[1..] {
+        record.extend_from_slice(&field.to_le_bytes());
+    }
+    record
+}

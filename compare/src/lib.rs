@@ -1,0 +1,20 @@
+//! A second opinion on decks and blocks, written from document 01 alone, and the makers of decks to ask it about.
+//!
+//! It shares nothing with the library under test: it reads decks by its own code, writes the whole molecule out and
+//! searches it from every atom. It is meant to be plain, not fast.
+
+pub mod answers;
+pub mod block;
+pub mod deck;
+pub mod documents;
+pub mod fraction;
+pub mod graph;
+pub mod line;
+pub mod make;
+pub mod molecule;
+pub mod polynomial;
+pub mod refusal;
+pub mod shares;
+
+#[cfg(test)]
+mod tests;

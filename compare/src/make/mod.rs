@@ -1,0 +1,10 @@
+//! Makers of blocks and decks: named shapes, random ones, damaged ones, and one for each refusal number.
+
+pub mod blocks;
+pub mod damage;
+pub mod damage_bytes;
+pub mod decks;
+pub mod plan;
+pub mod random;
+pub mod shapes;
+pub mod specimens;

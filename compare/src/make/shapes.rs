@@ -1,0 +1,96 @@
+//! Named shapes of blocks: their bonds as pairs of atom numbers from 1.
+
+use super::plan::{BlockPlan, DeckPlan, PlacementPlan};
+
+/// A block with number 1.
+pub fn block(atoms: usize, bonds: Vec<(u8, u8)>) -> BlockPlan {
+    BlockPlan { number: 1, atoms: atoms as u16, bonds }
+}
+
+pub fn path(atoms: u8) -> BlockPlan {
+    block(atoms as usize, (1..atoms).map(|i| (i, i + 1)).collect())
+}
+
+pub fn ring(atoms: u8) -> BlockPlan {
+    let mut ring = path(atoms);
+    ring.bonds.push((atoms, 1));
+    ring
+}
+
+/// Atom 1 in the middle.
+pub fn star(atoms: u8) -> BlockPlan {
+    block(atoms as usize, (2..=atoms).map(|i| (1, i)).collect())
+}
+
+/// Squares in a row, each sharing the corner opposite to the last shared one: 3 atoms a square, and 1.
+pub fn squares(count: u8) -> BlockPlan {
+    let mut bonds = Vec::new();
+    for square in 0..count {
+        let corner = 3 * square + 1;
+        bonds.extend([(corner, corner + 1), (corner, corner + 2), (corner + 1, corner + 3), (corner + 2, corner + 3)]);
+    }
+    block(3 * count as usize + 1, bonds)
+}
+
+/// Two rows of atoms with a rung at each: fused squares.
+pub fn ladder(rungs: u8) -> BlockPlan {
+    let mut bonds = vec![(1, 2)];
+    for rung in 1..rungs {
+        let left = 2 * rung + 1;
+        bonds.extend([(left - 2, left), (left - 1, left + 1), (left, left + 1)]);
+    }
+    block(2 * rungs as usize, bonds)
+}
+
+/// A grid of rows and columns.
+pub fn grid(rows: u8, columns: u8) -> BlockPlan {
+    let mut bonds = Vec::new();
+    for row in 0..rows {
+        for column in 0..columns {
+            let atom = row * columns + column + 1;
+            if column + 1 < columns {
+                bonds.push((atom, atom + 1));
+            }
+            if row + 1 < rows {
+                bonds.push((atom, atom + columns));
+            }
+        }
+    }
+    block(rows as usize * columns as usize, bonds)
+}
+
+/// A ring in which each atom is bonded to the next and the one after: four bonds an atom, from 5 atoms on.
+pub fn double_ring(atoms: u8) -> BlockPlan {
+    let bonds = (0..atoms).flat_map(|i| [(i + 1, (i + 1) % atoms + 1), (i + 1, (i + 2) % atoms + 1)]);
+    block(atoms as usize, bonds.collect())
+}
+
+/// Pairs of atoms in a row, each bonded to both of the next pair: the path counts double at every pair.
+pub fn doubling(pairs: u8) -> BlockPlan {
+    let mut bonds = Vec::new();
+    for pair in 1..pairs {
+        let left = 2 * pair + 1;
+        bonds.extend([(left - 2, left), (left - 2, left + 1), (left - 1, left), (left - 1, left + 1)]);
+    }
+    block(2 * pairs as usize, bonds)
+}
+
+/// A deck of one block in one placement.
+pub fn alone(block: BlockPlan) -> DeckPlan {
+    let number = block.number;
+    DeckPlan { blocks: vec![block], placements: vec![PlacementPlan::first(number)], sheet: None }
+}
+
+/// Copies of one block in a row: each next copy's atom `own` is joined to the last one's atom `at`.
+pub fn chained(block: BlockPlan, copies: usize, at: u8, own: u8) -> DeckPlan {
+    let mut deck = alone(block);
+    for parent in 1..copies {
+        deck.placements.push(PlacementPlan::joined(deck.blocks[0].number, parent as u16, at, own));
+    }
+    deck
+}
+
+/// 32 paths of 64 atoms end to end: the largest molecule, a path of 2,048 atoms.
+pub fn longest_path() -> DeckPlan {
+    chained(path(64), 32, 64, 1)
+}

@@ -1,0 +1,104 @@
+-- What an assembly is told, test by test. Assumes nothing.
+use Prim.Native.Nat.{ℕ, zero, suc, _+_, _-_, _<_, _≤_}
+use mathlib.Core.Bool.{Bool, true, false, not}
+use mathlib.Core.List.{List}
+use mathlib.Core.Path.{_≡_, refl}
+use borrow.Author.Tests.{eq-eqb, ne-eqb}
+use Rattle.graph.specs.Graph.{Graph}
+use Rattle.graph.specs.Assembly.{Join}
+use Rattle.block.specs.Read.{Read, refused, read, refusal, refuseFor}
+use Rattle.block.specs.Block.{isOutside}
+use Rattle.assembly.specs.Book.{Book}
+use Rattle.assembly.specs.Placements.{mostPlacements, placementCount, placementAt, isFull, firstFault, parentFault, joinFault, joinOn, graphOn, laterFault, fault, placedReply, assemblyReply}
+use Rattle.assembly.specs.declared.Placement.{Placement}
+
+module _ (q : Placement) where
+  pub first-parent : (q .parent ≡ 0 → ⊥) → firstFault q ≡ 17
+  unfolding firstFault
+  first-parent p = rw (ne-eqb (q .parent) 0 p)
+
+  module _ (p : q .parent ≡ 0) where
+    pub first-site : (q .site ≡ 0 → ⊥) → firstFault q ≡ 17
+    unfolding firstFault
+    first-site s = rw (eq-eqb (q .parent) 0 p, ne-eqb (q .site) 0 s)
+
+    module _ (s : q .site ≡ 0) where
+      pub first-own : (q .own ≡ 0 → ⊥) → firstFault q ≡ 17
+      unfolding firstFault
+      first-own o = rw (eq-eqb (q .parent) 0 p, eq-eqb (q .site) 0 s, ne-eqb (q .own) 0 o)
+
+      pub first-fine : q .own ≡ 0 → firstFault q ≡ 0
+      unfolding firstFault
+      first-fine o = rw (eq-eqb (q .parent) 0 p, eq-eqb (q .site) 0 s, eq-eqb (q .own) 0 o)
+
+module _ (g h : Graph) (joins : ℕ → Join) (k : ℕ) where
+  pub no-site : isOutside (g .atoms) (joins k .site) ≡ true → joinFault g h joins k ≡ 18
+  unfolding joinFault
+  no-site s = rw s
+
+  module _ (s : isOutside (g .atoms) (joins k .site) ≡ false) where
+    pub no-own : isOutside (h .atoms) (joins k .own) ≡ true → joinFault g h joins k ≡ 18
+    unfolding joinFault
+    no-own o = rw (s, o)
+
+    module _ (o : isOutside (h .atoms) (joins k .own) ≡ false) where
+      pub full-site : isFull g joins k (joins k .parent) (joins k .site) ≡ true → joinFault g h joins k ≡ 19
+      unfolding joinFault
+      full-site f = rw (s, o, f)
+
+      module _ (f : isFull g joins k (joins k .parent) (joins k .site) ≡ false) where
+        pub full-own : isFull h joins k (suc k) (joins k .own) ≡ true → joinFault g h joins k ≡ 19
+        unfolding joinFault
+        full-own e = rw (s, o, f, e)
+
+        pub joins-well : isFull h joins k (suc k) (joins k .own) ≡ false → joinFault g h joins k ≡ 0
+        unfolding joinFault
+        joins-well e = rw (s, o, f, e)
+
+module _ (book : Book) (placed : ℕ → Placement) (k : ℕ) where
+  pub no-parent : isOutside k (placed k .parent) ≡ true → laterFault book placed k ≡ parentFault (placed k .parent)
+  unfolding laterFault
+  no-parent e = rw e
+
+  pub has-parent : isOutside k (placed k .parent) ≡ false
+      → laterFault book placed k ≡ joinFault (graphOn book placed (placed k .parent - 1)) (graphOn book placed k) (joinOn placed) k
+  unfolding laterFault
+  has-parent e = rw e
+
+  pub no-block : book .has (placed k .block) ≡ false → fault book placed k ≡ 16
+  unfolding fault
+  no-block e = rw e
+
+  module _ (e : book .has (placed k .block) ≡ true) where
+    pub is-first : k ≡ 0 → fault book placed k ≡ firstFault (placed k)
+    unfolding fault
+    is-first z = rw (e, eq-eqb k 0 z)
+
+    pub is-later : (k ≡ 0 → ⊥) → fault book placed k ≡ laterFault book placed k
+    unfolding fault
+    is-later z = rw (e, ne-eqb k 0 z)
+
+  pub faulty : (left : ℕ) → (fault book placed k ≡ 0 → ⊥) → placedReply book placed k (suc left) ≡ refused (refusal (fault book placed k) (suc k))
+  unfolding placedReply
+  faulty left e = rw (refuses (fault book placed k) e)
+    where
+      refuses : (n : ℕ) → (n ≡ 0 → ⊥) → refuseFor n (suc k) ≡ refused (refusal n (suc k))
+      refuses zero e = absurd (e refl)
+      refuses (suc n) e = refl
+
+  pub faultless : (left : ℕ) → fault book placed k ≡ 0 → placedReply book placed k (suc left) ≡ placedReply book placed (suc k) left
+  unfolding placedReply
+  faultless left e = rw e
+
+  pub none-left : placedReply book placed k 0 ≡ read tt
+  unfolding placedReply
+  none-left = refl
+
+module _ (book : Book) (xs : List ℕ) where
+  pub count-outside : isOutside mostPlacements (placementCount xs) ≡ true → assemblyReply book xs ≡ refused (refusal 15 0)
+  unfolding assemblyReply
+  count-outside e = rw e
+
+  pub count-within : isOutside mostPlacements (placementCount xs) ≡ false → assemblyReply book xs ≡ placedReply book (placementAt xs) 0 (placementCount xs)
+  unfolding assemblyReply
+  count-within e = rw e

@@ -1,0 +1,83 @@
+use Prim.Native.Nat.{ℕ, _+_, _-_, _≤_}
+use mathlib.Core.Bool.{cond}
+use mathlib.Core.Path.{_≡_, ap, _∙_}
+use native.Mathlib.Omega.{arith}
+use lib.Dec.{eqb}
+use lib.ListN.{length, drop}
+use borrow.Author.Needs.{needs}
+use Rattle.graph.specs.Graph.{degree}
+use Rattle.block.specs.Block.{bondsOf}
+use Rattle.assembly.proofs.Walks.{degree-next, degree-over}
+use Rattle.assembly.proofs.degree_of.Statement.{statement}
+use Rattle.assembly.proofs.degree_of.Tie as tie
+
+abbrev Inv-loop : tie.InvT-loop
+Inv-loop bonds a total₀ i₀ total i = (degree (bondsOf bonds) a ≡ total + degree (bondsOf (drop i bonds)) a) × (total ≤ i) × (i ≤ length bonds)
+
+abbrev μ-loop : tie.MeasureT-loop
+μ-loop bonds a total₀ i₀ total i = length bonds - i
+
+loop-holds : tie.Need-loop-holds Inv-loop μ-loop
+loop-holds c = (omega arith, omega arith, omega arith)
+
+sub-loop : tie.Need-sub-loop Inv-loop μ-loop
+sub-loop c = search needs
+
+byte-at-requires : tie.Need-byte-at-requires Inv-loop μ-loop
+byte-at-requires c κs = search needs
+
+one-if-requires : tie.Need-one-if-requires Inv-loop μ-loop
+one-if-requires c κs = search needs
+
+add-byte-at : tie.Need-add-byte-at Inv-loop μ-loop
+add-byte-at c = search needs
+
+byte-at-requires-2 : tie.Need-byte-at-requires-2 Inv-loop μ-loop
+byte-at-requires-2 c κs = search needs
+
+one-if-requires-2 : tie.Need-one-if-requires-2 Inv-loop μ-loop
+one-if-requires-2 c κs = search needs
+
+add-total : tie.Need-add-total Inv-loop μ-loop
+add-total c = search needs
+
+add-total-2 : tie.Need-add-total-2 Inv-loop μ-loop
+add-total-2 c = search needs
+
+add-i : tie.Need-add-i Inv-loop μ-loop
+add-i c = search needs
+
+loop-less : tie.Need-loop-less Inv-loop μ-loop
+loop-less c = search needs
+
+loop-again : tie.Need-loop-again Inv-loop μ-loop
+loop-again c = let l = c .before .before .before .before .before in
+    let a = l .before .before .args in
+    let one = c .before .before .one-if .ensures .0 ∙ ap (λ (x : ℕ). cond {A = ℕ} (eqb x (a .a)) 1 0) (c .before .before .before .byte-at .ensures) in
+    let two = c .one-if2 .ensures .0 ∙ ap (λ (x : ℕ). cond {A = ℕ} (eqb x (a .a)) 1 0) (c .before .byte-at2 .ensures) in
+    (omega (arith, one, two, degree-next (a .bonds .now) (l .loop .i) (a .a) (omega arith)), omega arith, omega arith)
+
+returns : tie.Need-returns Inv-loop μ-loop
+returns c = let l = c .before in
+    let a = l .before .before .args in
+    (omega (arith, degree-over (a .bonds .now) (l .loop .i) (a .a) (omega arith)), omega arith)
+
+pub degree-of-spec : {M : Type 1} → statement M
+degree-of-spec =
+    tie.close
+    (tie.spec
+    Inv-loop
+    μ-loop
+    loop-holds
+    sub-loop
+    byte-at-requires
+    one-if-requires
+    add-byte-at
+    byte-at-requires-2
+    one-if-requires-2
+    add-total
+    add-total-2
+    add-i
+    loop-less
+    loop-again
+    returns)

@@ -1,0 +1,76 @@
+use Prim.Native.Nat.{_-_, _<_, _≤_}
+use mathlib.Core.Path.{_≡_, refl, sym, _∙_}
+use native.Mathlib.Omega.{arith}
+use lib.ListN.{length, take, drop, length-take}
+use borrow.Author.Needs.{needs}
+use Rattle.assembly.specs.Book.{find}
+use Rattle.assembly.proofs.Walks.{find-over, find-here, find-next}
+use Rattle.assembly.proofs.find_block.Statement.{statement}
+use Rattle.assembly.proofs.find_block.Tie as tie
+
+abbrev Inv-loop : tie.InvT-loop
+Inv-loop count number blocks none i₀ i = (i ≤ 16) × (find (take count blocks) number ≡ find (drop i (take count blocks)) number)
+
+abbrev μ-loop : tie.MeasureT-loop
+μ-loop count number blocks none i₀ i = 16 - i
+
+table : (s : tie.Start Inv-loop μ-loop) → length (s .args .t1) ≡ 16
+table s = search needs
+
+more : (c : tie.Else1 Inv-loop μ-loop) → let l = c .before .before in let a = l .before .args in l .loop .i < length (take (a .count) (a .t1))
+more c = let l = c .before .before in let a = l .before .args in omega (arith, length-take (a .count) (a .t1), table (l .before))
+
+loop-holds : tie.Need-loop-holds Inv-loop μ-loop
+loop-holds c = (omega arith, refl)
+
+returns : tie.Need-returns Inv-loop μ-loop
+returns c = let l = c .before .before in
+    let a = l .before .args in
+    sym (l .loop .inv .1 ∙ find-over (a .t1) (a .count) (a .number) (l .loop .i) (omega (arith, length-take (a .count) (a .t1))))
+
+mul-b : tie.Need-mul-b Inv-loop μ-loop
+mul-b c = search needs
+
+array-copy-out-b : tie.Need-array-copy-out-b Inv-loop μ-loop
+array-copy-out-b c = search needs
+
+cast-if2 : tie.Need-cast-if2 Inv-loop μ-loop
+cast-if2 c = search needs
+
+returns-2 : tie.Need-returns-2 Inv-loop μ-loop
+returns-2 c = let l = c .before .before .before .before .before in
+    let a = l .before .args in
+    sym (l .loop .inv .1 ∙ find-here (a .t1) (a .count) (a .number) (l .loop .i) (more (c .before .before .before)) (c .if2 .taken))
+
+add-i : tie.Need-add-i Inv-loop μ-loop
+add-i c = search needs
+
+loop-less : tie.Need-loop-less Inv-loop μ-loop
+loop-less c = search needs
+
+loop-again : tie.Need-loop-again Inv-loop μ-loop
+loop-again c = let l = c .before .before .before .before .before in
+    let a = l .before .args in
+    (omega arith, l .loop .inv .1 ∙ find-next (a .t1) (a .count) (a .number) (l .loop .i) (more (c .before .before .before)) (c .if2 .left))
+
+returns-3 : tie.Need-returns-3 Inv-loop μ-loop
+returns-3 c = let l = c .before in
+    let a = l .before .args in
+    sym (l .loop .inv .1 ∙ find-over (a .t1) (a .count) (a .number) (l .loop .i) (omega (arith, length-take (a .count) (a .t1), table (l .before))))
+
+pub find-block-spec : {M : Type 1} → statement M
+find-block-spec =
+    tie.close
+    (tie.spec
+    Inv-loop
+    μ-loop
+    loop-holds
+    returns
+    mul-b
+    array-copy-out-b
+    cast-if2
+    returns-2
+    add-i
+    loop-less
+    loop-again
+    returns-3)

@@ -1,0 +1,81 @@
+use Prim.Native.Nat.{ℕ, _+_, _-_, _*_, _≤_}
+use mathlib.Core.Bool.{_&&_, cond}
+use mathlib.Core.Path.{_≡_, sym, ap, _∙_}
+use native.Mathlib.Omega.{arith}
+use lib.Dec.{eqb}
+use borrow.Author.Needs.{needs}
+use Rattle.assembly.specs.Placements.{placementAt, joinOf, joinOn, joinEnds, joinsOn}
+use Rattle.assembly.specs.declared.Placement.{Placement}
+use Rattle.assembly.proofs.Walks.{joins-none, joins-next}
+use Rattle.assembly.proofs.joins_on.Statement.{statement}
+use Rattle.assembly.proofs.joins_on.Tie as tie
+
+abbrev Inv-loop : tie.InvT-loop
+Inv-loop xs last p a total₀ k₀ total k = (total ≡ joinsOn (joinOn (placementAt xs)) k p a) × (total ≤ 2 * k) × (k ≤ last)
+
+abbrev μ-loop : tie.MeasureT-loop
+μ-loop xs last p a total₀ k₀ total k = last - k
+
+loop-holds : tie.Need-loop-holds Inv-loop μ-loop
+loop-holds c = (sym (joins-none (joinOn (placementAt (c .before .args .xs .now))) (c .before .args .p) (c .before .args .a)), omega arith, omega arith)
+
+add-k : tie.Need-add-k Inv-loop μ-loop
+add-k c = search needs
+
+placement-at-requires : tie.Need-placement-at-requires Inv-loop μ-loop
+placement-at-requires c κs = search needs
+
+cast-one-if : tie.Need-cast-one-if Inv-loop μ-loop
+cast-one-if c = search needs
+
+one-if-requires : tie.Need-one-if-requires Inv-loop μ-loop
+one-if-requires c κs = search needs
+
+add-one-if : tie.Need-add-one-if Inv-loop μ-loop
+add-one-if c = search needs
+
+one-if-requires-2 : tie.Need-one-if-requires-2 Inv-loop μ-loop
+one-if-requires-2 c κs = search needs
+
+add-total : tie.Need-add-total Inv-loop μ-loop
+add-total c = search needs
+
+add-total-2 : tie.Need-add-total-2 Inv-loop μ-loop
+add-total-2 c = search needs
+
+loop-less : tie.Need-loop-less Inv-loop μ-loop
+loop-less c = search needs
+
+loop-again : tie.Need-loop-again Inv-loop μ-loop
+unfolding joinOf joinEnds
+loop-again c = let l = c .before .before .before .before .before .before .before in
+    let a = l .before .before .args in
+    let q = c .before .before .before .before .before .placement-at .ensures in
+    let one = c .before .before .one-if .ensures .0 ∙ ap (λ (q : Placement). cond {A = ℕ} (eqb (q .parent) (a .p) && eqb (q .site) (a .a)) 1 0) q in
+    let two = c .one-if2 .ensures .0 ∙ ap (λ (q : Placement). cond {A = ℕ} (eqb (l .loop .k + 1 + 1) (a .p) && eqb (q .own) (a .a)) 1 0) q in
+    (omega (arith, one, two, joins-next (joinOn (placementAt (a .xs .now))) (l .loop .k) (a .p) (a .a)), omega arith, omega arith)
+
+returns : tie.Need-returns Inv-loop μ-loop
+returns c = let l = c .before in
+    let a = l .before .before .args in
+    let e : l .loop .k ≡ a .last = omega arith in
+    (l .loop .inv .0 ∙ ap (λ (n : ℕ). joinsOn (joinOn (placementAt (a .xs .now))) n (a .p) (a .a)) e, omega arith)
+
+pub joins-on-spec : {M : Type 1} → statement M
+joins-on-spec =
+    tie.close
+    (tie.spec
+    Inv-loop
+    μ-loop
+    loop-holds
+    add-k
+    placement-at-requires
+    cast-one-if
+    one-if-requires
+    add-one-if
+    one-if-requires-2
+    add-total
+    add-total-2
+    loop-less
+    loop-again
+    returns)

@@ -1,0 +1,98 @@
+use Prim.Native.Nat.{ℕ, _-_}
+use mathlib.Core.List.{List}
+use mathlib.Core.Path.{_≡_, sym, ap, ap₂, _∙_}
+use lib.ListN.{take}
+use borrow.Author.Needs.{needs}
+use Rattle.block.specs.Block.{isOutside}
+use Rattle.assembly.specs.Book.{find, blockGraph, bookOf}
+use Rattle.assembly.specs.Placements.{placementAt, joinOn, parentFault, joinFault}
+use Rattle.assembly.specs.Sound.{within}
+use Rattle.assembly.specs.declared.BlockAt.{BlockAt}
+use Rattle.assembly.specs.declared.Placement.{Placement}
+use Rattle.assembly.proofs.Faults.{no-parent, has-parent}
+use borrow.Author.Needs.{needs}
+use Rattle.assembly.proofs.later_fault.Statement.{statement}
+use Rattle.assembly.proofs.later_fault.Tie as tie
+
+abbrev blocks : tie.Start → List BlockAt
+blocks s = take (s .args .count) (s .args .blocks)
+
+abbrev placed : tie.Start → ℕ → Placement
+placed s = placementAt (s .args .xs .now)
+
+outside-is : (c : tie.After-is-outside) → let s = c .before .before .before .before .before in c .is-outside .result ≡ isOutside (s .args .k) (placed s (s .args .k) .parent)
+outside-is c = let s = c .before .before .before .before .before in c .is-outside .ensures ∙ ap (λ (q : Placement). isOutside (s .args .k) (q .parent)) (c .before .before .placement-at .ensures)
+
+there-is : (c : tie.After-find-block) → let s = c .before .before .before .before .before .before .before .before .before in c .find-block .result ≡ find (blocks s) (placed s (placed s (s .args .k) .parent - 1) .block)
+there-is c = let s = c .before .before .before .before .before .before .before .before .before in
+    c .find-block .ensures
+    ∙ ap (λ (q : Placement). find (blocks s) (q .block)) (c .before .before .placement-at2 .ensures)
+    ∙ ap (λ (q : Placement). find (blocks s) (placed s (q .parent - 1) .block)) (c .before .before .before .before .before .before .placement-at .ensures)
+
+here-is : (c : tie.After-find-block2) → let s = c .before .before .before .before .before .before .before .before .before .before .before in c .find-block2 .result ≡ find (blocks s) (placed s (s .args .k) .block)
+here-is c = let s = c .before .before .before .before .before .before .before .before .before .before .before in c .find-block2 .ensures ∙ ap (λ (q : Placement). find (blocks s) (q .block)) (c .before .before .before .before .before .before .before .before .placement-at .ensures)
+
+placement-at-requires : tie.Need-placement-at-requires
+placement-at-requires c κs = search needs
+
+cast-parent : tie.Need-cast-parent
+cast-parent c = search needs
+
+is-outside-requires : tie.Need-is-outside-requires
+is-outside-requires c κs = search needs
+
+parent-fault-requires : tie.Need-parent-fault-requires
+parent-fault-requires c κs = search needs
+
+returns : tie.Need-returns
+returns c = let s = c .before .before .before .before .before .before .before in
+    c .parent-fault .ensures
+    ∙ ap (λ (q : Placement). parentFault (q .parent)) (c .before .before .before .before .placement-at .ensures)
+    ∙ sym (no-parent (bookOf (s .args .d .now) (blocks s)) (placed s) (s .args .k) (sym (outside-is (c .before .before)) ∙ c .before .if1 .taken))
+
+sub-placement-at : tie.Need-sub-placement-at
+sub-placement-at c = within (c .before .before .before .before .before .before .args .k) (c .before .before .before .placement-at .result .parent) (sym (c .before .is-outside .ensures) ∙ c .if1 .left) .low
+
+placement-at-requires-2 : tie.Need-placement-at-requires-2
+placement-at-requires-2 c κs = search needs
+
+cast-find-block : tie.Need-cast-find-block
+cast-find-block c = search needs
+
+find-block-requires : tie.Need-find-block-requires
+find-block-requires c κs = search needs
+
+cast-find-block-2 : tie.Need-cast-find-block-2
+cast-find-block-2 c = search needs
+
+find-block-requires-2 : tie.Need-find-block-requires-2
+find-block-requires-2 c κs = search needs
+
+join-fault-requires : tie.Need-join-fault-requires
+join-fault-requires c κs = search needs
+
+returns-2 : tie.Need-returns-2
+unfolding bookOf
+returns-2 c = let s = c .before .before .before .before .before .before .before .before .before .before .before .before in
+    let d = s .args .d .now in
+    c .join-fault .ensures
+    ∙ ap₂ (λ (g h : BlockAt). joinFault (blockGraph d g) (blockGraph d h) (joinOn (placed s)) (s .args .k)) (there-is (c .before .before .before)) (here-is (c .before))
+    ∙ sym (has-parent (bookOf d (blocks s)) (placed s) (s .args .k) (sym (outside-is (c .before .before .before .before .before .before .before)) ∙ c .before .before .before .before .before .before .if1 .left))
+
+pub later-fault-spec : {M : Type 1} → statement M
+later-fault-spec =
+    tie.close
+    (tie.spec
+    placement-at-requires
+    cast-parent
+    is-outside-requires
+    parent-fault-requires
+    returns
+    sub-placement-at
+    placement-at-requires-2
+    cast-find-block
+    find-block-requires
+    cast-find-block-2
+    find-block-requires-2
+    join-fault-requires
+    returns-2)

@@ -1,0 +1,69 @@
+use Prim.Native.Nat.{_+_, _*_}
+use mathlib.Core.Path.{sym}
+use native.Mathlib.Omega.{arith}
+use lib.ListN.{List·getD-eq-default}
+use Rattle.records.proofs.Numbers.{past}
+use Rattle.assembly.specs.Placements.{placementAt}
+use borrow.Author.Needs.{needs}
+use Rattle.assembly.proofs.placement_at.Statement.{statement}
+use Rattle.assembly.proofs.placement_at.Tie as tie
+
+returns : tie.Need-returns
+unfolding placementAt
+returns c = let a = c .before .before .args in
+    let d = a .xs .now in
+    sym (
+    rw (
+      past 2 d (6 * a .k + 2) (omega arith),
+      past 2 d (6 * a .k + 4) (omega arith),
+      List·getD-eq-default d 0 {n = 6 * a .k + 6} (omega arith),
+      List·getD-eq-default d 0 {n = 6 * a .k + 7} (omega arith),
+    )
+    )
+
+mul-at : tie.Need-mul-at
+mul-at c = search needs
+
+add-le16-at : tie.Need-add-le16-at
+add-le16-at c = search needs
+
+le16-at-requires : tie.Need-le16-at-requires
+le16-at-requires c κs = search needs
+
+add-le16-at-2 : tie.Need-add-le16-at-2
+add-le16-at-2 c = search needs
+
+le16-at-requires-2 : tie.Need-le16-at-requires-2
+le16-at-requires-2 c κs = search needs
+
+add-byte-at : tie.Need-add-byte-at
+add-byte-at c = search needs
+
+byte-at-requires : tie.Need-byte-at-requires
+byte-at-requires c κs = search needs
+
+add-byte-at-2 : tie.Need-add-byte-at-2
+add-byte-at-2 c = search needs
+
+byte-at-requires-2 : tie.Need-byte-at-requires-2
+byte-at-requires-2 c κs = search needs
+
+returns-2 : tie.Need-returns-2
+unfolding placementAt
+returns-2 c = rw (c .before .before .before .le16-at .ensures, c .before .before .le16-at2 .ensures, c .before .byte-at .ensures, c .byte-at2 .ensures)
+
+pub placement-at-spec : {M : Type 1} → statement M
+placement-at-spec =
+    tie.close
+    (tie.spec
+    returns
+    mul-at
+    add-le16-at
+    le16-at-requires
+    add-le16-at-2
+    le16-at-requires-2
+    add-byte-at
+    byte-at-requires
+    add-byte-at-2
+    byte-at-requires-2
+    returns-2)

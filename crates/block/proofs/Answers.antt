@@ -1,0 +1,94 @@
+-- What is asked of a block, answer by answer. Assumes nothing.
+use Prim.Native.Nat.{ℕ, min}
+use mathlib.Core.Bool.{Bool, true, false}
+use mathlib.Core.List.{List}
+use mathlib.Core.Path.{_≡_, refl, sym, ap, _∙_}
+use Rattle.graph.specs.Graph.{distance}
+use Rattle.block.specs.Read.{Read, refused, read, _then_, refuseIf, refusal}
+use Rattle.block.specs.Chain.{not-read}
+use Rattle.block.specs.Block.{mostAtoms, isOutside, graphOf, blockReply}
+use Rattle.block.specs.Rows.{rowOf, rowsOf, rowReply, saidRow}
+use Rattle.block.specs.Index.{indicesOf, indicesReply, saidIndices, vertexOf, vertexReply, saidVertex, distanceReply, saidDistance, pairsOf, pairsReply, saidPairs}
+use Rattle.block.specs.Sums.{entry, pairEntry, indicesBy, vertexBy}
+use Rattle.block.specs.Found.{saidRead, Viewing}
+use Rattle.block.specs.Faults.{inside}
+use Rattle.block.specs.Told.{entry-at}
+use Rattle.block.specs.Measures.{all-atoms, indices-are, vertex-is}
+use Rattle.block.specs.declared.Refusal.{Refusal}
+use Rattle.block.specs.declared.Reply.the-variants as reply
+use Rattle.block.specs.declared.Indices.{Indices}
+use Rattle.block.specs.declared.Measured.the-variants as measured
+use Rattle.block.specs.declared.Vertex.{Vertex}
+use Rattle.block.specs.declared.Around.the-variants as around
+use Rattle.block.specs.declared.Apart.the-variants as apart
+use Rattle.block.specs.declared.View.{View}
+use Rattle.block.proofs.Replies.{not-fine}
+
+said-out : (m : Read (List ℕ)) (r : Refusal) → reply.Refused r ≡ saidRead m → m ≡ refused r
+said-out (refused s) r e = cc
+said-out (read row) r e = absurd (not-fine e)
+
+said-in : (m : Read (List ℕ)) → reply.Fine ≡ saidRead m → m ≡ read (saidRow m)
+said-in (refused s) e = absurd (not-fine (sym e))
+said-in (read row) e = refl
+
+-- a chain that asks for an atom first
+abbrev asked : {A : Type 0} → Read (Unit {0}) → Bool → Read A → Read A
+asked m o rest = m then λ _. refuseIf o 18 0 then λ _. rest
+
+asked-out : {A B : Type 0} (m : Read (Unit {0})) (o : Bool) (a : A) (rest : Read B) (r : Refusal) → asked m o (read a) ≡ refused r → asked m o rest ≡ refused r
+asked-out (refused s) o a rest r e = cc
+asked-out (read u) true a rest r e = cc
+asked-out (read u) false a rest r e = absurd (not-read (sym e))
+
+asked-in : {A : Type 0} (m : Read (Unit {0})) (o : Bool) (a b : A) → asked m o (read a) ≡ read b → (m ≡ read tt) × (o ≡ false) × (b ≡ a)
+asked-in (refused s) o a b e = absurd (not-read e)
+asked-in (read u) true a b e = absurd (not-read e)
+asked-in (read u) false a b e = (refl, refl, cc)
+
+module _ (n : ℕ) (xs : List ℕ) where
+  pub measure-refused : (r : Refusal) → blockReply n xs ≡ refused r → measured.Refused r ≡ saidIndices (indicesReply n xs)
+  unfolding indicesReply
+  measure-refused r e = rw e
+
+  pub measure-fine : blockReply n xs ≡ read tt → (rows : List (List ℕ)) → rows ≡ rowsOf n xs → (x : Indices) → x ≡ indicesBy (min n mostAtoms) (pairEntry rows) → measured.Of x ≡ saidIndices (indicesReply n xs)
+  unfolding indicesReply
+  measure-fine e rows q x p = rw (e, p, q, all-atoms n xs e, indices-are n xs e)
+
+  module _ (i : ℕ) (v : View) (W : Viewing n xs i v) where
+    module _ (r : Refusal) (e : v .reply ≡ reply.Refused r) where
+      out : rowReply n xs i ≡ refused r
+      out = said-out (rowReply n xs i) r (sym e ∙ W .replied)
+
+      pub vertex-refused : around.Refused r ≡ saidVertex (vertexReply n xs i)
+      unfolding vertexReply rowReply
+      vertex-refused = rw (asked-out (blockReply n xs) (isOutside n i) (rowOf (graphOf n xs) i) (read (vertexOf (graphOf n xs) i)) r out)
+
+      pub distance-refused : (j : ℕ) → apart.Refused r ≡ saidDistance (distanceReply n xs i j)
+      unfolding distanceReply rowReply
+      distance-refused j = rw (asked-out (blockReply n xs) (isOutside n i) (rowOf (graphOf n xs) i) (asked (read tt) (isOutside n j) (read (distance (graphOf n xs) i j))) r out)
+
+    -- the row was read: of a block that is fine, for one of its atoms
+    pub record Seen : Type 0 where
+      pub fine : blockReply n xs ≡ read tt
+      pub inner : isOutside n i ≡ false
+      pub row-is : v .row ≡ rowOf (graphOf n xs) i
+
+    module _ (e : v .reply ≡ reply.Fine) where
+      pub seen : Seen
+      unfolding rowReply
+      seen =
+          let (f, o, s) = asked-in (blockReply n xs) (isOutside n i) (rowOf (graphOf n xs) i) (saidRow (rowReply n xs i)) (said-in (rowReply n xs i) (sym e ∙ W .replied)) in
+          record { fine = f; inner = o; row-is = W .shown ∙ s }
+
+      pub vertex-fine : (x : Vertex) → x ≡ vertexBy (min n mostAtoms) (entry (v .row)) → around.Of x ≡ saidVertex (vertexReply n xs i)
+      unfolding vertexReply
+      vertex-fine x p = let S = seen in rw (S .fine, S .inner, p, S .row-is, all-atoms n xs (S .fine), vertex-is n xs (S .fine) i)
+
+      pub distance-outside : (j : ℕ) → isOutside n j ≡ true → apart.Refused (refusal 18 0) ≡ saidDistance (distanceReply n xs i j)
+      unfolding distanceReply
+      distance-outside j o = let S = seen in rw (S .fine, S .inner, o)
+
+      pub distance-fine : (j : ℕ) → isOutside n j ≡ false → (d : ℕ) → d ≡ entry (v .row) j → apart.Of d ≡ saidDistance (distanceReply n xs i j)
+      unfolding distanceReply
+      distance-fine j o d p = let S = seen in rw (S .fine, S .inner, o, p, S .row-is, entry-at n xs (S .fine) i (inside n j o))

@@ -1,0 +1,88 @@
+-- The rows are filled one by one, and a row is looked up. Assumes nothing.
+use Prim.Native.Nat.{ℕ, zero, suc, _≤_, _<_}
+use mathlib.Core.Bool.{true}
+use mathlib.Core.List.{List, []}
+use mathlib.Core.Path.{_≡_, refl, sym, subst⁻¹, _∙_}
+use native.Mathlib.Omega.{arith}
+use native.Mathlib.Decide.{ℕ-discrete, decLt}
+use lib.ListN.{length, getD, set, length-set, replicate, getD-replicate}
+use lib.Seq.{getD-set-same, getD-set-other, ext-getD}
+use borrow.Author.Tests.{lt-ltb, ne-eqb}
+use Rattle.graph.specs.Graph.{Within}
+use Rattle.block.specs.Read.{Read, refused, read, refusal}
+use Rattle.block.specs.Block.{mostAtoms, isOutside, graphOf, blockReply}
+use Rattle.block.specs.Rows.{table, rowOf, noRow, saidRow, rowReply, rowsOf}
+use Rattle.block.specs.Tables.{length-table, getD-table}
+use Rattle.block.specs.Told.{row-read}
+use Rattle.block.specs.Found.{Viewing}
+use Rattle.block.specs.declared.Refusal.{Refusal}
+use Rattle.block.specs.declared.Reply.the-variants.{Fine, Refused}
+use Rattle.block.specs.declared.View.{View}
+
+-- the first i rows are filled
+pub record Filled (n : ℕ) (xs : List ℕ) (all : List (List ℕ)) (i : ℕ) : Type 0 where
+  pub size : length all ≡ mostAtoms
+  pub done : (k : ℕ) → k < i → getD all k [] ≡ rowOf (graphOf n xs) (suc k)
+  pub rest : (k : ℕ) → i ≤ k → k < mostAtoms → getD all k [] ≡ noRow
+
+abbrev pub emptyRow : List ℕ
+emptyRow = replicate mostAtoms 0
+
+abbrev pub emptyRows : List (List ℕ)
+emptyRows = replicate mostAtoms emptyRow
+
+pub no-row : emptyRow ≡ noRow
+unfolding noRow table
+no-row = refl
+
+module _ (n : ℕ) (xs : List ℕ) where
+  pub fill-start : Filled n xs emptyRows 0
+  fill-start = record {
+    size = refl;
+    done = λ k l. absurd (omega arith);
+    rest = λ k l h. getD-replicate mostAtoms k emptyRow [] h ∙ no-row;
+  }
+
+  pub fill-next : (all : List (List ℕ)) (i : ℕ) (row : List ℕ) → i < mostAtoms → Filled n xs all i → row ≡ rowOf (graphOf n xs) (suc i) → Filled n xs (set all i row) (suc i)
+  fill-next all i row l F e = record {
+    size = length-set all i row ∙ F .size;
+    done = λ k h. elim (ℕ-discrete k i) [
+      | yes q ↦ subst⁻¹ (λ (x : ℕ). getD (set all i row) x [] ≡ rowOf (graphOf n xs) (suc x)) q (getD-set-same all i row [] (omega (arith, F .size)) ∙ e)
+      | no q ↦ getD-set-other all i k row [] q ∙ F .done k (omega arith)
+    ];
+    rest = λ k h m. getD-set-other all i k row [] (omega arith) ∙ F .rest k (omega arith) m;
+  }
+
+  module _ (fine : blockReply n xs ≡ read tt) where
+    no-atom : (k : ℕ) → n ≤ k → saidRow (rowReply n xs (suc k)) ≡ noRow
+    unfolding rowReply
+    no-atom k l = rw (fine, ne-eqb (suc k) 0 (omega arith), lt-ltb n (suc k) (omega arith))
+
+    pub fill-end : (all : List (List ℕ)) → Filled n xs all n → all ≡ rowsOf n xs
+    unfolding rowsOf
+    fill-end all F =
+        ext-getD [] all (table mostAtoms rowAt) (F .size ∙ sym (length-table mostAtoms rowAt))
+        (λ i l. let m : i < mostAtoms = omega (arith, F .size) in at i m (decLt i n) ∙ sym (getD-table mostAtoms rowAt i [] m))
+      where
+        rowAt : ℕ → List ℕ
+        rowAt i = saidRow (rowReply n xs (suc i))
+
+        at : (i : ℕ) → i < mostAtoms → Dec (i < n) → getD all i [] ≡ saidRow (rowReply n xs (suc i))
+        at i l (yes h) = rw (row-read n xs fine {a = suc i} (omega arith)) (F .done i h)
+        at i l (no h) = F .rest i (omega arith) l ∙ sym (no-atom i (omega arith))
+
+  pub refused-rows : (r : Refusal) → blockReply n xs ≡ refused r → emptyRows ≡ rowsOf n xs
+  unfolding rowsOf rowReply table noRow
+  refused-rows r e = rw e
+
+  pub view-refused : (i : ℕ) (v : View) (r : Refusal) → blockReply n xs ≡ refused r → v .reply ≡ Refused r → v .row ≡ emptyRow → Viewing n xs i v
+  unfolding rowReply
+  view-refused i v r b p q = record { replied = rw b p; shown = rw b (q ∙ no-row) }
+
+  module _ (fine : blockReply n xs ≡ read tt) (i : ℕ) (v : View) where
+    pub view-outside : isOutside n i ≡ true → v .reply ≡ Refused (refusal 18 0) → v .row ≡ emptyRow → Viewing n xs i v
+    unfolding rowReply
+    view-outside o p q = record { replied = rw (fine, o) p; shown = rw (fine, o) (q ∙ no-row) }
+
+    pub view-row : Within n i → v .reply ≡ Fine → v .row ≡ rowOf (graphOf n xs) i → Viewing n xs i v
+    view-row w p q = record { replied = rw (row-read n xs fine w) p; shown = rw (row-read n xs fine w) q }

@@ -1,0 +1,9 @@
+-- Laws that several functions' proofs cite.
+pub mod Listing
+pub mod Reading
+pub mod Replies
+pub mod Meeting
+pub mod Filling
+pub mod Tallies
+pub mod Summing
+pub mod Answers

@@ -1,0 +1,152 @@
+-- The bonds are read one by one: what holds after k of them. Assumes nothing.
+use Prim.Native.Nat.{ℕ, zero, suc, _+_, _*_, _≤_, _<_}
+use mathlib.Core.Bool.{Bool, true, false}
+use mathlib.Core.List.{List, [], _∷_}
+use mathlib.Core.Logic.{_⊎_, inl, inr, ⊎-elim, _≢_}
+use mathlib.Core.Path.{_≡_, refl, sym, ap, subst, fun-ext, _∙_}
+use native.Mathlib.Omega.{arith}
+use native.Mathlib.Decide.{decLt}
+use native.Mathlib.Numerals.{add-one}
+use lib.ListN.{length, getD, drop, replicate, getD-replicate, length-drop, length-replicate, List·getD-eq-default}
+use lib.Seq.{drop-cons}
+use Rattle.graph.specs.Graph.{Bond, bond, anyJoins, bonded, degree}
+use Rattle.graph.specs.Bonds.{any-out, any-head, any-tail, any-none, joins-out, joins-in}
+use Rattle.block.specs.Read.{Read, refused, read, _then_, refuseFor, refusal}
+use Rattle.block.specs.Block.{limit, mostAtoms, bondsOf, graphOf, bondFault, bondsReply}
+use Rattle.block.specs.Near.{counted, near, putting, Draws, Holds, Lists}
+use Rattle.block.specs.declared.Near.{Near}
+use Rattle.block.specs.Faults.{Faultless, faultless}
+use Rattle.block.proofs.Listing.{put-holds, room-one, room-two}
+
+-- the bond at place k from 0, and the first k bonds, the last of them first
+abbrev pub bondAt : List ℕ → ℕ → Bond
+bondAt xs k = bond (getD xs (2 * k) 0) (getD xs (2 * k + 1) 0)
+
+unfoldable pub before : List ℕ → ℕ → List Bond
+before xs zero = []
+before xs (suc k) = bondAt xs k ∷ before xs k
+
+length-before : (xs : List ℕ) (k : ℕ) → length (before xs k) ≡ k
+unfolding before
+length-before xs zero = refl
+length-before xs (suc k) = ap suc (length-before xs k)
+
+-- the bonds from k on
+abbrev rest : List ℕ → ℕ → List Bond
+rest xs k = bondsOf (drop (2 * k) xs)
+
+rest-cons : (xs : List ℕ) (k : ℕ) → 2 * k + 1 < length xs → rest xs k ≡ bondAt xs k ∷ rest xs (suc k)
+unfolding bondsOf
+rest-cons xs k l =
+    let e1 : suc (2 * k) ≡ 2 * k + 1 = omega arith in
+    let e2 : suc (suc (2 * k)) ≡ 2 * suc k = omega arith in
+    let d1 : drop (2 * k) xs ≡ getD xs (2 * k) 0 ∷ drop (suc (2 * k)) xs = drop-cons xs (2 * k) 0 (omega arith) in
+    let d2 : drop (suc (2 * k)) xs ≡ getD xs (suc (2 * k)) 0 ∷ drop (suc (suc (2 * k))) xs = drop-cons xs (suc (2 * k)) 0 (omega arith) in
+    let d : drop (2 * k) xs ≡ getD xs (2 * k) 0 ∷ (getD xs (2 * k + 1) 0 ∷ drop (2 * suc k) xs) = cc in
+    ap bondsOf d
+
+short : (ys : List ℕ) → length ys < 2 → bondsOf ys ≡ []
+unfolding bondsOf
+short [] h = refl
+short (a ∷ []) h = refl
+short (a ∷ (b ∷ ys)) h = absurd (omega arith)
+
+rest-none : (xs : List ℕ) (k : ℕ) → length xs < 2 * k + 2 → rest xs k ≡ []
+rest-none xs k l = short (drop (2 * k) xs) (rw length-drop (omega arith))
+
+-- what holds after k bonds that have no fault
+pub record Reads (n : ℕ) (xs : List ℕ) (k : ℕ) (t : Near) : Type 0 where
+  pub holds : Holds n (before xs k) t
+  pub answer : bondsReply n [] (bondsOf xs) ≡ bondsReply n (before xs k) (rest xs k)
+  pub parts : (u v : ℕ) → anyJoins (bondsOf xs) u v ≡ true → (anyJoins (before xs k) u v ≡ true) ⊎ (anyJoins (rest xs k) u v ≡ true)
+  pub passed : (u v : ℕ) → anyJoins (before xs k) u v ≡ true → anyJoins (bondsOf xs) u v ≡ true
+  pub coming : (u v : ℕ) → anyJoins (rest xs k) u v ≡ true → anyJoins (bondsOf xs) u v ≡ true
+
+-- an entry of a list of zeros
+pub zeros : (m p : ℕ) → _≡_ {A = ℕ} (getD (replicate m 0) p 0) 0
+zeros m p = elim (decLt p m) [ yes h ↦ getD-replicate m p 0 0 h | no h ↦ List·getD-eq-default (replicate m 0) 0 {n = p} (omega (arith, length-replicate {A = ℕ} m 0)) ]
+
+abbrev pub blank : Near
+blank = near (replicate (suc mostAtoms) 0) (replicate (limit * suc mostAtoms) 0)
+
+pub reads-start : (n : ℕ) (xs : List ℕ) → n ≤ mostAtoms → Reads n xs 0 blank
+unfolding before degree
+reads-start n xs s = record {
+  holds = record {
+    draws = record {
+      small = s;
+      sizes = (refl, refl);
+      ends = λ u w e. absurd (any-none u w e);
+      few = λ u. omega (arith, zeros (suc mostAtoms) u);
+      each = λ u k l. absurd (omega (arith, zeros (suc mostAtoms) u));
+      every = λ u w e. absurd (any-none u w e);
+    };
+    degrees = zeros (suc mostAtoms);
+  };
+  answer = refl;
+  parts = λ u v e. inr e;
+  passed = λ u v e. absurd (any-none u v e);
+  coming = λ u v e. e;
+}
+
+module _ (n : ℕ) (xs : List ℕ) (k : ℕ) (t : Near) (A : Reads n xs k t) (more : 2 * k + 1 < length xs) where
+  abbrev a : ℕ
+  a = getD xs (2 * k) 0
+
+  abbrev b : ℕ
+  b = getD xs (2 * k + 1) 0
+
+  abbrev bs : List Bond
+  bs = before xs k
+
+  step : bondsReply n [] (bondsOf xs) ≡ (refuseFor (bondFault n bs (bondAt xs k)) (suc k) then λ _. bondsReply n (bondAt xs k ∷ bs) (rest xs (suc k)))
+  unfolding bondsReply
+  step = A .answer ∙ rw (rest-cons xs k more, length-before xs k) refl
+
+  pub reads-fault : (f : ℕ) → f ≢ 0 → f ≡ bondFault n bs (bondAt xs k) → bondsReply n [] (bondsOf xs) ≡ refused (refusal f (k + 1))
+  reads-fault zero ne e = absurd (ne refl)
+  reads-fault (suc f) ne e = step ∙ rw (← e, add-one)
+
+  module _ (e : bondFault n bs (bondAt xs k) ≡ 0) where
+    free : Faultless n bs a b
+    free = faultless n bs (bondAt xs k) e
+
+    pub put-first : (a ≤ mostAtoms) × (counted t a < limit)
+    put-first = (omega (arith, A .holds .draws .small, free .one), room-one n bs t (A .holds) a b free)
+
+    pub put-second : (b ≤ mostAtoms) × (counted (putting t a b) b < limit)
+    put-second = (omega (arith, A .holds .draws .small, free .two), room-two n bs t (A .holds) a b free)
+
+    pub reads-next : Reads n xs (suc k) (putting (putting t a b) b a)
+    unfolding before
+    reads-next = record {
+      holds = put-holds n bs t (A .holds) a b free;
+      answer = step ∙ rw e;
+      parts = λ u v j.
+          ⊎-elim (λ x. inl (any-tail (bondAt xs k) bs u v x))
+          (λ x. ⊎-elim (λ y. inl (any-head (bondAt xs k) bs u v y)) inr (any-out (bondAt xs k) (rest xs (suc k)) u v (rw (rest-cons xs k more) at x)))
+          (A .parts u v j);
+      passed = λ u v j.
+          ⊎-elim (λ y. A .coming u v (rw (rest-cons xs k more) (any-head (bondAt xs k) (rest xs (suc k)) u v y))) (A .passed u v)
+          (any-out (bondAt xs k) bs u v j);
+      coming = λ u v j. A .coming u v (rw (rest-cons xs k more) (any-tail (bondAt xs k) (rest xs (suc k)) u v j));
+    }
+
+-- after the last bond
+module _ (n : ℕ) (xs : List ℕ) (k : ℕ) (t : Near) (A : Reads n xs k t) (last : length xs < 2 * k + 2) where
+  pub reads-fine : bondsReply n [] (bondsOf xs) ≡ read tt
+  unfolding bondsReply
+  reads-fine = A .answer ∙ rw (rest-none xs k last) refl
+
+  same-test : (p q : Bool) → (p ≡ true → q ≡ true) → (q ≡ true → p ≡ true) → p ≡ q
+  same-test true q f g = sym (f refl)
+  same-test false true f g = g refl
+  same-test false false f g = refl
+
+  whole : (u v : ℕ) → anyJoins (before xs k) u v ≡ anyJoins (bondsOf xs) u v
+  whole u v = same-test (anyJoins (before xs k) u v) (anyJoins (bondsOf xs) u v) (A .passed u v)
+      (λ j. ⊎-elim (λ x. x) (λ x. absurd (any-none u v (rw (rest-none xs k last) at x))) (A .parts u v j))
+
+  pub reads-drawn : Lists (graphOf n xs) t
+  unfolding bonded
+  reads-drawn = subst (λ (R : ℕ → ℕ → Bool). Draws n R t) (fun-ext (λ u. fun-ext (λ v. whole u v))) (A .holds .draws)

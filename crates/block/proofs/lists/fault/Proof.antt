@@ -1,0 +1,106 @@
+use mathlib.Core.Bool.{false}
+use mathlib.Core.List.{List}
+use mathlib.Core.Path.{_≡_, sym, _∙_}
+use lib.Dec.{eqb, leb}
+use native.Mathlib.Omega.{arith}
+use borrow.Author.Needs.{needs}
+use borrow.Author.Tests.{eq-eqb, ne-eqb}
+use Rattle.graph.specs.Graph.{Bond, Within, anyJoins, degree}
+use Rattle.block.specs.Block.{limit, isOutside}
+use Rattle.block.specs.Near.{near, Holds}
+use Rattle.block.specs.Faults.{inside, three, three′, four, five, six, six′, none}
+use Rattle.block.proofs.Listing.{full, room}
+use Rattle.block.proofs.lists.fault.Statement.{statement}
+use Rattle.block.proofs.lists.fault.Tie as tie
+
+outside-requires : tie.Need-outside-requires
+outside-requires c κs = search needs
+
+returns : tie.Need-returns
+returns c bs H = three _ _ _ _ (sym (c .before .outside .ensures) ∙ c .if1 .taken)
+
+outside-requires-2 : tie.Need-outside-requires-2
+outside-requires-2 c κs = search needs
+
+-- what has passed at each place: the first end, the second end, that they differ, that the bond is new
+one : (c : tie.Else1) → let s = c .before .before .args in isOutside (s .n) (s .a) ≡ false
+one c = sym (c .before .outside .ensures) ∙ c .if1 .left
+
+returns-2 : tie.Need-returns-2
+returns-2 c bs H = three′ _ _ _ _ (one (c .before .before)) (sym (c .before .outside2 .ensures) ∙ c .if2 .taken)
+
+two : (c : tie.Else2) → let s = c .before .before .before .before .args in isOutside (s .n) (s .b) ≡ false
+two c = sym (c .before .outside2 .ensures) ∙ c .if2 .left
+
+one-in : (c : tie.Else2) → let s = c .before .before .before .before .args in Within (s .n) (s .a)
+one-in c = inside _ _ (one (c .before .before))
+
+two-in : (c : tie.Else2) → let s = c .before .before .before .before .args in Within (s .n) (s .b)
+two-in c = inside _ _ (two c)
+
+returns-3 : tie.Need-returns-3
+returns-3 c bs H = four _ _ _ _ (one (c .before .before .before)) (two (c .before)) (eq-eqb _ _ (c .if3 .taken))
+
+listed-requires : tie.Need-listed-requires
+listed-requires c κs = (omega (arith, one-in (c .before)), c .before .before .before .before .before .pre .1 _)
+
+differ : (c : tie.Else3) → let s = c .before .before .before .before .before .args in eqb (s .a) (s .b) ≡ false
+differ c = ne-eqb _ _ (c .if3 .left)
+
+returns-4 : tie.Need-returns-4
+returns-4 c bs H =
+    let d = c .before .before in
+    five _ _ _ _ (one (d .before .before .before)) (two (d .before)) (differ d) (sym (c .before .listed .ensures _ _ (H .draws)) ∙ c .if4 .taken)
+
+new : (c : tie.Else4) (bs : List Bond) → let s = c .before .before .before .before .before .before .before .args in Holds (s .n) bs (near (s .count .now) (s .list .now)) → anyJoins bs (s .a) (s .b) ≡ false
+new c bs H = sym (c .before .listed .ensures _ _ (H .draws)) ∙ c .if4 .left
+
+element-copy-out-if5 : tie.Need-element-copy-out-if5
+element-copy-out-if5 c = omega (arith, one-in (c .before .before .before))
+
+cast-if5 : tie.Need-cast-if5
+cast-if5 c =
+    let s = c .before .before .before .before .before .before .before .before in
+    omega (arith, s .pre .1 (s .args .a))
+
+returns-5 : tie.Need-returns-5
+returns-5 c bs H =
+    let d = c .before .before .before .before in
+    six _ _ _ _ (one (d .before .before .before)) (two (d .before)) (differ d) (new (c .before .before) bs H) (full H _ (c .if5 .taken))
+
+element-copy-out-if6 : tie.Need-element-copy-out-if6
+element-copy-out-if6 c = omega (arith, two-in (c .before .before .before .before .before))
+
+cast-if6 : tie.Need-cast-if6
+cast-if6 c =
+    let s = c .before .before .before .before .before .before .before .before .before .before in
+    omega (arith, s .pre .1 (s .args .b))
+
+returns-6 : tie.Need-returns-6
+returns-6 c bs H =
+    let d = c .before .before .before .before .before .before in
+    six′ _ _ _ _ (one (d .before .before .before)) (two (d .before)) (differ d) (new (c .before .before .before .before) bs H) (room H _ (c .before .before .if5 .left)) (full H _ (c .if6 .taken))
+
+returns-7 : tie.Need-returns-7
+returns-7 c bs H =
+    let d = c .before .before .before .before .before .before in
+    none _ _ _ _ (one (d .before .before .before)) (two (d .before)) (differ d) (new (c .before .before .before .before) bs H) (room H _ (c .before .before .if5 .left)) (room H _ (c .if6 .left))
+
+pub fault-spec : {M : Type 1} → statement M
+fault-spec =
+    tie.close
+    (tie.spec
+    outside-requires
+    returns
+    outside-requires-2
+    returns-2
+    returns-3
+    listed-requires
+    returns-4
+    element-copy-out-if5
+    cast-if5
+    returns-5
+    element-copy-out-if6
+    cast-if6
+    returns-6
+    returns-7)

@@ -1,0 +1,69 @@
+use mathlib.Core.Path.{_≡_, refl, sym, _∙_}
+use native.Mathlib.Omega.{arith}
+use borrow.Author.Needs.{needs}
+use Rattle.graph.specs.Graph.{Within}
+use Rattle.block.specs.Block.{graphOf}
+use Rattle.block.specs.Near.{Ready}
+use Rattle.block.specs.Found.{Task}
+use Rattle.block.specs.Faults.{inside}
+use Rattle.block.specs.Told.{passed}
+use Rattle.block.proofs.Filling.{view-refused, view-outside, view-row}
+use Rattle.block.proofs.Replies.{said-refused}
+use Rattle.block.proofs.look.Statement.{statement}
+use Rattle.block.proofs.look.Tie as tie
+
+admit-requires : tie.Need-admit-requires
+admit-requires c κs = search needs
+
+enum-told : tie.Need-enum-told
+enum-told c = search needs
+
+enum-told-2 : tie.Need-enum-told-2
+enum-told-2 c = search needs
+
+returns : tie.Need-returns
+returns c =
+    let e = c .enum-told2 .given .1 in
+    view-refused _ _ _ _ _ (said-refused _ _ (sym e ∙ c .before .before .admit .ensures .replied)) e refl
+
+outside-requires : tie.Need-outside-requires
+outside-requires c κs = search needs
+
+-- the block is fine, and i is one of its atoms
+ready : (c : tie.After-enum-told) → let s = c .before .before .before .before .args in Ready (s .n) (s .bonds .now) (c .before .before .admit .result .near)
+ready c = c .before .before .admit .ensures .ready (c .enum-told .given .1)
+
+returns-2 : tie.Need-returns-2
+returns-2 c = view-outside _ _ (ready (c .before .before) .fine) _ _ (sym (c .before .outside .ensures) ∙ c .if1 .taken) refl refl
+
+atom : (c : tie.Else1) → let s = c .before .before .before .before .before .before .args in Within (s .n) (s .i)
+atom c = inside _ _ (sym (c .before .outside .ensures) ∙ c .if1 .left)
+
+task : (c : tie.Else1) → let s = c .before .before .before .before .before .before .args in Task (graphOf (s .n) (s .bonds .now)) (c .before .before .before .before .admit .result .near) (s .i)
+task c = record { lists = ready (c .before .before) .lists; start = atom c }
+
+cast-from-atom : tie.Need-cast-from-atom
+cast-from-atom c = let d = c .before .before .before .before .before in omega (arith, atom d, task d .lists .small)
+
+from-atom-requires : tie.Need-from-atom-requires
+from-atom-requires c κs = (_, task (c .before .before .before .before .before))
+
+returns-3 : tie.Need-returns-3
+returns-3 c =
+    let d = c .before .before .before .before .before .before .before in
+    let f = ready (d .before .before) .fine in
+    view-row _ _ f _ _ (atom d) (d .before .before .enum-told .given .1) (c .before .from-atom .ensures _ (task d) .row (passed _ _ f .whole))
+
+pub look-spec : {M : Type 1} → statement M
+look-spec =
+    tie.close
+    (tie.spec
+    admit-requires
+    enum-told
+    enum-told-2
+    returns
+    outside-requires
+    returns-2
+    cast-from-atom
+    from-atom-requires
+    returns-3)

@@ -1,0 +1,37 @@
+use mathlib.Core.Path.{sym, _∙_}
+use borrow.Author.Needs.{needs}
+use Rattle.block.specs.Near.{Ready}
+use Rattle.block.proofs.Answers.{measure-refused, measure-fine}
+use Rattle.block.proofs.Replies.{said-refused}
+use Rattle.block.proofs.measure.Statement.{statement}
+use Rattle.block.proofs.measure.Tie as tie
+
+admit-requires : tie.Need-admit-requires
+admit-requires c κs = search needs
+
+enum-known-reply : tie.Need-enum-known-reply
+enum-known-reply c = search needs
+
+enum-told : tie.Need-enum-told
+enum-told c = search needs
+
+ready : (c : tie.After-enum-told) → let s = c .before .before .before .before .args in Ready (s .n) (s .bonds .now) (c .before .before .admit .result .near)
+ready c = c .before .before .admit .ensures .ready (c .enum-told .given .1)
+
+from-all-requires : tie.Need-from-all-requires
+from-all-requires c κs = (_, ready (c .before))
+
+sums-requires : tie.Need-sums-requires
+sums-requires c κs = search needs
+
+returns : tie.Need-returns
+returns c = measure-refused _ _ _ (said-refused _ _ (sym (c .before .reply .given .1) ∙ c .before .before .before .admit .ensures .replied))
+
+returns-2 : tie.Need-returns-2
+returns-2 c =
+    let R = ready (c .before .before .before) in
+    measure-fine _ _ (R .fine) _ (c .before .from-all .ensures _ R) _ (c .sums .ensures)
+
+pub measure-spec : {M : Type 1} → statement M
+measure-spec =
+    tie.close (tie.spec admit-requires enum-known-reply enum-told from-all-requires sums-requires returns returns-2)

@@ -1,0 +1,20 @@
+use mathlib.Core.Path.{_≡_, sym}
+use native.Mathlib.Decide.{ℕ-discrete}
+use borrow.Author.Needs.{needs}
+use borrow.Author.Tests.{eq-eqb, ne-eqb}
+use Rattle.block.proofs.search.connected.Statement.{statement}
+use Rattle.block.proofs.search.connected.Tie as tie
+
+from-atom-requires : tie.Need-from-atom-requires
+from-atom-requires c κs = search needs
+
+returns : tie.Need-returns
+returns c xs T =
+    let S = c .before .from-atom .ensures _ T in
+    elim (ℕ-discrete (c .before .from-atom .result .met) (c .before .before .before .before .before .before .args .n)) [
+      | yes e ↦ rw (eq-eqb _ _ e) (sym (S .whole e))
+      | no ne ↦ rw (ne-eqb _ _ ne) (sym (S .apart ne))
+    ]
+
+pub connected-spec : {M : Type 1} → statement M
+connected-spec = tie.close (tie.spec from-atom-requires returns)

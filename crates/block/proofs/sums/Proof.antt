@@ -1,0 +1,80 @@
+use Prim.Native.Nat.{ℕ, _≤_, _-_}
+use mathlib.Core.Path.{_≡_, ap, _∙_}
+use native.Mathlib.Omega.{arith}
+use borrow.Author.Needs.{needs}
+use Rattle.block.specs.Block.{mostAtoms}
+use Rattle.block.specs.Sums.{pairEntry, indicesBy}
+use Rattle.block.proofs.Summing.{Summed, sums-none, sums-more, sums-end}
+use Rattle.block.proofs.sums.Statement.{statement}
+use Rattle.block.proofs.sums.Tie as tie
+
+abbrev Inv-loop : tie.InvT-loop
+Inv-loop n rows m even₀ odd₀ threes₀ j₀ even odd threes j = (j ≤ m) × (m ≤ mostAtoms) × Summed rows j even odd threes
+
+abbrev μ-loop : tie.MeasureT-loop
+μ-loop n rows m even₀ odd₀ threes₀ j₀ even odd threes j = m - j
+
+within-requires : tie.Need-within-requires Inv-loop μ-loop
+within-requires c κs = search needs
+
+loop-holds : tie.Need-loop-holds Inv-loop μ-loop
+loop-holds c = (omega arith, omega arith, sums-none _)
+
+mul-row : tie.Need-mul-row Inv-loop μ-loop
+mul-row c = omega arith
+
+array-copy-out-row : tie.Need-array-copy-out-row Inv-loop μ-loop
+array-copy-out-row c = omega arith
+
+along-requires : tie.Need-along-requires Inv-loop μ-loop
+along-requires c κs = omega arith
+
+add-even : tie.Need-add-even Inv-loop μ-loop
+add-even c = omega arith
+
+add-odd : tie.Need-add-odd Inv-loop μ-loop
+add-odd c = omega arith
+
+add-threes : tie.Need-add-threes Inv-loop μ-loop
+add-threes c = omega arith
+
+add-j : tie.Need-add-j Inv-loop μ-loop
+add-j c = omega arith
+
+loop-less : tie.Need-loop-less Inv-loop μ-loop
+loop-less c = omega arith
+
+loop-again : tie.Need-loop-again Inv-loop μ-loop
+loop-again c =
+    let l = c .before .before .before .before .before .before .loop in
+    (omega arith, l .inv .1, sums-more _ (l .j) _ _ _ (l .inv .2) _ (c .before .before .before .along .ensures) (omega arith))
+
+add-t17 : tie.Need-add-t17 Inv-loop μ-loop
+add-t17 c = omega arith
+
+returns : tie.Need-returns Inv-loop μ-loop
+returns c =
+    let l = c .before .loop in
+    let w = c .before .before .within in
+    let e : l .j ≡ w .result = omega arith in
+    sums-end _ _ _ _ _ (rw e at (l .inv .2)) ∙ ap (λ (m : ℕ). indicesBy m (pairEntry (c .before .before .before .args .t1))) (w .ensures)
+
+pub sums-spec : {M : Type 1} → statement M
+sums-spec =
+    tie.close
+    (tie.spec
+    Inv-loop
+    μ-loop
+    within-requires
+    loop-holds
+    mul-row
+    array-copy-out-row
+    along-requires
+    add-even
+    add-odd
+    add-threes
+    add-j
+    loop-less
+    loop-again
+    add-t17
+    returns)

@@ -1,0 +1,46 @@
+-- The sums over the rows of a block that is not refused are its indices, its vertex sums and its counts of pairs. Assumes nothing.
+use Prim.Native.Nat.{ℕ, suc, _-_, _≤_, min}
+use mathlib.Core.List.{List, []}
+use mathlib.Core.Path.{_≡_, ap, fun-ext, _∙_}
+use native.Mathlib.Omega.{arith}
+use lib.ListN.{getD}
+use Rattle.graph.specs.Graph.{Graph, Within, distance, sum, sumPairs, total, vertex, itself, evenOf, oddOf, evenOne, oddOne, isAt}
+use Rattle.graph.specs.Distance.{distance-sym}
+use Rattle.graph.specs.Sums.{sum-cong, sumPairs-cong}
+use Rattle.block.specs.Read.{Read, read}
+use Rattle.block.specs.Block.{mostAtoms, graphOf, blockReply}
+use Rattle.block.specs.Rows.{table, rowOf, rowsOf}
+use Rattle.block.specs.Index.{indicesOf, vertexOf, pairsOf}
+use Rattle.block.specs.Sums.{entry, pairEntry, indicesBy, countsBy, vertexBy}
+use Rattle.block.specs.Told.{few-atoms, molecule, entry-at, distance-at}
+use Rattle.block.specs.declared.Indices.{Indices}
+use Rattle.block.specs.declared.Vertex.{Vertex}
+
+module _ (n : ℕ) (xs : List ℕ) (fine : blockReply n xs ≡ read tt) where
+  abbrev g : Graph
+  g = graphOf n xs
+
+  -- what is counted over the entries of rows is counted over the distances
+  pairs-same : (f : ℕ → ℕ) → sumPairs n (λ i j. f (pairEntry (rowsOf n xs) i j)) ≡ total g f
+  unfolding total
+  pairs-same f = sumPairs-cong n (λ i j w v. ap f (distance-at n xs fine v w ∙ distance-sym (molecule n xs fine) v w))
+
+  row-same : (a : ℕ) (f : ℕ → ℕ) → sum n (λ j. f (entry (rowOf g a) j)) ≡ vertex g a f
+  unfolding vertex
+  row-same a f = sum-cong n (λ j w. ap f (entry-at n xs fine a w))
+
+  pub indices-are : indicesBy n (pairEntry (rowsOf n xs)) ≡ indicesOf g
+  unfolding indicesBy indicesOf
+  indices-are = rw (pairs-same itself, pairs-same evenOf, pairs-same oddOf, pairs-same (isAt 3))
+
+  pub counts-are : countsBy n (pairEntry (rowsOf n xs)) ≡ pairsOf g
+  unfolding countsBy pairsOf
+  counts-are = ap (table mostAtoms) (fun-ext (λ k. pairs-same (isAt k)))
+
+  pub vertex-is : (a : ℕ) → vertexBy n (entry (rowOf g a)) ≡ vertexOf g a
+  unfolding vertexBy vertexOf
+  vertex-is a = rw (row-same a itself, row-same a evenOf, row-same a oddOf, row-same a evenOne, row-same a oddOne, row-same a (isAt 1), row-same a (isAt 2))
+
+  -- as the functions over rows are asked, for n atoms or as many as there are rows
+  pub all-atoms : min n mostAtoms ≡ n
+  all-atoms = let w = few-atoms n xs fine in omega arith

@@ -1,0 +1,41 @@
+-- Sums over distances d, whatever says them: a graph, a row, or rows.
+use Prim.Native.Nat.{ℕ, _-_}
+use mathlib.Core.List.{List, []}
+use lib.ListN.{getD}
+use Rattle.graph.specs.Graph.{sum, sumPairs, evenOf, oddOf, evenOne, oddOne, isAt}
+use Rattle.block.specs.Block.{mostAtoms}
+use Rattle.block.specs.Rows.{table}
+use Rattle.block.specs.declared.Indices.{Indices}
+use Rattle.block.specs.declared.Vertex.{Vertex}
+
+-- what a row says of atom j, and what rows say of the pair i < j: the entry of i in the row of j
+abbrev pub entry : List ℕ → ℕ → ℕ
+entry row j = getD row (j - 1) 0
+
+abbrev pub pairEntry : List (List ℕ) → ℕ → ℕ → ℕ
+pairEntry rows i j = entry (getD rows (j - 1) []) i
+
+-- over the pairs i < j of n atoms
+unfoldable pub indicesBy : ℕ → (ℕ → ℕ → ℕ) → Indices
+indicesBy n d = record {
+  atoms = n;
+  w = sumPairs n (λ i j. d i j);
+  even = sumPairs n (λ i j. evenOf (d i j));
+  odd = sumPairs n (λ i j. oddOf (d i j));
+  polarity = sumPairs n (λ i j. isAt 3 (d i j));
+}
+
+unfoldable pub countsBy : ℕ → (ℕ → ℕ → ℕ) → List ℕ
+countsBy n d = table mostAtoms (λ k. sumPairs n (λ i j. isAt k (d i j)))
+
+-- over n atoms, from one of them
+unfoldable pub vertexBy : ℕ → (ℕ → ℕ) → Vertex
+vertexBy n d = record {
+  sum = sum n (λ j. d j);
+  even = sum n (λ j. evenOf (d j));
+  odd = sum n (λ j. oddOf (d j));
+  evens = sum n (λ j. evenOne (d j));
+  odds = sum n (λ j. oddOne (d j));
+  ones = sum n (λ j. isAt 1 (d j));
+  twos = sum n (λ j. isAt 2 (d j));
+}

@@ -1,0 +1,34 @@
+-- How the sums over a row are worked.
+use Prim.Native.Nat.{ℕ, _+_, _≤_, _*_}
+use mathlib.Core.List.{List}
+use mathlib.Core.Path.{_≡_}
+use Rattle.graph.specs.Graph.{sum, evenOf, oddOf, evenOne, oddOne, isAt}
+use Rattle.block.specs.Sums.{entry}
+use Rattle.block.specs.declared.Tally.{Tally}
+
+-- the tally of the distances d 1 to d k
+unfoldable pub tallyBy : ℕ → (ℕ → ℕ) → Tally
+tallyBy k d = record {
+  even = sum k (λ j. evenOf (d j));
+  odd = sum k (λ j. oddOf (d j));
+  evens = sum k (λ j. evenOne (d j));
+  odds = sum k (λ j. oddOne (d j));
+  ones = sum k (λ j. isAt 1 (d j));
+  twos = sum k (λ j. isAt 2 (d j));
+  threes = sum k (λ j. isAt 3 (d j));
+}
+
+-- no number of the tally is above b
+pub record Below (b : ℕ) (t : Tally) : Type 0 where
+  pub even-low : t .even ≤ b
+  pub odd-low : t .odd ≤ b
+  pub evens-low : t .evens ≤ b
+  pub odds-low : t .odds ≤ b
+  pub ones-low : t .ones ≤ b
+  pub twos-low : t .twos ≤ b
+  pub threes-low : t .threes ≤ b
+
+-- the tally of the first k entries of a row of bytes
+pub record Tallied (row : List ℕ) (k : ℕ) (t : Tally) : Type 0 where
+  pub equal : t ≡ tallyBy k (entry row)
+  pub low : Below (255 * k) t

@@ -1,0 +1,114 @@
+-- What a block tells that is not refused: it is a molecule of at most 64 atoms, none with more bonds than the limit, and its rows hold its distances. Assumes nothing.
+use Prim.Native.Nat.{ℕ, zero, suc, _+_, _-_, _%_, _≤_, _<_}
+use mathlib.Core.Bool.{Bool, true, false, _||_, not, cond}
+use mathlib.Core.List.{List, [], _∷_}
+use mathlib.Core.Logic.{⊎-elim}
+use mathlib.Core.Path.{_≡_, refl, sym, ap, _∙_}
+use native.Mathlib.Omega.{arith}
+use native.Mathlib.Decide.{ℕ-discrete}
+use lib.Dec.{eqb, ltb}
+use lib.ListN.{length, getD}
+use borrow.Author.Tests.{lt-ltb, le-ltb, ne-eqb, eq-eqb, eqb-true, ltb-false, not-false}
+use Rattle.graph.specs.Graph.{Graph, Bond, Within, Sound, Molecule, anyJoins, bonded, connected, degree, distance}
+use Rattle.graph.specs.Bonds.{any-out, any-none}
+use Rattle.graph.specs.Connected.{connected-molecule}
+use Rattle.graph.specs.Distance.{distance-sym}
+use Rattle.block.specs.Read.{Read, refused, read, _then_, refuseIf, refuseFor}
+use Rattle.block.specs.Chain.{then-read, if-read, for-read}
+use Rattle.block.specs.Block.{mostAtoms, mostBytes, limit, isOutside, bondsOf, graphOf, bondFault, bondsReply, blockReply}
+use Rattle.block.specs.Rows.{table, rowOf, rowReply, saidRow, rowsOf}
+use Rattle.block.specs.Faults.{neither, inside, Faultless, faultless}
+use Rattle.block.specs.Tables.{getD-table}
+
+-- the first bond of a list that is read has no fault, and the others are read
+bonds-read : (n : ℕ) (before : List Bond) (b : Bond) (bs : List Bond) → bondsReply n before (b ∷ bs) ≡ read tt → Faultless n before (b .one) (b .two) × (bondsReply n (b ∷ before) bs ≡ read tt)
+unfolding bondsReply
+bonds-read n before b bs e =
+    let (u, f, r) = then-read (refuseFor (bondFault n before b) (suc (length before))) (λ _. bondsReply n (b ∷ before) bs) e in
+    (faultless n before b (for-read (bondFault n before b) (suc (length before)) f), r)
+
+bonds-ends : (n : ℕ) (before bs : List Bond) → bondsReply n before bs ≡ read tt → (u w : ℕ) → anyJoins bs u w ≡ true → Within n u
+bonds-ends n before [] e u w j = absurd (any-none u w j)
+bonds-ends n before (b ∷ bs) e u w j =
+    let (f, r) = bonds-read n before b bs e in
+    ⊎-elim (⊎-elim (λ q. rw (← q .0) (f .one)) (λ q. rw (← q .1) (f .two))) (λ i. bonds-ends n (b ∷ before) bs r u w i) (any-out b bs u w j)
+
+bonds-degrees : (n : ℕ) (before bs : List Bond) → bondsReply n before bs ≡ read tt → (v : ℕ) → degree before v ≤ limit → degree before v + degree bs v ≤ limit
+unfolding degree
+bonds-degrees n before [] e v l = omega arith
+bonds-degrees n before (b ∷ bs) e v l =
+    let (f, r) = bonds-read n before b bs e in
+    omega (arith, bonds-degrees n (b ∷ before) bs r v (at (ℕ-discrete (b .one) v) (ℕ-discrete (b .two) v) f))
+  where
+    at : Dec (b .one ≡ v) → Dec (b .two ≡ v) → Faultless n before (b .one) (b .two) → degree (b ∷ before) v ≤ limit
+    at (yes p) (yes q) f = absurd (f .differ (p ∙ sym q))
+    at (yes p) (no q) f = rw (eq-eqb (b .one) v p, ne-eqb (b .two) v q) (omega (arith, rw p at (f .room-one)))
+    at (no p) (yes q) f = rw (ne-eqb (b .one) v p, eq-eqb (b .two) v q) (omega (arith, rw q at (f .room-two)))
+    at (no p) (no q) f = rw (ne-eqb (b .one) v p, ne-eqb (b .two) v q) (omega arith)
+
+module _ (n : ℕ) (xs : List ℕ) (fine : blockReply n xs ≡ read tt) where
+  -- the tests that it passed
+  pub record Passed : Type 0 where
+    pub size : isOutside mostAtoms n ≡ false
+    pub bytes : (not (eqb (length xs % 2) 0) || ltb mostBytes (length xs)) ≡ false
+    pub bonds : bondsReply n [] (bondsOf xs) ≡ read tt
+    pub whole : connected (graphOf n xs) ≡ true
+
+  pub passed : Passed
+  unfolding blockReply
+  passed =
+      let (u, a, f) = then-read (refuseIf (isOutside mostAtoms n) 1 0) _ fine in
+      let (v, b, g) = then-read (refuseIf (not (eqb (length xs % 2) 0) || ltb mostBytes (length xs)) 2 0) _ f in
+      let (w, c, h) = then-read (bondsReply n [] (bondsOf xs)) _ g in
+      record {
+        size = if-read (isOutside mostAtoms n) 1 0 a;
+        bytes = if-read (not (eqb (length xs % 2) 0) || ltb mostBytes (length xs)) 2 0 b;
+        bonds = c;
+        whole = not-false (connected (graphOf n xs)) (if-read (not (connected (graphOf n xs))) 7 0 h);
+      }
+
+  pub few-atoms : Within mostAtoms n
+  few-atoms = inside mostAtoms n (passed .size)
+
+  pub few-bytes : length xs ≤ mostBytes
+  few-bytes = ltb-false mostBytes (length xs) (neither (not (eqb (length xs % 2) 0)) (ltb mostBytes (length xs)) (passed .bytes) .1)
+
+  pub even-bytes : length xs % 2 ≡ 0
+  even-bytes = eqb-true (length xs % 2) 0 (not-false (eqb (length xs % 2) 0) (neither (not (eqb (length xs % 2) 0)) (ltb mostBytes (length xs)) (passed .bytes) .0))
+
+  pub sound : Sound (graphOf n xs)
+  unfolding bonded
+  sound = record { ends = bonds-ends n [] (bondsOf xs) (passed .bonds) }
+
+  pub molecule : Molecule (graphOf n xs)
+  molecule = connected-molecule sound (passed .whole)
+
+  pub few-bonds : (v : ℕ) → degree (bondsOf xs) v ≤ limit
+  unfolding degree
+  few-bonds v = omega (arith, bonds-degrees n [] (bondsOf xs) (passed .bonds) v (omega arith))
+
+  -- the row of an atom, and what stands in it for an atom
+  atom-inside : {a : ℕ} → Within n a → isOutside n a ≡ false
+  atom-inside {a} w = rw (ne-eqb a 0 (omega arith), le-ltb n a (w .high))
+
+  pub row-read : {a : ℕ} → Within n a → rowReply n xs a ≡ read (rowOf (graphOf n xs) a)
+  unfolding rowReply
+  row-read w = rw (fine, atom-inside w)
+
+  pub row-at : {a : ℕ} → Within n a → getD (rowsOf n xs) (a - 1) [] ≡ rowOf (graphOf n xs) a
+  unfolding rowsOf
+  row-at {a} w =
+      let k : suc (a - 1) ≡ a = omega arith in
+      getD-table mostAtoms (λ i. saidRow (rowReply n xs (suc i))) (a - 1) [] (omega (arith, few-atoms))
+      ∙ rw (k, row-read w)
+
+  pub entry-at : (a : ℕ) {b : ℕ} → Within n b → getD (rowOf (graphOf n xs) a) (b - 1) 0 ≡ distance (graphOf n xs) a b
+  unfolding rowOf
+  entry-at a {b} w =
+      let k : suc (b - 1) ≡ b = omega arith in
+      getD-table mostAtoms (λ j. cond (ltb j n) (distance (graphOf n xs) a (suc j)) 0) (b - 1) 0 (omega (arith, few-atoms))
+      ∙ rw (lt-ltb (b - 1) n (omega arith), k)
+
+  -- the entry of one atom in the row of another
+  pub distance-at : {a b : ℕ} → Within n a → Within n b → getD (getD (rowsOf n xs) (a - 1) []) (b - 1) 0 ≡ distance (graphOf n xs) a b
+  distance-at {a} v w = rw (row-at v) (entry-at a w)

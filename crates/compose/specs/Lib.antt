@@ -1,0 +1,3 @@
+-- What composing counts.
+pub mod Counted
+pub mod Joints

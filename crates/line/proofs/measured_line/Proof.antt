@@ -1,0 +1,42 @@
+-- `line::measured_line` meets its contract: each case is its function's line.
+use mathlib.Core.Path.{sym, ap, _∙_}
+use Rattle.block.specs.declared.Measured.{Measured}
+use Rattle.line.specs.Text.{measuredText, lined}
+use Rattle.line.proofs.Lines.{shown}
+use Rattle.line.proofs.Fits.{measured-fit}
+use borrow.Author.Needs.{needs}
+use Rattle.line.proofs.measured_line.Statement.{statement}
+use Rattle.line.proofs.measured_line.Tie as tie
+
+enum-known-m : tie.Need-enum-known-m
+enum-known-m c = search needs
+
+refusal-line-requires : tie.Need-refusal-line-requires
+refusal-line-requires c κs = search needs
+
+enum-known-m-2 : tie.Need-enum-known-m-2
+enum-known-m-2 c = search needs
+
+indices-line-requires : tie.Need-indices-line-requires
+indices-line-requires c κs = search needs
+
+returns : tie.Need-returns
+returns c =
+    let m = c .before .before .before .before .args .m in
+    shown (c .refusal-line .result) (measuredText m) (measured-fit m) (c .refusal-line .ensures ∙ ap (λ (x : Measured). lined (measuredText x)) (sym (c .before .before .m .given .1)))
+
+returns-2 : tie.Need-returns-2
+returns-2 c =
+    let m = c .before .before .before .before .args .m in
+    shown (c .indices-line .result) (measuredText m) (measured-fit m) (c .indices-line .ensures ∙ ap (λ (x : Measured). lined (measuredText x)) (sym (c .before .before .m2 .given .1)))
+
+pub measured-line-spec : {M : Type 1} → statement M
+measured-line-spec =
+    tie.close
+    (tie.spec
+    enum-known-m
+    refusal-line-requires
+    enum-known-m-2
+    indices-line-requires
+    returns
+    returns-2)

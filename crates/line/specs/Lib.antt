@@ -1,0 +1,4 @@
+-- The text of each reply.
+pub mod Text
+pub mod Label
+pub mod Put

@@ -1,0 +1,65 @@
+-- The line that is printed for a reply, byte by byte: document 01, "Proved numbers and run numbers".
+use Prim.Native.Nat.{ℕ, zero, suc, _+_, _*_, _-_, _/_, _%_}
+use Prim.Native.Char.{code}
+use Prim.Native.String.{String}
+use Prim.Native.String as S
+use mathlib.Core.Bool.{true, false}
+use mathlib.Core.List.{List, [], _∷_, _++_}
+use lib.Dec.{ltb}
+use lib.ListN.{length, replicate}
+use Rattle.block.specs.declared.Refusal.{Refusal}
+use Rattle.block.specs.declared.Indices.{Indices}
+use Rattle.block.specs.declared.Measured.{Measured}
+use Rattle.block.specs.declared.Measured.the-variants as measured
+use Rattle.line.specs.declared.Line.{Line}
+
+-- the bytes of a text in ASCII
+abbrev pub ascii : String → List ℕ
+ascii S.[] = []
+ascii (S._∷_ c s) = code c ∷ ascii s
+
+-- the decimal digits of a number that has at most f + 1 of them, with no leading zero
+unfoldable pub decimalIn : ℕ → ℕ → List ℕ
+decimalIn zero n = (48 + n) ∷ []
+decimalIn (suc f) n = elim (ltb n 10) [ true ↦ (48 + n) ∷ [] | false ↦ decimalIn f (n / 10) ++ ((48 + n % 10) ∷ []) ]
+
+-- of a number of 64 bits, which has at most 20
+abbrev pub mostDigits : ℕ
+mostDigits = 20
+
+unfoldable pub decimal : ℕ → List ℕ
+decimal n = decimalIn (mostDigits - 1) n
+
+-- a word, then a number
+abbrev pub named : String → ℕ → List ℕ
+named word n = ascii word ++ decimal n
+
+-- the words name the sheet's fields
+unfoldable pub indicesText : Indices → List ℕ
+indicesText x = named "atoms " (x .atoms) ++ named " W " (x .w) ++ named " even " (x .even) ++ named " odd " (x .odd) ++ named " polarity " (x .polarity) ++ ascii "\n"
+
+-- number, then place
+unfoldable pub refusalText : Refusal → List ℕ
+refusalText r = named "refused " (r .number) ++ named " at " (r .place) ++ ascii "\n"
+
+abbrev pub measuredText : Measured → List ℕ
+measuredText (measured.Of x) = indicesText x
+measuredText (measured.Refused r) = refusalText r
+
+-- what is said of a deck that cannot be read
+abbrev pub unreadText : List ℕ
+unreadText = ascii "cannot be read\n"
+
+-- The longest line: that of the five fields.
+abbrev pub longest : ℕ
+longest = 31 + 5 * mostDigits
+
+abbrev pub zeros : ℕ → List ℕ
+zeros n = replicate n 0
+
+-- a text of at most that many bytes as the code holds it: zeros follow it
+unfoldable pub padded : List ℕ → List ℕ
+padded t = t ++ zeros (longest - length t)
+
+abbrev pub lined : List ℕ → Line
+lined t = record { text = padded t; len = length t }

@@ -1,0 +1,134 @@
+// The text of each reply: one line, as bytes.
+ghost use mathlib.Core.Path.{_≡_};
+ghost use mathlib.Core.List.{[], _++_};
+ghost use Prim.Native.Nat.{_+_};
+ghost use lib.Dec.{leb};
+ghost use Rattle.io.specs.Counts.{Counts};
+ghost use Rattle.line.specs.Text.{decimal, indicesText, refusalText, measuredText, unreadText, lined};
+ghost use Rattle.line.specs.Label.{labelReply, labelled};
+ghost use Rattle.line.specs.Put.{Put, Adds};
+use block::Indices;
+use block::Measured;
+use block::Refusal;
+
+// The digits of the largest number, and the bytes of the longest line.
+const DIGITS: usize = 20;
+
+pub const LONGEST: usize = 31 + 5 * DIGITS;
+
+// A line, zeros behind it, and its length.
+pub struct Line {
+    pub text: [u8; LONGEST],
+    pub len: usize,
+}
+
+// Puts as much of a word into out, from index `at` on, as there is room for, and answers the index past it.
+fn put(out: &mut [u8], at: usize, word: &[u8]) -> usize
+    ensures { λ r. ⌜ Put (now (out .entry)) at (now (word .entry)) (now (out .exit)) r ⌝ }
+{
+    let mut k = at;
+    let mut i = 0;
+    while i < word.len() && k < out.len() {
+        out[k] = word[i];
+        k += 1;
+        i += 1;
+    }
+    k
+}
+
+fn empty() -> Line
+    ensures { λ r. ⌜ r ≡ lined [] ⌝ }
+{
+    Line {
+        text: [0; LONGEST],
+        len: 0,
+    }
+}
+
+impl Line {
+    // The line with a word more.
+    fn with(self, word: &[u8]) -> Line
+        ensures { λ r. ⌜ Adds self (now (word .entry)) r ⌝ }
+    {
+        let mut text = self.text;
+        let len = put(&mut text, self.len, word);
+        Line { text, len }
+    }
+
+    // The line with the decimal digits of n more.
+    fn digits(self, n: u64) -> Line
+        ensures { λ r. ⌜ Adds self (decimal n) r ⌝ }
+    {
+        let mut text = [0u8; DIGITS];
+        let k = io::decimal(n, &mut text);
+        self.with(&text[..k])
+    }
+
+    // The line with a word and a number more.
+    fn named(self, word: &[u8], n: u64) -> Line
+        ensures { λ r. ⌜ Adds self (now (word .entry) ++ decimal n) r ⌝ }
+    {
+        self.with(word).digits(n)
+    }
+}
+
+fn indices_line(x: Indices) -> Line
+    ensures { λ r. ⌜ r ≡ lined (indicesText x) ⌝ }
+{
+    empty()
+        .named(b"atoms ", x.atoms)
+        .named(b" W ", x.w)
+        .named(b" even ", x.even)
+        .named(b" odd ", x.odd)
+        .named(b" polarity ", x.polarity)
+        .with(b"\n")
+}
+
+fn refusal_line(r: Refusal) -> Line
+    ensures { λ l. ⌜ l ≡ lined (refusalText r) ⌝ }
+{
+    empty()
+        .named(b"refused ", r.number as u64)
+        .named(b" at ", r.place as u64)
+        .with(b"\n")
+}
+
+// The line of a block's or a deck's indices, or of its refusal.
+pub fn measured_line(m: Measured) -> Line
+    ensures { λ r. ⌜ r ≡ lined (measuredText m) ⌝ }
+    ensures { λ r. ⌜ Counts (r .len) (r .text) ⌝ }
+{
+    match m {
+        Measured::Refused(r) => refusal_line(r),
+        Measured::Of(x) => indices_line(x),
+    }
+}
+
+// The line of a deck that cannot be read.
+pub fn unread_line() -> Line
+    ensures { λ r. ⌜ r ≡ lined unreadText ⌝ }
+    ensures { λ r. ⌜ Counts (r .len) (r .text) ⌝ }
+{
+    empty().with(b"cannot be read\n")
+}
+
+fn has_room(size: usize, name: usize, more: usize) -> bool
+    ensures { λ r. ⌜ r ≡ leb (name + more) size ⌝ }
+{
+    name <= size && more <= size - name
+}
+
+// Behind a file's name, the first `name` bytes of out, puts `: ` and its line, and answers how many bytes that makes. Where there is no room it puts nothing and answers 0.
+pub fn label(out: &mut [u8], name: usize, words: &[u8]) -> usize
+    ensures { λ r. ⌜ r ≡ labelReply (now (out .entry)) name (now (words .entry)) ⌝ }
+    ensures { λ r. ⌜ now (out .exit) ≡ labelled (now (out .entry)) name (now (words .entry)) ⌝ }
+    ensures { λ r. ⌜ Counts r (now (out .exit)) ⌝ }
+{
+    let colon = b": ";
+    if has_room(out.len(), name, colon.len() + words.len()) {
+        let at = put(out, name, colon);
+        put(out, at, words)
+    } else {
+        0
+    }
+}

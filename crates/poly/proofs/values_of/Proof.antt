@@ -1,0 +1,44 @@
+-- `poly::values_of` meets its contract: the two tests are those of `unusable`, the other way round, and each value is what `value_of` ensures.
+use Prim.Native.Nat.{ℕ}
+use mathlib.Core.Path.{_≡_, refl, ap₂, _∙_}
+use mathlib.Core.Bool.{Bool, true, false, not, _&&_}
+use lib.Ieee.{Float, ofBits, lt, le}
+use borrow.Author.Needs.{needs}
+use Rattle.block.specs.Read.{read, _then_, refuseIf}
+use Rattle.poly.specs.declared.Answer.{Answer}
+use Rattle.poly.specs.Poly.{zeroF, oneF, counted, valuesOf, valuesReply, saidPolynomial}
+use Rattle.poly.proofs.Usable.{two-tests}
+use Rattle.poly.proofs.values_of.Statement.{statement}
+use Rattle.poly.proofs.values_of.Tie as tie
+
+-- the reply, by what the two tests gave
+chosen : (n : ℕ → ℕ) (x : Float) (a b : Bool) → lt zeroF x ≡ a → le x oneF ≡ b
+    → saidPolynomial (refuseIf (not (a && b)) 10 0 then λ _. read (valuesOf n x)) ≡ saidPolynomial (valuesReply n x)
+unfolding valuesReply
+chosen n x a b p q = rw (two-tests x, p, q)
+
+value-of-requires : tie.Need-value-of-requires
+value-of-requires c κs = search needs
+
+value-of-requires-2 : tie.Need-value-of-requires-2
+value-of-requires-2 c κs = search needs
+
+returns : tie.Need-returns
+unfolding ofBits valuesOf
+returns c =
+    let tests = c .before .before in
+    let start = tests .before .before in
+    ap₂ (λ (e o : Float). Answer.Values (record { even = e; odd = o })) (c .before .value-of .ensures) (c .value-of2 .ensures)
+    ∙ chosen (counted (start .args .counts)) (start .args .x) true true (tests .before .if1 .taken) (tests .if2 .taken)
+
+returns-2 : tie.Need-returns-2
+unfolding ofBits
+returns-2 c = let start = c .before .before in chosen (counted (start .args .counts)) (start .args .x) true false (c .before .if1 .taken) (c .if2 .left)
+
+returns-3 : tie.Need-returns-3
+unfolding ofBits
+returns-3 c = let start = c .before in chosen (counted (start .args .counts)) (start .args .x) false (le (start .args .x) oneF) (c .if1 .left) refl
+
+pub values-of-spec : {M : Type 1} → statement M
+values-of-spec =
+    tie.close (tie.spec value-of-requires value-of-requires-2 returns returns-2 returns-3)

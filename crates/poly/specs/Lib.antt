@@ -1,0 +1,3 @@
+-- The polynomial values of a block.
+pub mod Poly
+pub mod Exact

@@ -1,0 +1,5 @@
+-- Laws of the work on arrays.
+pub mod Rows
+pub mod Lists
+pub mod Chains
+pub mod Sweeping

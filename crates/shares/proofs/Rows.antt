@@ -1,0 +1,45 @@
+-- Rows that are filled place by place. Assumes nothing.
+use Prim.Native.Nat.{ℕ, zero, suc, _+_, _≤_, _<_}
+use mathlib.Core.List.{List}
+use mathlib.Core.Bool.{Bool, true, false}
+use mathlib.Core.Logic.{_⊎_, inl, inr, ⊎-elim}
+use mathlib.Core.Path.{_≡_, refl, sym, _∙_, ap}
+use native.Mathlib.Nat.{eq-or-lt-of-le}
+use native.Mathlib.Omega.{arith}
+use borrow.Author.Tests.{eqb-true, eqb-false}
+use lib.Dec.{eqb}
+use lib.ListN.{length, getD, set, replicate}
+use lib.Seq.{getD-set-same, getD-set-other}
+use Rattle.graph.specs.Graph.{Within}
+use Rattle.shares.specs.Work.{at}
+
+-- an entry after a store is what was stored, or what it was
+pub after-store : (row : List ℕ) (i x k : ℕ) → i < length row
+    → ((k ≡ i) × (at (set row i x) k ≡ x)) ⊎ ((k ≡ i → ⊥) × (at (set row i x) k ≡ at row k))
+after-store row i x k l = go (eqb k i) refl
+  where
+    go : (t : Bool) → eqb k i ≡ t → ((k ≡ i) × (at (set row i x) k ≡ x)) ⊎ ((k ≡ i → ⊥) × (at (set row i x) k ≡ at row k))
+    go true e = let z = eqb-true k i e in inl (z, ap (at (set row i x)) z ∙ getD-set-same row i x 0 l)
+    go false e = let z = eqb-false k i e in inr (z, getD-set-other row i k x 0 z)
+
+-- an entry of zeros
+pub zeros : (m k : ℕ) → _≡_ {A = ℕ} (getD (replicate m 0) k 0) 0
+zeros zero k = refl
+zeros (suc m) zero = refl
+zeros (suc m) (suc k) = zeros m k
+
+-- what holds of each place below j, and of j, holds of each below j + 1
+pub one-more : {P : ℕ → Type 0} (j : ℕ) → ((k : ℕ) → k < j → P k) → P j → (k : ℕ) → k < j + 1 → P k
+one-more {P} j h e k l = ⊎-elim (λ q. let z : k ≡ j = omega arith in rw z e) (λ q. h k (omega arith)) (eq-or-lt-of-le l)
+
+-- a row that has G for the atoms 1 to j has it for the next once that is stored
+pub grown : (row : List ℕ) (j x : ℕ) (G : ℕ → ℕ) → j + 1 < length row → ((k : ℕ) → k < j → at row (suc k) ≡ G k) → x ≡ G j
+    → (k : ℕ) → k < j + 1 → at (set row (j + 1) x) (suc k) ≡ G k
+grown row j x G i h e =
+    one-more j (λ k l. getD-set-other row (j + 1) (suc k) x 0 (λ z. omega arith) ∙ h k l)
+    (let z : suc j ≡ j + 1 = omega arith in ap (λ (k : ℕ). at (set row (j + 1) x) k) z ∙ getD-set-same row (j + 1) x 0 i ∙ e)
+
+-- what holds of the places 0 to n - 1 holds of the atoms 1 to n
+pub of-places : (P : ℕ → Type 0) (n : ℕ) → ((j : ℕ) → j < n → P (suc j)) → (v : ℕ) → Within n v → P v
+of-places P n h zero w = absurd (omega arith)
+of-places P n h (suc j) w = h j (omega arith)

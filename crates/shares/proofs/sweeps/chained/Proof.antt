@@ -1,0 +1,81 @@
+-- `chained` meets its contract: the atoms passed are chained.
+use Prim.Native.Nat.{ℕ, suc, _+_, _-_, _≤_, _<_}
+use mathlib.Core.Path.{_≡_, _∙_, sym}
+use native.Mathlib.Omega.{arith}
+use borrow.Author.Needs.{needs}
+use lib.ListN.{length, length-set}
+use Rattle.block.specs.Block.{mostAtoms}
+use Rattle.shares.specs.Work.{at, Chained}
+use Rattle.shares.proofs.Chains.{chained-none, chained-next}
+use Rattle.shares.proofs.sweeps.chained.Statement.{statement}
+use Rattle.shares.proofs.sweeps.chained.Tie as tie
+
+abbrev Inv-loop : tie.InvT-loop
+Inv-loop n key last₀ before₀ v₀ last before v = (v ≤ n) × (length last ≡ suc mostAtoms) × (length before ≡ suc mostAtoms) × Chained v key last before
+
+abbrev μ-loop : tie.MeasureT-loop
+μ-loop n key last₀ before₀ v₀ last before v = n - v
+
+loop-holds : tie.Need-loop-holds Inv-loop μ-loop
+loop-holds c = (omega arith, search needs, search needs, chained-none _ (suc mostAtoms) _)
+
+add-v : tie.Need-add-v Inv-loop μ-loop
+add-v c = omega arith
+
+element-copy-out-wide : tie.Need-element-copy-out-wide Inv-loop μ-loop
+element-copy-out-wide c = omega arith
+
+wide-requires : tie.Need-wide-requires Inv-loop μ-loop
+wide-requires c κs = search needs
+
+-- the key of the atom at hand has a place
+seated : (c : tie.After-wide Inv-loop μ-loop) → c .wide .result ≤ mostAtoms
+seated c = omega (arith, c .wide .ensures, c .before .before .before .before .pre .1 (c .before .before .before .loop .v + 1) (record { low = omega arith; high = omega arith }))
+
+array-read-before : tie.Need-array-read-before Inv-loop μ-loop
+array-read-before c = omega (arith, seated c)
+
+array-write-before : tie.Need-array-write-before Inv-loop μ-loop
+array-write-before c = omega arith
+
+cast-last : tie.Need-cast-last Inv-loop μ-loop
+cast-last c = omega arith
+
+array-write-last : tie.Need-array-write-last Inv-loop μ-loop
+array-write-last c = omega (arith, seated c)
+
+loop-less : tie.Need-loop-less Inv-loop μ-loop
+loop-less c = omega arith
+
+loop-again : tie.Need-loop-again Inv-loop μ-loop
+loop-again c =
+    let l = c .before .before .before .loop in
+    let k = c .wide .result in (
+      omega arith,
+      length-set (l .last) k (l .v + 1) ∙ l .inv .1,
+      length-set (l .before) (l .v + 1) (at (l .last) k) ∙ l .inv .2,
+      chained-next (l .v) (c .before .before .before .before .args .key .now) (l .last) (l .before) (l .inv .3) k (sym (c .wide .ensures .0)) (omega (arith, seated c)) (omega arith),
+    )
+
+returns : tie.Need-returns Inv-loop μ-loop
+returns c =
+    let e : c .before .loop .v ≡ c .before .before .args .n = omega arith in
+    rw e at (c .before .loop .inv .3)
+
+pub chained-spec : {M : Type 1} → statement M
+chained-spec =
+    tie.close
+    (tie.spec
+    Inv-loop
+    μ-loop
+    loop-holds
+    add-v
+    element-copy-out-wide
+    wide-requires
+    array-read-before
+    array-write-before
+    cast-last
+    array-write-last
+    loop-less
+    loop-again
+    returns)

@@ -1,0 +1,160 @@
+// Rows of numbers, one for each atom, filled in the order of the atoms' keys.
+use super::Chain;
+use super::SEATS;
+use block::ATOMS;
+ghost use mathlib.Core.Path.{_≡_};
+ghost use mathlib.Core.Bool.{Bool, cond, _&&_};
+ghost use mathlib.Core.List.{List};
+ghost use Prim.Native.Nat.{ℕ, suc, _+_, _-_, min, _<_, _≤_};
+ghost use lib.Dec.{eqb};
+ghost use lib.ListN.{getD};
+ghost use Rattle.graph.specs.Graph.{Within, sum};
+ghost use Rattle.block.specs.Block.{mostAtoms};
+ghost use Rattle.shares.specs.Work.{at, Shows, Listed, Chained, Ordered, Rule, Holds};
+
+fn wide(x: u8) -> usize
+    ensures { λ r. ⌜ (r ≡ x) × (r < 256) ⌝ }
+{
+    x as usize
+}
+
+// The sum, and the cap where it is more.
+fn add(a: u64, b: u64, cap: u64) -> u64
+    requires { ⌜ a ≤ cap ⌝ }
+    ensures { λ r. ⌜ r ≡ min cap (a + b) ⌝ }
+{
+    if b < cap - a { a + b } else { cap }
+}
+
+// How far two levels are apart.
+fn gap(a: u8, b: u8) -> u8
+    ensures { λ r. ⌜ r ≡ (a - b) + (b - a) ⌝ }
+{
+    if a < b { b - a } else { a - b }
+}
+
+// The largest distance of a row.
+pub(crate) fn farthest(n: usize, row: &[u8; ATOMS]) -> u8
+    requires { ⌜ (n ≤ mostAtoms) × ((j : ℕ) → j < n → getD (now row) j 0 < mostAtoms) ⌝ }
+    ensures { λ r. ⌜ (r < mostAtoms) × ((j : ℕ) → j < n → getD (now (row .entry)) j 0 ≤ r) ⌝ }
+{
+    let mut top = 0;
+    let mut j = 0;
+    while j < n {
+        let d = row[j];
+        if top < d {
+            top = d;
+        }
+        j += 1;
+    }
+    top
+}
+
+// How far each atom of a row is from the level from.
+pub(crate) fn spans(n: usize, row: &[u8; ATOMS], from: u8) -> [u8; SEATS]
+    requires { ⌜ n ≤ mostAtoms ⌝ }
+    ensures { λ r. ⌜ ((j : ℕ) → j < n → at r (suc j) ≡ (from - getD (now (row .entry)) j 0) + (getD (now (row .entry)) j 0 - from)) ⌝ }
+{
+    let mut key = [0u8; SEATS];
+    let mut j = 0;
+    while j < n {
+        key[j + 1] = gap(from, row[j]);
+        j += 1;
+    }
+    key
+}
+
+// The atoms at distance 1: how many, and then each.
+pub(crate) fn beside(n: usize, row: &[u8; ATOMS]) -> [u8; SEATS]
+    requires { ⌜ n ≤ mostAtoms ⌝ }
+    ensures { λ r. ⌜ ((d : ℕ → ℕ) → Shows n d (now (row .entry)) → Listed n (λ w. eqb (d w) 1) r) ⌝ }
+{
+    let mut list = [0u8; SEATS];
+    let mut c = 0;
+    let mut j = 0;
+    while j < n {
+        if row[j] == 1 {
+            c += 1;
+            list[c] = j as u8 + 1;
+        }
+        j += 1;
+    }
+    list[0] = c as u8;
+    list
+}
+
+// The atoms 1 to n by their keys.
+fn chained(n: usize, key: &[u8; SEATS]) -> Chain
+    requires { ⌜ (n ≤ mostAtoms) × ((v : ℕ) → Within n v → at (now key) v ≤ mostAtoms) ⌝ }
+    ensures { λ r. ⌜ Chained n (now (key .entry)) (r .last) (r .before) ⌝ }
+{
+    let mut last = [0u8; SEATS];
+    let mut before = [0u8; SEATS];
+    let mut v = 0;
+    while v < n {
+        v += 1;
+        let k = wide(key[v]);
+        before[v] = last[k];
+        last[k] = v as u8;
+    }
+    Chain { last, before }
+}
+
+// What atom w has in a row, if its key is just below level.
+fn given(key: &[u8; SEATS], row: &[u64; SEATS], w: usize, level: usize) -> u64
+    requires { ⌜ w ≤ mostAtoms ⌝ }
+    ensures { λ r. ⌜ r ≡ cond (eqb (suc (at (now (key .entry)) w)) level) (at (now (row .entry)) w) 0 ⌝ }
+{
+    if wide(key[w]) + 1 == level { row[w] } else { 0 }
+}
+
+// What the listed atoms whose key is just below level have in a row, up to the cap.
+fn pull(list: &[u8; SEATS], key: &[u8; SEATS], row: &[u64; SEATS], level: usize, cap: u64) -> u64
+    requires { ⌜ ((n : ℕ) × (B : ℕ → Bool) × (n ≤ mostAtoms) × Listed n B (now list)) ⌝ }
+    ensures { λ r. ⌜
+        ((n : ℕ) (B : ℕ → Bool) → Listed n B (now (list .entry))
+        → r ≡ min cap (sum n (λ w. cond (B w && eqb (suc (at (now (key .entry)) w)) level) (at (now (row .entry)) w) 0)))
+        ⌝ }
+{
+    let c = wide(list[0]);
+    let mut sum = 0;
+    let mut k = 0;
+    while k < c {
+        k += 1;
+        sum = add(sum, given(key, row, wide(list[k]), level), cap);
+    }
+    sum
+}
+
+// The row whose rule gives each atom its own and what its neighbours with the next smaller key have. The atoms go in the order of their keys:
+// v is the next of those with the key level.
+fn sweep(
+    near: &[[u8; SEATS]; SEATS],
+    key: &[u8; SEATS],
+    last: &[u8; SEATS],
+    before: &[u8; SEATS],
+    own: &[u64; SEATS],
+    top: usize,
+    cap: u64,
+) -> [u64; SEATS]
+    requires { ⌜ ((n : ℕ) × (B : ℕ → ℕ → Bool) × Ordered n B (now near) (now key) (now last) (now before) top) ⌝ }
+    ensures { λ r. ⌜
+        ((n : ℕ) (B : ℕ → ℕ → Bool) (F : ℕ → ℕ) → Ordered n B (now (near .entry)) (now (key .entry)) (now (last .entry)) (now (before .entry)) top
+        → Rule n B (at (now (key .entry))) (at (now (own .entry))) F → Holds n cap F r)
+        ⌝ }
+{
+    let mut row = [0u64; SEATS];
+    let mut level = 0;
+    let mut v = wide(last[0]);
+    while level <= top {
+        if v != 0 {
+            let s = pull(&near[v], key, &row, level, cap);
+            row[v] = add(s, own[v], cap);
+            v = wide(before[v]);
+        } else {
+            level += 1;
+            v = wide(last[level]);
+        }
+    }
+    row
+}

@@ -1,0 +1,23 @@
+/* Judges the deck on standard input. From the root of the repository, after `rt staticlib tteuyomal`:
+ *     gcc -O2 -Iinclude examples/c/judge.c target/staticlib/libtteuyomal.a -o target/judge-c
+ *     target/judge-c < DECK
+ */
+#include <stdio.h>
+#include "tteuyomal.h"
+
+int main(void)
+{
+    static uint8_t deck[32768 + 1]; /* one more than a deck may have: a longer one is refused, not cut */
+    size_t length = fread(deck, 1, sizeof deck, stdin);
+    if (ferror(stdin))
+        return perror("judge"), 2;
+    tteuyomal_reply reply = tteuyomal_judge(deck, length);
+    unsigned long long where = tteuyomal_where(reply);
+    if (tteuyomal_is_refusal(reply))
+        printf("refused %u at %llu\n", tteuyomal_what(reply), where);
+    else if (tteuyomal_what(reply) == TTEUYOMAL_DIFFERS)
+        printf("differs %llu\n", where);
+    else
+        printf("accepted\n");
+    return reply == TTEUYOMAL_FINE ? 0 : 1;
+}

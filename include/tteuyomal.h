@@ -1,0 +1,139 @@
+/* Tteuyomal: distance numbers of molecules, and a judge of the sheets that give them.
+ *
+ * Link with libtteuyomal.a (x86-64 Linux). No function allocates, keeps anything between calls or touches memory
+ * that was not lent to it. Every function answers for every input; none has a precondition beyond C's own:
+ *   - a pointer and the length behind it name that many readable (for an output: writable) entries;
+ *   - no pointer is NULL, also where its length is 0: lend any valid address then;
+ *   - an output overlaps no input and no other output;
+ *   - up to 256 KiB of stack are there.
+ *
+ * A BLOCK is an atom count, 1 to 64, and a list of bonds, two bytes each: the numbers of its two atoms, from 1,
+ * either first. At most 128 bonds, at most 4 at an atom, and a path between any two atoms.
+ *
+ * A DECK is a row of records, all numbers little-endian: payload length (2 bytes), kind (2), payload.
+ *   kind 1, block (1 to 16 of them): block number (2), atom count (2), bond count m (2), m bonds of 2 bytes
+ *   kind 2, assembly (one): placement count p, 1 to 32 (2), then p placements of 6 bytes: block number (2),
+ *           parent placement (2), parent's atom (1), own atom (1). Placements count from 1; a parent comes earlier;
+ *           the first placement has 0 in its last three fields
+ *   kind 3, sheet (one, only in a deck to be judged): atom count (4), W, even part, odd part, polarity (8 each)
+ * A deck has at most 32,768 bytes.
+ *
+ * THE FIVE FIELDS of a block or of the whole molecule of a deck, in this order: the number of atoms; W, the sum of
+ * the distances of all pairs; its even and its odd part, the sums of the even and of the odd distances; the
+ * polarity, the number of pairs at distance 3.
+ */
+#ifndef TTEUYOMAL_H
+#define TTEUYOMAL_H
+
+#include <stddef.h>
+#include <stdint.h>
+
+#ifdef __cplusplus
+extern "C" {
+#endif
+
+/* ---- The reply of every function: one number ----
+ *
+ * reply % 256 says what: 0 fine (judging: accepted); 1 to 254 a refusal, by the number of the list below; 255 the
+ * sheet differs (judging only). reply / 256 says where: the place of a refusal, or the first wrong field, 1 to 5.
+ *
+ * A refusal changes no byte of any output. A success writes what the function's comment says, from the front of the
+ * output; whatever follows in it stays as it was.
+ */
+typedef uint64_t tteuyomal_reply;
+
+#define TTEUYOMAL_FINE 0
+#define TTEUYOMAL_DIFFERS 255
+
+/* What is wrong, by number. The first refusal in a function's order is the one that is told. */
+enum tteuyomal_refusal {
+    TTEUYOMAL_ATOM_COUNT = 1,       /* the atom count is 0 or above 64 */
+    TTEUYOMAL_BOND_BYTES = 2,       /* the bond bytes are odd in number, or more than 256 */
+    TTEUYOMAL_BOND_END = 3,         /* a bond end is 0 or above the atom count */
+    TTEUYOMAL_BOND_TO_ITSELF = 4,   /* both ends are the same atom */
+    TTEUYOMAL_BOND_AGAIN = 5,       /* the bond was listed before, either way round */
+    TTEUYOMAL_FIFTH_BOND = 6,       /* the bond is an atom's fifth */
+    TTEUYOMAL_NO_PATH = 7,          /* some pair of atoms has no path */
+    TTEUYOMAL_DENOMINATOR = 8,      /* the common denominator is above 1,000,000 */
+    TTEUYOMAL_OUTPUT = 9,           /* a lent output is too short */
+    TTEUYOMAL_X = 10,               /* x is 0, negative, above 1 or a NaN */
+    TTEUYOMAL_CUT_OFF = 11,         /* a record is cut off, the deck ends early, or bytes follow its last record */
+    TTEUYOMAL_KIND = 12,            /* a kind that may not stand there */
+    TTEUYOMAL_LENGTH = 13,          /* a payload length that is not its kind's */
+    TTEUYOMAL_BLOCK_NUMBER = 14,    /* a block number that is 0 or used before, or a 17th block */
+    TTEUYOMAL_PLACEMENT_COUNT = 15, /* the placement count is 0 or above 32 */
+    TTEUYOMAL_NO_BLOCK = 16,        /* the placement's block is not in the deck */
+    TTEUYOMAL_PARENT = 17,          /* a first placement with a join, or a parent that is 0 or not earlier */
+    TTEUYOMAL_ATOM = 18,            /* a join atom is 0 or above its block's atom count; at place 0: no such
+                                       placement or atom as was asked about */
+    TTEUYOMAL_FIFTH_BY_JOIN = 19,   /* the join is some atom's fifth bond, earlier joins counted */
+    TTEUYOMAL_DECK_LENGTH = 20      /* the deck is longer than 32,768 bytes */
+};
+
+/* The place of a refusal. Lone block: the number of the bond, from 1, for 3 to 6, else 0. Deck: the first byte of
+ * the record, from 0; of the placement for 16 to 19; the deck's length where a record is expected and the deck ends;
+ * the first byte too many. 0 for 8, 9, 10 and 20. */
+
+/* 0, a refusal's number, or TTEUYOMAL_DIFFERS. */
+static inline unsigned tteuyomal_what(tteuyomal_reply reply) { return (unsigned)(reply % 256); }
+
+/* The place of a refusal; for TTEUYOMAL_DIFFERS the first wrong field, 1 to 5. */
+static inline uint64_t tteuyomal_where(tteuyomal_reply reply) { return reply / 256; }
+
+/* Whether it is a refusal. */
+static inline int tteuyomal_is_refusal(tteuyomal_reply reply)
+{
+    return tteuyomal_what(reply) != TTEUYOMAL_FINE && tteuyomal_what(reply) != TTEUYOMAL_DIFFERS;
+}
+
+/* ---- Decks ---- */
+
+/* Judges a deck that ends with a sheet: fine when all five fields are right, else TTEUYOMAL_DIFFERS with the first
+ * wrong one. Refusals: 20, then the deck's, record by record. */
+tteuyomal_reply tteuyomal_judge(const uint8_t *deck, size_t deck_len);
+
+/* Writes the sheet of a deck without one: a whole record of 40 bytes, which put behind the deck is accepted.
+ * Refusals: 20, then 9 (out_len below 40), then the deck's. */
+tteuyomal_reply tteuyomal_write_sheet(const uint8_t *deck, size_t deck_len, uint8_t *out, size_t out_len);
+
+/* Writes the five fields of a deck without a sheet. Refusals: 20, then 9 (fields_len below 5), then the deck's. */
+tteuyomal_reply tteuyomal_compose(const uint8_t *deck, size_t deck_len, uint64_t *fields, size_t fields_len);
+
+/* Writes one number: the distance, in the whole molecule of a deck without a sheet, from atom i of placement k to
+ * atom j of placement l. Refusals: 20, the deck's, then 18 at 0 (no such placement or atom), then 9 (no room). */
+tteuyomal_reply tteuyomal_placed_distance(const uint8_t *deck, size_t deck_len, size_t k, size_t i, size_t l, size_t j,
+                                          uint64_t *distance, size_t distance_len);
+
+/* ---- One block ---- */
+
+/* Checks a block; bonds_len is in bytes. Refusals, the block's: 1, 2, then bond by bond 3, 4, 5, 6, then 7. */
+tteuyomal_reply tteuyomal_check_block(size_t atoms, const uint8_t *bonds, size_t bonds_len);
+
+/* Writes the five fields of a block. Refusals: the block's, then 9 (fields_len below 5). */
+tteuyomal_reply tteuyomal_indices(size_t atoms, const uint8_t *bonds, size_t bonds_len, uint64_t *fields,
+                                  size_t fields_len);
+
+/* Writes seven numbers of one atom: the sum of its distances to all atoms, the sums of the even and of the odd ones,
+ * the number of atoms at even distance (itself too, at 0) and at odd distance, the number at distance 1 and at 2.
+ * Refusals: the block's, then 18 at 0 (no such atom), then 9 (sums_len below 7). */
+tteuyomal_reply tteuyomal_vertex(size_t atoms, const uint8_t *bonds, size_t bonds_len, size_t atom, uint64_t *sums,
+                                 size_t sums_len);
+
+/* Writes the common denominator D, the least common multiple of the numbers of shortest paths of all pairs, and for
+ * each bond, in list order, the whole number D times its contribution to W. These numbers add up to D times W.
+ * Refusals: the block's, then 9 (shares_len below the number of bonds, or denominator_len 0), then 8. */
+tteuyomal_reply tteuyomal_contributions(size_t atoms, const uint8_t *bonds, size_t bonds_len, uint64_t *shares,
+                                        size_t shares_len, uint64_t *denominator, size_t denominator_len);
+
+/* Writes two values: the sums of n(k) x^k over even k from 2 and over odd k, n(k) the number of pairs at distance k.
+ * Each is worked in one fixed order of roundings: from 0, for k from 63 down to 1, add n(k), or 0 for the other
+ * parity, then multiply by x. So the bits are the same everywhere.
+ * Refusals: the block's, then 10 (x), then 9 (values_len below 2). */
+tteuyomal_reply tteuyomal_polynomial(size_t atoms, const uint8_t *bonds, size_t bonds_len, double x, double *values,
+                                     size_t values_len);
+
+#ifdef __cplusplus
+}
+#endif
+
+#endif
