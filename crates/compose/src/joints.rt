@@ -1,7 +1,12 @@
 // The joins of an assembly: how far their atoms are apart, and what is counted from both ends of each.
-use assembly::{BLOCKS, PLACEMENTS};
-use block::{ATOMS, Indices, Vertex};
-use super::counts::{counted, grown, wide};
+use super::counts::counted;
+use super::counts::grown;
+use super::counts::wide;
+use assembly::BLOCKS;
+use assembly::PLACEMENTS;
+use block::ATOMS;
+use block::Indices;
+use block::Vertex;
 ghost use mathlib.Core.Path.{_≡_};
 ghost use Prim.Native.Nat.{ℕ, _+_, _*_, _-_, _≤_, _<_};
 ghost use Rattle.graph.specs.Graph.{Graph, Within, sum};
@@ -71,7 +76,12 @@ fn apart(links: [Link; PLACEMENTS], rows: &[[u8; ATOMS]; ENDS], x: usize, y: usi
 }
 
 // What is counted from an end of a join, in its block.
-fn end_counts(rows: &[[u8; ATOMS]; ENDS], end: usize, numbers: [Indices; BLOCKS], block: usize) -> Vertex
+fn end_counts(
+    rows: &[[u8; ATOMS]; ENDS],
+    end: usize,
+    numbers: [Indices; BLOCKS],
+    block: usize,
+) -> Vertex
     requires { ⌜ (end < ends) × (block < mostBlocks) × (numbersAt numbers block .atoms ≤ mostAtoms) ⌝ }
     ensures { λ r. ⌜ Counts r (λ f. sum (numbersAt numbers block .atoms) (λ j. f (entry (now (rows .entry)) end j))) ⌝ }
 {
@@ -140,6 +150,12 @@ pub(crate) fn joint_of(
 {
     let q = links[k];
     let own = end_counts(rows, 2 * k, numbers, q.block);
-    let core = since(links, rows, joints, k, begun(links, rows, numbers, joints, k));
+    let core = since(
+        links,
+        rows,
+        joints,
+        k,
+        begun(links, rows, numbers, joints, k),
+    );
     Joint { core, own }
 }

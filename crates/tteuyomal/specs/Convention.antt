@@ -1,5 +1,6 @@
 -- How a C function replies. The reply is one number of 64 bits: the remainder by 256 is 0 for fine, a refusal's number, or 255 for "differs"; the
 -- quotient is the refusal's place, or the first wrong field. What is answered besides goes to the front of a lent output.
+use mathlib.Core.Path.{_≡_}
 use Prim.Native.Nat.{ℕ, _+_, _*_, _%_, _^_}
 use mathlib.Core.List.{List, _++_}
 use lib.Dec.{ltb}
@@ -30,3 +31,8 @@ over new old = new ++ drop (length new) old
 abbrev pub after : {A : Type 0} → Read (List A) → List A → List A
 after (refused r) old = old
 after (read xs) old = over xs old
+
+-- what a function that lends its answer out promises: its reply, and the output after the call
+pub record Lent (answer : Read (List ℕ)) (old : List ℕ) (reply : ℕ) (new : List ℕ) : Type 0 where
+  pub replied : reply ≡ coded (fitting (length old) answer)
+  pub lent : new ≡ after (fitting (length old) answer) old

@@ -4,7 +4,7 @@ ghost use Prim.Native.Nat.{_≤_};
 ghost use lib.ListN.{length};
 ghost use Rattle.block.specs.Read.{read};
 ghost use Rattle.block.specs.Block.{blockReply};
-ghost use Rattle.tteuyomal.specs.Convention.{code, coded, fitting, over, after};
+ghost use Rattle.tteuyomal.specs.Convention.{code, coded, over, Lent};
 ghost use Rattle.tteuyomal.specs.Replies.{indicesList, vertexList};
 use block::Around;
 use block::Measured;
@@ -34,8 +34,7 @@ fn put(out: &mut [u64], numbers: &[u64])
 
 // The same where they fit, and 9 where they do not.
 fn give(out: &mut [u64], numbers: &[u64]) -> u64
-    ensures reply { λ r. ⌜ r ≡ coded (fitting (length (now (out .entry))) (read (now (numbers .entry)))) ⌝ }
-    ensures lent { λ _. ⌜ now (out .exit) ≡ after (fitting (length (now (out .entry))) (read (now (numbers .entry)))) (now (out .entry)) ⌝ }
+    ensures { λ r. ⌜ Lent (read (now (numbers .entry))) (now (out .entry)) r (now (out .exit)) ⌝ }
 {
     if out.len() < numbers.len() {
         return 9;
@@ -57,8 +56,7 @@ pub extern "C" fn tteuyomal_check_block(atoms: usize, bonds: &[u8]) -> u64
 
 #[no_mangle]
 pub extern "C" fn tteuyomal_indices(atoms: usize, bonds: &[u8], fields: &mut [u64]) -> u64
-    ensures reply { λ r. ⌜ r ≡ coded (fitting (length (now (fields .entry))) (indicesList atoms (now (bonds .entry)))) ⌝ }
-    ensures lent { λ _. ⌜ now (fields .exit) ≡ after (fitting (length (now (fields .entry))) (indicesList atoms (now (bonds .entry)))) (now (fields .entry)) ⌝ }
+    ensures { λ r. ⌜ Lent (indicesList atoms (now (bonds .entry))) (now (fields .entry)) r (now (fields .exit)) ⌝ }
 {
     let answer = block::measure(atoms, bonds);
     match answer {
@@ -72,8 +70,7 @@ pub extern "C" fn tteuyomal_indices(atoms: usize, bonds: &[u8], fields: &mut [u6
 
 #[no_mangle]
 pub extern "C" fn tteuyomal_vertex(atoms: usize, bonds: &[u8], atom: usize, sums: &mut [u64]) -> u64
-    ensures reply { λ r. ⌜ r ≡ coded (fitting (length (now (sums .entry))) (vertexList atoms (now (bonds .entry)) atom)) ⌝ }
-    ensures lent { λ _. ⌜ now (sums .exit) ≡ after (fitting (length (now (sums .entry))) (vertexList atoms (now (bonds .entry)) atom)) (now (sums .entry)) ⌝ }
+    ensures { λ r. ⌜ Lent (vertexList atoms (now (bonds .entry)) atom) (now (sums .entry)) r (now (sums .exit)) ⌝ }
 {
     let answer = block::vertex_sums(atoms, bonds, atom);
     match answer {

@@ -1,0 +1,2 @@
+-- Laws of the replies of C functions.
+pub mod Laws
