@@ -26,6 +26,14 @@ pub fn random_block(random: &mut Random, most: usize) -> BlockPlan {
     block
 }
 
+/// A good block whose D is often near its limit, or above it.
+pub fn block_of_many_paths(random: &mut Random) -> BlockPlan {
+    let atoms = random.between(30, 64);
+    let mut block = many_paths(random, atoms);
+    scramble(random, &mut block);
+    block
+}
+
 /// Small sizes come often, all sizes come.
 fn random_size(random: &mut Random, most: usize) -> usize {
     match random.below(4) {
@@ -35,19 +43,14 @@ fn random_size(random: &mut Random, most: usize) -> usize {
     }
 }
 
-fn degrees(block: &BlockPlan) -> Vec<usize> {
-    let mut degrees = vec![0; block.atoms as usize + 1];
+/// The atoms that can take another bond. (A damaged block may list ends that are no atoms.)
+pub fn free_atoms(block: &BlockPlan) -> Vec<u8> {
+    let mut degrees = [0; 256];
     for &(u, v) in &block.bonds {
         degrees[u as usize] += 1;
         degrees[v as usize] += 1;
     }
-    degrees
-}
-
-/// The atoms that can take another bond.
-pub fn free_atoms(block: &BlockPlan) -> Vec<u8> {
-    let degrees = degrees(block);
-    (1..=block.atoms as u8).filter(|&atom| degrees[atom as usize] < MOST_DEGREE).collect()
+    (1..=block.atoms.min(64) as u8).filter(|&atom| degrees[atom as usize] < MOST_DEGREE).collect()
 }
 
 /// Each atom hangs on an earlier one that has room.

@@ -43,7 +43,7 @@ fn shorten(random: &mut Random, record: &mut RecordPlan) {
 
 fn lengthen(random: &mut Random, record: &mut RecordPlan) {
     for _ in 0..*random.pick(&[1, 2, 6]) {
-        record.payload.push(random.next() as u8);
+        record.payload.push(random.draw() as u8);
     }
     record.length = record.payload.len() as u16;
 }
@@ -96,13 +96,13 @@ fn flip(random: &mut Random, bytes: &mut [u8], times: usize) {
     for _ in 0..times {
         if !bytes.is_empty() {
             let at = random.below(bytes.len());
-            bytes[at] = if random.once_in(2) { random.next() as u8 } else { bytes[at] ^ 1 << random.below(8) };
+            bytes[at] = if random.once_in(2) { random.draw() as u8 } else { bytes[at] ^ 1 << random.below(8) };
         }
     }
 }
 
 fn append(random: &mut Random, bytes: &mut Vec<u8>) {
     for _ in 0..*random.pick(&[1, 2, 3, 4, 5, 40, 100]) {
-        bytes.push(random.next() as u8);
+        bytes.push(random.draw() as u8);
     }
 }

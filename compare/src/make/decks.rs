@@ -17,11 +17,12 @@ pub fn random_deck(random: &mut Random) -> DeckPlan {
     assemble(random, numbered, &order)
 }
 
-/// Places these blocks in this order, each but the first joined to some earlier placement by atoms that have room; a
-/// block that has no such atom, or finds none, is left out.
+/// Places these blocks in this order, each but the first joined to some earlier placement, in a third of the decks to
+/// the last, by atoms that have room; a block that has no such atom, or finds none, is left out.
 pub fn assemble(random: &mut Random, blocks: Vec<BlockPlan>, order: &[usize]) -> DeckPlan {
     let mut deck = DeckPlan { blocks, placements: Vec::new(), sheet: None };
     let mut free: Vec<Vec<u8>> = Vec::new();
+    let in_a_row = random.once_in(3);
     for &block in order {
         let number = deck.blocks[block].number;
         let mut own_free = free_atoms(&deck.blocks[block]);
@@ -31,7 +32,7 @@ pub fn assemble(random: &mut Random, blocks: Vec<BlockPlan>, order: &[usize]) ->
         } else if open.is_empty() || own_free.is_empty() {
             continue;
         } else {
-            let parent = *random.pick(&open);
+            let parent = if in_a_row { open[open.len() - 1] } else { *random.pick(&open) };
             let parent_atom = *random.pick(&free[parent]);
             let own_atom = *random.pick(&own_free);
             deck.placements.push(PlacementPlan::joined(number, parent as u16 + 1, parent_atom, own_atom));

@@ -12,10 +12,10 @@ impl Random {
     /// A generator of its own for one case of a run, so that a case can be had again without those before it.
     pub fn for_case(seed: u64, case: u64) -> Random {
         let mut mixed = Random::new(seed ^ case.wrapping_mul(0x9E37_79B9_7F4A_7C15));
-        Random::new(mixed.next())
+        Random::new(mixed.draw())
     }
 
-    pub fn next(&mut self) -> u64 {
+    pub fn draw(&mut self) -> u64 {
         self.state = self.state.wrapping_add(0x9E37_79B9_7F4A_7C15);
         let mut z = self.state;
         z = (z ^ (z >> 30)).wrapping_mul(0xBF58_476D_1CE4_E5B9);
@@ -25,7 +25,7 @@ impl Random {
 
     /// A number from 0 to below `end`.
     pub fn below(&mut self, end: usize) -> usize {
-        (self.next() % end as u64) as usize
+        (self.draw() % end as u64) as usize
     }
 
     /// A number from `low` to `high`, both included.

@@ -9,11 +9,11 @@ use Rattle.block.specs.Chain.{not-read}
 use Rattle.block.specs.Block.{mostAtoms, isOutside, graphOf, blockReply}
 use Rattle.block.specs.Rows.{rowOf, rowsOf, rowReply, saidRow}
 use Rattle.block.specs.Index.{indicesOf, indicesReply, saidIndices, vertexOf, vertexReply, saidVertex, distanceReply, saidDistance, pairsOf, pairsReply, saidPairs}
-use Rattle.block.specs.Sums.{entry, pairEntry, indicesBy, vertexBy}
+use Rattle.block.specs.Sums.{entry, pairEntry, indicesBy, countsBy, vertexBy}
 use Rattle.block.specs.Found.{saidRead, Viewing}
 use Rattle.block.specs.Faults.{inside}
 use Rattle.block.specs.Told.{entry-at}
-use Rattle.block.specs.Measures.{all-atoms, indices-are, vertex-is}
+use Rattle.block.specs.Measures.{all-atoms, indices-are, counts-are, vertex-is}
 use Rattle.block.specs.declared.Refusal.{Refusal}
 use Rattle.block.specs.declared.Reply.the-variants as reply
 use Rattle.block.specs.declared.Indices.{Indices}
@@ -21,7 +21,9 @@ use Rattle.block.specs.declared.Measured.the-variants as measured
 use Rattle.block.specs.declared.Vertex.{Vertex}
 use Rattle.block.specs.declared.Around.the-variants as around
 use Rattle.block.specs.declared.Apart.the-variants as apart
+use Rattle.block.specs.declared.Pairs.{Pairs}
 use Rattle.block.specs.declared.View.{View}
+use Rattle.block.proofs.Filling.{emptyRow, no-row}
 use Rattle.block.proofs.Replies.{not-fine}
 
 said-out : (m : Read (List ℕ)) (r : Refusal) → reply.Refused r ≡ saidRead m → m ≡ refused r
@@ -54,6 +56,16 @@ module _ (n : ℕ) (xs : List ℕ) where
   pub measure-fine : blockReply n xs ≡ read tt → (rows : List (List ℕ)) → rows ≡ rowsOf n xs → (x : Indices) → x ≡ indicesBy (min n mostAtoms) (pairEntry rows) → measured.Of x ≡ saidIndices (indicesReply n xs)
   unfolding indicesReply
   measure-fine e rows q x p = rw (e, p, q, all-atoms n xs e, indices-are n xs e)
+
+  pub pairs-refused : (p : Pairs) (r : Refusal) → blockReply n xs ≡ refused r → p .reply ≡ reply.Refused r → p .at ≡ emptyRow → p ≡ saidPairs (pairsReply n xs)
+  unfolding pairsReply
+  pairs-refused p r e q a = rw e (λ i. record { reply = q i; at = (a ∙ no-row) i })
+
+  pub pairs-fine : blockReply n xs ≡ read tt → (rows : List (List ℕ)) → rows ≡ rowsOf n xs → (p : Pairs) → p .reply ≡ reply.Fine → p .at ≡ countsBy (min n mostAtoms) (pairEntry rows) → p ≡ saidPairs (pairsReply n xs)
+  unfolding pairsReply
+  pairs-fine e rows q p f a =
+      let b : p .at ≡ pairsOf (graphOf n xs) = rw (a, q, all-atoms n xs e) (counts-are n xs e) in
+      rw e (λ i. record { reply = f i; at = b i })
 
   module _ (i : ℕ) (v : View) (W : Viewing n xs i v) where
     module _ (r : Refusal) (e : v .reply ≡ reply.Refused r) where

@@ -6,4 +6,5 @@ pub mod Meeting
 pub mod Filling
 pub mod Tallies
 pub mod Summing
+pub mod Counting
 pub mod Answers

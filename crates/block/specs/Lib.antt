@@ -12,3 +12,5 @@ pub mod Faults
 pub mod Tables
 pub mod Told
 pub mod Measures
+pub mod Unique
+pub mod Examples

@@ -1,8 +1,10 @@
--- How the sums over a row are worked.
-use Prim.Native.Nat.{ℕ, _+_, _≤_, _*_}
+-- How the sums over a row, and the counts of pairs, are worked.
+use Prim.Native.Nat.{ℕ, _+_, _*_, _≤_, _<_}
 use mathlib.Core.List.{List}
 use mathlib.Core.Path.{_≡_}
+use lib.ListN.{length, getD}
 use Rattle.graph.specs.Graph.{sum, evenOf, oddOf, evenOne, oddOne, isAt}
+use Rattle.block.specs.Block.{mostAtoms}
 use Rattle.block.specs.Sums.{entry}
 use Rattle.block.specs.declared.Tally.{Tally}
 
@@ -32,3 +34,13 @@ pub record Below (b : ℕ) (t : Tally) : Type 0 where
 pub record Tallied (row : List ℕ) (k : ℕ) (t : Tally) : Type 0 where
   pub equal : t ≡ tallyBy k (entry row)
   pub low : Below (255 * k) t
+
+-- counts, one for each number below 64, none above b
+pub record Counts (b : ℕ) (at : List ℕ) : Type 0 where
+  pub size : length at ≡ mostAtoms
+  pub most : (d : ℕ) → getD at d 0 ≤ b
+
+-- how often each number stands among the first k entries of a row, added to counts
+pub record Counted (at row : List ℕ) (k : ℕ) (r : List ℕ) : Type 0 where
+  pub size : length r ≡ mostAtoms
+  pub equal : (d : ℕ) → d < mostAtoms → getD r d 0 ≡ getD at d 0 + sum k (λ j. isAt d (entry row j))

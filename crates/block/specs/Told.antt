@@ -1,8 +1,8 @@
 -- What a block tells that is not refused: it is a molecule of at most 64 atoms, none with more bonds than the limit, and its rows hold its distances. Assumes nothing.
-use Prim.Native.Nat.{ℕ, zero, suc, _+_, _-_, _%_, _≤_, _<_}
-use mathlib.Core.Bool.{Bool, true, false, _||_, not, cond}
+use Prim.Native.Nat.{ℕ, zero, suc, _+_, _*_, _-_, _%_, _≤_, _<_}
+use mathlib.Core.Bool.{Bool, true, false, _||_, not, cond, true≢false}
 use mathlib.Core.List.{List, [], _∷_}
-use mathlib.Core.Logic.{⊎-elim}
+use mathlib.Core.Logic.{_⊎_, inl, inr, ⊎-elim}
 use mathlib.Core.Path.{_≡_, refl, sym, ap, _∙_}
 use native.Mathlib.Omega.{arith}
 use native.Mathlib.Decide.{ℕ-discrete}
@@ -10,15 +10,23 @@ use lib.Dec.{eqb, ltb}
 use lib.ListN.{length, getD}
 use borrow.Author.Tests.{lt-ltb, le-ltb, ne-eqb, eq-eqb, eqb-true, ltb-false, not-false}
 use Rattle.graph.specs.Graph.{Graph, Bond, Within, Sound, Molecule, anyJoins, bonded, connected, degree, distance}
-use Rattle.graph.specs.Bonds.{any-out, any-none}
+use Rattle.graph.specs.Bonds.{Joins, any-out, any-head, any-tail, any-none, bonded-sym}
 use Rattle.graph.specs.Connected.{connected-molecule}
-use Rattle.graph.specs.Distance.{distance-sym}
-use Rattle.block.specs.Read.{Read, refused, read, _then_, refuseIf, refuseFor}
-use Rattle.block.specs.Chain.{then-read, if-read, for-read}
+use Rattle.graph.specs.Distance.{not-true}
+use Rattle.block.specs.Read.{Read, refused, read, _then_, refuseIf, refuseFor, refusal}
+use Rattle.block.specs.Chain.{not-read, then-read, if-read, for-read}
 use Rattle.block.specs.Block.{mostAtoms, mostBytes, limit, isOutside, bondsOf, graphOf, bondFault, bondsReply, blockReply}
 use Rattle.block.specs.Rows.{table, rowOf, rowReply, saidRow, rowsOf}
 use Rattle.block.specs.Faults.{neither, inside, Faultless, faultless}
 use Rattle.block.specs.Tables.{getD-table}
+use Rattle.block.specs.declared.Refusal.{Refusal}
+
+-- a bond joins two atoms of 1 to n that none of the bonds bs joins
+pub record Plain (n : ℕ) (b : Bond) (bs : List Bond) : Type 0 where
+  pub one : Within n (b .one)
+  pub two : Within n (b .two)
+  pub differ : b .one ≡ b .two → ⊥
+  pub new : anyJoins bs (b .one) (b .two) ≡ false
 
 -- the first bond of a list that is read has no fault, and the others are read
 bonds-read : (n : ℕ) (before : List Bond) (b : Bond) (bs : List Bond) → bondsReply n before (b ∷ bs) ≡ read tt → Faultless n before (b .one) (b .two) × (bondsReply n (b ∷ before) bs ≡ read tt)
@@ -33,6 +41,27 @@ bonds-ends n before (b ∷ bs) e u w j =
     let (f, r) = bonds-read n before b bs e in
     ⊎-elim (⊎-elim (λ q. rw (← q .0) (f .one)) (λ q. rw (← q .1) (f .two))) (λ i. bonds-ends n (b ∷ before) bs r u w i) (any-out b bs u w j)
 
+-- what is joined by the bonds before is joined by none that follows
+bonds-new : (n : ℕ) (before bs : List Bond) → bondsReply n before bs ≡ read tt → (u v : ℕ) → anyJoins before u v ≡ true → anyJoins bs u v ≡ false
+unfolding bonded
+bonds-new n before [] e u v j = not-true (anyJoins [] u v) (any-none u v)
+bonds-new n before (b ∷ bs) e u v j =
+    let (f, r) = bonds-read n before b bs e in
+    not-true (anyJoins (b ∷ bs) u v)
+    (λ k. ⊎-elim (λ q. true≢false (sym (joined q) ∙ f .new)) (λ q. true≢false (sym q ∙ bonds-new n (b ∷ before) bs r u v (any-tail b before u v j))) (any-out b bs u v k))
+  where
+    joined : Joins b u v → anyJoins before (b .one) (b .two) ≡ true
+    joined (inl q) = rw (q .0, q .1) j
+    joined (inr q) = rw (q .0, q .1) (bonded-sym (record { atoms = n; bonds = before }) u v j)
+
+-- the bonds that are read, one by one from the last: each joins two atoms that no later one joins
+bonds-by : (n : ℕ) (P : List Bond → Type 0) → P [] → ((b : Bond) (bs : List Bond) → Plain n b bs → P bs → P (b ∷ bs)) → (before bs : List Bond) → bondsReply n before bs ≡ read tt → P bs
+bonds-by n P none more before [] e = none
+bonds-by n P none more before (b ∷ bs) e =
+    let (f, r) = bonds-read n before b bs e in
+    more b bs (record { one = f .one; two = f .two; differ = f .differ; new = bonds-new n (b ∷ before) bs r (b .one) (b .two) (any-head b before (b .one) (b .two) (inl (refl, refl))) })
+    (bonds-by n P none more (b ∷ before) bs r)
+
 bonds-degrees : (n : ℕ) (before bs : List Bond) → bondsReply n before bs ≡ read tt → (v : ℕ) → degree before v ≤ limit → degree before v + degree bs v ≤ limit
 unfolding degree
 bonds-degrees n before [] e v l = omega arith
@@ -45,6 +74,41 @@ bonds-degrees n before (b ∷ bs) e v l =
     at (yes p) (no q) f = rw (eq-eqb (b .one) v p, ne-eqb (b .two) v q) (omega (arith, rw p at (f .room-one)))
     at (no p) (yes q) f = rw (ne-eqb (b .one) v p, eq-eqb (b .two) v q) (omega (arith, rw q at (f .room-two)))
     at (no p) (no q) f = rw (ne-eqb (b .one) v p, ne-eqb (b .two) v q) (omega arith)
+
+-- a refused block: the place is at most the number of bonds
+bonds-place : (n : ℕ) (before bs : List Bond) (r : Refusal) → bondsReply n before bs ≡ refused r → r .place ≤ length before + length bs
+unfolding bondsReply
+bonds-place n before [] r e = absurd (not-read (sym e))
+bonds-place n before (b ∷ bs) r e = go (bondFault n before b) e (bonds-place n (b ∷ before) bs r)
+  where
+    go : (f : ℕ) → (refuseFor f (suc (length before)) then λ _. bondsReply n (b ∷ before) bs) ≡ refused r
+        → (bondsReply n (b ∷ before) bs ≡ refused r → r .place ≤ length (b ∷ before) + length bs) → r .place ≤ length before + length (b ∷ bs)
+    go zero q h = omega (arith, h q)
+    go (suc f) q h = let p : suc (length before) ≡ r .place = cc in omega arith
+
+pub place-within : (n : ℕ) (xs : List ℕ) (r : Refusal) → blockReply n xs ≡ refused r → r .place ≤ length (bondsOf xs)
+unfolding blockReply
+place-within n xs r e =
+    go (isOutside mostAtoms n) (not (eqb (length xs % 2) 0) || ltb mostBytes (length xs)) (bondsReply n [] (bondsOf xs)) (not (connected (graphOf n xs))) e
+    (bonds-place n [] (bondsOf xs) r)
+  where
+    zero-place : {k : ℕ} → _≡_ {A = Read (Unit {0})} (refused (refusal k 0)) (refused r) → r .place ≤ length (bondsOf xs)
+    zero-place q = let p : 0 ≡ r .place = cc in omega arith
+
+    go : (s t : Bool) (m : Read (Unit {0})) (u : Bool) → (refuseIf s 1 0 then λ _. refuseIf t 2 0 then λ _. m then λ _. refuseIf u 7 0) ≡ refused r
+        → (m ≡ refused r → r .place ≤ 0 + length (bondsOf xs)) → r .place ≤ length (bondsOf xs)
+    go true t m u q h = zero-place q
+    go false true m u q h = zero-place q
+    go false false (refused s) u q h = omega (arith, h q)
+    go false false (read v) true q h = zero-place q
+    go false false (read v) false q h = absurd (not-read (sym q))
+
+-- two bytes a bond
+pub bonds-length : (xs : List ℕ) → 2 * length (bondsOf xs) ≤ length xs
+unfolding bondsOf
+bonds-length [] = omega arith
+bonds-length (a ∷ []) = omega arith
+bonds-length (a ∷ (b ∷ xs)) = omega (arith, bonds-length xs)
 
 module _ (n : ℕ) (xs : List ℕ) (fine : blockReply n xs ≡ read tt) where
   -- the tests that it passed
@@ -86,6 +150,10 @@ module _ (n : ℕ) (xs : List ℕ) (fine : blockReply n xs ≡ read tt) where
   pub few-bonds : (v : ℕ) → degree (bondsOf xs) v ≤ limit
   unfolding degree
   few-bonds v = omega (arith, bonds-degrees n [] (bondsOf xs) (passed .bonds) v (omega arith))
+
+  -- induction over its bonds
+  pub each-bond : (P : List Bond → Type 0) → P [] → ((b : Bond) (bs : List Bond) → Plain n b bs → P bs → P (b ∷ bs)) → P (bondsOf xs)
+  each-bond P none more = bonds-by n P none more [] (bondsOf xs) (passed .bonds)
 
   -- the row of an atom, and what stands in it for an atom
   atom-inside : {a : ℕ} → Within n a → isOutside n a ≡ false

@@ -307,3 +307,21 @@ pub fn vertex_sums(n: usize, bonds: &[u8], a: usize) -> Around
         }
     }
 }
+
+// How many pairs of atoms of a block lie at each distance; all 0 where it is refused.
+pub fn pair_counts(n: usize, bonds: &[u8]) -> Pairs
+    ensures { λ r. ⌜ r ≡ saidPairs (pairsReply n (now (bonds .entry))) ⌝ }
+{
+    let admitted = admit(n, bonds);
+    let reply = admitted.reply;
+    let Reply::Fine = reply else {
+        return Pairs {
+            reply,
+            at: [0u16; ATOMS],
+        };
+    };
+    let near = admitted.near;
+    let rows = search::from_all(near, n);
+    let at = totals::count_pairs(rows, n);
+    Pairs { reply, at }
+}

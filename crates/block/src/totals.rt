@@ -2,9 +2,10 @@
 use super::ATOMS;
 use super::Tally;
 ghost use mathlib.Core.Path.{_≡_};
-ghost use Prim.Native.Nat.{min, _≤_};
+ghost use Prim.Native.Nat.{min, _*_, _≤_};
 ghost use Rattle.block.specs.Block.{mostAtoms};
-ghost use Rattle.block.specs.Tally.{Tallied};
+ghost use Rattle.block.specs.Sums.{pairEntry, countsBy};
+ghost use Rattle.block.specs.Tally.{Tallied, Counts, Counted};
 
 pub(crate) fn wide(x: u8) -> u64
     ensures { λ r. ⌜ (r ≡ x) × (r ≤ 255) ⌝ }
@@ -55,4 +56,37 @@ pub(crate) fn within(n: usize) -> usize
     ensures { λ r. ⌜ r ≡ min n mostAtoms ⌝ }
 {
     if n < ATOMS { n } else { ATOMS }
+}
+
+// How often each number stands among the first k entries of a row, added to counts.
+fn count_row(at: [u16; ATOMS], row: [u8; ATOMS], k: usize) -> [u16; ATOMS]
+    requires { ⌜ (k ≤ mostAtoms) × Counts (mostAtoms * mostAtoms) at ⌝ }
+    ensures { λ r. ⌜ Counted at row k r ⌝ }
+{
+    let mut counts = at;
+    let mut j = 0;
+    while j < k {
+        let d = wide(row[j]) as usize;
+        j += 1;
+        if d < ATOMS {
+            counts[d] = counts[d] + 1;
+        }
+    }
+    counts
+}
+
+// How many pairs of the first n atoms, at most ATOMS, lie at each distance.
+pub(crate) fn count_pairs(rows: [[u8; ATOMS]; ATOMS], n: usize) -> [u16; ATOMS]
+    ensures { λ r. ⌜ r ≡ countsBy (min n mostAtoms) (pairEntry rows) ⌝ }
+{
+    let m = within(n);
+    let mut at = [0u16; ATOMS];
+    let mut j = 0;
+    while j < m {
+        let row = rows[j];
+        let next = count_row(at, row, j);
+        at = next;
+        j += 1;
+    }
+    at
 }

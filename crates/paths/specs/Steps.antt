@@ -6,12 +6,12 @@ use mathlib.Core.Logic.{⊎-elim}
 use mathlib.Core.Path.{_≡_, refl, sym, _∙_, ap, subst}
 use native.Mathlib.Nat.{eq-zero-or-pos}
 use native.Mathlib.Omega.{arith}
-use borrow.Author.Tests.{eqb-true, eqb-false, eq-eqb}
+use borrow.Author.Tests.{eqb-true, eqb-false, eq-eqb, ne-eqb}
 use lib.Dec.{eqb}
 use lib.ListN.{length}
 use Rattle.graph.specs.Graph.{Graph, Bond, Walk, Within, Sound, Molecule, joins, bonded, distance, sum}
 use Rattle.graph.specs.Graph.Walk.{stay, step}
-use Rattle.graph.specs.Distance.{distance-shortest, distance-self, distance-bond}
+use Rattle.graph.specs.Distance.{distance-shortest, distance-self, distance-zero, distance-bond}
 use Rattle.graph.specs.Sums.{sum-cong, sum-none, sum-at, sum-some}
 use Rattle.paths.specs.Paths.{gather, walks, shortestPaths, uses, count, pathCount, pathsUsing}
 use Rattle.paths.specs.Notions.{near, Near}
@@ -191,3 +191,24 @@ module _ {g : Graph} (m : Molecule g) {i : ℕ} (hi : Within (g .atoms) i) where
   pub count-pos : {j : ℕ} → Within (g .atoms) j → 0 < pathCount g i j
   unfolding pathCount shortestPaths
   count-pos hj = walks-of-walk (m .sound) (distance-shortest m hi hj .walk)
+
+  -- the counts as one rule, the start included
+  pub count-rule : {j : ℕ} → Within (g .atoms) j → pathCount g i j ≡ cond (eqb i j) 1 0 + sum (g .atoms) (λ v. cond (near g i v j) (pathCount g i v) 0)
+  count-rule {j} hj = go (distance g i j) refl
+    where
+      go : (k : ℕ) → distance g i j ≡ k → pathCount g i j ≡ cond (eqb i j) 1 0 + sum (g .atoms) (λ v. cond (near g i v j) (pathCount g i v) 0)
+      go zero d =
+          let e : i ≡ j = distance-zero m hi hj d in
+          omega (
+            arith,
+            ap (pathCount g i) e,
+            count-self,
+            ap {B = ℕ} (λ (t : Bool). cond t 1 0) (eq-eqb i j e),
+            near-none g i j {f = pathCount g i} (λ v w y. absurd (omega (arith, y .one))),
+          )
+      go (suc k) d =
+          omega (
+            arith,
+            count-step k j d,
+            ap {B = ℕ} (λ (t : Bool). cond t 1 0) (ne-eqb i j (λ e. omega (arith, ap (distance g i) e, distance-self (m .sound) hi))),
+          )

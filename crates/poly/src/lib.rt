@@ -1,8 +1,9 @@
 // The even and odd polynomial values of a block.
 ghost use mathlib.Core.Path.{_≡_};
-ghost use Rattle.poly.specs.Poly.{counted, value, valuesReply, saidPolynomial};
+ghost use Rattle.poly.specs.Poly.{counted, value, valuesReply, polynomialReply, saidPolynomial};
 use block::ATOMS;
 use block::Refusal;
+use block::Reply;
 
 // The even and the odd value, kept together.
 pub struct Values {
@@ -49,4 +50,17 @@ fn values_of(counts: [u16; ATOMS], x: f64) -> Answer
         number: 10,
         place: 0,
     })
+}
+
+// The polynomial values of a block at x.
+pub fn polynomial(n: usize, bonds: &[u8], x: f64) -> Answer
+    ensures { λ r. ⌜ r ≡ saidPolynomial (polynomialReply n (now (bonds .entry)) x) ⌝ }
+{
+    let pairs = block::pair_counts(n, bonds);
+    let reply = pairs.reply;
+    let counts = pairs.at;
+    match reply {
+        Reply::Refused(r) => Answer::Refused(r),
+        Reply::Fine => values_of(counts, x),
+    }
 }

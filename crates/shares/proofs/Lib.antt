@@ -3,3 +3,5 @@ pub mod Rows
 pub mod Lists
 pub mod Chains
 pub mod Sweeping
+pub mod Counting
+pub mod Tallying

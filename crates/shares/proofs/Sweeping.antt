@@ -25,7 +25,7 @@ pub record Sweeping (n : ℕ) (B : ℕ → ℕ → Bool) (key own : List ℕ) (t
 module _ {n : ℕ} {B : ℕ → ℕ → Bool} {near : List (List ℕ)} {key last before : List ℕ} {top : ℕ} (o : Ordered n B near key last before top) where
   -- the last atom with a key has a seat
   pub seated : (d : ℕ) → at last d ≤ mostAtoms
-  seated d = ⊎-elim (λ z. omega arith) (λ p. omega (arith, o .chain .atLast d (λ z. omega arith) .0, o .small)) (eq-zero-or-pos (at last d))
+  seated d = ⊎-elim (λ z. omega arith) (λ p. omega (arith, o .chain .atLast d (λ z. omega arith) .0, o .keyed .small)) (eq-zero-or-pos (at last d))
 
   pub sweeping-start : (own : List ℕ) (cap : ℕ) (row : List ℕ) → Sweeping n B key own cap 0 (at last 0) row
   sweeping-start own cap row = record {
@@ -44,7 +44,7 @@ module _ {n : ℕ} {B : ℕ → ℕ → Bool} {near : List (List ℕ)} {key last
     }
 
     pub sweeping-done : top < level → (F : ℕ → ℕ) → Rule n B (at key) (at own) F → Holds n cap F row
-    sweeping-done l F r = record { holds = λ w h. S .lower F r w h (omega (arith, o .high w h)) }
+    sweeping-done l F r = record { holds = λ w h. S .lower F r w h (omega (arith, o .keyed .high w h)) }
 
     -- the atom v is given its own and what its neighbours have
     module _ (ne : v ≡ 0 → ⊥) (long : v < length row) (s x : ℕ)

@@ -42,13 +42,17 @@ pub record Chained (n : ℕ) (key last before : List ℕ) : Type 0 where
   pub falls : (v : ℕ) → Within n v → at before v < v
   pub noneBetween : (v w : ℕ) → Within n v → Within n w → at key w ≡ at key v → w < v → w ≤ at before v
 
--- what a sweep goes over: lists, keys and chains of the atoms 1 to n
-pub record Ordered (n : ℕ) (B : ℕ → ℕ → Bool) (near : List (List ℕ)) (key last before : List ℕ) (top : ℕ) : Type 0 where
+-- lists and keys of the atoms 1 to n
+pub record Keyed (n : ℕ) (B : ℕ → ℕ → Bool) (near : List (List ℕ)) (key : List ℕ) (top : ℕ) : Type 0 where
   pub small : n ≤ mostAtoms
   pub lists : (v : ℕ) → Within n v → Listed n (B v) (listOf near v)
-  pub chain : Chained n key last before
   pub high : (v : ℕ) → Within n v → at key v ≤ top
   pub low : top < mostAtoms
+
+-- what a sweep goes over
+pub record Ordered (n : ℕ) (B : ℕ → ℕ → Bool) (near : List (List ℕ)) (key last before : List ℕ) (top : ℕ) : Type 0 where
+  pub keyed : Keyed n B near key top
+  pub chain : Chained n key last before
 
 -- F is what each atom has of its own, and what those that B gives it with the next smaller key have
 pub record Rule (n : ℕ) (B : ℕ → ℕ → Bool) (key own F : ℕ → ℕ) : Type 0 where
@@ -57,3 +61,34 @@ pub record Rule (n : ℕ) (B : ℕ → ℕ → Bool) (key own F : ℕ → ℕ) :
 -- an array that has F, up to a cap
 pub record Holds (n top : ℕ) (F : ℕ → ℕ) (row : List ℕ) : Type 0 where
   pub holds : (v : ℕ) → Within n v → at row v ≡ min top (F v)
+
+-- a graph of n atoms
+abbrev pub graph : ℕ → List Bond → Graph
+graph n bs = record { atoms = n; bonds = bs }
+
+-- the neighbours of each atom: those at distance 1
+abbrev pub beside : Graph → ℕ → ℕ → Bool
+beside g v w = eqb (distance g v w) 1
+
+-- what one starting atom is worked with
+pub record Start (n : ℕ) (bs : List Bond) (near : List (List ℕ)) (row : List ℕ) (i : ℕ) : Type 0 where
+  pub small : n ≤ mostAtoms
+  pub molecule : Molecule (graph n bs)
+  pub lists : (v : ℕ) → Within n v → Listed n (beside (graph n bs) v) (listOf near v)
+  pub far : Shows n (distance (graph n bs) i) row
+  pub start : Within n i
+
+-- the rows of a block, and the lists of its neighbours
+pub record Given (n : ℕ) (bs : List Bond) (near rows : List (List ℕ)) : Type 0 where
+  pub small : n ≤ mostAtoms
+  pub molecule : Molecule (graph n bs)
+  pub lists : (v : ℕ) → Within n v → Listed n (beside (graph n bs) v) (listOf near v)
+  pub far : (i : ℕ) → i < n → Shows n (distance (graph n bs) (suc i)) (listOf rows i)
+
+-- positive counts f and a positive number m, up to the cap
+pub record Tally (n : ℕ) (f : ℕ → ℕ) (m : ℕ) (c : List ℕ) (before : ℕ) : Type 0 where
+  pub small : n ≤ mostAtoms
+  pub counts : Holds n cap f c
+  pub positive : (v : ℕ) → Within n v → 0 < f v
+  pub first : 0 < m
+  pub capped : before ≡ min cap m

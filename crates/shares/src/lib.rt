@@ -3,6 +3,7 @@ ghost use mathlib.Core.Path.{_≡_};
 use block::ATOMS;
 use block::Refusal;
 
+mod common;
 mod sweeps;
 
 // A seat for each atom, numbered from 1; seat 0 is free.
@@ -12,6 +13,9 @@ const SEATS: usize = ATOMS + 1;
 const MOST: u64 = 1_000_000;
 
 const CAP: u64 = MOST + 1;
+
+// The most that a bond is passed from one start: D for each atom.
+const FULL: u64 = ATOMS as u64 * MOST;
 
 // D, or why there is none.
 pub enum Shares {

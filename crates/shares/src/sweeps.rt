@@ -1,5 +1,7 @@
 // Rows of numbers, one for each atom, filled in the order of the atoms' keys.
+use super::CAP;
 use super::Chain;
+use super::FULL;
 use super::SEATS;
 use block::ATOMS;
 ghost use mathlib.Core.Path.{_≡_};
@@ -8,9 +10,11 @@ ghost use mathlib.Core.List.{List};
 ghost use Prim.Native.Nat.{ℕ, suc, _+_, _-_, min, _<_, _≤_};
 ghost use lib.Dec.{eqb};
 ghost use lib.ListN.{getD};
-ghost use Rattle.graph.specs.Graph.{Within, sum};
+ghost use Rattle.graph.specs.Graph.{Bond, Within, sum};
+ghost use Rattle.paths.specs.Paths.{pathCount};
+ghost use Rattle.paths.specs.Notions.{gathered};
 ghost use Rattle.block.specs.Block.{mostAtoms};
-ghost use Rattle.shares.specs.Work.{at, Shows, Listed, Chained, Ordered, Rule, Holds};
+ghost use Rattle.shares.specs.Work.{cap, full, at, Shows, Listed, Chained, Keyed, Ordered, Rule, Holds, graph, Start};
 
 fn wide(x: u8) -> usize
     ensures { λ r. ⌜ (r ≡ x) × (r < 256) ⌝ }
@@ -157,4 +161,62 @@ fn sweep(
         }
     }
     row
+}
+
+// The same, with the atoms 1 to n put in order first.
+fn swept(
+    n: usize,
+    near: &[[u8; SEATS]; SEATS],
+    key: &[u8; SEATS],
+    own: &[u64; SEATS],
+    top: u8,
+    cap: u64,
+) -> [u64; SEATS]
+    requires { ⌜ ((B : ℕ → ℕ → Bool) × Keyed n B (now near) (now key) top) ⌝ }
+    ensures { λ r. ⌜
+        ((B : ℕ → ℕ → Bool) (F : ℕ → ℕ) → Keyed n B (now (near .entry)) (now (key .entry)) top
+        → Rule n B (at (now (key .entry))) (at (now (own .entry))) F → Holds n cap F r)
+        ⌝ }
+{
+    let chain = chained(n, key);
+    let last = chain.last;
+    let before = chain.before;
+    sweep(near, key, &last, &before, own, wide(top), cap)
+}
+
+// The counts of shortest paths from the atom start, up to the cap.
+pub(crate) fn counts(
+    n: usize,
+    near: &[[u8; SEATS]; SEATS],
+    row: &[u8; ATOMS],
+    start: usize,
+) -> [u64; SEATS]
+    requires { ⌜ ((bs : List Bond) × Start n bs (now near) (now row) start) ⌝ }
+    ensures { λ r. ⌜
+        ((bs : List Bond) → Start n bs (now (near .entry)) (now (row .entry)) start → Holds n cap (pathCount (graph n bs) start) r)
+        ⌝ }
+{
+    let top = farthest(n, row);
+    let key = spans(n, row, 0);
+    let mut own = [0u64; SEATS];
+    own[start] = 1;
+    swept(n, near, &key, &own, top, CAP)
+}
+
+// What lies onward from each atom, away from the start of the row: its weight and theirs, up to what fits.
+pub(crate) fn onward(
+    n: usize,
+    near: &[[u8; SEATS]; SEATS],
+    row: &[u8; ATOMS],
+    weight: &[u64; SEATS],
+) -> [u64; SEATS]
+    requires { ⌜ ((bs : List Bond) × (i : ℕ) × Start n bs (now near) (now row) i) ⌝ }
+    ensures { λ r. ⌜
+        ((bs : List Bond) (i : ℕ) (q : ℕ → ℕ) → Start n bs (now (near .entry)) (now (row .entry)) i
+        → ((v : ℕ) → Within n v → at (now (weight .entry)) v ≡ q v) → Holds n full (gathered (graph n bs) i q) r)
+        ⌝ }
+{
+    let top = farthest(n, row);
+    let key = spans(n, row, top);
+    swept(n, near, &key, weight, top, FULL)
 }

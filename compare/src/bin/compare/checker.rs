@@ -1,7 +1,7 @@
 //! Calls of the library, each beside the second opinion: the reply and every lent entry must agree.
 
 use crate::archive;
-use crate::lent::Lent;
+use crate::lent::{Lent, Shown};
 use opinion::answers::{self, Verdict};
 use opinion::molecule::Measurer;
 use opinion::refusal::Refusal;
@@ -95,15 +95,10 @@ impl Checker {
         }
     }
 
-    /// The library only reads this input: it must be the same afterwards.
-    fn unchanged(&mut self, before: &[u8], after: &[u8]) {
-        self.holds(before == after, "an input was changed");
-    }
-
     pub fn judge(&mut self, deck: &[u8]) {
-        let lent = deck.to_vec();
-        let reply = archive::judge(&lent);
-        self.unchanged(deck, &lent);
+        let lent = Shown::new(deck);
+        let reply = archive::judge(lent.part());
+        self.holds(lent.is_still(deck), "an input was changed");
         let right = match answers::judge(&mut self.measurer, deck) {
             Verdict::Accepted => 0,
             Verdict::Differs(field) => 255 + 256 * field,
@@ -114,27 +109,27 @@ impl Checker {
     }
 
     pub fn write_sheet(&mut self, deck: &[u8], room: usize) {
-        let (lent, mut out) = (deck.to_vec(), Lent::new(room));
-        let reply = archive::write_sheet(&lent, out.part());
-        self.unchanged(deck, &lent);
+        let (lent, mut out) = (Shown::new(deck), Lent::new(room));
+        let reply = archive::write_sheet(lent.part(), out.part());
+        self.holds(lent.is_still(deck), "an input was changed");
         let right = answers::write_sheet(&mut self.measurer, deck, room);
         let fault = out.fault(&written(&right, |sheet| sheet.clone()));
         self.agree(|| format!("write_sheet room {room} {}", hex(deck)), code(&right), reply, fault);
     }
 
     pub fn compose(&mut self, deck: &[u8], room: usize) {
-        let (lent, mut out) = (deck.to_vec(), Lent::new(room));
-        let reply = archive::compose(&lent, out.part());
-        self.unchanged(deck, &lent);
+        let (lent, mut out) = (Shown::new(deck), Lent::new(room));
+        let reply = archive::compose(lent.part(), out.part());
+        self.holds(lent.is_still(deck), "an input was changed");
         let right = answers::compose(&mut self.measurer, deck, room);
         let fault = out.fault(&written(&right, |fields| fields.to_vec()));
         self.agree(|| format!("compose room {room} {}", hex(deck)), code(&right), reply, fault);
     }
 
     pub fn placed_distance(&mut self, deck: &[u8], atoms: [usize; 4], room: usize) {
-        let (lent, mut out) = (deck.to_vec(), Lent::new(room));
-        let reply = archive::placed_distance(&lent, atoms, out.part());
-        self.unchanged(deck, &lent);
+        let (lent, mut out) = (Shown::new(deck), Lent::new(room));
+        let reply = archive::placed_distance(lent.part(), atoms, out.part());
+        self.holds(lent.is_still(deck), "an input was changed");
         let right = answers::placed_distance(deck, atoms, room);
         let fault = out.fault(&written(&right, |&distance| vec![distance]));
         let call = || format!("placed_distance {atoms:?} room {room} {}", hex(deck));
@@ -142,26 +137,26 @@ impl Checker {
     }
 
     pub fn check_block(&mut self, atoms: usize, bonds: &[u8]) {
-        let lent = bonds.to_vec();
-        let reply = archive::check_block(atoms, &lent);
-        self.unchanged(bonds, &lent);
+        let lent = Shown::new(bonds);
+        let reply = archive::check_block(atoms, lent.part());
+        self.holds(lent.is_still(bonds), "an input was changed");
         let right = answers::check_block(atoms, bonds);
         self.agree(|| format!("check_block {atoms} {}", hex(bonds)), code(&right), reply, None);
     }
 
     pub fn indices(&mut self, atoms: usize, bonds: &[u8], room: usize) {
-        let (lent, mut out) = (bonds.to_vec(), Lent::new(room));
-        let reply = archive::indices(atoms, &lent, out.part());
-        self.unchanged(bonds, &lent);
+        let (lent, mut out) = (Shown::new(bonds), Lent::new(room));
+        let reply = archive::indices(atoms, lent.part(), out.part());
+        self.holds(lent.is_still(bonds), "an input was changed");
         let right = answers::indices(atoms, bonds, room);
         let fault = out.fault(&written(&right, |fields| fields.to_vec()));
         self.agree(|| format!("indices {atoms} room {room} {}", hex(bonds)), code(&right), reply, fault);
     }
 
     pub fn vertex(&mut self, atoms: usize, bonds: &[u8], atom: usize, room: usize) {
-        let (lent, mut out) = (bonds.to_vec(), Lent::new(room));
-        let reply = archive::vertex(atoms, &lent, atom, out.part());
-        self.unchanged(bonds, &lent);
+        let (lent, mut out) = (Shown::new(bonds), Lent::new(room));
+        let reply = archive::vertex(atoms, lent.part(), atom, out.part());
+        self.holds(lent.is_still(bonds), "an input was changed");
         let right = answers::vertex(atoms, bonds, atom, room);
         let fault = out.fault(&written(&right, |sums| sums.to_vec()));
         let call = || format!("vertex {atoms} atom {atom} room {room} {}", hex(bonds));
@@ -169,9 +164,9 @@ impl Checker {
     }
 
     pub fn contributions(&mut self, atoms: usize, bonds: &[u8], room: usize, d_room: usize) {
-        let (lent, mut out, mut d_out) = (bonds.to_vec(), Lent::new(room), Lent::new(d_room));
-        let reply = archive::contributions(atoms, &lent, out.part(), d_out.part());
-        self.unchanged(bonds, &lent);
+        let (lent, mut out, mut d_out) = (Shown::new(bonds), Lent::new(room), Lent::new(d_room));
+        let reply = archive::contributions(atoms, lent.part(), out.part(), d_out.part());
+        self.holds(lent.is_still(bonds), "an input was changed");
         let right = answers::contributions(atoms, bonds, room, d_room);
         let shares_fault = out.fault(&written(&right, |(_, shares)| shares.clone()));
         let d_fault = d_out.fault(&written(&right, |&(d, _)| vec![d]));
@@ -180,9 +175,9 @@ impl Checker {
     }
 
     pub fn polynomial(&mut self, atoms: usize, bonds: &[u8], x: f64, room: usize) {
-        let (lent, mut out) = (bonds.to_vec(), Lent::new(room));
-        let reply = archive::polynomial(atoms, &lent, x, out.part());
-        self.unchanged(bonds, &lent);
+        let (lent, mut out) = (Shown::new(bonds), Lent::new(room));
+        let reply = archive::polynomial(atoms, lent.part(), x, out.part());
+        self.holds(lent.is_still(bonds), "an input was changed");
         let right = answers::polynomial(atoms, bonds, x, room);
         let fault = out.fault(&written(&right, |values| values.to_vec()));
         let call = || format!("polynomial {atoms} x {x:e} room {room} {}", hex(bonds));

@@ -21,7 +21,7 @@ pub fn run(checker: &mut Checker) {
 }
 
 /// All calls that a deck without a sheet takes, with room enough.
-pub fn whole_deck(checker: &mut Checker, deck: &[u8]) {
+fn whole_deck(checker: &mut Checker, deck: &[u8]) {
     checker.judge(deck);
     checker.compose(deck, 5);
     checker.write_sheet(deck, 40);

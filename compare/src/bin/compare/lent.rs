@@ -1,7 +1,29 @@
-//! Buffers lent to the library: filled with a pattern, between two margins, every entry looked at afterwards.
+//! What is lent to the library. Outputs are filled with a pattern, between two margins, and every entry is looked at
+//! afterwards; so are inputs, which must not change.
 
 /// Entries in front of and behind the lent part, which must never change.
 const MARGIN: usize = 8;
+
+/// Bytes that the library may read: they stand at an odd address, and what is read behind them is no deck.
+pub struct Shown {
+    whole: Vec<u8>,
+}
+
+impl Shown {
+    pub fn new(bytes: &[u8]) -> Shown {
+        let margin = [u8::MAX; MARGIN + 1];
+        Shown { whole: [&margin, bytes, &margin].concat() }
+    }
+
+    pub fn part(&self) -> &[u8] {
+        &self.whole[MARGIN + 1..self.whole.len() - MARGIN - 1]
+    }
+
+    /// Whether it is still what it was made of.
+    pub fn is_still(&self, bytes: &[u8]) -> bool {
+        self.whole == Shown::new(bytes).whole
+    }
+}
 
 /// An entry, by its bits.
 pub trait Entry: Copy {

@@ -9,9 +9,9 @@ use opinion::make::random::Random;
 use opinion::make::specimens;
 use opinion::molecule::Measurer;
 use std::fs::{self, File};
-use std::io::Write;
+use std::io::{self, Write};
 use std::path::{Path, PathBuf};
-use std::process::{Command, Stdio};
+use std::process::{Command, Output, Stdio};
 use std::time::Duration;
 
 const RANDOM_DECKS: u64 = 400;
@@ -23,6 +23,10 @@ pub fn run(checker: &mut Checker, folder: &Path, seed: u64) {
     type Line = fn(&mut Measurer, &[u8]) -> String;
     for (name, line) in [("sheet", sheet_line as Line), ("judge", judge_line as Line)] {
         let program = folder.join(name);
+        if !program.is_file() {
+            checker.case(name, |checker| checker.holds(false, format!("{} is not there", program.display())));
+            continue;
+        }
         let measurer = &mut Measurer::default();
         let lines: Vec<String> = decks.iter().map(|deck| line(measurer, deck)).collect();
         for (at, deck) in decks.iter().enumerate().filter(|(at, _)| at % 8 == 0) {
@@ -61,15 +65,25 @@ fn decks(seed: u64) -> Vec<Vec<u8>> {
     decks
 }
 
+/// What was printed, or why the program could not be run.
+fn printed(output: io::Result<Output>) -> String {
+    match output {
+        Ok(output) => String::from_utf8_lossy(&output.stdout).into_owned(),
+        Err(fault) => format!("nothing: it could not be run ({fault})"),
+    }
+}
+
 fn command_says(command: &mut Command) -> String {
-    let output = command.stderr(Stdio::null()).output().expect("the program runs");
-    String::from_utf8_lossy(&output.stdout).into_owned()
+    printed(command.stderr(Stdio::null()).output())
 }
 
 /// Writes the deck to the program in two pieces, with a pause between them where it is to be slow.
 fn from_standard_input(program: &Path, deck: &[u8], slow: bool) -> String {
     let mut command = Command::new(program);
-    let mut child = command.stdin(Stdio::piped()).stdout(Stdio::piped()).spawn().expect("the program runs");
+    let mut child = match command.stdin(Stdio::piped()).stdout(Stdio::piped()).spawn() {
+        Ok(child) => child,
+        Err(fault) => return printed(Err(fault)),
+    };
     let mut pipe = child.stdin.take().expect("a pipe");
     let (front, back) = deck.split_at(deck.len() / 3);
     // a program may stop reading once it knows that the deck is too long: a closed pipe is no fault
@@ -79,8 +93,7 @@ fn from_standard_input(program: &Path, deck: &[u8], slow: bool) -> String {
     }
     let _ = pipe.write_all(back);
     drop(pipe);
-    let output = child.wait_with_output().expect("the program ends");
-    String::from_utf8_lossy(&output.stdout).into_owned()
+    printed(child.wait_with_output())
 }
 
 /// All decks as files in one call, among them a file that is not there and a folder.

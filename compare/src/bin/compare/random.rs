@@ -3,7 +3,7 @@
 use crate::archive;
 use crate::checker::Checker;
 use opinion::deck::{read_deck, sheet_record, Form};
-use opinion::make::blocks::random_block;
+use opinion::make::blocks::{block_of_many_paths, random_block};
 use opinion::make::damage::{damage_block, damage_plan};
 use opinion::make::damage_bytes::{damage_bytes, damage_records};
 use opinion::make::decks::random_deck;
@@ -50,6 +50,28 @@ fn good_deck(checker: &mut Checker, random: &mut Random, deck: DeckPlan) {
         checker.judge(&[&bytes[..], &sheet_record(sheet)].concat());
     }
     own_sheet(checker, &bytes);
+    for _ in 0..4 {
+        let ((k, i), (l, j)) = (some_atom(random, &deck), some_atom(random, &deck));
+        checker.placed_distance(&bytes, [k, i, l, j], 1);
+    }
+    if bytes.len() < 200 && random.once_in(20) {
+        every_cut(checker, &[&bytes[..], &sheet_record(right)].concat());
+    }
+}
+
+/// A placement of a good deck and an atom of it.
+fn some_atom(random: &mut Random, deck: &DeckPlan) -> (usize, usize) {
+    let placed = random.below(deck.placements.len());
+    let block = deck.blocks.iter().find(|block| block.number == deck.placements[placed].block);
+    (placed + 1, random.between(1, block.expect("a good deck").atoms as usize))
+}
+
+/// A deck with its sheet, cut at every length.
+fn every_cut(checker: &mut Checker, judged: &[u8]) {
+    for length in 0..judged.len() {
+        checker.judge(&judged[..length]);
+        checker.compose(&judged[..length], 5);
+    }
 }
 
 /// The sheet that the library writes, put behind the same deck, must be accepted, and must not be composed.
@@ -69,14 +91,14 @@ fn wrong_number(random: &mut Random, right: u64) -> u64 {
         0 => right.wrapping_add(1),
         1 => right.wrapping_sub(1),
         2 => right ^ 1 << random.below(32),
-        _ => right ^ random.next() >> random.below(64),
+        _ => right ^ random.draw() >> random.below(64),
     }
 }
 
 fn damaged_deck(checker: &mut Checker, random: &mut Random, mut deck: DeckPlan) {
     match random.below(3) {
         0 => deck.sheet = Some(right_fields(&deck)),
-        1 => deck.sheet = Some([random.next(); 5]),
+        1 => deck.sheet = Some([random.draw(); 5]),
         _ => {}
     }
     for _ in 0..random.below(3) {
@@ -94,7 +116,7 @@ fn damaged_deck(checker: &mut Checker, random: &mut Random, mut deck: DeckPlan) 
     }
     deck_calls(checker, random, &bytes);
     if random.once_in(4) {
-        checker.judge(&[&bytes[..], &sheet_record([random.next(); 5])].concat());
+        checker.judge(&[&bytes[..], &sheet_record([random.draw(); 5])].concat());
     }
 }
 
@@ -121,7 +143,7 @@ fn about(random: &mut Random, needed: usize) -> usize {
 }
 
 fn block(checker: &mut Checker, random: &mut Random) {
-    let mut block = random_block(random, 64);
+    let mut block = if random.once_in(10) { block_of_many_paths(random) } else { random_block(random, 64) };
     if random.once_in(2) {
         for _ in 0..random.between(1, 3) {
             damage_block(random, &mut block);
@@ -146,8 +168,8 @@ fn block(checker: &mut Checker, random: &mut Random) {
 fn some_x(random: &mut Random) -> f64 {
     match random.below(6) {
         0 => 0.5,
-        1 => f64::from_bits(random.next()),
-        2 => f64::from_bits(random.next() >> 2),
-        _ => (random.next() >> 11) as f64 / (1u64 << 53) as f64,
+        1 => f64::from_bits(random.draw()),
+        2 => f64::from_bits(random.draw() >> 2),
+        _ => (random.draw() >> 11) as f64 / (1u64 << 53) as f64,
     }
 }

@@ -50,7 +50,7 @@ pull-requires : tie.Need-pull-requires Inv-loop μ-loop
 pull-requires c κs =
     let p = c .before .before .before .before .before .before .before .pre in
     let v = c .before .before .before .before .loop .v in
-    (p .0, p .1 v, p .2 .small, p .2 .lists v (taken (c .before .before)))
+    (p .0, p .1 v, p .2 .keyed .small, p .2 .keyed .lists v (taken (c .before .before)))
 
 mul-add : tie.Need-mul-add Inv-loop μ-loop
 mul-add c = search needs
@@ -62,7 +62,7 @@ add-requires : tie.Need-add-requires Inv-loop μ-loop
 add-requires c κs =
     let p = c .before .before .before .before .before .before .before .before .before .pre in
     let v = c .before .before .before .before .before .before .loop .v in
-    omega (arith, c .before .pull .ensures (p .0) (p .1 v) (p .2 .lists v (taken (c .before .before .before .before))))
+    omega (arith, c .before .pull .ensures (p .0) (p .1 v) (p .2 .keyed .lists v (taken (c .before .before .before .before))))
 
 mul-row : tie.Need-mul-row Inv-loop μ-loop
 mul-row c = search needs
@@ -95,7 +95,7 @@ loop-again c =
           rw (c .wide2 .ensures .0)
           (sweeping-store o S t (omega arith)
           (c .before .before .before .before .pull .result) (c .before .before .add .result)
-          (c .before .before .before .before .pull .ensures n (B (l .v)) (o .lists (l .v) (S .next t .0))) (c .before .before .add .ensures)),
+          (c .before .before .before .before .pull .ensures n (B (l .v)) (o .keyed .lists (l .v) (S .next t .0))) (c .before .before .add .ensures)),
     )
 
 add-level : tie.Need-add-level Inv-loop μ-loop

@@ -1,0 +1,46 @@
+-- Each promise determines the reply: two replies that satisfy it are equal. Assumes nothing.
+use Prim.Native.Nat.{ℕ, min}
+use mathlib.Core.List.{List}
+use mathlib.Core.Path.{_≡_, sym, _∙_}
+use Rattle.block.specs.Block.{mostAtoms, blockReply, saidBlock}
+use Rattle.block.specs.Rows.{rowsOf, rowReply, saidRow}
+use Rattle.block.specs.Index.{indicesReply, saidIndices, vertexReply, saidVertex, distanceReply, saidDistance, pairsReply, saidPairs}
+use Rattle.block.specs.Sums.{entry, pairEntry, indicesBy, vertexBy}
+use Rattle.block.specs.declared.Reply.{Reply}
+use Rattle.block.specs.declared.Indices.{Indices}
+use Rattle.block.specs.declared.Measured.{Measured}
+use Rattle.block.specs.declared.Vertex.{Vertex}
+use Rattle.block.specs.declared.Around.{Around}
+use Rattle.block.specs.declared.Apart.{Apart}
+use Rattle.block.specs.declared.Pairs.{Pairs}
+
+unique : {A : Type 0} {r s t : A} → r ≡ t → s ≡ t → r ≡ s
+unique p q = p ∙ sym q
+
+module _ (n : ℕ) (xs : List ℕ) where
+  pub unique-check : (r s : Reply) → r ≡ saidBlock (blockReply n xs) → s ≡ saidBlock (blockReply n xs) → r ≡ s
+  unique-check r s = unique
+
+  pub unique-rows : (r s : List (List ℕ)) → r ≡ rowsOf n xs → s ≡ rowsOf n xs → r ≡ s
+  unique-rows r s = unique
+
+  pub unique-row : (i : ℕ) (r s : List ℕ) → r ≡ saidRow (rowReply n xs i) → s ≡ saidRow (rowReply n xs i) → r ≡ s
+  unique-row i r s = unique
+
+  pub unique-measure : (r s : Measured) → r ≡ saidIndices (indicesReply n xs) → s ≡ saidIndices (indicesReply n xs) → r ≡ s
+  unique-measure r s = unique
+
+  pub unique-distance : (i j : ℕ) (r s : Apart) → r ≡ saidDistance (distanceReply n xs i j) → s ≡ saidDistance (distanceReply n xs i j) → r ≡ s
+  unique-distance i j r s = unique
+
+  pub unique-vertex-sums : (a : ℕ) (r s : Around) → r ≡ saidVertex (vertexReply n xs a) → s ≡ saidVertex (vertexReply n xs a) → r ≡ s
+  unique-vertex-sums a r s = unique
+
+  pub unique-pair-counts : (r s : Pairs) → r ≡ saidPairs (pairsReply n xs) → s ≡ saidPairs (pairsReply n xs) → r ≡ s
+  unique-pair-counts r s = unique
+
+pub unique-sums : (rows : List (List ℕ)) (n : ℕ) (r s : Indices) → r ≡ indicesBy (min n mostAtoms) (pairEntry rows) → s ≡ indicesBy (min n mostAtoms) (pairEntry rows) → r ≡ s
+unique-sums rows n r s = unique
+
+pub unique-around-row : (row : List ℕ) (n : ℕ) (r s : Vertex) → r ≡ vertexBy (min n mostAtoms) (entry row) → s ≡ vertexBy (min n mostAtoms) (entry row) → r ≡ s
+unique-around-row row n r s = unique

@@ -1,0 +1,99 @@
+-- The least common multiple of path counts, taken in one by one, up to the cap. Assumes nothing.
+use Prim.Native.Nat.{ℕ, zero, suc, _+_, _*_, _-_, _/_, min, _≤_, _<_}
+use mathlib.Core.List.{List}
+use mathlib.Core.Path.{_≡_, refl, sym, _∙_, ap, ap₂}
+use native.Mathlib.Nat.{pos-of-dvd-of-pos, div-le-self, le-trans, mul-le-mul, lt-of-le-of-lt}
+use native.Mathlib.Numerals.{add-one}
+use native.Mathlib.Omega.{arith}
+use lib.Dec.{lit<}
+use mir.Syntax.{w64}
+use mir.Val.{Fits}
+use Rattle.graph.specs.Graph.{Bond, Within}
+use Rattle.paths.specs.Paths.{pathCount, lcm, lcmOver, denominator}
+use Rattle.paths.specs.Notions.{Gcd, Pair, lcmStarts}
+use Rattle.paths.specs.Lcm.{over-pos, lcm-cap, starts-pos, starts-all, starts-le}
+use Rattle.paths.specs.Steps.{count-pos}
+use Rattle.paths.specs.Backwards.{pair-pos}
+use Rattle.shares.specs.Work.{cap, at, listOf, Holds, graph, Start, Tally, Given}
+
+pub divisor-pos : {a b d : ℕ} → Gcd a b d → 0 < a → 0 < d
+divisor-pos h p = pos-of-dvd-of-pos (h .left) p
+
+pub product-fits : (a b d : ℕ) → a ≤ cap → b ≤ cap → Fits w64 (a / d * b)
+product-fits a b d h k = record { fits = lt-of-le-of-lt (mul-le-mul (le-trans (div-le-self a d) h) k) (lit< tt) }
+
+module _ {n : ℕ} {f : ℕ → ℕ} {m : ℕ} {c : List ℕ} {before : ℕ} (t : Tally n f m c before) (start : ℕ) where
+  -- the multiple of m and of the counts after start, up to k
+  abbrev upTo : ℕ → ℕ
+  upTo k = lcmOver (k - start) (λ j. f (start + j)) m
+
+  pub none-yet : before ≡ min cap (upTo start)
+  unfolding lcmOver
+  none-yet = let z : start - start ≡ 0 = omega arith in t .capped ∙ rw z
+
+  module _ (k : ℕ) (from : start ≤ k) (more : k < n) where
+    upTo-pos : 0 < upTo k
+    upTo-pos = over-pos (λ j. f (start + j)) m (t .first) (k - start) (λ j w. t .positive (start + j) (record { low = omega arith; high = omega arith }))
+
+    here : Within n (k + 1)
+    here = record { low = omega arith; high = omega arith }
+
+    pub taken-fits : (all : ℕ) → all ≡ min cap (upTo k) → (0 < all) × (all ≤ cap) × (0 < at c (k + 1)) × (at c (k + 1) ≤ cap)
+    taken-fits all e =
+        (omega (arith, upTo-pos), omega arith, omega (arith, t .counts .holds (k + 1) here, t .positive (k + 1) here), omega (arith, t .counts .holds (k + 1) here))
+
+    pub taken-in : (all x : ℕ) → all ≡ min cap (upTo k) → x ≡ min cap (lcm all (at c (k + 1))) → x ≡ min cap (upTo (k + 1))
+    unfolding lcmOver
+    taken-in all x e h =
+        let next : k + 1 - start ≡ suc (k - start) = omega arith in
+        let last : k + 1 ≡ start + suc (k - start) = omega arith in
+        h ∙ ap₂ (λ (u v : ℕ). min cap (lcm u v)) e (t .counts .holds (k + 1) here)
+        ∙ lcm-cap cap (upTo k) (f (k + 1)) (omega arith) upTo-pos (t .positive (k + 1) here)
+        ∙ rw (next, last)
+
+-- the starts one by one
+module _ {n : ℕ} {bs : List Bond} {near rows : List (List ℕ)} (G : Given n bs near rows) where
+  pairs : (i j : ℕ) → Pair n i j → 0 < pathCount (graph n bs) i j
+  pairs = pair-pos (G .molecule)
+
+  abbrev starts : ℕ → ℕ
+  starts i = lcmStarts n (pathCount (graph n bs)) i
+
+  pub start-none : 1 ≡ min cap (starts 0)
+  unfolding lcmStarts
+  start-none = refl
+
+  module _ (i : ℕ) (l : i < n) where
+    first : Within n (i + 1)
+    first = record { low = omega arith; high = omega arith }
+
+    pub start-of : Start n bs near (listOf rows i) (i + 1)
+    start-of = record {
+      small = G .small;
+      molecule = G .molecule;
+      lists = G .lists;
+      far = rw (add-one i) (G .far i l);
+      start = first;
+    }
+
+    pub tally-of : {c : List ℕ} {all : ℕ} → Holds n cap (pathCount (graph n bs) (i + 1)) c → all ≡ min cap (starts i)
+        → Tally n (pathCount (graph n bs) (i + 1)) (starts i) c all
+    tally-of h e = record {
+      small = G .small;
+      counts = h;
+      positive = λ v w. count-pos (G .molecule) first w;
+      first = starts-pos (pathCount (graph n bs)) n pairs i;
+      capped = e;
+    }
+
+    pub start-next : (all : ℕ) → all ≡ min cap (lcmOver (n - (i + 1)) (λ k. pathCount (graph n bs) (i + 1) (i + 1 + k)) (starts i)) → all ≡ min cap (starts (i + 1))
+    unfolding lcmStarts
+    start-next all e = e ∙ rw (add-one i)
+
+  pub stops-early : (all i : ℕ) → all ≡ min cap (starts i) → cap ≤ all → cap ≡ min cap (denominator (graph n bs))
+  unfolding denominator
+  stops-early all i e l = omega (arith, starts-le (pathCount (graph n bs)) n pairs i)
+
+  pub starts-done : (all i : ℕ) → i ≡ n → all ≡ min cap (starts i) → all ≡ min cap (denominator (graph n bs))
+  unfolding denominator
+  starts-done all i z e = e ∙ ap (min cap) (ap starts z ∙ starts-all (pathCount (graph n bs)) n pairs)
