@@ -33,6 +33,6 @@ after (refused r) old = old
 after (read xs) old = over xs old
 
 -- what a function that lends its answer out promises: its reply, and the output after the call
-pub record Lent (answer : Read (List ℕ)) (old : List ℕ) (reply : ℕ) (new : List ℕ) : Type 0 where
+pub record Lent {A : Type 0} (answer : Read (List A)) (old : List A) (reply : ℕ) (new : List A) : Type 0 where
   pub replied : reply ≡ coded (fitting (length old) answer)
   pub lent : new ≡ after (fitting (length old) answer) old

@@ -5,6 +5,9 @@ use Rattle.block.specs.Read.{Read, refused, read, _then_}
 use Rattle.block.specs.Index.{indicesReply, vertexReply}
 use Rattle.block.specs.declared.Vertex.{Vertex}
 use Rattle.deck.specs.Molecule.{fieldsOf}
+use Rattle.poly.specs.declared.Values.{Values}
+use Rattle.poly.specs.Poly.{polynomialReply}
+use lib.Ieee.{Float}
 
 -- atom count, W, even part, odd part, polarity
 abbrev pub indicesList : ℕ → List ℕ → Read (List ℕ)
@@ -16,3 +19,10 @@ sumsOf v = v .sum ∷ v .even ∷ v .odd ∷ v .evens ∷ v .odds ∷ v .ones �
 
 abbrev pub vertexList : ℕ → List ℕ → ℕ → Read (List ℕ)
 vertexList n bonds a = vertexReply n bonds a then λ v. read (sumsOf v)
+
+-- the even and the odd value
+abbrev pub valuesList : Values → List Float
+valuesList v = v .even ∷ v .odd ∷ []
+
+abbrev pub polynomialList : ℕ → List ℕ → Float → Read (List Float)
+polynomialList n bonds x = polynomialReply n bonds x then λ v. read (valuesList v)

@@ -5,11 +5,13 @@ ghost use lib.ListN.{length};
 ghost use Rattle.block.specs.Read.{read};
 ghost use Rattle.block.specs.Block.{blockReply};
 ghost use Rattle.tteuyomal.specs.Convention.{code, coded, over, Lent};
-ghost use Rattle.tteuyomal.specs.Replies.{indicesList, vertexList};
+ghost use Rattle.tteuyomal.specs.Replies.{indicesList, vertexList, valuesList, polynomialList};
 use block::Around;
 use block::Measured;
 use block::Refusal;
 use block::Reply;
+use poly::Answer;
+use poly::Values;
 
 const PLACES: usize = 72_057_594_037_927_936;
 
@@ -79,5 +81,28 @@ pub extern "C" fn tteuyomal_vertex(atoms: usize, bonds: &[u8], atom: usize, sums
             let numbers = [v.sum, v.even, v.odd, v.evens, v.odds, v.ones, v.twos];
             give(sums, &numbers)
         }
+    }
+}
+
+// The same with two values.
+fn give_values(out: &mut [f64], v: Values) -> u64
+    ensures { λ r. ⌜ Lent (read (valuesList v)) (now (out .entry)) r (now (out .exit)) ⌝ }
+{
+    if out.len() < 2 {
+        return 9;
+    }
+    out[0] = v.even;
+    out[1] = v.odd;
+    0
+}
+
+#[no_mangle]
+pub extern "C" fn tteuyomal_polynomial(atoms: usize, bonds: &[u8], x: f64, values: &mut [f64]) -> u64
+    ensures { λ r. ⌜ Lent (polynomialList atoms (now (bonds .entry)) x) (now (values .entry)) r (now (values .exit)) ⌝ }
+{
+    let answer = poly::polynomial(atoms, bonds, x);
+    match answer {
+        Answer::Refused(r) => code_of(r),
+        Answer::Values(v) => give_values(values, v),
     }
 }
