@@ -97,7 +97,12 @@ fn give_values(out: &mut [f64], v: Values) -> u64
 }
 
 #[no_mangle]
-pub extern "C" fn tteuyomal_polynomial(atoms: usize, bonds: &[u8], x: f64, values: &mut [f64]) -> u64
+pub extern "C" fn tteuyomal_polynomial(
+    atoms: usize,
+    bonds: &[u8],
+    x: f64,
+    values: &mut [f64],
+) -> u64
     ensures { λ r. ⌜ Lent (polynomialList atoms (now (bonds .entry)) x) (now (values .entry)) r (now (values .exit)) ⌝ }
 {
     let answer = poly::polynomial(atoms, bonds, x);

@@ -7,10 +7,6 @@ use Rattle.tteuyomal.specs.Convention.{coded}
 use Rattle.tteuyomal.proofs.Laws.{toldBlock, block-told}
 use Rattle.tteuyomal.proofs.tteuyomal_check_block.Statement.{statement}
 use Rattle.tteuyomal.proofs.tteuyomal_check_block.Tie as tie
-use Rattle.tteuyomal.proofs.tteuyomal_check_block.Reads as reads
-use Rattle.tteuyomal.proofs.tteuyomal_check_block.Lts as lts
-use Rattle.block.proofs.check.Reads as check-reads
-use Rattle.tteuyomal.proofs.code_of.Reads as code-of-reads
 
 check-requires : tie.Need-check-requires
 check-requires c κs = search needs

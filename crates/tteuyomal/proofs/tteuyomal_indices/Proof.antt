@@ -9,11 +9,6 @@ use Rattle.deck.specs.Molecule.{fieldsOf}
 use Rattle.tteuyomal.proofs.Laws.{toldIndices, indices-told, lent-refused, lent-read}
 use Rattle.tteuyomal.proofs.tteuyomal_indices.Statement.{statement}
 use Rattle.tteuyomal.proofs.tteuyomal_indices.Tie as tie
-use Rattle.tteuyomal.proofs.tteuyomal_indices.Reads as reads
-use Rattle.tteuyomal.proofs.tteuyomal_indices.Lts as lts
-use Rattle.block.proofs.measure.Reads as measure-reads
-use Rattle.tteuyomal.proofs.code_of.Reads as code-of-reads
-use Rattle.tteuyomal.proofs.give.Reads as give-reads
 
 measure-requires : tie.Need-measure-requires
 measure-requires c κs = search needs

@@ -9,11 +9,6 @@ use Rattle.tteuyomal.specs.Replies.{sumsOf}
 use Rattle.tteuyomal.proofs.Laws.{toldVertex, vertex-told, lent-refused, lent-read}
 use Rattle.tteuyomal.proofs.tteuyomal_vertex.Statement.{statement}
 use Rattle.tteuyomal.proofs.tteuyomal_vertex.Tie as tie
-use Rattle.tteuyomal.proofs.tteuyomal_vertex.Reads as reads
-use Rattle.tteuyomal.proofs.tteuyomal_vertex.Lts as lts
-use Rattle.block.proofs.vertex_sums.Reads as vertex-sums-reads
-use Rattle.tteuyomal.proofs.code_of.Reads as code-of-reads
-use Rattle.tteuyomal.proofs.give.Reads as give-reads
 
 vertex-sums-requires : tie.Need-vertex-sums-requires
 vertex-sums-requires c κs = search needs
