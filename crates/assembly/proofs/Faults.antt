@@ -2,12 +2,16 @@
 use Prim.Native.Nat.{ℕ, zero, suc, _+_, _-_, _<_, _≤_}
 use mathlib.Core.Bool.{Bool, true, false, not}
 use mathlib.Core.List.{List}
-use mathlib.Core.Path.{_≡_, refl}
+use mathlib.Core.Path.{_≡_, refl, sym, _∙_}
+use native.Mathlib.Omega.{arith}
 use borrow.Author.Tests.{eq-eqb, ne-eqb}
 use Rattle.graph.specs.Graph.{Graph}
 use Rattle.graph.specs.Assembly.{Join}
 use Rattle.block.specs.Read.{Read, refused, read, refusal, refuseFor}
 use Rattle.block.specs.Block.{isOutside}
+use Rattle.block.specs.Chain.{not-read}
+use Rattle.block.specs.Faults.{inside}
+use Rattle.block.specs.declared.Refusal.{Refusal}
 use Rattle.assembly.specs.Book.{Book}
 use Rattle.assembly.specs.Placements.{mostPlacements, placementCount, placementAt, isFull, firstFault, parentFault, joinFault, joinOn, graphOn, laterFault, fault, placedReply, assemblyReply}
 use Rattle.assembly.specs.declared.Placement.{Placement}
@@ -102,3 +106,25 @@ module _ (book : Book) (xs : List ℕ) where
   pub count-within : isOutside mostPlacements (placementCount xs) ≡ false → assemblyReply book xs ≡ placedReply book (placementAt xs) 0 (placementCount xs)
   unfolding assemblyReply
   count-within e = rw e
+
+  -- the place of a refusal is a placement's number, or 0
+  pub place-few : (r : Refusal) → assemblyReply book xs ≡ refused r → r .place ≤ mostPlacements
+  place-few r e = go (isOutside mostPlacements (placementCount xs)) refl
+    where
+      from : (left k : ℕ) → placedReply book (placementAt xs) k left ≡ refused r → r .place ≤ k + left
+      from zero k e = absurd (not-read (sym e ∙ none-left book (placementAt xs) k))
+      from (suc left) k e = at (fault book (placementAt xs) k) refl (from left (suc k))
+        where
+          at : (n : ℕ) → fault book (placementAt xs) k ≡ n → (placedReply book (placementAt xs) (suc k) left ≡ refused r → r .place ≤ suc k + left) → r .place ≤ k + suc left
+          at zero f more = omega (arith, more (sym (faultless book (placementAt xs) k left f) ∙ e))
+          at (suc n) f more =
+              let g : refused (refusal (fault book (placementAt xs) k) (suc k)) ≡ refused r = sym (faulty book (placementAt xs) k left (omega arith)) ∙ e in
+              let h : refusal (fault book (placementAt xs) k) (suc k) ≡ r = cc in
+              rw (← h) (omega arith)
+
+      go : (t : Bool) → isOutside mostPlacements (placementCount xs) ≡ t → r .place ≤ mostPlacements
+      go true t =
+          let g : refused (refusal 15 0) ≡ refused r = sym (count-outside t) ∙ e in
+          let h : refusal 15 0 ≡ r = cc in
+          rw (← h) (omega arith)
+      go false t = omega (arith, inside mostPlacements (placementCount xs) t, from (placementCount xs) 0 (sym (count-within t) ∙ e))

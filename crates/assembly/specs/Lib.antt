@@ -1,4 +1,5 @@
 -- What an assembly over a book of blocks is told.
 pub mod Book
 pub mod Placements
+pub mod Degrees
 pub mod Sound

@@ -1,5 +1,6 @@
 // Distances by breadth-first search over neighbour lists.
 use super::ATOMS;
+use super::DistanceMatrix;
 use super::Found;
 use super::LIMIT;
 use super::Near;
@@ -32,7 +33,8 @@ pub(crate) fn from_atom(count: &[u8; SEATS], list: &[u8; PLACES], i: u8) -> Foun
             let at = w as usize - 1;
             k += 1;
             if w != i && row[at] == 0 {
-                row[at] = row[u - 1] + 1;
+                let next = row[u - 1] + 1;
+                row[at] = next;
                 order[met] = w;
                 met += 1;
             }
@@ -56,7 +58,7 @@ pub(crate) fn connected(near: Near, n: usize) -> bool
 }
 
 // The rows of a block of n atoms, filled one by one.
-pub(crate) fn from_all(near: Near, n: usize) -> [[u8; ATOMS]; ATOMS]
+pub(crate) fn from_all(near: Near, n: usize) -> DistanceMatrix
     requires { ⌜ ((xs : List ℕ) × Ready n xs near) ⌝ }
     ensures { λ r. ⌜ ((xs : List ℕ) → Ready n xs near → r ≡ rowsOf n xs) ⌝ }
 {

@@ -30,15 +30,15 @@ pub record Deck : Type 0 where
   pub sheet : ℕ
 
 -- What may stand first is a block, then a block or the last kind; after the assembly, in a deck to be judged, the sheet.
-abbrev pub kindsAfter : Kind → List BlockAt → List Kind
-kindsAfter last [] = blockKind ∷ []
-kindsAfter last (b ∷ bs) = blockKind ∷ last ∷ []
+abbrev pub kindsAfter : List BlockAt → Kind → List Kind
+kindsAfter [] last = blockKind ∷ []
+kindsAfter (b ∷ bs) last = blockKind ∷ last ∷ []
 
 abbrev pub sheetKinds : List Kind
 sheetKinds = sheetKind ∷ []
 
 -- what the block record at a place says
-unfoldable pub blockAt : List ℕ → ℕ → BlockAt
+abbrev pub blockAt : List ℕ → ℕ → BlockAt
 blockAt d at = record { number = le16 d (at + 4); start = at + 4; atoms = le16 d (at + 6); bonds = le16 d (at + 8) }
 
 -- the same refusal at another place
@@ -47,11 +47,11 @@ moved place (refused r) = refused (refusal (r .number) (place r))
 moved place (read u) = read u
 
 -- the place of a block's refusal, by its record's first byte
-unfoldable pub blockPlace : ℕ → Refusal → ℕ
+abbrev pub blockPlace : ℕ → Refusal → ℕ
 blockPlace at r = at
 
 -- the place of an assembly's refusal: the placement's first byte, or the record's
-unfoldable pub placementPlace : ℕ → Refusal → ℕ
+abbrev pub placementPlace : ℕ → Refusal → ℕ
 placementPlace at r = at + 6 * r .place
 
 -- 14 and the block's own of the block record at a place, after the blocks of `done`
@@ -61,31 +61,30 @@ blockReplyAt d at done =
     refuseIf (eqb (b .number) 0 || used done (b .number) || leb mostBlocks (length done)) 14 at then λ _.
     moved (blockPlace at) (blockReply (b .atoms) (bondBytes d b))
 
--- 15 to 19 of the assembly record at a place
-unfoldable pub assemblyReplyAt : List BlockAt → List ℕ → ℕ → Read (Unit {0})
-assemblyReplyAt blocks d at = moved (placementPlace at) (assemblyReply (bookOf d blocks) (payloadAt d at))
-
--- the blocks, and the first byte of the record after them
-pub record Blocks : Type 0 where
-  pub blocks : List BlockAt
-  pub next : ℕ
-
 -- the first where a test holds, else the second; the other is not computed
 abbrev pub ifElse : {A : Type 0} → Bool → (Unit {0} → A) → (Unit {0} → A) → A
 ifElse true f g = f tt
 ifElse false f g = g tt
 
+-- a deck whose blocks end before the record at a place
+abbrev pub deckAt : List ℕ → List BlockAt → ℕ → Deck
+deckAt d blocks at = record { blocks = blocks; assembly = at; placements = placementCount (payloadAt d at); sheet = endAt d at }
+
 -- Blocks from a place on, after those of `done`, up to a record of the kind `last`. There is fuel for one turn more than blocks, so it lasts.
-unfoldable pub blocksFrom : ℕ → Kind → List ℕ → ℕ → List BlockAt → Read Blocks
+unfoldable pub blocksFrom : ℕ → Kind → List ℕ → ℕ → List BlockAt → Read Deck
 blocksFrom zero last d at done = refused (refusal 14 at)
 blocksFrom (suc fuel) last d at done =
-    recordReply (kindsAfter last done) d at then λ _.
+    recordReply (kindsAfter done last) d at then λ _.
     ifElse (eqb (kindAt d at) (blockKind .number))
     (λ _. blockReplyAt d at done then λ _. blocksFrom fuel last d (endAt d at) (done ++ blockAt d at ∷ []))
-    (λ _. read (record { blocks = done; next = at }))
+    (λ _. read (deckAt d done at))
 
-unfoldable pub blocksReply : Kind → List ℕ → Read Blocks
+unfoldable pub blocksReply : Kind → List ℕ → Read Deck
 blocksReply last d = blocksFrom (suc mostBlocks) last d 0 []
+
+-- 15 to 19 of its assembly
+unfoldable pub assemblyReplyAt : List ℕ → List BlockAt → ℕ → Read (Unit {0})
+assemblyReplyAt d blocks at = moved (placementPlace at) (assemblyReply (bookOf d blocks) (payloadAt d at))
 
 -- after the last record nothing follows
 unfoldable pub endReply : List ℕ → ℕ → Read (Unit {0})
@@ -98,10 +97,10 @@ sheetReply Judged d at = recordReply sheetKinds d at then λ _. endReply d (endA
 unfoldable pub deckReply : Form → List ℕ → Read Deck
 deckReply form d =
     refuseIf (ltb longestDeck (length d)) 20 0 then λ _.
-    blocksReply assemblyKind d then λ b.
-    assemblyReplyAt (b .blocks) d (b .next) then λ _.
-    sheetReply form d (endAt d (b .next)) then λ _.
-    read (record { blocks = b .blocks; assembly = b .next; placements = placementCount (payloadAt d (b .next)); sheet = endAt d (b .next) })
+    blocksReply assemblyKind d then λ k.
+    assemblyReplyAt d (k .blocks) (k .assembly) then λ _.
+    sheetReply form d (k .sheet) then λ _.
+    read k
 
 -- the payload of the block of a number, and nothing where there is no such block
 unfoldable pub payload : List ℕ → List BlockAt → ℕ → List ℕ

@@ -14,7 +14,7 @@ use Rattle.records.specs.Bytes.{little}
 use Rattle.records.specs.Records.{kindReply, lengthReply, recordReply}
 use Rattle.assembly.specs.Book.{find, bookOf}
 use Rattle.assembly.specs.Placements.{placementAt, joinOf, joinEnds, joinsOn, bondsOn, firstFault, parentFault, joinFault, laterFault, fault, placedReply, assemblyReply}
-use Rattle.deck.specs.Deck.{longestDeck, Deck, blockAt, blockPlace, placementPlace, blockReplyAt, assemblyReplyAt, blocksFrom, blocksReply, endReply, sheetReply, deckReply, payload, blockPart}
+use Rattle.deck.specs.Deck.{longestDeck, Deck, blockReplyAt, assemblyReplyAt, blocksFrom, blocksReply, endReply, sheetReply, deckReply, payload, blockPart}
 use Rattle.deck.specs.Molecule.{placedIn, graphAt, joinAt, moleculeOf, fieldsOf, sheetOf, fieldsAt, claimedAt}
 use Rattle.deck.specs.declared.Form.{Form}
 use Rattle.deck.specs.declared.Form.the-variants.{Composed, Judged}
@@ -66,7 +66,7 @@ said (refused r) = r .number ∷ r .place ∷ []
 said (read k) = []
 
 told : Form → List ℕ → List ℕ
-unfolding said joins anyJoins bonded anyAtom reaches firstFrom distance allAtoms connected degree sum bondsOf bondFault bondsReply blockReply little kindReply lengthReply recordReply find bookOf placementAt joinOf joinEnds joinsOn bondsOn firstFault parentFault joinFault laterFault fault placedReply assemblyReply blockAt blockPlace placementPlace blockReplyAt assemblyReplyAt blocksFrom blocksReply endReply sheetReply deckReply
+unfolding said joins anyJoins bonded anyAtom reaches firstFrom distance allAtoms connected degree sum bondsOf bondFault bondsReply blockReply little kindReply lengthReply recordReply find bookOf placementAt joinOf joinEnds joinsOn bondsOn firstFault parentFault joinFault laterFault fault placedReply assemblyReply blockReplyAt assemblyReplyAt blocksFrom blocksReply endReply sheetReply deckReply
 told form d = said (deckReply form d)
 
 -- the sheet of the molecule of a deck
@@ -75,7 +75,7 @@ sheetFor d (refused r) = []
 sheetFor d (read k) = sheetOf (moleculeOf d k)
 
 written-out : sheetFor document (deckReply Composed document) ≡ 12 ∷ 198 ∷ 96 ∷ 102 ∷ 14 ∷ []
-unfolding sheetFor document joins anyJoins bonded anyAtom reaches firstFrom distance allAtoms connected degree sum bondsOf bondFault bondsReply blockReply little kindReply lengthReply recordReply find bookOf placementAt joinOf joinEnds joinsOn bondsOn firstFault parentFault joinFault laterFault fault placedReply assemblyReply blockAt blockPlace placementPlace blockReplyAt assemblyReplyAt blocksFrom blocksReply endReply sheetReply deckReply shifted joined startAt written sumPairs evenOf oddOf isAt total indicesOf placedIn graphAt joinAt moleculeOf fieldsOf sheetOf
+unfolding sheetFor document joins anyJoins bonded anyAtom reaches firstFrom distance allAtoms connected degree sum bondsOf bondFault bondsReply blockReply little kindReply lengthReply recordReply find bookOf placementAt joinOf joinEnds joinsOn bondsOn firstFault parentFault joinFault laterFault fault placedReply assemblyReply blockReplyAt assemblyReplyAt blocksFrom blocksReply endReply sheetReply deckReply shifted joined startAt written sumPairs evenOf oddOf isAt total indicesOf placedIn graphAt joinAt moleculeOf fieldsOf sheetOf
 written-out = refl
 
 same-bytes : document ≡ ring ++ assembly 2 (first ++ joinTo 1 1 1)
@@ -161,7 +161,7 @@ too-long form d h = rw (lt-ltb longestDeck (length d) h)
 
 -- the lookup: the payload in either form, nothing for another number, nothing of a refused deck
 looked : List ℕ → ℕ → List ℕ
-unfolding joins anyJoins bonded anyAtom reaches firstFrom distance allAtoms connected degree sum bondsOf bondFault bondsReply blockReply little kindReply lengthReply recordReply find bookOf placementAt joinOf joinEnds joinsOn bondsOn firstFault parentFault joinFault laterFault fault placedReply assemblyReply blockAt blockPlace placementPlace blockReplyAt assemblyReplyAt blocksFrom blocksReply endReply sheetReply deckReply payload blockPart
+unfolding joins anyJoins bonded anyAtom reaches firstFrom distance allAtoms connected degree sum bondsOf bondFault bondsReply blockReply little kindReply lengthReply recordReply find bookOf placementAt joinOf joinEnds joinsOn bondsOn firstFault parentFault joinFault laterFault fault placedReply assemblyReply blockReplyAt assemblyReplyAt blocksFrom blocksReply endReply sheetReply deckReply payload blockPart
 looked d x = blockPart d x
 
 lookups :

@@ -2,8 +2,12 @@
 use Prim.Native.Nat.{ℕ}
 use mathlib.Core.List.{List, [], _++_}
 use lib.ListN.{length, drop, replicate}
-use Rattle.block.specs.Read.{Read, refused, read}
+use Rattle.block.specs.Read.{Read, refused, read, refusal}
+use Rattle.block.specs.declared.Refusal.{Refusal}
+use Rattle.block.specs.declared.Reply.{Reply}
 use Rattle.block.specs.declared.Reply.the-variants.{Fine, Refused}
+use Rattle.records.specs.Records.{payloadAt, endAt}
+use Rattle.assembly.specs.Placements.{placementCount}
 use Rattle.assembly.specs.declared.BlockAt.{BlockAt}
 use Rattle.assembly.specs.Book.{noBlock}
 use Rattle.deck.specs.Deck.{Deck, mostBlocks}
@@ -20,6 +24,21 @@ layoutOf k = record { count = length (k .blocks); blocks = tableOf (k .blocks); 
 abbrev pub nothing : Deck
 nothing = record { blocks = []; assembly = 0; placements = 0; sheet = 0 }
 
+abbrev pub refusedDeck : Reply → DeckRead
+refusedDeck r = record { reply = r; layout = layoutOf nothing }
+
+-- one with a table of blocks, of which `count` are there
+abbrev pub tabledDeck : List ℕ → List BlockAt → ℕ → ℕ → DeckRead
+tabledDeck d table count at = record {
+  reply = Fine;
+  layout = record { count = count; blocks = table; assembly = at; placements = placementCount (payloadAt d at); sheet = endAt d at };
+}
+
 abbrev pub saidDeck : Read Deck → DeckRead
-saidDeck (refused r) = record { reply = Refused r; layout = layoutOf nothing }
+saidDeck (refused r) = refusedDeck (Refused r)
 saidDeck (read k) = record { reply = Fine; layout = layoutOf k }
+
+-- a reply at another place
+abbrev pub movedReply : (Refusal → ℕ) → Reply → Reply
+movedReply place Fine = Fine
+movedReply place (Refused r) = Refused (refusal (r .number) (place r))

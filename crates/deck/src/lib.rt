@@ -1,7 +1,32 @@
 // The deck: its records one after the other, and the lookup of a block.
+ghost use mathlib.Core.Path.{_≡_};
+ghost use mathlib.Core.Bool.{_||_, cond};
+ghost use Prim.Native.Nat.{_+_, _≤_};
+ghost use lib.Dec.{eqb, leb};
+ghost use lib.ListN.{length, take};
+ghost use Rattle.block.specs.Block.{saidBlock};
+ghost use Rattle.records.specs.Records.{blockKind, payloadAt, endAt};
+ghost use Rattle.assembly.specs.Book.{used};
+ghost use Rattle.assembly.specs.Placements.{mostPlacements, placementAt};
+ghost use Rattle.deck.specs.Deck.{mostBlocks, longestDeck, blockAt, blockPlace, placementPlace, blockReplyAt, assemblyReplyAt, blocksReply, endReply, sheetReply, deckReply, payload, blockPart};
+ghost use Rattle.deck.specs.Molecule.{claimedAt, saidFields};
+ghost use Rattle.deck.specs.Said.{refusedDeck, tabledDeck, movedReply, saidDeck};
 use assembly::BLOCKS;
 use assembly::BlockAt;
+use assembly::Placement;
+use block::Indices;
+use block::Refusal;
 use block::Reply;
+use records::ASSEMBLY;
+use records::BLOCK;
+use records::Kind;
+use records::SHEET;
+use records::le16_at;
+use records::le32_at;
+use records::le64_at;
+use records::part;
+use records::payload_at;
+use records::record_at;
 
 // The most bytes of a deck.
 pub const LONGEST: usize = 32768;
@@ -25,4 +50,292 @@ pub struct Layout {
 pub struct DeckRead {
     pub reply: Reply,
     pub layout: Layout,
+}
+
+// The place of a block's refusal in a deck, by its record's first byte.
+fn block_place(at: usize, r: Refusal) -> usize
+    ensures { λ p. ⌜ p ≡ blockPlace at r ⌝ }
+{
+    at
+}
+
+fn block_moved(at: usize, reply: Reply) -> Reply
+    ensures { λ r. ⌜ r ≡ movedReply (blockPlace at) reply ⌝ }
+{
+    match reply {
+        Reply::Fine => Reply::Fine,
+        Reply::Refused(r) => Reply::Refused(Refusal {
+            number: r.number,
+            place: block_place(at, r),
+        }),
+    }
+}
+
+// The place of an assembly's refusal in a deck: the placement's first byte, or the record's.
+fn placement_place(at: usize, r: Refusal) -> usize
+    requires { ⌜ (at ≤ longestDeck) × (r .place ≤ mostPlacements) ⌝ }
+    ensures { λ p. ⌜ p ≡ placementPlace at r ⌝ }
+{
+    at + 6 * r.place
+}
+
+// What the block record at a place says.
+fn block_at(d: &[u8], at: usize) -> BlockAt
+    requires { ⌜ at ≤ length (now d) ⌝ }
+    ensures { λ r. ⌜ r ≡ blockAt (now (d .entry)) at ⌝ }
+{
+    BlockAt {
+        number: le16_at(d, at + 4),
+        start: at + 4,
+        atoms: le16_at(d, at + 6),
+        bonds: le16_at(d, at + 8),
+    }
+}
+
+// Whether a block's number is 0 or was used before, or there is no room for a block.
+fn is_unfit(blocks: [BlockAt; BLOCKS], count: usize, number: usize) -> bool
+    requires { ⌜ count ≤ mostBlocks ⌝ }
+    ensures { λ r. ⌜ r ≡ (eqb number 0 || used (take count blocks) number || leb mostBlocks (length (take count blocks))) ⌝ }
+{
+    if number == 0 {
+        return true;
+    }
+    if assembly::is_numbered(assembly::find_block(blocks, count, number), number) {
+        return true;
+    }
+    BLOCKS <= count
+}
+
+// Refusal 14 and the block's own of the record at a place, after the first `count` blocks.
+fn block_reply(d: &[u8], at: usize, b: BlockAt, blocks: [BlockAt; BLOCKS], count: usize) -> Reply
+    requires { ⌜ (count ≤ mostBlocks) × (b ≡ blockAt (now d) at) ⌝ }
+    ensures { λ r. ⌜ r ≡ saidBlock (blockReplyAt (now (d .entry)) at (take count blocks)) ⌝ }
+{
+    if is_unfit(blocks, count, b.number as usize) {
+        return Reply::Refused(Refusal {
+            number: 14,
+            place: at,
+        });
+    }
+    let bonds = assembly::bonds_part(d, b);
+    block_moved(at, block::check(b.atoms as usize, bonds))
+}
+
+// The second kind that may stand after `count` blocks.
+fn second_kind(count: usize, last: Kind) -> Kind
+    ensures { λ r. ⌜ r ≡ cond (eqb count 0) blockKind last ⌝ }
+{
+    if count == 0 {
+        return BLOCK;
+    }
+    last
+}
+
+fn deck_refused(reply: Reply) -> DeckRead
+    ensures { λ r. ⌜ r ≡ refusedDeck reply ⌝ }
+{
+    let none = BlockAt {
+        number: 0,
+        start: 0,
+        atoms: 0,
+        bonds: 0,
+    };
+    let blocks = [none; BLOCKS];
+    let layout = Layout {
+        count: 0,
+        blocks,
+        assembly: 0,
+        placements: 0,
+        sheet: 0,
+    };
+    DeckRead { reply, layout }
+}
+
+// A deck whose first `count` blocks end before the record at a place.
+fn deck_at(d: &[u8], blocks: [BlockAt; BLOCKS], count: usize, at: usize) -> DeckRead
+    requires { ⌜ at ≤ length (now d) ⌝ }
+    ensures { λ r. ⌜ r ≡ tabledDeck (now (d .entry)) blocks count at ⌝ }
+{
+    let xs = payload_at(d, at);
+    let layout = Layout {
+        count,
+        blocks,
+        assembly: at,
+        placements: le16_at(xs, 0) as usize,
+        sheet: at + 4 + (le16_at(d, at) as usize),
+    };
+    DeckRead {
+        reply: Reply::Fine,
+        layout,
+    }
+}
+
+// The blocks of a deck, up to a record of the kind `last`.
+fn read_blocks(d: &[u8], last: Kind) -> DeckRead
+    ensures { λ r. ⌜ r ≡ saidDeck (blocksReply last (now (d .entry))) ⌝ }
+{
+    let none = BlockAt {
+        number: 0,
+        start: 0,
+        atoms: 0,
+        bonds: 0,
+    };
+    let mut blocks = [none; BLOCKS];
+    let mut count = 0;
+    let mut next = 0;
+    loop {
+        let r = record_at(d, next, BLOCK, second_kind(count, last));
+        let Reply::Fine = r else {
+            return deck_refused(r);
+        };
+        if le16_at(d, next + 2) != BLOCK.number {
+            return deck_at(d, blocks, count, next);
+        }
+        let b = block_at(d, next);
+        let s = block_reply(d, next, b, blocks, count);
+        let Reply::Fine = s else {
+            return deck_refused(s);
+        };
+        blocks[count] = b;
+        count += 1;
+        next = next + 4 + (le16_at(d, next) as usize);
+    }
+}
+
+// Refusals 15 to 19 of the assembly record at a place, over the first `count` blocks.
+fn assembly_reply(d: &[u8], at: usize, blocks: [BlockAt; BLOCKS], count: usize) -> Reply
+    requires { ⌜ at ≤ longestDeck ⌝ }
+    ensures { λ r. ⌜ r ≡ saidBlock (assemblyReplyAt (now (d .entry)) (take count blocks) at) ⌝ }
+{
+    let xs = payload_at(d, at);
+    let reply = assembly::check(d, blocks, count, xs);
+    match reply {
+        Reply::Fine => Reply::Fine,
+        Reply::Refused(r) => Reply::Refused(Refusal {
+            number: r.number,
+            place: placement_place(at, r),
+        }),
+    }
+}
+
+// After the last record nothing follows.
+fn end_reply(d: &[u8], at: usize) -> Reply
+    ensures { λ r. ⌜ r ≡ saidBlock (endReply (now (d .entry)) at) ⌝ }
+{
+    if at < d.len() {
+        return Reply::Refused(Refusal {
+            number: 11,
+            place: at,
+        });
+    }
+    Reply::Fine
+}
+
+// What follows the assembly: in a deck to be judged a sheet, and then nothing.
+fn sheet_reply(form: Form, d: &[u8], at: usize) -> Reply
+    ensures { λ r. ⌜ r ≡ saidBlock (sheetReply form (now (d .entry)) at) ⌝ }
+{
+    let Form::Judged = form else {
+        return end_reply(d, at);
+    };
+    let r = record_at(d, at, SHEET, SHEET);
+    let Reply::Fine = r else {
+        return r;
+    };
+    end_reply(d, at + 4 + (le16_at(d, at) as usize))
+}
+
+// What a deck says: record by record, each taken or refused with its place.
+pub fn read_deck(d: &[u8], form: Form) -> DeckRead
+    ensures { λ r. ⌜ r ≡ saidDeck (deckReply form (now (d .entry))) ⌝ }
+{
+    if LONGEST < d.len() {
+        return deck_refused(Reply::Refused(Refusal {
+            number: 20,
+            place: 0,
+        }));
+    }
+    let k = read_blocks(d, ASSEMBLY);
+    let first = k.reply;
+    let Reply::Fine = first else {
+        return k;
+    };
+    let layout = k.layout;
+    let blocks = layout.blocks;
+    let a = assembly_reply(d, layout.assembly, blocks, layout.count);
+    let Reply::Fine = a else {
+        return deck_refused(a);
+    };
+    let s = sheet_reply(form, d, layout.sheet);
+    let Reply::Fine = s else {
+        return deck_refused(s);
+    };
+    k
+}
+
+// The payload of the block of a number among the first `count`, and nothing where there is no such block.
+fn payload_of(d: &[u8], blocks: [BlockAt; BLOCKS], count: usize, number: usize) -> &[u8]
+    ensures { λ r. ⌜ now r ≡ payload (now (d .entry)) (take count blocks) number ⌝ }
+{
+    let b = assembly::find_block(blocks, count, number);
+    if !assembly::is_numbered(b, number) {
+        return &d[..0];
+    }
+    part(d, b.start, 6 + 2 * (b.bonds as usize))
+}
+
+// The part of a deck that holds the payload of a block: empty exactly where the deck is refused in both forms or has no such block.
+pub fn block_part(d: &[u8], number: usize) -> &[u8]
+    ensures { λ r. ⌜ now r ≡ blockPart (now (d .entry)) number ⌝ }
+{
+    let k = read_deck(d, Form::Composed);
+    let composed = k.reply;
+    let Reply::Fine = composed else {
+        let j = read_deck(d, Form::Judged);
+        let judged = j.reply;
+        let Reply::Fine = judged else {
+            return &d[..0];
+        };
+        let layout = j.layout;
+        let blocks = layout.blocks;
+        return payload_of(d, blocks, layout.count, number);
+    };
+    let layout = k.layout;
+    let blocks = layout.blocks;
+    payload_of(d, blocks, layout.count, number)
+}
+
+// The placement at an index from 0 of the assembly record at a place.
+pub fn placement(d: &[u8], assembly: usize, k: usize) -> Placement
+    ensures { λ r. ⌜ r ≡ placementAt (payloadAt (now (d .entry)) assembly) k ⌝ }
+{
+    let xs = payload_at(d, assembly);
+    assembly::placement_at(xs, k)
+}
+
+// The five fields that the sheet record at a place claims.
+pub fn claimed(d: &[u8], sheet: usize) -> Indices
+    ensures { λ r. ⌜ r ≡ saidFields (claimedAt (now (d .entry)) sheet) ⌝ }
+{
+    if d.len() < sheet {
+        return Indices {
+            atoms: 0,
+            w: 0,
+            even: 0,
+            odd: 0,
+            polarity: 0,
+        };
+    }
+    let atoms = sheet + 4;
+    let w = atoms + 4;
+    let even = w + 8;
+    let odd = even + 8;
+    let polarity = odd + 8;
+    Indices {
+        atoms: le32_at(d, atoms) as u64,
+        w: le64_at(d, w),
+        even: le64_at(d, even),
+        odd: le64_at(d, odd),
+        polarity: le64_at(d, polarity),
+    }
 }

@@ -55,6 +55,10 @@ shown r t room is =
     let e : length (padded t) ≡ longest = length-padded t room in
     (is, rw is (omega arith, sym (ap length (take-append-seam t (zeros (longest - length t))))))
 
+-- the line of a value that is known to be w
+pub case : {A : Type 0} (text : A → List ℕ) (v w : A) (r : Line) → length (text v) ≤ longest → v ≡ w → r ≡ lined (text w) → (r ≡ lined (text v)) × Counts (r .len) (r .text)
+case text v w r room e is = shown r (text v) room (rw e is)
+
 -- one word pasted behind the other
 pub paste-twice : (d v w : List ℕ) (n : ℕ) → n ≤ length d → paste (paste d n v (length v)) (n + length v) w (length w) ≡ take n d ++ (v ++ w) ++ drop (n + length (v ++ w)) d
 paste-twice d v w n h =

@@ -5,7 +5,7 @@ ghost use Prim.Native.Nat.{_+_, _≤_};
 ghost use lib.ListN.{length};
 ghost use Rattle.block.specs.Block.{saidBlock};
 ghost use Rattle.records.specs.Bytes.{byteAt, little, le16, part};
-ghost use Rattle.records.specs.Records.{lengthReply, recordReply};
+ghost use Rattle.records.specs.Records.{payloadAt, lengthReply, recordReply};
 use block::Refusal;
 use block::Reply;
 
@@ -86,6 +86,16 @@ pub fn part(d: &[u8], from: usize, len: usize) -> &[u8]
     }
     let to = from + len;
     &d[from..to]
+}
+
+// The payload of the record at a place.
+pub fn payload_at(d: &[u8], at: usize) -> &[u8]
+    ensures { λ r. ⌜ now r ≡ payloadAt (now (d .entry)) at ⌝ }
+{
+    if d.len() < at {
+        return &d[..0];
+    }
+    part(d, at + 4, le16_at(d, at) as usize)
 }
 
 // Refusal 13 of the record at a place, which is of a kind.

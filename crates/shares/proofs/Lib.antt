@@ -5,3 +5,9 @@ pub mod Chains
 pub mod Sweeping
 pub mod Counting
 pub mod Tallying
+pub mod Entries
+pub mod Flowing
+pub mod Listing
+pub mod Starting
+pub mod Blocks
+pub mod Reply

@@ -46,6 +46,12 @@ grown row j x G i h e =
     one-more j (λ k l. getD-set-other row (j + 1) (suc k) x 0 (λ z. omega arith) ∙ h k l)
     (let z : suc j ≡ j + 1 = omega arith in ap (λ (k : ℕ). at (set row (j + 1) x) k) z ∙ getD-set-same row (j + 1) x 0 i ∙ e)
 
+-- the same, for a row that has G at the seats of the atoms 1 to v
+pub seated-next : (row : List ℕ) (v x : ℕ) (G : ℕ → ℕ) → v + 1 < length row → ((u : ℕ) → Within v u → at row u ≡ G u) → x ≡ G (v + 1)
+    → (u : ℕ) → Within (v + 1) u → at (set row (v + 1) x) u ≡ G u
+seated-next row v x G i h e u w =
+    ⊎-elim (λ q. q .1 ∙ e ∙ ap G (sym (q .0))) (λ q. q .1 ∙ h u (record { low = w .low; high = omega (arith, q .0) })) (after-store row (v + 1) x u i)
+
 -- what holds of the places 0 to n - 1 holds of the atoms 1 to n
 pub of-places : (P : ℕ → Type 0) (n : ℕ) → ((j : ℕ) → j < n → P (suc j)) → (v : ℕ) → Within n v → P v
 of-places P n h zero w = absurd (omega arith)

@@ -1,13 +1,14 @@
 -- What the arrays of the work hold, atom by atom. No promise cites this.
-use Prim.Native.Nat.{ℕ, suc, _+_, _*_, _-_, min, _≤_, _<_}
+use Prim.Native.Nat.{ℕ, suc, _+_, _*_, _/_, min, _≤_, _<_}
 use mathlib.Core.Bool.{Bool, true, false, _&&_, cond}
 use mathlib.Core.List.{List, []}
 use mathlib.Core.Path.{_≡_}
 use lib.Dec.{eqb}
 use lib.ListN.{length, getD}
-use Rattle.graph.specs.Graph.{Graph, Bond, Within, Molecule, distance, sum}
-use Rattle.paths.specs.Notions.{Plain}
-use Rattle.block.specs.Block.{mostAtoms}
+use Rattle.graph.specs.Graph.{Graph, Bond, bond, Within, Molecule, distance, sum}
+use Rattle.paths.specs.Paths.{pathCount, pathsUsing, denominator}
+use Rattle.paths.specs.Notions.{Plain, weight, gathered}
+use Rattle.block.specs.Block.{mostAtoms, bondsOf, graphOf}
 use Rattle.shares.specs.Reply.{most}
 
 -- where path counts stop, just above the most that D may be, and where what is gathered stops
@@ -92,3 +93,38 @@ pub record Tally (n : ℕ) (f : ℕ → ℕ) (m : ℕ) (c : List ℕ) (before : 
   pub positive : (v : ℕ) → Within n v → 0 < f v
   pub first : 0 < m
   pub capped : before ≡ min cap m
+
+-- bond k of the bytes, from 0
+abbrev pub bondAt : List ℕ → ℕ → Bond
+bondAt xs k = bond (getD xs (2 * k) 0) (getD xs (2 * k + 1) 0)
+
+-- what bond e answers for, over d, in the pairs of i and a later atom
+abbrev pub carried : Graph → ℕ → ℕ → Bond → ℕ
+carried g i d e = sum (g .atoms) (λ j. pathsUsing g e i j * weight g d i j)
+
+-- a block that is not refused, and its D
+pub record Whole (n : ℕ) (xs : List ℕ) (d : ℕ) : Type 0 where
+  pub small : n ≤ mostAtoms
+  pub molecule : Molecule (graphOf n xs)
+  pub plain : Plain n (bondsOf xs)
+  pub is : d ≡ denominator (graphOf n xs)
+  pub low : d ≤ most
+
+-- the rows of one start: distances, counts, and what is gathered
+pub record Ready (n : ℕ) (xs row c t : List ℕ) (i d : ℕ) : Type 0 where
+  pub whole : Whole n xs d
+  pub far : Shows n (distance (graphOf n xs) i) row
+  pub start : Within n i
+  pub counts : Holds n cap (pathCount (graphOf n xs) i) c
+  pub passed : Holds n full (gathered (graphOf n xs) i (weight (graphOf n xs) d i)) t
+
+-- the lent entries have room for the bonds, and each can grow
+pub record Room (xs out : List ℕ) : Type 0 where
+  pub room : length xs / 2 ≤ length out
+  pub low : (k : ℕ) → k < length xs / 2 → getD out k 0 ≤ mostAtoms * full
+
+-- the first m entries are F's, and the others are as they were
+pub record Filled (m : ℕ) (F : ℕ → ℕ) (old new : List ℕ) : Type 0 where
+  pub same : length new ≡ length old
+  pub first : (k : ℕ) → k < m → getD new k 0 ≡ F k
+  pub kept : (k : ℕ) → m ≤ k → getD new k 0 ≡ getD old k 0

@@ -1,9 +1,18 @@
 // Bond contributions: path counts, the common denominator D, and what each bond answers for, one starting atom at a time.
 ghost use mathlib.Core.Path.{_≡_};
+ghost use Prim.Native.Nat.{ℕ, suc, _<_, _≤_};
+ghost use lib.Dec.{eqb};
+ghost use lib.ListN.{length};
+ghost use Rattle.block.specs.Read.{read, refusal};
+ghost use Rattle.block.specs.Block.{mostAtoms, blockReply};
+ghost use Rattle.shares.specs.Reply.{sharesReply, saidShares, sharesEntries};
+ghost use Rattle.shares.specs.Work.{listOf, Shows, Listed};
 use block::ATOMS;
 use block::Refusal;
+use block::Reply;
 
 mod common;
+mod flows;
 mod sweeps;
 
 // A seat for each atom, numbered from 1; seat 0 is free.
@@ -27,4 +36,60 @@ pub enum Shares {
 struct Chain {
     pub last: [u8; SEATS],
     pub before: [u8; SEATS],
+}
+
+// The neighbours of each atom, by the rows.
+fn neighbours(n: usize, rows: &[[u8; ATOMS]; ATOMS]) -> [[u8; SEATS]; SEATS]
+    requires { ⌜ n ≤ mostAtoms ⌝ }
+    ensures { λ r. ⌜
+        ((i : ℕ) → i < n → (d : ℕ → ℕ) → Shows n d (listOf (now (rows .entry)) i) → Listed n (λ w. eqb (d w) 1) (listOf r (suc i)))
+        ⌝ }
+{
+    let mut near = [[0u8; SEATS]; SEATS];
+    let mut i = 0;
+    while i < n {
+        let list = sweeps::beside(n, &rows[i]);
+        near[i + 1] = list;
+        i += 1;
+    }
+    near
+}
+
+// A refusal at place 0.
+fn refused(number: usize) -> Shares
+    ensures { λ r. ⌜ r ≡ Shares.Refused (refusal number 0) ⌝ }
+{
+    Shares::Refused(Refusal { number, place: 0 })
+}
+
+// The answer for a block that is not refused.
+fn answered(n: usize, bonds: &[u8], out: &mut [u64]) -> Shares
+    requires { ⌜ blockReply n (now bonds) ≡ read tt ⌝ }
+    ensures reply { λ r. ⌜ r ≡ saidShares (sharesReply n (now (bonds .entry)) (length (now (out .entry)))) ⌝ }
+    ensures entries { λ _. ⌜ now (out .exit) ≡ sharesEntries n (now (bonds .entry)) (now (out .entry)) ⌝ }
+{
+    if out.len() < bonds.len() / 2 {
+        return refused(9);
+    }
+    let rows = block::rows(n, bonds);
+    let near = neighbours(n, &rows);
+    let d = common::denominator(n, &near, &rows);
+    if MOST < d {
+        return refused(8);
+    }
+    flows::fill(n, bonds, &near, &rows, d, out);
+    Shares::Denominator(d)
+}
+
+// The contributions of a block's bonds. The reply is D; the entry of each bond, in list order, is D times its contribution, and later entries
+// stay. Or it is a refusal, and no entry changes: the block's, then 9 where there are fewer entries than bonds, then 8 where D is above the most.
+pub fn contributions(n: usize, bonds: &[u8], out: &mut [u64]) -> Shares
+    ensures reply { λ r. ⌜ r ≡ saidShares (sharesReply n (now (bonds .entry)) (length (now (out .entry)))) ⌝ }
+    ensures entries { λ _. ⌜ now (out .exit) ≡ sharesEntries n (now (bonds .entry)) (now (out .entry)) ⌝ }
+{
+    let reply = block::check(n, bonds);
+    match reply {
+        Reply::Refused(refusal) => Shares::Refused(refusal),
+        Reply::Fine => answered(n, bonds, out),
+    }
 }

@@ -16,7 +16,7 @@ ghost use Rattle.paths.specs.Notions.{gathered};
 ghost use Rattle.block.specs.Block.{mostAtoms};
 ghost use Rattle.shares.specs.Work.{cap, full, at, Shows, Listed, Chained, Keyed, Ordered, Rule, Holds, graph, Start};
 
-fn wide(x: u8) -> usize
+pub(crate) fn wide(x: u8) -> usize
     ensures { λ r. ⌜ (r ≡ x) × (r < 256) ⌝ }
 {
     x as usize

@@ -9,7 +9,7 @@ use Rattle.block.specs.Block.{isOutside, saidBlock}
 use Rattle.block.specs.declared.Reply.the-variants.{Refused}
 use Rattle.assembly.specs.Book.{Book, bookOf}
 use Rattle.assembly.specs.Placements.{mostPlacements, placementCount, placementAt, placedReply, assemblyReply}
-use Rattle.assembly.specs.Sound.{within}
+use Rattle.block.specs.Faults.{inside}
 use Rattle.assembly.proofs.Faults.{faulty, faultless, none-left, count-outside, count-within}
 use Rattle.assembly.proofs.check.Statement.{statement}
 use Rattle.assembly.proofs.check.Tie as tie
@@ -28,7 +28,7 @@ outside-is : (c : tie.After-is-outside Inv-loop μ-loop) → let s = c .before .
 outside-is c = c .is-outside .ensures ∙ ap (isOutside mostPlacements) (c .before .le16-at .ensures)
 
 few : (c : tie.Else1 Inv-loop μ-loop) → c .before .before .le16-at .result ≤ mostPlacements
-few c = within mostPlacements (c .before .before .le16-at .result) (sym (c .before .is-outside .ensures) ∙ c .if1 .left) .high
+few c = inside mostPlacements (c .before .before .le16-at .result) (sym (c .before .is-outside .ensures) ∙ c .if1 .left) .high
 
 -- what is left to do, one placement at least
 left : (c : tie.In-loop Inv-loop μ-loop) → let l = c .before in let s = l .before .before .before .before .before .before in let k = l .loop .k in

@@ -6,7 +6,7 @@ use borrow.Author.Needs.{needs}
 use Rattle.block.specs.Block.{isOutside}
 use Rattle.assembly.specs.Book.{find, blockGraph, bookOf}
 use Rattle.assembly.specs.Placements.{placementAt, joinOn, parentFault, joinFault}
-use Rattle.assembly.specs.Sound.{within}
+use Rattle.block.specs.Faults.{inside}
 use Rattle.assembly.specs.declared.BlockAt.{BlockAt}
 use Rattle.assembly.specs.declared.Placement.{Placement}
 use Rattle.assembly.proofs.Faults.{no-parent, has-parent}
@@ -51,7 +51,7 @@ returns c = let s = c .before .before .before .before .before .before .before in
     ∙ sym (no-parent (bookOf (s .args .d .now) (blocks s)) (placed s) (s .args .k) (sym (outside-is (c .before .before)) ∙ c .before .if1 .taken))
 
 sub-placement-at : tie.Need-sub-placement-at
-sub-placement-at c = within (c .before .before .before .before .before .before .args .k) (c .before .before .before .placement-at .result .parent) (sym (c .before .is-outside .ensures) ∙ c .if1 .left) .low
+sub-placement-at c = inside (c .before .before .before .before .before .before .args .k) (c .before .before .before .placement-at .result .parent) (sym (c .before .is-outside .ensures) ∙ c .if1 .left) .low
 
 placement-at-requires-2 : tie.Need-placement-at-requires-2
 placement-at-requires-2 c κs = search needs

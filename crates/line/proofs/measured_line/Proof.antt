@@ -1,8 +1,7 @@
 -- `line::measured_line` meets its contract: each case is its function's line.
-use mathlib.Core.Path.{sym, ap, _∙_}
-use Rattle.block.specs.declared.Measured.{Measured}
-use Rattle.line.specs.Text.{measuredText, lined}
-use Rattle.line.proofs.Lines.{shown}
+use Rattle.block.specs.declared.Measured.the-variants as measured
+use Rattle.line.specs.Text.{measuredText}
+use Rattle.line.proofs.Lines.{case}
 use Rattle.line.proofs.Fits.{measured-fit}
 use borrow.Author.Needs.{needs}
 use Rattle.line.proofs.measured_line.Statement.{statement}
@@ -23,12 +22,14 @@ indices-line-requires c κs = search needs
 returns : tie.Need-returns
 returns c =
     let m = c .before .before .before .before .args .m in
-    shown (c .refusal-line .result) (measuredText m) (measured-fit m) (c .refusal-line .ensures ∙ ap (λ (x : Measured). lined (measuredText x)) (sym (c .before .before .m .given .1)))
+    let is = c .before .before .m .given in
+    case measuredText m (measured.Refused (is .0 .0)) (c .refusal-line .result) (measured-fit m) (is .1) (c .refusal-line .ensures)
 
 returns-2 : tie.Need-returns-2
 returns-2 c =
     let m = c .before .before .before .before .args .m in
-    shown (c .indices-line .result) (measuredText m) (measured-fit m) (c .indices-line .ensures ∙ ap (λ (x : Measured). lined (measuredText x)) (sym (c .before .before .m2 .given .1)))
+    let is = c .before .before .m2 .given in
+    case measuredText m (measured.Of (is .0 .0)) (c .indices-line .result) (measured-fit m) (is .1) (c .indices-line .ensures)
 
 pub measured-line-spec : {M : Type 1} → statement M
 measured-line-spec =

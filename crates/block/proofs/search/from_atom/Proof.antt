@@ -74,14 +74,14 @@ add-k c = omega (arith, small (c .before .before .before))
 array-read-if3 : tie.Need-array-read-if3 Inv-loop μ-loop
 array-read-if3 c = omega (arith, small-w (c .before .before))
 
-sub-row : tie.Need-sub-row Inv-loop μ-loop
-sub-row c = omega (arith, small (c .before .before .before .before .before))
+sub-next : tie.Need-sub-next Inv-loop μ-loop
+sub-next c = omega (arith, small (c .before .before .before .before .before))
 
-array-read-row : tie.Need-array-read-row Inv-loop μ-loop
-array-read-row c = omega (arith, small (c .before .before .before .before .before))
+array-read-next : tie.Need-array-read-next Inv-loop μ-loop
+array-read-next c = omega (arith, small (c .before .before .before .before .before))
 
-add-row : tie.Need-add-row Inv-loop μ-loop
-add-row c = omega (arith, small (c .before .before .before .before .before))
+add-next : tie.Need-add-next Inv-loop μ-loop
+add-next c = omega (arith, small (c .before .before .before .before .before))
 
 array-write-row : tie.Need-array-write-row Inv-loop μ-loop
 array-write-row c = omega (arith, small-w (c .before .before .before))
@@ -155,9 +155,9 @@ from-atom-spec =
     sub-at
     add-k
     array-read-if3
-    sub-row
-    array-read-row
-    add-row
+    sub-next
+    array-read-next
+    add-next
     array-write-row
     array-write-order-2
     add-met

@@ -1,0 +1,20 @@
+use Prim.Native.Nat.{ℕ}
+use mathlib.Core.List.{List}
+use mathlib.Core.Path.{ap, _∙_}
+use borrow.Author.Needs.{needs}
+use Rattle.assembly.specs.Placements.{placementAt}
+use borrow.Author.Needs.{needs}
+use Rattle.deck.proofs.placement.Statement.{statement}
+use Rattle.deck.proofs.placement.Tie as tie
+
+payload-at-requires : tie.Need-payload-at-requires
+payload-at-requires c κs = search needs
+
+placement-at-requires : tie.Need-placement-at-requires
+placement-at-requires c κs = search needs
+
+returns : tie.Need-returns
+returns c = let a = c .before .before .before .args in c .placement-at .ensures ∙ ap (λ (xs : List ℕ). placementAt xs (a .k)) (c .before .payload-at .ensures)
+
+pub placement-spec : {M : Type 1} → statement M
+placement-spec = tie.close (tie.spec payload-at-requires placement-at-requires returns)

@@ -1,0 +1,93 @@
+use Prim.Native.Nat.{ℕ, _+_, _≤_}
+use mathlib.Core.Path.{_≡_, sym, ap, _∙_}
+use native.Mathlib.Omega.{arith}
+use lib.ListN.{length}
+use borrow.Author.Needs.{needs}
+use Rattle.block.specs.Read.{read}
+use Rattle.block.specs.Block.{saidBlock}
+use Rattle.records.specs.Records.{sheetKind, endAt, recordReply}
+use Rattle.records.specs.Taken.{fine-read, refused-read, taken}
+use Rattle.deck.specs.Deck.{sheetKinds, endReply, sheetReply}
+use Rattle.deck.specs.declared.Form.{Form}
+use Rattle.deck.proofs.Turns.{once}
+use Rattle.deck.proofs.Parts.{composed-end, no-sheet, sheet-end}
+use borrow.Author.Needs.{needs}
+use Rattle.deck.proofs.sheet_reply.Statement.{statement}
+use Rattle.deck.proofs.sheet_reply.Tie as tie
+
+record-is : (c : tie.After-record-at) → let a = c .before .before .before .before .args in c .record-at .result ≡ saidBlock (recordReply sheetKinds (a .d .now) (a .at))
+record-is c = let a = c .before .before .before .before .args in c .record-at .ensures ∙ ap saidBlock (once sheetKind (a .d .now) (a .at))
+
+fine : (c : tie.After-enum-told3) → let a = c .before .before .before .before .before .before .args in recordReply sheetKinds (a .d .now) (a .at) ≡ read tt
+fine c = fine-read _ (sym (record-is (c .before .before)) ∙ c .enum-told3 .given .1)
+
+whole : (c : tie.After-enum-told3) → let a = c .before .before .before .before .before .before .args in endAt (a .d .now) (a .at) ≤ length (a .d .now)
+whole c = let a = c .before .before .before .before .before .before .args in taken (a .d .now) (a .at) sheetKinds (fine c) .whole
+
+enum-told : tie.Need-enum-told
+enum-told c = search needs
+
+enum-told-2 : tie.Need-enum-told-2
+enum-told-2 c = search needs
+
+end-reply-requires : tie.Need-end-reply-requires
+end-reply-requires c κs = search needs
+
+returns : tie.Need-returns
+returns c = let a = c .before .before .before .before .args in c .end-reply .ensures ∙ ap saidBlock (sym (composed-end (a .d .now) (a .at))) ∙ ap (λ (f : Form). saidBlock (sheetReply f (a .d .now) (a .at))) (sym (c .before .enum-told2 .given .1))
+
+record-at-requires : tie.Need-record-at-requires
+record-at-requires c κs = search needs
+
+enum-told-3 : tie.Need-enum-told-3
+enum-told-3 c = search needs
+
+enum-told-4 : tie.Need-enum-told-4
+enum-told-4 c = search needs
+
+returns-2 : tie.Need-returns-2
+returns-2 c = let a = c .before .before .before .before .before .before .args in
+    let r = c .enum-told4 .given in
+    let e = refused-read _ (r .0 .0) (sym (record-is (c .before .before)) ∙ r .1) in
+    r .1 ∙ ap saidBlock (sym (no-sheet (a .d .now) (a .at) (r .0 .0) e)) ∙ ap (λ (f : Form). saidBlock (sheetReply f (a .d .now) (a .at))) (sym (c .before .before .before .enum-told .given .1))
+
+add-end-reply : tie.Need-add-end-reply
+add-end-reply c = omega (arith, whole c)
+
+le16-at-requires : tie.Need-le16-at-requires
+le16-at-requires c κs = search needs
+
+cast-end-reply : tie.Need-cast-end-reply
+cast-end-reply c = search needs
+
+add-end-reply-2 : tie.Need-add-end-reply-2
+add-end-reply-2 c = omega (arith, c .le16-at .ensures, whole (c .before))
+
+end-reply-requires-2 : tie.Need-end-reply-requires-2
+end-reply-requires-2 c κs = search needs
+
+returns-3 : tie.Need-returns-3
+returns-3 c = let a = c .before .before .before .before .before .before .before .before .args in
+    c .end-reply2 .ensures
+    ∙ ap (λ (n : ℕ). saidBlock (endReply (a .d .now) (a .at + 4 + n))) (c .before .le16-at .ensures)
+    ∙ ap saidBlock (sym (sheet-end (a .d .now) (a .at) (fine (c .before .before))))
+    ∙ ap (λ (f : Form). saidBlock (sheetReply f (a .d .now) (a .at))) (sym (c .before .before .before .before .before .enum-told .given .1))
+
+pub sheet-reply-spec : {M : Type 1} → statement M
+sheet-reply-spec =
+    tie.close
+    (tie.spec
+    enum-told
+    enum-told-2
+    end-reply-requires
+    returns
+    record-at-requires
+    enum-told-3
+    enum-told-4
+    returns-2
+    add-end-reply
+    le16-at-requires
+    cast-end-reply
+    add-end-reply-2
+    end-reply-requires-2
+    returns-3)

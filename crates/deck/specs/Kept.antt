@@ -1,0 +1,113 @@
+-- What the blocks of a deck keep to, and the record after them. Assumes nothing.
+use Prim.Native.Nat.{ℕ, zero, suc, _+_, _*_, _<_, _≤_}
+use mathlib.Core.Bool.{Bool, true, false, _||_}
+use mathlib.Core.List.{List, [], _∷_, _++_}
+use mathlib.Core.Logic.{_⊎_, inl, inr, ⊎-elim}
+use mathlib.Core.Path.{_≡_, refl, sym, _∙_, ap}
+use native.Mathlib.Omega.{arith}
+use borrow.Author.Tests.{eqb-true, eqb-false, leb-false}
+use lib.Dec.{eqb, leb}
+use lib.ListN.{length, length-append}
+use Rattle.block.specs.Read.{Read, refused, read, _then_, refuseIf}
+use Rattle.block.specs.Block.{blockReply}
+use Rattle.block.specs.Chain.{not-read, then-read, if-read}
+use Rattle.block.specs.Faults.{neither}
+use Rattle.block.specs.declared.Refusal.{Refusal}
+use Rattle.records.specs.Bytes.{le16}
+use Rattle.records.specs.Records.{blockKind, lengthAt, kindAt, endAt, wanted, recordReply}
+use Rattle.records.specs.Taken.{taken, of-first, of-other, of-one}
+use Rattle.records.specs.declared.Kind.{Kind}
+use Rattle.assembly.specs.Book.{used, bondBytes}
+use Rattle.assembly.specs.declared.BlockAt.{BlockAt}
+use Rattle.deck.specs.Deck.{mostBlocks, kindsAfter, blockAt, moved, blockPlace, blockReplyAt, Deck, deckAt, ifElse, blocksFrom, blocksReply}
+
+-- each block of a list
+unfoldable pub Each : (BlockAt → Type 0) → List BlockAt → Type 0
+Each P [] = Unit {0}
+Each P (b ∷ bs) = P b × Each P bs
+
+-- a block has a number, lies within the deck, and is not refused
+pub record Standing (d : List ℕ) (b : BlockAt) : Type 0 where
+  pub numbered : b .number ≡ 0 → ⊥
+  pub within : b .start + 6 + 2 * b .bonds ≤ length d
+  pub fine : blockReply (b .atoms) (bondBytes d b) ≡ read tt
+
+-- the blocks of a deck stand in it, and after them a record of the last kind
+pub record Kept (last : Kind) (d : List ℕ) (k : Deck) : Type 0 where
+  pub places : k ≡ deckAt d (k .blocks) (k .assembly)
+  pub blocks : Each (Standing d) (k .blocks)
+  pub few : length (k .blocks) ≤ mostBlocks
+  pub after : recordReply (last ∷ []) d (k .assembly) ≡ read tt
+
+each-last : (P : BlockAt → Type 0) (bs : List BlockAt) (b : BlockAt) → Each P bs → P b → Each P (bs ++ b ∷ [])
+unfolding Each
+each-last P [] b e p = (p, tt)
+each-last P (c ∷ bs) b e p = (e .0, each-last P bs b (e .1) p)
+
+pub chosen : {A : Type 0} {b : A} (t : Bool) (f g : Unit {0} → A) → ifElse t f g ≡ b → ((t ≡ true) × (f tt ≡ b)) ⊎ ((t ≡ false) × (g tt ≡ b))
+chosen true f g e = inl (refl, e)
+chosen false f g e = inr (refl, e)
+
+pub unmoved : (place : Refusal → ℕ) (x : Read (Unit {0})) → moved place x ≡ read tt → x ≡ read tt
+unmoved place (refused r) e = absurd (not-read e)
+unmoved place (read u) e = refl
+
+-- the tests that a block record passed
+pub record Fit (d : List ℕ) (at : ℕ) (done : List BlockAt) : Type 0 where
+  pub numbered : blockAt d at .number ≡ 0 → ⊥
+  pub unused : used done (blockAt d at .number) ≡ false
+  pub room : length done < mostBlocks
+  pub fine : blockReply (blockAt d at .atoms) (bondBytes d (blockAt d at)) ≡ read tt
+
+pub fit : (d : List ℕ) (at : ℕ) (done : List BlockAt) → blockReplyAt d at done ≡ read tt → Fit d at done
+unfolding blockReplyAt
+fit d at done e =
+    let number = blockAt d at .number in
+    let unfit = eqb number 0 || used done number || leb mostBlocks (length done) in
+    let (u, p, f) = then-read (refuseIf unfit 14 at) _ e in
+    let (q, r) = neither (eqb number 0 || used done number) (leb mostBlocks (length done)) (if-read unfit 14 at p) in
+    let (z, w) = neither (eqb number 0) (used done number) q in
+    record {
+      numbered = eqb-false number 0 z;
+      unused = w;
+      room = leb-false mostBlocks (length done) r;
+      fine = unmoved (blockPlace at) (blockReply (blockAt d at .atoms) (bondBytes d (blockAt d at))) f;
+    }
+
+module _ (last : Kind) (d : List ℕ) where
+  -- a block that is taken stands in the deck
+  pub stands : (at : ℕ) (done : List BlockAt) → recordReply (kindsAfter done last) d at ≡ read tt → kindAt d at ≡ blockKind .number → Fit d at done → Standing d (blockAt d at)
+  stands at done e k f =
+      let w = taken d at (kindsAfter done last) e .whole in
+      let n : lengthAt d at ≡ wanted blockKind d at = long done e in
+      let p : at + 4 + 4 ≡ at + 8 = omega arith in
+      let m : lengthAt d at ≡ 6 + 2 * le16 d (at + 8) = n ∙ ap (λ (x : ℕ). 6 + 2 * le16 d x) p in
+      record { numbered = f .numbered; within = omega arith; fine = f .fine }
+    where
+      long : (done : List BlockAt) → recordReply (kindsAfter done last) d at ≡ read tt → lengthAt d at ≡ wanted blockKind d at
+      long [] e = of-first d at blockKind [] e k
+      long (b ∷ bs) e = of-first d at blockKind (last ∷ []) e k
+
+  -- a record that is no block is not the first
+  after-blocks : (at : ℕ) (done : List BlockAt) → recordReply (kindsAfter done last) d at ≡ read tt → (kindAt d at ≡ blockKind .number → ⊥) → recordReply (last ∷ []) d at ≡ read tt
+  after-blocks at [] e n = absurd (n (of-one d at blockKind e))
+  after-blocks at (b ∷ bs) e n = of-other d at blockKind (last ∷ []) e n
+
+  keeps : (fuel at : ℕ) (done : List BlockAt) {k : Deck} → Each (Standing d) done → length done ≤ mostBlocks → blocksFrom fuel last d at done ≡ read k → Kept last d k
+  unfolding blocksFrom
+  keeps zero at done s l e = absurd (not-read e)
+  keeps (suc fuel) at done {k} s l e =
+      let (u, p, f) = then-read (recordReply (kindsAfter done last) d at) _ e in
+      ⊎-elim
+      (λ t.
+      let (v, q, g) = then-read (blockReplyAt d at done) _ (t .1) in
+      let h = fit d at done q in
+      keeps fuel (endAt d at) (done ++ blockAt d at ∷ []) (each-last (Standing d) done (blockAt d at) s (stands at done p (eqb-true _ _ (t .0)) h)) (simp length-append (omega (arith, h .room))) g)
+      (λ t.
+      let same : deckAt d done at ≡ k = cc (t .1) in
+      rw (← same) (record { places = refl; blocks = s; few = l; after = after-blocks at done p (eqb-false (kindAt d at) (blockKind .number) (t .0)) }))
+      (chosen (eqb (kindAt d at) (blockKind .number)) _ _ f)
+
+  pub kept : {k : Deck} → blocksReply last d ≡ read k → Kept last d k
+  unfolding blocksReply Each
+  kept e = keeps (suc mostBlocks) 0 [] tt (omega arith) e

@@ -1,0 +1,70 @@
+-- What holds of a record that is taken. Assumes nothing.
+use Prim.Native.Nat.{ℕ, _≤_}
+use mathlib.Core.Bool.{Bool, true, false, cond}
+use mathlib.Core.List.{List, [], _∷_}
+use mathlib.Core.Path.{_≡_, refl, sym, _∙_}
+use native.Mathlib.Omega.{arith}
+use native.Mathlib.Decide.{ℕ-discrete}
+use borrow.Author.Tests.{eq-eqb, ne-eqb, eqb-true, ltb-false, not-false}
+use lib.Dec.{eqb, ltb}
+use lib.ListN.{length}
+use Rattle.block.specs.Read.{Read, refused, read, _then_, refuseIf}
+use Rattle.block.specs.Block.{saidBlock}
+use Rattle.block.specs.Chain.{not-read, then-read, if-read}
+use Rattle.block.specs.declared.Refusal.{Refusal}
+use Rattle.block.specs.declared.Reply.the-variants.{Fine, Refused}
+use Rattle.records.specs.Records.{lengthAt, kindAt, endAt, wanted, kindReply, lengthReply, recordReply}
+use Rattle.records.specs.declared.Kind.{Kind}
+
+-- what the code's reply says of the answer
+pub fine-read : (x : Read (Unit {0})) → saidBlock x ≡ Fine → x ≡ read tt
+fine-read (refused r) e = let z : _≡_ {A = ℕ} 0 1 = cc in absurd (omega arith)
+fine-read (read u) e = refl
+
+pub refused-read : (x : Read (Unit {0})) (r : Refusal) → saidBlock x ≡ Refused r → x ≡ refused r
+refused-read (refused q) r e = cc
+refused-read (read u) r e = let z : _≡_ {A = ℕ} 0 1 = cc in absurd (omega arith)
+
+-- it lies within the list, and is of a kind that may stand there and of that kind's length
+pub record Taken (kinds : List Kind) (d : List ℕ) (at : ℕ) : Type 0 where
+  pub whole : endAt d at ≤ length d
+  pub kind : Kind
+  pub stands : kindReply kinds d at ≡ read kind
+  pub suits : lengthAt d at ≡ wanted kind d at
+
+module _ (d : List ℕ) (at : ℕ) where
+  pub taken : (kinds : List Kind) → recordReply kinds d at ≡ read tt → Taken kinds d at
+  unfolding recordReply lengthReply
+  taken kinds e =
+      let (u, p, f) = then-read (refuseIf (ltb (length d) (endAt d at)) 11 at) _ e in
+      let (k, q, g) = then-read (kindReply kinds d at) (λ k. lengthReply k d at) f in
+      record {
+        whole = ltb-false (length d) (endAt d at) (if-read (ltb (length d) (endAt d at)) 11 at p);
+        kind = k;
+        stands = q;
+        suits = eqb-true (lengthAt d at) (wanted k d at) (not-false (eqb (lengthAt d at) (wanted k d at)) (if-read _ 13 at g));
+      }
+
+  -- the first kind, where that is its number; else another, and with no other there is none
+  pub of-first : (k : Kind) (ks : List Kind) → recordReply (k ∷ ks) d at ≡ read tt → kindAt d at ≡ k .number → lengthAt d at ≡ wanted k d at
+  unfolding kindReply
+  of-first k ks e n =
+      let t = taken (k ∷ ks) e in
+      let s : read k ≡ read (t .kind) = rw (eq-eqb (kindAt d at) (k .number) n) at (t .stands) in
+      let same : k ≡ t .kind = cc in
+      rw same (t .suits)
+
+  pub of-other : (k : Kind) (ks : List Kind) → recordReply (k ∷ ks) d at ≡ read tt → (kindAt d at ≡ k .number → ⊥) → recordReply ks d at ≡ read tt
+  unfolding recordReply kindReply
+  of-other k ks e n = rw (ne-eqb (kindAt d at) (k .number) n) at e
+
+  pub of-none : recordReply [] d at ≡ read tt → ⊥
+  unfolding kindReply
+  of-none e = not-read (taken [] e .stands)
+
+  pub of-one : (k : Kind) → recordReply (k ∷ []) d at ≡ read tt → kindAt d at ≡ k .number
+  of-one k e = go (ℕ-discrete (kindAt d at) (k .number))
+    where
+      go : Dec (kindAt d at ≡ k .number) → kindAt d at ≡ k .number
+      go (yes p) = p
+      go (no p) = absurd (of-none (of-other k [] e p))

@@ -1,0 +1,53 @@
+-- What a block that is not refused brings to the work. Assumes nothing.
+use Prim.Native.Nat.{ℕ, suc, _≤_, _<_}
+use mathlib.Core.Bool.{Bool, cond}
+use mathlib.Core.List.{List, []}
+use mathlib.Core.Path.{_≡_, refl, sym, _∙_, ap, subst}
+use native.Mathlib.Omega.{arith}
+use borrow.Author.Tests.{lt-ltb}
+use lib.Dec.{eqb, ltb}
+use lib.ListN.{length, getD}
+use Rattle.graph.specs.Graph.{Bond, Within, distance}
+use Rattle.paths.specs.Paths.{denominator}
+use Rattle.paths.specs.Notions.{Plain}
+use Rattle.block.specs.Read.{read}
+use Rattle.block.specs.Block.{mostAtoms, bondsOf, graphOf, blockReply}
+use Rattle.block.specs.Rows.{table, rowOf, rowReply, saidRow, rowsOf}
+use Rattle.block.specs.Tables.{getD-table}
+use Rattle.block.specs.Told.{few-atoms, molecule, each-bond, row-read}
+use Rattle.shares.specs.Reply.{most}
+use Rattle.shares.specs.Work.{listOf, beside, Shows, Listed, Given, Whole}
+use Rattle.shares.proofs.Rows.{of-places}
+
+module _ (n : ℕ) (xs : List ℕ) (fine : blockReply n xs ≡ read tt) where
+  pub plain : Plain n (bondsOf xs)
+  unfolding Plain
+  plain = each-bond n xs fine (Plain n) tt (λ b bs p rest. (record { one = p .one; two = p .two; apart = p .differ }, p .new, rest))
+
+  pub few : n ≤ mostAtoms
+  few = few-atoms n xs fine .high
+
+  -- the row of each atom shows its distances
+  pub far : (i : ℕ) → i < n → Shows n (distance (graphOf n xs) (suc i)) (listOf (rowsOf n xs) i)
+  unfolding rowsOf rowOf
+  far i l = record {
+    shows = λ j h.
+        ap (λ (row : List ℕ). getD row j 0)
+        (getD-table mostAtoms (λ k. saidRow (rowReply n xs (suc k))) i [] (omega (arith, few)) ∙ ap saidRow (row-read n xs fine (record { low = omega arith; high = l })))
+        ∙ getD-table mostAtoms (λ k. cond (ltb k n) (distance (graphOf n xs) (suc i) (suc k)) 0) j 0 (omega (arith, few))
+        ∙ ap (λ (t : Bool). cond t (distance (graphOf n xs) (suc i) (suc j)) 0) (lt-ltb j n h);
+  }
+
+  pub given : (near rows : List (List ℕ)) → rows ≡ rowsOf n xs
+      → ((i : ℕ) → i < n → (d : ℕ → ℕ) → Shows n d (listOf rows i) → Listed n (λ w. eqb (d w) 1) (listOf near (suc i))) → Given n (bondsOf xs) near rows
+  given near rows e h =
+      let shown : (i : ℕ) → i < n → Shows n (distance (graphOf n xs) (suc i)) (listOf rows i) = rw e far in
+      record {
+        small = few;
+        molecule = molecule n xs fine;
+        lists = of-places (λ v. Listed n (beside (graphOf n xs) v) (listOf near v)) n (λ i l. h i l (distance (graphOf n xs) (suc i)) (shown i l));
+        far = shown;
+      }
+
+  pub whole : (d : ℕ) → d ≡ denominator (graphOf n xs) → d ≤ most → Whole n xs d
+  whole d e l = record { small = few; molecule = molecule n xs fine; plain = plain; is = e; low = l }

@@ -1,0 +1,83 @@
+-- `answered` meets its contract: each return is one way through the definition.
+use Prim.Native.Nat.{min}
+use mathlib.Core.Path.{_≡_, sym, _∙_, ap}
+use native.Mathlib.Omega.{arith}
+use borrow.Author.Needs.{needs}
+use Rattle.paths.specs.Paths.{denominator}
+use Rattle.block.specs.Block.{bondsOf, graphOf}
+use Rattle.shares.specs.Reply.{saidShares}
+use Rattle.shares.specs.Work.{cap, Given}
+use Rattle.shares.specs.declared.Shares.the-variants.{Denominator}
+use Rattle.shares.proofs.Blocks.{few, given, whole}
+use Rattle.shares.proofs.Reply.{reply-short, reply-large, reply-done, entries-stay, entries-done}
+use Rattle.shares.proofs.answered.Statement.{statement}
+use Rattle.shares.proofs.answered.Tie as tie
+
+refused-requires : tie.Need-refused-requires
+refused-requires c κs = search needs
+
+returns : tie.Need-returns
+returns c =
+    let a = c .before .before .before .before .args in
+    let e = reply-short (a .n) (a .bonds .now) (c .before .before .before .before .pre) _ (c .before .if1 .taken) in
+    (c .refused .ensures ∙ sym (ap saidShares e), entries-stay (a .n) (a .bonds .now) (a .out .now) e)
+
+rows-requires : tie.Need-rows-requires
+rows-requires c κs = search needs
+
+neighbours-requires : tie.Need-neighbours-requires
+neighbours-requires c κs = few (c .before .before .before .before .before .args .n) (c .before .before .before .before .before .args .bonds .now) (c .before .before .before .before .before .pre)
+
+-- the lists and the rows, and D up to the cap
+known : (c : tie.After-neighbours) → let a = c .before .before .before .before .before .before .args in Given (a .n) (bondsOf (a .bonds .now)) (c .neighbours .result) (c .before .before .rows .result)
+known c = let a = c .before .before .before .before .before .before .args in given (a .n) (a .bonds .now) (c .before .before .before .before .before .before .pre) (c .neighbours .result) (c .before .before .rows .result) (c .before .before .rows .ensures) (c .neighbours .ensures)
+
+capped : (c : tie.After-denominator) → let a = c .before .before .before .before .before .before .before .before .before .args in c .denominator .result ≡ min cap (denominator (graphOf (a .n) (a .bonds .now)))
+capped c = c .denominator .ensures _ (known (c .before .before .before))
+
+denominator-requires : tie.Need-denominator-requires
+denominator-requires c κs = (_, known (c .before .before))
+
+refused-requires-2 : tie.Need-refused-requires-2
+refused-requires-2 c κs = search needs
+
+returns-2 : tie.Need-returns-2
+returns-2 c =
+    let a = c .before .before .before .before .before .before .before .before .before .before .before .args in
+    let e = reply-large (a .n) (a .bonds .now) (c .before .before .before .before .before .before .before .before .before .before .before .pre) _ (c .before .before .before .before .before .before .before .before .if1 .left) (omega (arith, c .before .if2 .taken, capped (c .before .before))) in
+    (c .refused2 .ensures ∙ sym (ap saidShares e), entries-stay (a .n) (a .bonds .now) (a .out .now) e)
+
+fill-requires : tie.Need-fill-requires
+fill-requires c κs =
+    let a = c .before .before .before .before .before .before .before .before .before .before .before .before .before .args in
+    let d = capped (c .before .before .before .before) in
+    let l = c .before .before .before .if2 .left in
+    (whole (a .n) (a .bonds .now) (c .before .before .before .before .before .before .before .before .before .before .before .before .before .pre) (c .before .before .before .before .denominator .result) (omega arith) (omega arith), known (c .before .before .before .before .before .before .before), c .before .before .before .before .before .before .before .before .before .before .if1 .left)
+
+same-length : tie.Need-same-length
+same-length c = search needs
+
+returns-3 : tie.Need-returns-3
+returns-3 c =
+    let a = c .before .before .before .before .before .before .before .before .before .before .before .before .before .before .before .before .args in
+    let d = capped (c .before .before .before .before .before .before .before) in
+    let l = c .before .before .before .before .before .before .if2 .left in
+    let r = c .before .before .before .before .before .before .before .before .before .before .before .before .before .if1 .left in
+    let e = reply-done (a .n) (a .bonds .now) (c .before .before .before .before .before .before .before .before .before .before .before .before .before .before .before .before .pre) _ r (omega arith) in
+    let is : c .before .before .before .before .before .before .before .denominator .result ≡ denominator (graphOf (a .n) (a .bonds .now)) = omega arith in
+    (ap Denominator is ∙ sym (ap saidShares e), entries-done (a .n) (a .bonds .now) e (c .before .before .fill .ensures) r)
+
+pub answered-spec : {M : Type 1} → statement M
+answered-spec =
+    tie.close
+    (tie.spec
+    refused-requires
+    returns
+    rows-requires
+    neighbours-requires
+    denominator-requires
+    refused-requires-2
+    returns-2
+    fill-requires
+    same-length
+    returns-3)

@@ -1,0 +1,149 @@
+-- `add_flows` meets its contract: the bonds passed have what they carry added.
+use Prim.Native.Nat.{ℕ, suc, _+_, _*_, _-_, _/_, _≤_, _<_}
+use mathlib.Core.List.{List}
+use mathlib.Core.Path.{_≡_, refl, sym, _∙_, ap}
+use native.Mathlib.Nat.{le-refl}
+use native.Mathlib.Omega.{arith}
+use borrow.Author.Needs.{needs}
+use lib.ListN.{length, getD}
+use Rattle.graph.specs.Graph.{Within}
+use Rattle.block.specs.Block.{mostAtoms, graphOf}
+use Rattle.shares.specs.Work.{cap, full, at, bondAt, carried, Ready, Room, Filled}
+use Rattle.shares.proofs.Entries.{filled-none, filled-store}
+use Rattle.shares.proofs.Flowing.{carried-low, there-fits, back-fits, flows}
+use Rattle.shares.proofs.flows.add_flows.Statement.{statement}
+use Rattle.shares.proofs.flows.add_flows.Tie as tie
+
+abbrev Inv-loop : tie.InvT-loop
+Inv-loop bonds row c t out₀ m k₀ out k = (k ≤ m) × ((n i d : ℕ) → Ready n bonds row c t i d → Filled k (λ j. getD out₀ j 0 + carried (graphOf n bonds) i d (bondAt bonds j)) out₀ out)
+
+abbrev μ-loop : tie.MeasureT-loop
+μ-loop bonds row c t out₀ m k₀ out k = m - k
+
+loop-holds : tie.Need-loop-holds Inv-loop μ-loop
+loop-holds c = (omega arith, λ n i d R. filled-none)
+
+mul-wide : tie.Need-mul-wide Inv-loop μ-loop
+mul-wide c = search needs
+
+shared-slice-read-wide : tie.Need-shared-slice-read-wide Inv-loop μ-loop
+shared-slice-read-wide c = omega arith
+
+wide-requires : tie.Need-wide-requires Inv-loop μ-loop
+wide-requires c κs = search needs
+
+mul-wide-2 : tie.Need-mul-wide-2 Inv-loop μ-loop
+mul-wide-2 c = search needs
+
+add-wide : tie.Need-add-wide Inv-loop μ-loop
+add-wide c = omega arith
+
+shared-slice-read-wide-2 : tie.Need-shared-slice-read-wide-2 Inv-loop μ-loop
+shared-slice-read-wide-2 c = omega arith
+
+wide-requires-2 : tie.Need-wide-requires-2 Inv-loop μ-loop
+wide-requires-2 c κs = search needs
+
+passed-requires : tie.Need-passed-requires Inv-loop μ-loop
+passed-requires c κs =
+    let p = c .before .before .before .before .before .before .before .before .pre .0 in
+    there-fits (p .3) (c .before .before .before .before .before .loop .k) (c .before .before .before .before .loop-test .taken) (c .before .before .wide .result) (c .wide2 .result) (c .before .before .wide .ensures .0) (c .wide2 .ensures .0)
+
+passed-requires-2 : tie.Need-passed-requires-2 Inv-loop μ-loop
+passed-requires-2 c κs =
+    let p = c .before .before .before .before .before .before .before .before .before .pre .0 in
+    back-fits (p .3) (c .before .before .before .before .before .before .loop .k) (c .before .before .before .before .before .loop-test .taken) (c .before .before .before .wide .result) (c .before .wide2 .result) (c .before .before .before .wide .ensures .0) (c .before .wide2 .ensures .0)
+
+-- what is added, and what it is added to
+adds : (c : tie.After-passed2 Inv-loop μ-loop) (n i d : ℕ)
+    → let a = c .before .before .before .before .before .before .before .before .before .before .args in
+    Ready n (a .bonds .now) (a .row .now) (a .c .now) (a .t .now) i d
+    → c .before .passed .result + c .passed2 .result ≡ carried (graphOf n (a .bonds .now)) i d (bondAt (a .bonds .now) (c .before .before .before .before .before .before .before .loop .k))
+adds c n i d R =
+    flows R (c .before .before .before .before .before .before .before .loop .k) (c .before .before .before .before .before .before .loop-test .taken) (c .before .before .before .before .wide .result) (c .before .before .wide2 .result) (c .before .before .before .before .wide .ensures .0)
+    (c .before .before .wide2 .ensures .0) (c .before .passed .result) (c .passed2 .result) (c .before .passed .ensures) (c .passed2 .ensures)
+
+small : (c : tie.After-passed2 Inv-loop μ-loop) → c .before .passed .result + c .passed2 .result ≤ full
+small c =
+    let p = c .before .before .before .before .before .before .before .before .before .before .pre .0 in
+    let a = c .before .before .before .before .before .before .before .before .before .before .args in
+    omega (arith, adds c (p .0) (p .1) (p .2) (p .3), carried-low (p .3 .whole) (p .3 .start) (bondAt (a .bonds .now) (c .before .before .before .before .before .before .before .loop .k)))
+
+old : (c : tie.After-passed2 Inv-loop μ-loop) → let l = c .before .before .before .before .before .before .before .loop in let a = c .before .before .before .before .before .before .before .before .before .before .args in
+    (length (l .out) ≡ length (a .out .now)) × (getD (l .out) (l .k) 0 ≡ getD (a .out .now) (l .k) 0)
+old c =
+    let p = c .before .before .before .before .before .before .before .before .before .before .pre .0 in
+    let l = c .before .before .before .before .before .before .before .loop in
+    let f = l .inv .1 (p .0) (p .1) (p .2) (p .3) in
+    (f .same, f .kept (l .k) (le-refl (l .k)))
+
+add-s : tie.Need-add-s Inv-loop μ-loop
+add-s c = omega (arith, small c)
+
+mul-out : tie.Need-mul-out Inv-loop μ-loop
+mul-out c = search needs
+
+slice-read-out : tie.Need-slice-read-out Inv-loop μ-loop
+slice-read-out c = omega (arith, old (c .before), c .before .before .before .before .before .before .before .before .before .before .before .pre .1 .room)
+
+add-out : tie.Need-add-out Inv-loop μ-loop
+add-out c = omega (arith, small (c .before), old (c .before), c .before .before .before .before .before .before .before .before .before .before .before .pre .1 .low (c .before .before .before .before .before .before .before .before .loop .k) (c .before .before .before .before .before .before .before .loop-test .taken))
+
+mul-out-2 : tie.Need-mul-out-2 Inv-loop μ-loop
+mul-out-2 c = search needs
+
+slice-write-out : tie.Need-slice-write-out Inv-loop μ-loop
+slice-write-out c = omega (arith, old (c .before), c .before .before .before .before .before .before .before .before .before .before .before .pre .1 .room)
+
+add-k : tie.Need-add-k Inv-loop μ-loop
+add-k c = omega arith
+
+loop-less : tie.Need-loop-less Inv-loop μ-loop
+loop-less c = omega arith
+
+loop-again : tie.Need-loop-again Inv-loop μ-loop
+loop-again c =
+    let l = c .before .before .before .before .before .before .before .before .loop in (
+      omega arith,
+      λ n i d R. filled-store (l .inv .1 n i d R) (omega (arith, old (c .before), c .before .before .before .before .before .before .before .before .before .before .before .pre .1 .room))
+          (getD (l .out) (l .k) 0 + (c .before .before .passed .result + c .before .passed2 .result))
+          (omega (arith, old (c .before), adds (c .before) n i d R)),
+    )
+
+same-length : tie.Need-same-length Inv-loop μ-loop
+same-length c =
+    let p = c .before .before .before .before .pre .0 in
+    c .before .loop .inv .1 (p .0) (p .1) (p .2) (p .3) .same
+
+returns : tie.Need-returns Inv-loop μ-loop
+returns c n i d R =
+    let e : c .before .loop .k ≡ length (c .before .before .before .before .args .bonds .now) / 2 = omega arith in
+    rw e at (c .before .loop .inv .1 n i d R)
+
+pub add-flows-spec : {M : Type 1} → statement M
+add-flows-spec =
+    tie.close
+    (tie.spec
+    Inv-loop
+    μ-loop
+    loop-holds
+    mul-wide
+    shared-slice-read-wide
+    wide-requires
+    mul-wide-2
+    add-wide
+    shared-slice-read-wide-2
+    wide-requires-2
+    passed-requires
+    passed-requires-2
+    add-s
+    mul-out
+    slice-read-out
+    add-out
+    mul-out-2
+    slice-write-out
+    add-k
+    loop-less
+    loop-again
+    same-length
+    returns)

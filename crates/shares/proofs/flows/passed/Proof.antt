@@ -1,0 +1,79 @@
+-- `passed` meets its contract: the test is that of the definition.
+use Prim.Native.Nat.{_-_}
+use mathlib.Core.Path.{_≡_}
+use native.Mathlib.Omega.{arith}
+use lib.ListN.{getD}
+use Rattle.shares.specs.Work.{at}
+use Rattle.shares.proofs.Flowing.{product-fits, let-pass, let-none}
+use borrow.Author.Needs.{needs}
+use Rattle.shares.proofs.flows.passed.Statement.{statement}
+use Rattle.shares.proofs.flows.passed.Tie as tie
+
+sub-wide : tie.Need-sub-wide
+sub-wide c = search needs
+
+element-copy-out-wide : tie.Need-element-copy-out-wide
+element-copy-out-wide c = search needs
+
+wide-requires : tie.Need-wide-requires
+wide-requires c κs = search needs
+
+add-if1 : tie.Need-add-if1
+add-if1 c = search needs
+
+sub-wide-2 : tie.Need-sub-wide-2
+sub-wide-2 c = search needs
+
+element-copy-out-wide-2 : tie.Need-element-copy-out-wide-2
+element-copy-out-wide-2 c = search needs
+
+wide-requires-2 : tie.Need-wide-requires-2
+wide-requires-2 c κs = search needs
+
+mul-result : tie.Need-mul-result
+mul-result c = search needs
+
+element-copy-out-result : tie.Need-element-copy-out-result
+element-copy-out-result c = search needs
+
+mul-result-2 : tie.Need-mul-result-2
+mul-result-2 c = search needs
+
+element-copy-out-result-2 : tie.Need-element-copy-out-result-2
+element-copy-out-result-2 c = search needs
+
+mul-result-3 : tie.Need-mul-result-3
+mul-result-3 c =
+    let a = c .before .before .before .before .before .before .before .args in
+    let p = c .before .before .before .before .before .before .before .pre in
+    product-fits (at (a .c .now) (a .a)) (at (a .t .now) (a .b)) (p .2) (p .3)
+
+returns : tie.Need-returns
+returns c =
+    let a = c .before .before .before .before .before .before .before .args in
+    let-pass (getD (a .row .now) (a .a - 1) 0) (getD (a .row .now) (a .b - 1) 0) (at (a .c .now) (a .a)) (at (a .t .now) (a .b)) (omega arith)
+
+returns-2 : tie.Need-returns-2
+returns-2 c =
+    let a = c .before .before .before .before .before .args in
+    let-none (getD (a .row .now) (a .a - 1) 0) (getD (a .row .now) (a .b - 1) 0) (at (a .c .now) (a .a)) (at (a .t .now) (a .b))
+    (λ e. c .if1 .left (omega arith))
+
+pub passed-spec : {M : Type 1} → statement M
+passed-spec =
+    tie.close
+    (tie.spec
+    sub-wide
+    element-copy-out-wide
+    wide-requires
+    add-if1
+    sub-wide-2
+    element-copy-out-wide-2
+    wide-requires-2
+    mul-result
+    element-copy-out-result
+    mul-result-2
+    element-copy-out-result-2
+    mul-result-3
+    returns
+    returns-2)

@@ -1,0 +1,81 @@
+-- `weights` meets its contract: the atoms passed after start have their part, the others none.
+use Prim.Native.Nat.{ℕ, suc, _+_, _-_, _/_, _≤_, _<_}
+use mathlib.Core.Bool.{Bool, cond}
+use mathlib.Core.Path.{_≡_, refl, sym, _∙_, ap}
+use native.Mathlib.Omega.{arith}
+use borrow.Author.Needs.{needs}
+use borrow.Author.Tests.{lt-ltb, le-ltb}
+use lib.Dec.{ltb}
+use lib.ListN.{length, length-set}
+use Rattle.graph.specs.Graph.{Within}
+use Rattle.block.specs.Block.{mostAtoms}
+use Rattle.shares.specs.Work.{at}
+use Rattle.shares.proofs.Rows.{zeros, seated-next}
+use Rattle.shares.proofs.flows.weights.Statement.{statement}
+use Rattle.shares.proofs.flows.weights.Tie as tie
+
+abbrev Inv-loop : tie.InvT-loop
+Inv-loop n c start d row₀ v₀ row v = (start ≤ v) × (v ≤ n) × (length row ≡ suc mostAtoms) × ((u : ℕ) → Within v u → at row u ≡ cond (ltb start u) (d / at c u) 0)
+
+abbrev μ-loop : tie.MeasureT-loop
+μ-loop n c start d row₀ v₀ row v = n - v
+
+loop-holds : tie.Need-loop-holds Inv-loop μ-loop
+loop-holds c = (
+  omega arith,
+  omega arith,
+  refl,
+  λ u w. zeros (suc mostAtoms) u ∙ sym (ap (λ (t : Bool). cond t (c .args .d / at (c .args .c .now) u) 0) (le-ltb (c .args .start) u (w .high))),
+)
+
+add-v : tie.Need-add-v Inv-loop μ-loop
+add-v c = omega arith
+
+mul-row : tie.Need-mul-row Inv-loop μ-loop
+mul-row c = search needs
+
+element-copy-out-row : tie.Need-element-copy-out-row Inv-loop μ-loop
+element-copy-out-row c = omega arith
+
+div-row : tie.Need-div-row Inv-loop μ-loop
+div-row c = c .before .before .before .pre .2 (c .before .before .loop .v + 1) (record { low = omega arith; high = omega arith })
+
+mul-row-2 : tie.Need-mul-row-2 Inv-loop μ-loop
+mul-row-2 c = search needs
+
+array-write-row : tie.Need-array-write-row Inv-loop μ-loop
+array-write-row c = omega arith
+
+loop-less : tie.Need-loop-less Inv-loop μ-loop
+loop-less c = omega arith
+
+loop-again : tie.Need-loop-again Inv-loop μ-loop
+loop-again c =
+    let a = c .before .before .before .args in
+    let l = c .before .before .loop in (
+      omega arith,
+      omega arith,
+      length-set (l .row) (l .v + 1) (a .d / at (a .c .now) (l .v + 1)) ∙ l .inv .2,
+      seated-next (l .row) (l .v) (a .d / at (a .c .now) (l .v + 1)) (λ u. cond (ltb (a .start) u) (a .d / at (a .c .now) u) 0) (omega arith) (l .inv .3)
+          (sym (ap (λ (t : Bool). cond t (a .d / at (a .c .now) (l .v + 1)) 0) (lt-ltb (a .start) (l .v + 1) (omega arith)))),
+    )
+
+returns : tie.Need-returns Inv-loop μ-loop
+returns c u w = c .before .loop .inv .3 u (record { low = w .low; high = omega arith })
+
+pub weights-spec : {M : Type 1} → statement M
+weights-spec =
+    tie.close
+    (tie.spec
+    Inv-loop
+    μ-loop
+    loop-holds
+    add-v
+    mul-row
+    element-copy-out-row
+    div-row
+    mul-row-2
+    array-write-row
+    loop-less
+    loop-again
+    returns)
