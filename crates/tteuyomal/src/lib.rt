@@ -5,13 +5,14 @@ ghost use lib.ListN.{length};
 ghost use Rattle.block.specs.Read.{read};
 ghost use Rattle.block.specs.Block.{blockReply};
 ghost use Rattle.tteuyomal.specs.Convention.{code, coded, over, Lent};
-ghost use Rattle.tteuyomal.specs.Replies.{indicesList, vertexList, valuesList, polynomialList};
+ghost use Rattle.tteuyomal.specs.Replies.{indicesList, vertexList, valuesList, polynomialList, unlentReply, Contributed};
 use block::Around;
 use block::Measured;
 use block::Refusal;
 use block::Reply;
 use poly::Answer;
 use poly::Values;
+use shares::Shares;
 
 const PLACES: usize = 72_057_594_037_927_936;
 
@@ -109,5 +110,38 @@ pub extern "C" fn tteuyomal_polynomial(
     match answer {
         Answer::Refused(r) => code_of(r),
         Answer::Values(v) => give_values(values, v),
+    }
+}
+
+// The block's refusal, and 9 where it is fine.
+fn unlent(atoms: usize, bonds: &[u8]) -> u64
+    ensures { λ r. ⌜ r ≡ coded (unlentReply atoms (now (bonds .entry))) ⌝ }
+{
+    let reply = block::check(atoms, bonds);
+    match reply {
+        Reply::Fine => 9,
+        Reply::Refused(r) => code_of(r),
+    }
+}
+
+#[no_mangle]
+pub extern "C" fn tteuyomal_contributions(
+    atoms: usize,
+    bonds: &[u8],
+    shares: &mut [u64],
+    denominator: &mut [u64],
+) -> u64
+    ensures { λ r. ⌜ Contributed atoms (now (bonds .entry)) (now (shares .entry)) (now (denominator .entry)) r (now (shares .exit)) (now (denominator .exit)) ⌝ }
+{
+    if denominator.len() < 1 {
+        return unlent(atoms, bonds);
+    }
+    let answer = shares::contributions(atoms, bonds, shares);
+    match answer {
+        Shares::Refused(r) => code_of(r),
+        Shares::Denominator(d) => {
+            denominator[0] = d;
+            0
+        }
     }
 }
