@@ -16,18 +16,20 @@ use Rattle.block.specs.declared.Reply.the-variants as reply
 use Rattle.block.specs.declared.Measured.the-variants as measured
 use Rattle.records.specs.Records.{payloadAt}
 use Rattle.assembly.specs.Book.{find, blockGraph, bookOf}
-use Rattle.assembly.specs.Placements.{placementAt, joinOf}
+use Rattle.assembly.specs.Placements.{mostPlacements, placementAt, joinOf}
 use Rattle.assembly.specs.declared.BlockAt.{BlockAt}
 use Rattle.deck.specs.Deck.{Deck, deckReply}
 use Rattle.deck.specs.Molecule.{placedIn, graphAt, joinAt, moleculeOf}
+use Rattle.deck.specs.Sound.{whole}
 use Rattle.deck.specs.Said.{tableOf, layoutOf, saidDeck}
 use Rattle.deck.specs.declared.Form.{Form}
+use Rattle.deck.specs.declared.Layout.{Layout}
 use Rattle.deck.specs.declared.DeckRead.{DeckRead}
 use Rattle.compose.specs.declared.links.Link.{Link}
 use Rattle.compose.specs.Fields.{fieldsReply}
 use Rattle.compose.specs.Links.{Linked}
 use Rattle.compose.specs.Joints.{link, joinsOf}
-use Rattle.compose.specs.Ready.{placedGraph}
+use Rattle.compose.specs.Ready.{placedGraph, Ready}
 
 -- the deck's reply, taken apart
 pub told-refused : (x : Read Deck) {r : Refusal} → saidDeck x .reply ≡ reply.Refused r → x ≡ refused r
@@ -73,18 +75,48 @@ linked-join : (xs : List ℕ) (ls : List Link) (i : ℕ) → Linked (placementAt
 unfolding joinOf
 linked-join xs ls i l = rw (l .parent, l .site, l .own)
 
-module _ (d : List ℕ) (k : Deck) (ls : List Link) (l : (i : ℕ) → i < k .placements → Linked (placementAt (payloadAt d (k .assembly))) i (link ls i)) (some : 1 ≤ k .placements) where
+-- a deck that is read, with the links of its placements
+module _ (form : Form) (d : List ℕ) (k : Deck) (e : deckReply form d ≡ read k) (ls : List Link)
+    (l : (i : ℕ) → i < k .placements → Linked (placementAt (payloadAt d (k .assembly))) i (link ls i)) where
+  table-is : take (length (k .blocks)) (tableOf (k .blocks)) ≡ k .blocks
+  table-is = take-at (k .blocks) _ _ refl
+
   graphs-are : placedGraph d (payloadAt d (k .assembly)) (tableOf (k .blocks)) (length (k .blocks)) ≡ graphAt d k
   unfolding graphAt placedIn bookOf
-  graphs-are =
-      ap {B = ℕ → Graph} (λ (bs : List BlockAt). λ (i : ℕ). blockGraph d (find bs (placementAt (payloadAt d (k .assembly)) i .block))) (take-at (k .blocks) _ _ refl)
+  graphs-are = ap {B = ℕ → Graph} (λ (bs : List BlockAt). λ (i : ℕ). blockGraph d (find bs (placementAt (payloadAt d (k .assembly)) i .block))) table-is
 
   joins-are : (i : ℕ) → 1 ≤ i → i ≤ k .placements - 1 → joinAt d k i ≡ joinsOf ls i
   unfolding joinAt placedIn
   joins-are i p q = linked-join (payloadAt d (k .assembly)) ls i (l i (omega arith))
 
-  pub molecule-is : written (placedGraph d (payloadAt d (k .assembly)) (tableOf (k .blocks)) (length (k .blocks))) (joinsOf ls) (k .placements - 1) ≡ moleculeOf d k
+  ready : Ready d (payloadAt d (k .assembly)) (tableOf (k .blocks)) (length (k .blocks)) (k .placements) ls
+  unfolding placedIn
+  ready =
+      let w = whole form d k e in
+      record {
+        few = w .count;
+        linked = l;
+        assembled = rw graphs-are (assembled-same (graphAt d k) (k .placements - 1) joins-are (w .assembled));
+        fine = λ i h. rw table-is (w .stands i h .fine);
+      }
+
+  molecule-is : written (placedGraph d (payloadAt d (k .assembly)) (tableOf (k .blocks)) (length (k .blocks))) (joinsOf ls) (k .placements - 1) ≡ moleculeOf d k
   unfolding moleculeOf
   molecule-is =
       ap (λ (blocks : ℕ → Graph). written blocks (joinsOf ls) (k .placements - 1)) graphs-are
       ∙ sym (written-same (graphAt d k) (k .placements - 1) joins-are)
+
+-- the same of a layout of the deck
+module _ (form : Form) (d : List ℕ) (k : Deck) (e : deckReply form d ≡ read k) (layout : Layout) (q : layout ≡ layoutOf k) where
+  pub few-placements : layout .placements ≤ mostPlacements
+  few-placements = rw q (whole form d k e .count .high)
+
+  module _ (xs : List ℕ) (p : xs ≡ payloadAt d (layout .assembly)) (ls : List Link) (l : (i : ℕ) → i < layout .placements → Linked (placementAt xs) i (link ls i)) where
+    payload-is : xs ≡ payloadAt d (k .assembly)
+    payload-is = p ∙ ap (λ (x : Layout). payloadAt d (x .assembly)) q
+
+    pub laid-ready : Ready d xs (layout .blocks) (layout .count) (layout .placements) ls
+    laid-ready = rw (q, payload-is) (ready form d k e ls (rw (q, payload-is) at l))
+
+    pub laid-molecule : written (placedGraph d xs (layout .blocks) (layout .count)) (joinsOf ls) (layout .placements - 1) ≡ moleculeOf d k
+    laid-molecule = rw (q, payload-is) (molecule-is form d k e ls (rw (q, payload-is) at l))

@@ -14,7 +14,7 @@ use Rattle.records.specs.Bytes.{little}
 use Rattle.records.specs.Records.{kindReply, lengthReply, recordReply}
 use Rattle.assembly.specs.Book.{find, bookOf}
 use Rattle.assembly.specs.Placements.{placementAt, joinOf, joinEnds, joinsOn, bondsOn, firstFault, parentFault, joinFault, laterFault, fault, placedReply, assemblyReply}
-use Rattle.deck.specs.Deck.{longestDeck, Deck, blockReplyAt, assemblyReplyAt, blocksFrom, blocksReply, endReply, sheetReply, deckReply, payload, blockPart}
+use Rattle.deck.specs.Deck.{longestDeck, Deck, blockReplyAt, assemblyReplyAt, blocksFrom, blocksReply, endReply, sheetReply, deckReply, payload, blockSpan, blockPart}
 use Rattle.deck.specs.Molecule.{placedIn, graphAt, joinAt, moleculeOf, fieldsOf, sheetOf, fieldsAt, claimedAt}
 use Rattle.deck.specs.declared.Form.{Form}
 use Rattle.deck.specs.declared.Form.the-variants.{Composed, Judged}
@@ -161,7 +161,7 @@ too-long form d h = rw (lt-ltb longestDeck (length d) h)
 
 -- the lookup: the payload in either form, nothing for another number, nothing of a refused deck
 looked : List ℕ → ℕ → List ℕ
-unfolding joins anyJoins bonded anyAtom reaches firstFrom distance allAtoms connected degree sum bondsOf bondFault bondsReply blockReply little kindReply lengthReply recordReply find bookOf placementAt joinOf joinEnds joinsOn bondsOn firstFault parentFault joinFault laterFault fault placedReply assemblyReply blockReplyAt assemblyReplyAt blocksFrom blocksReply endReply sheetReply deckReply payload blockPart
+unfolding joins anyJoins bonded anyAtom reaches firstFrom distance allAtoms connected degree sum bondsOf bondFault bondsReply blockReply little kindReply lengthReply recordReply find bookOf placementAt joinOf joinEnds joinsOn bondsOn firstFault parentFault joinFault laterFault fault placedReply assemblyReply blockReplyAt assemblyReplyAt blocksFrom blocksReply endReply sheetReply deckReply payload blockSpan
 looked d x = blockPart d x
 
 lookups :

@@ -13,10 +13,10 @@ use Rattle.graph.specs.Distance as distance
 use Rattle.block.specs.Read.{Read, refused, read}
 use Rattle.block.specs.Chain.{not-read}
 use Rattle.block.specs.declared.Refusal.{Refusal}
-use Rattle.records.specs.Records.{assemblyKind}
+use Rattle.records.specs.Bytes.{part}
 use Rattle.assembly.specs.Book.{noBlock, find, isNumbered, used}
 use Rattle.assembly.specs.declared.BlockAt.{BlockAt}
-use Rattle.deck.specs.Deck.{Deck, deckReply, payload, payloadOr, blockPart}
+use Rattle.deck.specs.Deck.{Deck, deckReply, nowhere, payload, payloadOr, blockSpan, blockPart}
 use Rattle.deck.specs.Kept.{Each, Standing}
 use Rattle.deck.specs.Sound.{parts, whole, found}
 use Rattle.deck.specs.declared.Form.{Form}
@@ -56,7 +56,7 @@ listed-used d (b ∷ bs) x s l = go (eqb (b .number) x) refl (listed-used d bs x
     go false e more = more (at (l .index) (l .within) (l .number) e)
 
 -- the payload of a block that is there is not empty
-payload-some : (d : List ℕ) (bs : List BlockAt) (x : ℕ) → Each (Standing d) bs → used bs x ≡ true → payload d bs x ≡ [] → ⊥
+payload-some : (d : List ℕ) (bs : List BlockAt) (x : ℕ) → Each (Standing d) bs → used bs x ≡ true → part d (payload bs x .from) (payload bs x .len) ≡ [] → ⊥
 unfolding payload
 payload-some d bs x s u e =
     let b = find bs x in
@@ -64,7 +64,7 @@ payload-some d bs x s u e =
     let n : length (take (6 + 2 * b .bonds) (drop (b .start) d)) ≡ 0 = ap length (rw u at e) in
     omega (arith, simp (length-take, length-drop) at n)
 
-payload-none : (d : List ℕ) (bs : List BlockAt) (x : ℕ) → used bs x ≡ false → payload d bs x ≡ []
+payload-none : (d : List ℕ) (bs : List BlockAt) (x : ℕ) → used bs x ≡ false → part d (payload bs x .from) (payload bs x .len) ≡ []
 unfolding payload
 payload-none d bs x u = rw u
 
@@ -77,10 +77,10 @@ module _ (d : List ℕ) (x : ℕ) where
   unused h form k e = distance.not-true (used (k .blocks) x) (λ u. h form k e (listed (k .blocks) x u))
 
   empty-when : Absent → blockPart d x ≡ []
-  unfolding blockPart
+  unfolding blockSpan
   empty-when h = go (deckReply Composed d) refl (deckReply Judged d) refl
     where
-      go : (c : Read Deck) → deckReply Composed d ≡ c → (j : Read Deck) → deckReply Judged d ≡ j → payloadOr d x c (payloadOr d x j []) ≡ []
+      go : (c : Read Deck) → deckReply Composed d ≡ c → (j : Read Deck) → deckReply Judged d ≡ j → (let s = payloadOr x c (payloadOr x j nowhere) in part d (s .from) (s .len) ≡ [])
       go (read k) e j f = payload-none d (k .blocks) x (unused h Composed k e)
       go (refused r) e (read k) f = payload-none d (k .blocks) x (unused h Judged k f)
       go (refused r) e (refused q) f = refl
@@ -92,16 +92,16 @@ module _ (d : List ℕ) (x : ℕ) where
       let b = parts g d l q .blocks in
       cc
 
-  some : (form : Form) (k : Deck) → deckReply form d ≡ read k → Listed (k .blocks) x → (other : Form) (l : Deck) → deckReply other d ≡ read l → payload d (l .blocks) x ≡ [] → ⊥
+  some : (form : Form) (k : Deck) → deckReply form d ≡ read k → Listed (k .blocks) x → (other : Form) (l : Deck) → deckReply other d ≡ read l → part d (payload (l .blocks) x .from) (payload (l .blocks) x .len) ≡ [] → ⊥
   some form k e m other l f p =
       let b = whole other d l f .blocks in
       payload-some d (l .blocks) x b (listed-used d (l .blocks) x b (subst (λ (z : Deck). Listed (z .blocks) x) (same form other k l e f) m)) p
 
   empty-only : blockPart d x ≡ [] → Absent
-  unfolding blockPart
+  unfolding blockSpan
   empty-only h form k e m = go (deckReply Composed d) refl (deckReply Judged d) refl h form e
     where
-      go : (c : Read Deck) → deckReply Composed d ≡ c → (j : Read Deck) → deckReply Judged d ≡ j → payloadOr d x c (payloadOr d x j []) ≡ [] → (form : Form) → deckReply form d ≡ read k → ⊥
+      go : (c : Read Deck) → deckReply Composed d ≡ c → (j : Read Deck) → deckReply Judged d ≡ j → (let s = payloadOr x c (payloadOr x j nowhere) in part d (s .from) (s .len) ≡ []) → (form : Form) → deckReply form d ≡ read k → ⊥
       go (read l) ec j ej p f q = some form k e m Composed l ec p
       go (refused r) ec (read l) ej p f q = some form k e m Judged l ej p
       go (refused r) ec (refused s) ej p Composed q = not-read (sym ec ∙ q)

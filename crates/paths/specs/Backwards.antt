@@ -1,7 +1,7 @@
 -- Shortest paths read backwards: counts and uses are the same both ways, each count divides D, and half the sum over all starts is a share. Assumes nothing.
-use Prim.Native.Nat.{ℕ, zero, suc, _+_, _*_, _/_, _≤_, _<_, _∣_}
+use Prim.Native.Nat.{ℕ, zero, suc, _+_, _*_, _/_, _<_, _∣_}
 use mathlib.Core.Bool.{Bool, true, false, _&&_, not, cond}
-use mathlib.Core.List.{List, [], _∷_}
+use mathlib.Core.List.{[], _∷_}
 use mathlib.Core.Logic.{_↔_}
 use mathlib.Core.Path.{_≡_, refl, sym, _∙_, ap, ap₂}
 use native.Mathlib.Nat.{dvd-refl, one-dvd}
@@ -9,11 +9,11 @@ use native.Mathlib.Omega.{arith}
 use borrow.Author.Tests.{ltb-true, ltb-false}
 use lib.Dec.{eqb, ltb}
 use lib.ListN.{length}
-use Rattle.graph.specs.Graph.{Graph, Bond, Within, Molecule, joins, bonded, distance, sum, sumPairs}
+use Rattle.graph.specs.Graph.{Graph, Bond, Within, Molecule, joins, bonded, distance, sum}
 use Rattle.graph.specs.Bonds.{joins-sym, anyJoins-sym}
 use Rattle.graph.specs.Distance.{distance-sym}
 use Rattle.graph.specs.Sums.{sum-cong, sum-add, sum-none, sum-swap, sum-pick, sum-square}
-use Rattle.paths.specs.Paths.{walks, shortestPaths, uses, count, pathCount, pathsUsing, lcmPairs, denominator, share}
+use Rattle.paths.specs.Paths.{walks, shortestPaths, uses, count, pathCount, pathsUsing, denominator, share}
 use Rattle.paths.specs.Notions.{Pair}
 use Rattle.paths.specs.Choices.{eqb-sym, cond-swap, cond-sum}
 use Rattle.paths.specs.Steps.{walks-suc, walks-length, uses-suc, using-self, count-self, count-pos}

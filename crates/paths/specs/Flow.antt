@@ -1,22 +1,21 @@
 -- Document 001's second part, in whole numbers over one row of counts. From a start i, T(u) adds u's own weight and T of the neighbours one farther.
 -- What a bond answers for is then c(i,v) T(u), for its nearer end v and its farther end u. Assumes nothing.
 use Prim.Native.Nat.{ℕ, zero, suc, _+_, _*_, _-_, _<_}
-use mathlib.Core.Bool.{Bool, true, false, _&&_, cond, true≢false}
-use mathlib.Core.List.{List, [], _∷_}
+use mathlib.Core.Bool.{Bool, true, false, _&&_, cond}
 use mathlib.Core.Path.{_≡_, refl, sym, _∙_, ap, ap₂}
 use native.Mathlib.Nat.{add-mul, mul-add}
 use native.Mathlib.Omega.{arith}
 use borrow.Author.Tests.{eqb-true}
 use lib.Dec.{eqb}
-use Rattle.graph.specs.Graph.{Graph, Bond, Within, Molecule, joins, anyJoins, distance, sum}
+use Rattle.graph.specs.Graph.{Graph, Bond, Within, Molecule, joins, distance, sum}
 use Rattle.graph.specs.Bonds.{both}
 use Rattle.graph.specs.Distance.{distance-below, distance-zero}
-use Rattle.graph.specs.Sums.{sum-cong, sum-add, sum-none, sum-scale, sum-scaled, sum-swap, sum-pick}
+use Rattle.graph.specs.Sums.{sum-cong, sum-add, sum-scale, sum-scaled, sum-swap, sum-pick}
 use Rattle.paths.specs.Paths.{pathCount, pathsUsing, denominator, share}
-use Rattle.paths.specs.Notions.{near, Near, sumBonds, across, Inside, Plain, weight, onward, gathered}
+use Rattle.paths.specs.Notions.{near, Near, across, Inside, weight, onward, gathered}
 use Rattle.paths.specs.Choices.{cond-and, cond-swap, cond-or, cond-add, cond-left, cond-right}
 use Rattle.paths.specs.Steps.{near-at, near-cong, near-none, using-step, using-self}
-use Rattle.paths.specs.Uses.{join-other, using-joined, share-rows}
+use Rattle.paths.specs.Uses.{using-joined, share-rows}
 
 -- U carries its sources along m, T gathers its weights against m: both ways of adding them up agree
 module _ (n : ℕ) (m : ℕ → ℕ → Bool) (s U q T : ℕ → ℕ)
@@ -59,16 +58,6 @@ across-sum n e f j r =
     (cond-and (eqb (e .one) j) (eqb (e .two) v) (f v) ∙ cond-swap (eqb (e .one) j) (eqb (e .two) v) (f v)))
     ∙ sum-add n (λ v. cond (eqb (e .one) v) (cond (eqb (e .two) j) (f v) 0) 0) (λ v. cond (eqb (e .two) v) (cond (eqb (e .one) j) (f v) 0) 0)
     ∙ ap₂ _+_ (sum-pick n (e .one) (λ v. cond (eqb (e .two) j) (f v) 0) (r .one)) (sum-pick n (e .two) (λ v. cond (eqb (e .one) j) (f v) 0) (r .two))
-
--- a sum over neighbours is a sum over bonds
-pub neighbour-sum : (n : ℕ) (bs : List Bond) (f : ℕ → ℕ) (j : ℕ) → Plain n bs
-    → sum n (λ v. cond (anyJoins bs v j) (f v) 0) ≡ sumBonds bs (λ e. across e f j)
-unfolding anyJoins Plain sumBonds
-neighbour-sum n [] f j p = sum-none n
-neighbour-sum n (b ∷ bs) f j p =
-    sum-cong n (λ v w. cond-or (joins b v j) (anyJoins bs v j) (f v) (λ s t. true≢false (sym t ∙ join-other bs b v j s (p .1))))
-    ∙ sum-add n (λ v. cond (joins b v j) (f v) 0) (λ v. cond (anyJoins bs v j) (f v) 0)
-    ∙ ap₂ _+_ (across-sum n b f j (p .0)) (neighbour-sum n bs f j (p .2))
 
 -- T, by its rule
 pub gathered-step : (g : Graph) (i : ℕ) (q : ℕ → ℕ) (u : ℕ) → distance g i u < g .atoms

@@ -1,13 +1,13 @@
 -- The bonds that shortest paths use: none farther than the path's end, and as many as the distance. The shares add up to D times W. Assumes nothing.
-use Prim.Native.Nat.{ℕ, zero, suc, _+_, _*_, _/_, _≤_, _<_}
-use mathlib.Core.Bool.{Bool, true, false, _||_, cond, true≢false}
+use Prim.Native.Nat.{ℕ, zero, suc, _+_, _*_, _/_, _≤_}
+use mathlib.Core.Bool.{Bool, true, false, _||_, cond}
 use mathlib.Core.List.{List, [], _∷_}
 use mathlib.Core.Logic.{_⊎_, inl, inr, ⊎-elim}
 use mathlib.Core.Path.{_≡_, refl, sym, _∙_, ap, ap₂}
 use native.Mathlib.Nat.{le-trans, mul-div-cancel', mul-div-le, mul-le-mul-right}
 use native.Mathlib.Omega.{arith}
 use lib.Dec.{ltb}
-use Rattle.graph.specs.Graph.{Graph, Bond, Within, Molecule, joins, anyJoins, bonded, distance, sum, sumPairs, total, wiener}
+use Rattle.graph.specs.Graph.{Graph, Bond, Within, Molecule, joins, anyJoins, bonded, distance, sum, total, wiener}
 use Rattle.graph.specs.Bonds.{joins-out, anyJoins-sym}
 use Rattle.graph.specs.Sums.{sum-cong, sum-none, sum-add, sum-scaled, sum-le, sumPairs-rows, sumPairs-scaled}
 use Rattle.paths.specs.Paths.{pathCount, pathsUsing, denominator, share}
@@ -42,7 +42,7 @@ bonds-cond bs true f = refl
 bonds-cond bs false f = bonds-none bs
 
 -- a bond that is not in the list again joins no pair that the list joins
-pub join-other : (bs : List Bond) (b : Bond) (u v : ℕ) → joins b u v ≡ true → anyJoins bs (b .one) (b .two) ≡ false → anyJoins bs u v ≡ false
+join-other : (bs : List Bond) (b : Bond) (u v : ℕ) → joins b u v ≡ true → anyJoins bs (b .one) (b .two) ≡ false → anyJoins bs u v ≡ false
 join-other bs b u v e d =
     ⊎-elim (λ w. ap₂ (anyJoins bs) (sym (w .0)) (sym (w .1)) ∙ d)
     (λ w. anyJoins-sym bs u v ∙ ap₂ (anyJoins bs) (sym (w .0)) (sym (w .1)) ∙ d) (joins-out b u v e)

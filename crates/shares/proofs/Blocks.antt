@@ -2,17 +2,17 @@
 use Prim.Native.Nat.{ℕ, suc, _≤_, _<_}
 use mathlib.Core.Bool.{Bool, cond}
 use mathlib.Core.List.{List, []}
-use mathlib.Core.Path.{_≡_, refl, sym, _∙_, ap, subst}
+use mathlib.Core.Path.{_≡_, _∙_, ap}
 use native.Mathlib.Omega.{arith}
 use borrow.Author.Tests.{lt-ltb}
 use lib.Dec.{eqb, ltb}
-use lib.ListN.{length, getD}
-use Rattle.graph.specs.Graph.{Bond, Within, distance}
+use lib.ListN.{getD}
+use Rattle.graph.specs.Graph.{distance}
 use Rattle.paths.specs.Paths.{denominator}
 use Rattle.paths.specs.Notions.{Plain}
 use Rattle.block.specs.Read.{read}
 use Rattle.block.specs.Block.{mostAtoms, bondsOf, graphOf, blockReply}
-use Rattle.block.specs.Rows.{table, rowOf, rowReply, saidRow, rowsOf}
+use Rattle.block.specs.Rows.{rowOf, rowReply, saidRow, rowsOf}
 use Rattle.block.specs.Tables.{getD-table}
 use Rattle.block.specs.Told.{few-atoms, molecule, each-bond, row-read}
 use Rattle.shares.specs.Reply.{most}

@@ -1,13 +1,12 @@
 -- Atoms chained by their keys, one by one. Assumes nothing.
-use Prim.Native.Nat.{ℕ, zero, suc, _+_, _≤_, _<_}
+use Prim.Native.Nat.{ℕ, _+_, _<_}
 use mathlib.Core.List.{List}
 use mathlib.Core.Logic.{_⊎_, ⊎-elim}
-use mathlib.Core.Path.{_≡_, refl, sym, _∙_, ap, subst}
+use mathlib.Core.Path.{_≡_, sym, _∙_, ap, subst}
 use native.Mathlib.Nat.{eq-zero-or-pos}
 use native.Mathlib.Omega.{arith}
 use lib.ListN.{length, set, replicate}
 use Rattle.graph.specs.Graph.{Within}
-use Rattle.graph.specs.Sums.{wider}
 use Rattle.shares.specs.Work.{at, Chained}
 use Rattle.shares.proofs.Rows.{after-store, zeros}
 

@@ -1,23 +1,23 @@
 -- Path counts and what is gathered, as rules over the atoms' keys. Assumes nothing.
-use Prim.Native.Nat.{ℕ, zero, suc, _+_, _-_, _≤_, _<_}
+use Prim.Native.Nat.{ℕ, suc, _+_, _-_, _≤_, _<_}
 use mathlib.Core.Bool.{Bool, true, false, _&&_, cond, and-false}
 use mathlib.Core.List.{List}
 use mathlib.Core.Path.{_≡_, refl, sym, _∙_, ap, ap₂, subst}
 use native.Mathlib.Omega.{arith}
 use borrow.Author.Tests.{eqb-true, eqb-false, eq-eqb, ne-eqb}
 use lib.Dec.{eqb}
-use lib.ListN.{getD, set, replicate}
-use Rattle.graph.specs.Graph.{Graph, Bond, Walk, Within, Molecule, bonded, distance, sum}
+use lib.ListN.{getD}
+use Rattle.graph.specs.Graph.{Graph, Bond, Walk, Within, Molecule, bonded, distance}
 use Rattle.graph.specs.Graph.Walk.{stay, step}
 use Rattle.graph.specs.Bonds.{anyJoins-sym}
-use Rattle.graph.specs.Distance.{not-true, distance-shortest, distance-self, distance-zero, distance-bond, distance-below}
+use Rattle.graph.specs.Distance.{distance-shortest, distance-self, distance-zero, distance-bond, distance-below}
 use Rattle.graph.specs.Sums.{sum-cong}
 use Rattle.paths.specs.Paths.{pathCount}
 use Rattle.paths.specs.Notions.{near, gathered}
 use Rattle.paths.specs.Steps.{count-rule}
 use Rattle.paths.specs.Flow.{gathered-step}
 use Rattle.block.specs.Block.{mostAtoms}
-use Rattle.shares.specs.Work.{at, Shows, Keyed, Rule, beside, graph, Start}
+use Rattle.shares.specs.Work.{at, Keyed, Rule, beside, graph, Start}
 use Rattle.shares.proofs.Rows.{of-places}
 
 -- two tests that hold together

@@ -1,15 +1,13 @@
 -- What a bond carries from one start, over the arrays. Assumes nothing.
-use Prim.Native.Nat.{ℕ, zero, suc, _+_, _*_, _-_, _/_, min, _≤_, _<_}
+use Prim.Native.Nat.{ℕ, suc, _+_, _*_, _-_, _/_, _≤_, _<_}
 use mathlib.Core.Bool.{Bool, true, false, _&&_, cond}
 use mathlib.Core.List.{List}
-use mathlib.Core.Path.{_≡_, refl, sym, _∙_, ap, ap₂}
-use native.Mathlib.Nat.{mul-le-mul, mul-le-mul-right, one-mul, lt-of-le-of-lt, le-of-dvd}
+use mathlib.Core.Path.{_≡_, sym, _∙_, ap, ap₂}
+use native.Mathlib.Nat.{mul-le-mul, mul-le-mul-right, le-of-dvd}
 use native.Mathlib.Omega.{arith}
 use borrow.Author.Tests.{eq-eqb, ne-eqb}
-use lib.Dec.{eqb, lit<}
+use lib.Dec.{eqb}
 use lib.ListN.{length, getD}
-use mir.Syntax.{w64}
-use mir.Val.{Fits}
 use Rattle.graph.specs.Graph.{Graph, Bond, Within, anyJoins, bonded, distance}
 use Rattle.graph.specs.Bonds.{anyJoins-sym}
 use Rattle.paths.specs.Paths.{pathCount, denominator}
@@ -24,9 +22,6 @@ use Rattle.shares.specs.Reply.{most}
 use Rattle.shares.specs.Work.{cap, full, at, Shows, bondAt, carried, Whole, Ready}
 use Rattle.shares.proofs.Rows.{of-places}
 use Rattle.shares.proofs.Listing.{listed}
-
-pub product-fits : (x y : ℕ) → x ≤ cap → y ≤ full → Fits w64 (x * y)
-product-fits x y h k = record { fits = lt-of-le-of-lt (mul-le-mul h k) (lit< tt) }
 
 -- a number that a test lets pass, times another
 pub let-pass : (p q x t : ℕ) → p + 1 ≡ q → x * t ≡ cond (eqb (suc p) q) x 0 * t

@@ -1,5 +1,5 @@
 -- The reply, test by test; that it and the entries are determined; and that the entries add up to D times W. Assumes nothing.
-use Prim.Native.Nat.{ℕ, zero, suc, _+_, _*_, _-_, _/_, _≤_, _<_}
+use Prim.Native.Nat.{ℕ, _+_, _*_, _-_, _/_, _≤_, _<_}
 use mathlib.Core.Bool.{Bool, true, false}
 use mathlib.Core.List.{List, [], _∷_, _++_, map}
 use mathlib.Core.Path.{_≡_, refl, sym, _∙_, ap}
@@ -8,11 +8,11 @@ use borrow.Author.Tests.{lt-ltb, le-ltb, ltb-true, ltb-false}
 use lib.Dec.{ltb}
 use lib.ListN.{length, getD, take, drop, length-append, length-drop, length-map, List·getD-append}
 use lib.Seq.{ext-getD, getD-drop, getD-append-add, take-at}
-use Rattle.graph.specs.Graph.{Graph, Bond, wiener}
+use Rattle.graph.specs.Graph.{Bond, wiener}
 use Rattle.paths.specs.Paths.{denominator, share}
 use Rattle.paths.specs.Notions.{sumBonds}
 use Rattle.paths.specs.Uses.{shares-total}
-use Rattle.block.specs.Read.{Read, refused, read, _then_, refuseIf, refusal}
+use Rattle.block.specs.Read.{refused, read, refuseIf, refusal}
 use Rattle.block.specs.Block.{bondsOf, graphOf, blockReply}
 use Rattle.block.specs.Chain.{then-read}
 use Rattle.block.specs.Told.{molecule}

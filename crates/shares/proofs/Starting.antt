@@ -1,16 +1,16 @@
 -- One start after the other: what is ready for a start, and what the starts add up to. Assumes nothing.
-use Prim.Native.Nat.{ℕ, zero, suc, _+_, _*_, _/_, min, _≤_, _<_}
-use mathlib.Core.Bool.{Bool, cond}
+use Prim.Native.Nat.{ℕ, _+_, _*_, _/_, _≤_, _<_}
+use mathlib.Core.Bool.{cond}
 use mathlib.Core.List.{List}
 use mathlib.Core.Path.{_≡_, refl, sym, _∙_, ap}
-use native.Mathlib.Nat.{le-trans, mul-le-mul-right}
+use native.Mathlib.Nat.{mul-le-mul-right}
 use native.Mathlib.Numerals.{add-one}
 use native.Mathlib.Omega.{arith}
 use lib.Dec.{ltb}
-use lib.ListN.{length, getD}
-use Rattle.graph.specs.Graph.{Bond, Within, distance, sum}
+use lib.ListN.{length}
+use Rattle.graph.specs.Graph.{Within, sum}
 use Rattle.graph.specs.Sums.{sum-le}
-use Rattle.paths.specs.Paths.{pathCount, pathsUsing, share}
+use Rattle.paths.specs.Paths.{pathCount, share}
 use Rattle.paths.specs.Notions.{weight, gathered}
 use Rattle.paths.specs.Steps.{count-pos}
 use Rattle.paths.specs.Uses.{share-rows}

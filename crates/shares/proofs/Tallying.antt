@@ -1,8 +1,8 @@
 -- The least common multiple of path counts, taken in one by one, up to the cap. Assumes nothing.
-use Prim.Native.Nat.{ℕ, zero, suc, _+_, _*_, _-_, _/_, min, _≤_, _<_}
+use Prim.Native.Nat.{ℕ, suc, _+_, _*_, _-_, min, _≤_, _<_}
 use mathlib.Core.List.{List}
-use mathlib.Core.Path.{_≡_, refl, sym, _∙_, ap, ap₂}
-use native.Mathlib.Nat.{pos-of-dvd-of-pos, div-le-self, le-trans, mul-le-mul, lt-of-le-of-lt}
+use mathlib.Core.Path.{_≡_, refl, _∙_, ap, ap₂}
+use native.Mathlib.Nat.{pos-of-dvd-of-pos, mul-le-mul, lt-of-le-of-lt}
 use native.Mathlib.Numerals.{add-one}
 use native.Mathlib.Omega.{arith}
 use lib.Dec.{lit<}
@@ -14,13 +14,13 @@ use Rattle.paths.specs.Notions.{Gcd, Pair, lcmStarts}
 use Rattle.paths.specs.Lcm.{over-pos, lcm-cap, starts-pos, starts-all, starts-le}
 use Rattle.paths.specs.Steps.{count-pos}
 use Rattle.paths.specs.Backwards.{pair-pos}
-use Rattle.shares.specs.Work.{cap, at, listOf, Holds, graph, Start, Tally, Given}
+use Rattle.shares.specs.Work.{cap, full, at, listOf, Holds, graph, Start, Tally, Given}
 
 pub divisor-pos : {a b d : ℕ} → Gcd a b d → 0 < a → 0 < d
 divisor-pos h p = pos-of-dvd-of-pos (h .left) p
 
-pub product-fits : (a b d : ℕ) → a ≤ cap → b ≤ cap → Fits w64 (a / d * b)
-product-fits a b d h k = record { fits = lt-of-le-of-lt (mul-le-mul (le-trans (div-le-self a d) h) k) (lit< tt) }
+pub product-fits : (x y : ℕ) → x ≤ full → y ≤ full → Fits w64 (x * y)
+product-fits x y h k = record { fits = lt-of-le-of-lt (mul-le-mul h k) (lit< tt) }
 
 module _ {n : ℕ} {f : ℕ → ℕ} {m : ℕ} {c : List ℕ} {before : ℕ} (t : Tally n f m c before) (start : ℕ) where
   -- the multiple of m and of the counts after start, up to k

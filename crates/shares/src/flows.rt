@@ -89,10 +89,10 @@ fn clear(m: usize, out: &mut [u64])
     requires { ⌜ m ≤ length (now out) ⌝ }
     ensures { λ _. ⌜ Filled m (λ k. 0) (now (out .entry)) (now (out .exit)) ⌝ }
 {
-    let mut k = 0;
-    while k < m {
-        out[k] = 0;
-        k += 1;
+    let mut j = 0;
+    while j < m {
+        out[j] = 0;
+        j += 1;
     }
 }
 

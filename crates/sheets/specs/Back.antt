@@ -1,20 +1,21 @@
--- What is written is read back: a sheet's record behind any bytes is taken, ends where it should, and claims the fields that were written.
--- Two sheets differ in no field exactly when they are equal. Assumes nothing.
+-- What is written is read back: a sheet's record behind a deck that composes is taken, and claims the fields that were written. Two sheets differ in no field exactly when they are equal. Assumes nothing.
 use Prim.Native.Nat.{ℕ, zero, suc, _+_, _/_, _%_, _^_, _≤_, _<_}
 use mathlib.Core.Bool.{Bool, true, false, cond}
 use mathlib.Core.List.{List, [], _∷_, _++_, append-assoc, append-nil}
 use mathlib.Core.Path.{_≡_, refl, sym, _∙_, ap, ap₂}
 use native.Mathlib.Nat.{div-lt-iff-lt-mul, pow-suc}
 use native.Mathlib.Omega.{arith}
-use borrow.Author.Tests.{eq-eqb, eqb-true, le-ltb}
+use borrow.Author.Tests.{eq-eqb, eqb-true}
 use lib.Dec.{eqb, lit<}
 use lib.ListN.{length, getD, drop, length-append}
 use lib.Seq.{getD-drop, drop-drop, drop-append-seam}
 use Rattle.block.specs.Read.{read}
 use Rattle.block.specs.declared.Indices.{Indices}
 use Rattle.records.specs.Bytes.{byteAt, little}
-use Rattle.records.specs.Records.{sheetKind, lengthAt, kindAt, endAt, wanted, kindReply, lengthReply, recordReply}
-use Rattle.deck.specs.Deck.{sheetKinds}
+use Rattle.records.specs.Records.{sheetKind}
+use Rattle.deck.specs.Deck.{longestDeck, Deck, deckReply}
+use Rattle.deck.specs.Followed.{IsSheet, followed, claims}
+use Rattle.deck.specs.declared.Form.the-variants.{Composed, Judged}
 use Rattle.deck.specs.Molecule.{widths, fieldsOf, fieldsAt, claimedAt, saidFields}
 use Rattle.sheets.specs.Sheets.{littleBytes, fieldBytes, sheetRecord, sheetBytes, firstWrong}
 
@@ -64,42 +65,33 @@ fields-back (w ∷ ws) (x ∷ xs) d at cs f e =
     (little-back w x d at (fieldBytes ws xs ++ cs) (f .0) q)
     (fields-back ws xs d (at + w) cs (f .1) (behind d at (littleBytes w x) (fieldBytes ws xs ++ cs) w (length-little w x) q))
 
--- A sheet's record behind any bytes, at their end.
-module _ (d : List ℕ) (x : Indices) (fit : Fit widths (fieldsOf x)) where
-  abbrev longer : List ℕ
-  longer = d ++ sheetRecord (fieldsOf x)
+-- The record of a sheet whose fields fit is one, says them, and may stand behind a deck.
+module _ (x : Indices) (fit : Fit widths (fieldsOf x)) where
+  abbrev bytes : List ℕ
+  bytes = sheetRecord (fieldsOf x)
 
   -- all that is read of it: its length, its kind, and the fields
-  read-whole : fieldsAt (2 ∷ 2 ∷ widths) longer (length d) ≡ sheetKind .fixed ∷ sheetKind .number ∷ fieldsOf x
+  read-whole : fieldsAt (2 ∷ 2 ∷ widths) bytes 0 ≡ sheetKind .fixed ∷ sheetKind .number ∷ fieldsOf x
   unfolding sheetRecord
   read-whole =
       let all : Fit (2 ∷ 2 ∷ widths) (sheetKind .fixed ∷ sheetKind .number ∷ fieldsOf x) = (lit< tt, (lit< tt, fit)) in
-      fields-back (2 ∷ 2 ∷ widths) (sheetKind .fixed ∷ sheetKind .number ∷ fieldsOf x) longer (length d) [] all
-      (drop-append-seam d (sheetRecord (fieldsOf x)) ∙ sym (append-nil (sheetRecord (fieldsOf x))))
+      fields-back (2 ∷ 2 ∷ widths) (sheetKind .fixed ∷ sheetKind .number ∷ fieldsOf x) bytes 0 [] all (sym (append-nil bytes))
 
-  read-length : lengthAt longer (length d) ≡ sheetKind .fixed
+  pub is-sheet : IsSheet bytes
   unfolding fieldsAt
-  read-length = ap (λ (l : List ℕ). getD l 0 0) read-whole
+  is-sheet = record { size = length-sheet x; payload = ap (λ (l : List ℕ). getD l 0 0) read-whole; kind = ap (λ (l : List ℕ). getD l 1 0) read-whole }
 
-  read-kind : kindAt longer (length d) ≡ sheetKind .number
+  pub sheet-fields : fieldsAt widths bytes 4 ≡ fieldsOf x
   unfolding fieldsAt
-  read-kind = ap (λ (l : List ℕ). getD l 1 0) read-whole
+  sheet-fields = ap (drop 2) read-whole
 
-  pub sheet-claimed : claimedAt longer (length d) ≡ fieldsOf x
-  unfolding fieldsAt claimedAt
-  sheet-claimed = let e : length d + 2 + 2 ≡ length d + 4 = omega arith in rw e at (ap (drop 2) read-whole)
+  -- behind a deck that composes it is taken, and claims its fields
+  module _ (d : List ℕ) (k : Deck) (e : deckReply Composed d ≡ read k) where
+    pub sheet-taken : length d + sheetBytes ≤ longestDeck → deckReply Judged (d ++ bytes) ≡ read k
+    sheet-taken h = followed d k e bytes is-sheet (omega (arith, length-sheet x))
 
-  -- it is the last record
-  pub sheet-end : endAt longer (length d) ≡ length longer
-  sheet-end = omega (arith, read-length, length-append d (sheetRecord (fieldsOf x)), length-sheet x)
-
-  pub sheet-taken : recordReply sheetKinds longer (length d) ≡ read tt
-  unfolding recordReply kindReply lengthReply
-  sheet-taken =
-      let at = length d in
-      let whole : endAt longer at ≤ length longer = omega (arith, sheet-end) in
-      let suits : lengthAt longer at ≡ wanted sheetKind longer at = omega (arith, read-length) in
-      rw (le-ltb (length longer) (endAt longer at) whole, eq-eqb (kindAt longer at) (sheetKind .number) read-kind, eq-eqb (lengthAt longer at) (wanted sheetKind longer at) suits)
+    pub sheet-claimed : claimedAt (d ++ bytes) (k .sheet) ≡ fieldsOf x
+    sheet-claimed = claims d k e bytes ∙ sheet-fields
 
 -- the code says a claimed sheet by its fields, and fields say no two sheets
 pub fields-said : (d : List ℕ) (at : ℕ) → fieldsOf (saidFields (claimedAt d at)) ≡ claimedAt d at

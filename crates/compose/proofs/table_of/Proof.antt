@@ -15,7 +15,7 @@ rows-requires : tie.Need-rows-requires
 rows-requires c κs = search needs
 
 returns : tie.Need-returns
-returns c = c .rows .ensures ∙ ap (rowsOf (c .before .before .before .before .args .b .atoms)) (c .before .bonds-part .ensures)
+returns c = c .rows .ensures ∙ ap (rowsOf (c .before .before .before .before .args .b .atoms)) (c .before .bonds-part .ensures .bytes)
 
 pub table-of-spec : {M : Type 1} → statement M
 table-of-spec = tie.close (tie.spec cast-rows bonds-part-requires rows-requires returns)

@@ -1,5 +1,5 @@
 -- `contributions` meets its contract: the block's refusal, or the answer for a block that is not refused.
-use mathlib.Core.Path.{_≡_, sym, _∙_, ap}
+use mathlib.Core.Path.{sym, _∙_, ap}
 use borrow.Author.Needs.{needs}
 use Rattle.block.specs.Block.{blockReply}
 use Rattle.block.proofs.Replies.{said-fine, said-refused}

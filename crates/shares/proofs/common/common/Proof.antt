@@ -1,6 +1,7 @@
 -- `common` meets its contract: by the greatest common divisor.
 use Prim.Native.Nat.{_*_, _/_}
 use mathlib.Core.Path.{_≡_}
+use native.Mathlib.Nat.{div-le-self}
 use native.Mathlib.Omega.{arith}
 use Rattle.paths.specs.Paths.{lcm}
 use Rattle.paths.specs.Lcm.{lcm-gcd}
@@ -16,7 +17,7 @@ div-m : tie.Need-div-m
 div-m c = divisor-pos (c .gcd .ensures) (c .before .pre .0)
 
 mul-m : tie.Need-mul-m
-mul-m c = let p = c .before .pre in product-fits (c .before .args .a) (c .before .args .b) (c .gcd .result) (p .1) (p .3)
+mul-m c = let p = c .before .pre in product-fits (c .before .args .a / c .gcd .result) (c .before .args .b) (omega (arith, div-le-self (c .before .args .a) (c .gcd .result))) (omega arith)
 
 -- the multiple that is worked out
 least : (c : tie.After-gcd) → lcm (c .before .args .a) (c .before .args .b) ≡ c .before .args .a / c .gcd .result * c .before .args .b

@@ -1,6 +1,5 @@
 -- `common_start` meets its contract: the counts passed are taken in.
-use Prim.Native.Nat.{ℕ, _+_, _-_, min, _≤_, _<_}
-use mathlib.Core.List.{List}
+use Prim.Native.Nat.{ℕ, _+_, _-_, min, _≤_}
 use mathlib.Core.Path.{_≡_}
 use native.Mathlib.Omega.{arith}
 use borrow.Author.Needs.{needs}

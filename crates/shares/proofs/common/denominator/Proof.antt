@@ -1,5 +1,5 @@
 -- `denominator` meets its contract: the starts passed are taken in, and what is above the most stays above.
-use Prim.Native.Nat.{ℕ, _+_, _-_, min, _≤_, _<_}
+use Prim.Native.Nat.{_+_, _-_, min, _≤_}
 use mathlib.Core.List.{List}
 use mathlib.Core.Path.{_≡_}
 use native.Mathlib.Omega.{arith}

@@ -1,9 +1,7 @@
 -- `gcd` meets its contract: what divides the two numbers at hand are the divisors of a and b.
-use Prim.Native.Nat.{ℕ, _%_, _<_}
-use mathlib.Core.Path.{_≡_}
+use Prim.Native.Nat.{ℕ}
 use native.Mathlib.Nat.{mod-lt}
 use native.Mathlib.Omega.{arith}
-use borrow.Author.Needs.{needs}
 use Rattle.paths.specs.Notions.{Gcd}
 use Rattle.paths.specs.Lcm.{gcd-step, gcd-end}
 use Rattle.shares.proofs.common.gcd.Statement.{statement}

@@ -1,14 +1,12 @@
 -- `add_flows` meets its contract: the bonds passed have what they carry added.
-use Prim.Native.Nat.{ℕ, suc, _+_, _*_, _-_, _/_, _≤_, _<_}
-use mathlib.Core.List.{List}
-use mathlib.Core.Path.{_≡_, refl, sym, _∙_, ap}
+use Prim.Native.Nat.{ℕ, _+_, _-_, _/_, _≤_}
+use mathlib.Core.Path.{_≡_}
 use native.Mathlib.Nat.{le-refl}
 use native.Mathlib.Omega.{arith}
 use borrow.Author.Needs.{needs}
 use lib.ListN.{length, getD}
-use Rattle.graph.specs.Graph.{Within}
-use Rattle.block.specs.Block.{mostAtoms, graphOf}
-use Rattle.shares.specs.Work.{cap, full, at, bondAt, carried, Ready, Room, Filled}
+use Rattle.block.specs.Block.{graphOf}
+use Rattle.shares.specs.Work.{full, at, bondAt, carried, Ready, Filled}
 use Rattle.shares.proofs.Entries.{filled-none, filled-store}
 use Rattle.shares.proofs.Flowing.{carried-low, there-fits, back-fits, flows}
 use Rattle.shares.proofs.flows.add_flows.Statement.{statement}

@@ -1,5 +1,4 @@
 -- `add_start` meets its contract: the rows of the start are ready.
-use native.Mathlib.Omega.{arith}
 use Rattle.shares.specs.Work.{Ready}
 use Rattle.shares.proofs.Starting.{counts-pos, weighs, ready}
 use borrow.Author.Needs.{needs}

@@ -1,19 +1,18 @@
 -- `clear` meets its contract: the entries passed are 0.
-use Prim.Native.Nat.{ℕ, _-_, _≤_, _<_}
+use Prim.Native.Nat.{_-_, _≤_}
 use mathlib.Core.Path.{_≡_, refl}
 use native.Mathlib.Omega.{arith}
 use borrow.Author.Needs.{needs}
-use lib.ListN.{length}
 use Rattle.shares.specs.Work.{Filled}
 use Rattle.shares.proofs.Entries.{filled-none, filled-store}
 use Rattle.shares.proofs.flows.clear.Statement.{statement}
 use Rattle.shares.proofs.flows.clear.Tie as tie
 
 abbrev Inv-loop : tie.InvT-loop
-Inv-loop m out₀ k₀ out k = (k ≤ m) × Filled k (λ j. 0) out₀ out
+Inv-loop m out₀ j₀ out j = (j ≤ m) × Filled j (λ k. 0) out₀ out
 
 abbrev μ-loop : tie.MeasureT-loop
-μ-loop m out₀ k₀ out k = m - k
+μ-loop m out₀ j₀ out j = m - j
 
 loop-holds : tie.Need-loop-holds Inv-loop μ-loop
 loop-holds c = (omega arith, filled-none)
@@ -24,8 +23,8 @@ mul-out c = search needs
 slice-write-out : tie.Need-slice-write-out Inv-loop μ-loop
 slice-write-out c = omega (arith, c .before .loop .inv .1 .same)
 
-add-k : tie.Need-add-k Inv-loop μ-loop
-add-k c = omega arith
+add-j : tie.Need-add-j Inv-loop μ-loop
+add-j c = omega arith
 
 loop-less : tie.Need-loop-less Inv-loop μ-loop
 loop-less c = omega arith
@@ -37,7 +36,7 @@ same-length : tie.Need-same-length Inv-loop μ-loop
 same-length c = c .before .loop .inv .1 .same
 
 returns : tie.Need-returns Inv-loop μ-loop
-returns c = let e : c .before .loop .k ≡ c .before .before .args .m = omega arith in rw e at (c .before .loop .inv .1)
+returns c = let e : c .before .loop .j ≡ c .before .before .args .m = omega arith in rw e at (c .before .loop .inv .1)
 
 pub clear-spec : {M : Type 1} → statement M
 clear-spec =
@@ -48,7 +47,7 @@ clear-spec =
     loop-holds
     mul-out
     slice-write-out
-    add-k
+    add-j
     loop-less
     loop-again
     same-length

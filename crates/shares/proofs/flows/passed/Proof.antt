@@ -1,10 +1,10 @@
 -- `passed` meets its contract: the test is that of the definition.
 use Prim.Native.Nat.{_-_}
-use mathlib.Core.Path.{_≡_}
 use native.Mathlib.Omega.{arith}
 use lib.ListN.{getD}
 use Rattle.shares.specs.Work.{at}
-use Rattle.shares.proofs.Flowing.{product-fits, let-pass, let-none}
+use Rattle.shares.proofs.Tallying.{product-fits}
+use Rattle.shares.proofs.Flowing.{let-pass, let-none}
 use borrow.Author.Needs.{needs}
 use Rattle.shares.proofs.flows.passed.Statement.{statement}
 use Rattle.shares.proofs.flows.passed.Tie as tie
@@ -46,7 +46,7 @@ mul-result-3 : tie.Need-mul-result-3
 mul-result-3 c =
     let a = c .before .before .before .before .before .before .before .args in
     let p = c .before .before .before .before .before .before .before .pre in
-    product-fits (at (a .c .now) (a .a)) (at (a .t .now) (a .b)) (p .2) (p .3)
+    product-fits (at (a .c .now) (a .a)) (at (a .t .now) (a .b)) (omega arith) (p .3)
 
 returns : tie.Need-returns
 returns c =

@@ -1,5 +1,5 @@
 -- `counts` meets its contract: the distances and the start's own path give the rule of the counts.
-use Prim.Native.Nat.{ℕ, suc}
+use Prim.Native.Nat.{suc}
 use mathlib.Core.Path.{refl}
 use native.Mathlib.Omega.{arith}
 use Rattle.block.specs.Block.{mostAtoms}

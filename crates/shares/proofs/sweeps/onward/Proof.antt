@@ -1,5 +1,4 @@
 -- `onward` meets its contract: the heights and the weights give the rule of what is gathered.
-use Prim.Native.Nat.{ℕ}
 use mathlib.Core.Path.{refl}
 use native.Mathlib.Omega.{arith}
 use Rattle.shares.proofs.Counting.{row-below, keyed, rule-gathered}

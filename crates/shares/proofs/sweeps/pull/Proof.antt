@@ -1,12 +1,10 @@
 -- `pull` meets its contract: the sum is what the entries passed give, up to the cap.
-use Prim.Native.Nat.{ℕ, suc, _+_, _-_, min, _≤_, _<_}
-use mathlib.Core.Path.{_≡_, _∙_, sym, ap}
+use Prim.Native.Nat.{ℕ, suc, _+_, _-_, min, _≤_}
+use mathlib.Core.Path.{_≡_, _∙_, ap}
 use mathlib.Core.Bool.{cond}
 use native.Mathlib.Omega.{arith}
 use borrow.Author.Needs.{needs}
 use lib.Dec.{eqb}
-use Rattle.graph.specs.Graph.{Within}
-use Rattle.block.specs.Block.{mostAtoms}
 use Rattle.shares.specs.Work.{at}
 use Rattle.shares.proofs.Lists.{pulled, pulled-none, pulled-next, pulled-all}
 use Rattle.shares.proofs.sweeps.pull.Statement.{statement}

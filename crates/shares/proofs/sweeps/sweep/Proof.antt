@@ -1,5 +1,5 @@
 -- `sweep` meets its contract: the row is right for the atoms passed.
-use Prim.Native.Nat.{ℕ, suc, _+_, _*_, _-_, min, _≤_, _<_}
+use Prim.Native.Nat.{ℕ, suc, _+_, _*_, _-_, _≤_}
 use mathlib.Core.Bool.{Bool}
 use mathlib.Core.Path.{_≡_, refl, _∙_}
 use native.Mathlib.Omega.{arith}
@@ -7,7 +7,7 @@ use borrow.Author.Needs.{needs}
 use lib.ListN.{length, length-set}
 use Rattle.graph.specs.Graph.{Within}
 use Rattle.block.specs.Block.{mostAtoms}
-use Rattle.shares.specs.Work.{at, Ordered}
+use Rattle.shares.specs.Work.{Ordered}
 use Rattle.shares.proofs.Sweeping.{Sweeping, seated, sweeping-start, sweeping-level, sweeping-done, sweeping-store}
 use Rattle.shares.proofs.sweeps.sweep.Statement.{statement}
 use Rattle.shares.proofs.sweeps.sweep.Tie as tie
@@ -84,7 +84,6 @@ loop-less c =
 
 loop-again : tie.Need-loop-again Inv-loop μ-loop
 loop-again c =
-    let a = c .before .before .before .before .before .before .before .before .before .before .before .before .args in
     let p = c .before .before .before .before .before .before .before .before .before .before .before .before .pre in
     let l = c .before .before .before .before .before .before .before .before .before .loop in
     let t = c .before .before .before .before .before .before .before .if1 .taken in (
@@ -109,14 +108,12 @@ wide-requires-3 c κs = search needs
 
 loop-less-2 : tie.Need-loop-less-2 Inv-loop μ-loop
 loop-less-2 c =
-    let a = c .before .before .before .before .before .before .before .args in
     let p = c .before .before .before .before .before .before .before .pre in
     let l = c .before .before .before .before .loop in
     omega (arith, c .wide3 .ensures, seated (p .2) (l .level + 1))
 
 loop-again-2 : tie.Need-loop-again-2 Inv-loop μ-loop
 loop-again-2 c =
-    let a = c .before .before .before .before .before .before .before .args in
     let p = c .before .before .before .before .before .before .before .pre in
     let l = c .before .before .before .before .loop in (
       omega arith,
@@ -128,7 +125,6 @@ loop-again-2 c =
 
 returns : tie.Need-returns Inv-loop μ-loop
 returns c n B F o r =
-    let a = c .before .before .before .before .args in
     let l = c .before .loop in
     sweeping-done o (l .inv .3 n B o) (c .loop-test .left) F r
 

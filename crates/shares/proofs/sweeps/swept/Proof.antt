@@ -1,6 +1,5 @@
 -- `swept` meets its contract: the chains are those that the sweep goes over.
 use native.Mathlib.Omega.{arith}
-use Rattle.shares.specs.Work.{Ordered}
 use borrow.Author.Needs.{needs}
 use Rattle.shares.proofs.sweeps.swept.Statement.{statement}
 use Rattle.shares.proofs.sweeps.swept.Tie as tie
