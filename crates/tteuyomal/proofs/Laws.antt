@@ -17,6 +17,11 @@ use Rattle.block.specs.declared.Measured.the-variants as measured
 use Rattle.block.specs.declared.Vertex.{Vertex}
 use Rattle.block.specs.declared.Around.{Around}
 use Rattle.block.specs.declared.Around.the-variants as around
+use Rattle.block.specs.declared.Apart.{Apart}
+use Rattle.block.specs.declared.Apart.the-variants as apart
+use Rattle.molecule.specs.declared.Written.{Written}
+use Rattle.molecule.specs.declared.Written.the-variants as written
+use Rattle.molecule.specs.Molecule.{saidWritten}
 use Rattle.poly.specs.Poly.{saidPolynomial}
 use Rattle.poly.specs.declared.Values.{Values}
 use Rattle.poly.specs.declared.Answer.{Answer}
@@ -40,6 +45,14 @@ abbrev pub toldValues : Answer → Read Values
 toldValues (answer.Refused r) = refused r
 toldValues (answer.Values v) = read v
 
+abbrev pub toldDistance : Apart → Read ℕ
+toldDistance (apart.Refused r) = refused r
+toldDistance (apart.Of d) = read d
+
+abbrev pub writtenCode : Written → ℕ
+writtenCode (written.Refused r) = code r
+writtenCode written.Sheet = 0
+
 pub block-told : (a : Reply) (R : Read (Unit {0})) → a ≡ saidBlock R → toldBlock a ≡ R
 block-told a (refused r) e = ap toldBlock e
 block-told a (read tt) e = ap toldBlock e
@@ -55,6 +68,14 @@ vertex-told a (read v) e = ap toldVertex e
 pub values-told : (a : Answer) (R : Read Values) → a ≡ saidPolynomial R → toldValues a ≡ R
 values-told a (refused r) e = ap toldValues e
 values-told a (read v) e = ap toldValues e
+
+pub distance-told : (a : Apart) (R : Read ℕ) → a ≡ saidDistance R → toldDistance a ≡ R
+distance-told a (refused r) e = ap toldDistance e
+distance-told a (read d) e = ap toldDistance e
+
+pub written-coded : (a : Written) (R : Read Indices) → a ≡ saidWritten R → writtenCode a ≡ coded R
+written-coded a (refused r) e = ap writtenCode e
+written-coded a (read x) e = ap writtenCode e
 
 -- a refusal lends nothing out; an answer goes out where it fits
 pub lent-refused : {A : Type 0} {answer : Read (List A)} (r : Refusal) (old : List A) (x : ℕ) → answer ≡ refused r → x ≡ code r → Lent answer old x old

@@ -7,6 +7,8 @@ use lib.Dec.{ltb}
 use lib.ListN.{length, drop}
 use Rattle.block.specs.Read.{Read, refused, read, _then_, refuseIf}
 use Rattle.block.specs.declared.Refusal.{Refusal}
+use Rattle.molecule.specs.declared.Verdict.{Verdict}
+use Rattle.molecule.specs.declared.Verdict.the-variants as verdict
 
 -- the most that is kept of a place
 abbrev pub places : ℕ
@@ -18,6 +20,12 @@ code r = r .number % 256 + 256 * (r .place % places)
 abbrev pub coded : {A : Type 0} → Read A → ℕ
 coded (refused r) = code r
 coded (read x) = 0
+
+-- a verdict: 0 for accepted, 255 for "differs" with the first wrong field
+abbrev pub verdictCode : Verdict → ℕ
+verdictCode (verdict.Refused r) = code r
+verdictCode verdict.Accepted = 0
+verdictCode (verdict.Differs k) = 255 + 256 * (k % places)
 
 -- 9 at place 0 where the answer has more entries than are lent
 abbrev pub fitting : {A : Type 0} → ℕ → Read (List A) → Read (List A)

@@ -11,6 +11,9 @@ use Rattle.tteuyomal.specs.Convention.{coded, after}
 use Rattle.block.specs.Index.{indicesReply, vertexReply}
 use Rattle.block.specs.declared.Vertex.{Vertex}
 use Rattle.deck.specs.Molecule.{fieldsOf}
+use Rattle.deck.specs.declared.Form.the-variants.{Composed}
+use Rattle.compose.specs.Fields.{fieldsReply}
+use Rattle.climb.specs.Placed.{placedReply}
 use Rattle.poly.specs.declared.Values.{Values}
 use Rattle.poly.specs.Poly.{polynomialReply}
 use lib.Ieee.{Float}
@@ -18,6 +21,14 @@ use lib.Ieee.{Float}
 -- atom count, W, even part, odd part, polarity
 abbrev pub indicesList : ℕ → List ℕ → Read (List ℕ)
 indicesList n bonds = indicesReply n bonds then λ x. read (fieldsOf x)
+
+-- the same of a deck without a sheet
+abbrev pub composedList : List ℕ → Read (List ℕ)
+composedList d = fieldsReply Composed d then λ x. read (fieldsOf x)
+
+-- the distance of two placed atoms
+abbrev pub placedList : List ℕ → ℕ → ℕ → ℕ → ℕ → Read (List ℕ)
+placedList d k i l j = placedReply d k i l j then λ n. read (n ∷ [])
 
 -- sum, even part, odd part, even count, odd count, f(1), f(2)
 abbrev pub sumsOf : Vertex → List ℕ

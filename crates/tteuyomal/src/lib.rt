@@ -1,15 +1,19 @@
 // The functions of the library as C calls them: each is the library's under the convention of include/tteuyomal.h.
 ghost use mathlib.Core.Path.{_≡_};
-ghost use Prim.Native.Nat.{_≤_};
+ghost use Prim.Native.Nat.{_+_, _*_, _%_, _≤_};
 ghost use lib.ListN.{length};
 ghost use Rattle.block.specs.Read.{read};
 ghost use Rattle.block.specs.Block.{blockReply};
-ghost use Rattle.tteuyomal.specs.Convention.{code, coded, over, Lent};
-ghost use Rattle.tteuyomal.specs.Replies.{indicesList, vertexList, valuesList, polynomialList, unlentReply, Contributed};
+ghost use Rattle.molecule.specs.Molecule.{judgeReply, saidVerdict, writeReply, sheetOut};
+ghost use Rattle.tteuyomal.specs.Convention.{places, code, coded, verdictCode, over, Lent};
+ghost use Rattle.tteuyomal.specs.Replies.{indicesList, composedList, placedList, vertexList, valuesList, polynomialList, unlentReply, Contributed};
+use block::Apart;
 use block::Around;
 use block::Measured;
 use block::Refusal;
 use block::Reply;
+use molecule::Verdict;
+use molecule::Written;
 use poly::Answer;
 use poly::Values;
 use shares::Shares;
@@ -142,6 +146,72 @@ pub extern "C" fn tteuyomal_contributions(
         Shares::Denominator(d) => {
             denominator[0] = d;
             0
+        }
+    }
+}
+
+// The first wrong field as one number.
+fn field_of(k: usize) -> u64
+    ensures { λ x. ⌜ x ≡ 255 + 256 * (k % places) ⌝ }
+{
+    255 + 256 * ((k % PLACES) as u64)
+}
+
+#[no_mangle]
+pub extern "C" fn tteuyomal_judge(deck: &[u8]) -> u64
+    ensures { λ r. ⌜ r ≡ verdictCode (saidVerdict (judgeReply (now (deck .entry)))) ⌝ }
+{
+    let verdict = molecule::judge(deck);
+    match verdict {
+        Verdict::Refused(r) => code_of(r),
+        Verdict::Accepted => 0,
+        Verdict::Differs(k) => field_of(k),
+    }
+}
+
+#[no_mangle]
+pub extern "C" fn tteuyomal_write_sheet(deck: &[u8], out: &mut [u8]) -> u64
+    ensures reply { λ r. ⌜ r ≡ coded (writeReply (now (deck .entry)) (length (now (out .entry)))) ⌝ }
+    ensures bytes { λ _. ⌜ now (out .exit) ≡ sheetOut (now (out .entry)) (writeReply (now (deck .entry)) (length (now (out .entry)))) ⌝ }
+{
+    let written = molecule::write_sheet(deck, out);
+    match written {
+        Written::Refused(r) => code_of(r),
+        Written::Sheet => 0,
+    }
+}
+
+#[no_mangle]
+pub extern "C" fn tteuyomal_compose(deck: &[u8], fields: &mut [u64]) -> u64
+    ensures { λ r. ⌜ Lent (composedList (now (deck .entry))) (now (fields .entry)) r (now (fields .exit)) ⌝ }
+{
+    let answer = molecule::compose(deck);
+    match answer {
+        Measured::Refused(r) => code_of(r),
+        Measured::Of(x) => {
+            let numbers = [x.atoms, x.w, x.even, x.odd, x.polarity];
+            give(fields, &numbers)
+        }
+    }
+}
+
+#[no_mangle]
+pub extern "C" fn tteuyomal_placed_distance(
+    deck: &[u8],
+    k: usize,
+    i: usize,
+    l: usize,
+    j: usize,
+    distance: &mut [u64],
+) -> u64
+    ensures { λ r. ⌜ Lent (placedList (now (deck .entry)) k i l j) (now (distance .entry)) r (now (distance .exit)) ⌝ }
+{
+    let answer = climb::placed_distance(deck, k, i, l, j);
+    match answer {
+        Apart::Refused(r) => code_of(r),
+        Apart::Of(n) => {
+            let numbers = [n];
+            give(distance, &numbers)
         }
     }
 }
