@@ -39,7 +39,7 @@ told c =
     let s = c .before .before .before .before .before in
     let b = c .before .before .before .block-of in
     told-inside (s .pre) (b .result) (b .ensures) (c .distance .result)
-    (c .distance .ensures ∙ ap (λ (xs : List ℕ). saidDistance (distanceReply (b .result .atoms) xs (s .args .i) (s .args .j))) (c .before .before .bonds-part .ensures))
+    (c .distance .ensures ∙ ap (λ (xs : List ℕ). saidDistance (distanceReply (b .result .atoms) xs (s .args .i) (s .args .j))) (c .before .before .bonds-part .ensures .bytes))
 
 returns : tie.Need-returns
 returns c = let is = told (c .before .before .before) in let e = c .before .reply .given .1 in cc
