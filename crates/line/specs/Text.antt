@@ -11,6 +11,8 @@ use Rattle.block.specs.declared.Refusal.{Refusal}
 use Rattle.block.specs.declared.Indices.{Indices}
 use Rattle.block.specs.declared.Measured.{Measured}
 use Rattle.block.specs.declared.Measured.the-variants as measured
+use Rattle.molecule.specs.declared.Verdict.{Verdict}
+use Rattle.molecule.specs.declared.Verdict.the-variants as verdict
 use Rattle.line.specs.declared.Line.{Line}
 
 -- the bytes of a text in ASCII
@@ -45,6 +47,15 @@ refusalText r = named "refused " (r .number) ++ named " at " (r .place) ++ ascii
 abbrev pub measuredText : Measured → List ℕ
 measuredText (measured.Of x) = indicesText x
 measuredText (measured.Refused r) = refusalText r
+
+-- the first wrong field
+unfoldable pub differsText : ℕ → List ℕ
+differsText field = named "differs " field ++ ascii "\n"
+
+abbrev pub verdictText : Verdict → List ℕ
+verdictText verdict.Accepted = ascii "accepted\n"
+verdictText (verdict.Differs field) = differsText field
+verdictText (verdict.Refused r) = refusalText r
 
 -- what is said of a deck that cannot be read
 abbrev pub unreadText : List ℕ
