@@ -4,7 +4,7 @@ ghost use mathlib.Core.List.{[], _++_};
 ghost use Prim.Native.Nat.{_+_};
 ghost use lib.Dec.{leb};
 ghost use Rattle.io.specs.Counts.{Counts};
-ghost use Rattle.line.specs.Text.{decimal, indicesText, refusalText, measuredText, differsText, verdictText, unreadText, lined};
+ghost use Rattle.line.specs.Text.{decimal, indicesText, refusalText, measuredText, differsText, verdictText, deckText, unreadText, lined};
 ghost use Rattle.line.specs.Label.{labelReply, labelled};
 ghost use Rattle.line.specs.Put.{Put, Adds};
 use block::Indices;
@@ -153,7 +153,9 @@ pub fn label(out: &mut [u8], name: usize, words: &[u8]) -> usize
     }
 }
 
+// The whole answer to a deck: the line of its five fields, or of the verdict on its sheet, or of its refusal.
 pub fn deck_line(form: Form, d: &[u8]) -> Line
+    ensures { λ r. ⌜ r ≡ lined (deckText form (now (d .entry))) ⌝ }
     ensures { λ r. ⌜ Counts (r .len) (r .text) ⌝ }
 {
     match form {
