@@ -2,7 +2,8 @@
 use mathlib.Core.Path.{_≡_, refl}
 use Rattle.block.specs.Read.{refusal}
 use Rattle.block.specs.declared.Measured.the-variants as measured
-use Rattle.line.specs.Text.{ascii, decimalIn, decimal, indicesText, refusalText, measuredText, unreadText}
+use Rattle.molecule.specs.declared.Verdict.the-variants as verdict
+use Rattle.line.specs.Text.{ascii, decimalIn, decimal, indicesText, refusalText, measuredText, differsText, verdictText, unreadText}
 use Rattle.line.specs.Label.{hasRoom, labelled}
 
 -- document 01's lines
@@ -13,6 +14,10 @@ two-rings = refl
 a-refusal : measuredText (measured.Refused (refusal 7 0)) ≡ ascii "refused 7 at 0\n"
 unfolding refusalText decimal decimalIn
 a-refusal = refl
+
+a-verdict : verdictText (verdict.Differs 3) ≡ ascii "differs 3\n"
+unfolding differsText decimal decimalIn
+a-verdict = refl
 
 -- the largest number
 largest : decimal 18446744073709551615 ≡ ascii "18446744073709551615"

@@ -11,6 +11,13 @@ use Rattle.block.specs.declared.Refusal.{Refusal}
 use Rattle.block.specs.declared.Indices.{Indices}
 use Rattle.block.specs.declared.Measured.{Measured}
 use Rattle.block.specs.declared.Measured.the-variants as measured
+use Rattle.block.specs.Index.{saidIndices}
+use Rattle.deck.specs.declared.Form.{Form}
+use Rattle.deck.specs.declared.Form.the-variants.{Composed, Judged}
+use Rattle.compose.specs.Fields.{fieldsReply}
+use Rattle.molecule.specs.Molecule.{judgeReply, saidVerdict}
+use Rattle.molecule.specs.declared.Verdict.{Verdict}
+use Rattle.molecule.specs.declared.Verdict.the-variants as verdict
 use Rattle.line.specs.declared.Line.{Line}
 
 -- the bytes of a text in ASCII
@@ -45,6 +52,20 @@ refusalText r = named "refused " (r .number) ++ named " at " (r .place) ++ ascii
 abbrev pub measuredText : Measured → List ℕ
 measuredText (measured.Of x) = indicesText x
 measuredText (measured.Refused r) = refusalText r
+
+-- the first wrong field
+unfoldable pub differsText : ℕ → List ℕ
+differsText field = named "differs " field ++ ascii "\n"
+
+abbrev pub verdictText : Verdict → List ℕ
+verdictText verdict.Accepted = ascii "accepted\n"
+verdictText (verdict.Differs field) = differsText field
+verdictText (verdict.Refused r) = refusalText r
+
+-- the whole answer to a deck: its molecule's five fields, or the verdict on its sheet
+abbrev pub deckText : Form → List ℕ → List ℕ
+deckText Composed d = measuredText (saidIndices (fieldsReply Composed d))
+deckText Judged d = verdictText (saidVerdict (judgeReply d))
 
 -- what is said of a deck that cannot be read
 abbrev pub unreadText : List ℕ

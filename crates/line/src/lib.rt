@@ -4,12 +4,14 @@ ghost use mathlib.Core.List.{[], _++_};
 ghost use Prim.Native.Nat.{_+_};
 ghost use lib.Dec.{leb};
 ghost use Rattle.io.specs.Counts.{Counts};
-ghost use Rattle.line.specs.Text.{decimal, indicesText, refusalText, measuredText, unreadText, lined};
+ghost use Rattle.line.specs.Text.{decimal, indicesText, refusalText, measuredText, differsText, verdictText, deckText, unreadText, lined};
 ghost use Rattle.line.specs.Label.{labelReply, labelled};
 ghost use Rattle.line.specs.Put.{Put, Adds};
 use block::Indices;
 use block::Measured;
 use block::Refusal;
+use deck::Form;
+use molecule::Verdict;
 
 // The digits of the largest number, and the bytes of the longest line.
 const DIGITS: usize = 20;
@@ -104,6 +106,24 @@ pub fn measured_line(m: Measured) -> Line
     }
 }
 
+fn differs_line(field: usize) -> Line
+    ensures { λ r. ⌜ r ≡ lined (differsText field) ⌝ }
+{
+    empty().named(b"differs ", field as u64).with(b"\n")
+}
+
+// The line of a verdict on a deck's sheet.
+pub fn verdict_line(v: Verdict) -> Line
+    ensures { λ r. ⌜ r ≡ lined (verdictText v) ⌝ }
+    ensures { λ r. ⌜ Counts (r .len) (r .text) ⌝ }
+{
+    match v {
+        Verdict::Accepted => empty().with(b"accepted\n"),
+        Verdict::Differs(field) => differs_line(field),
+        Verdict::Refused(r) => refusal_line(r),
+    }
+}
+
 // The line of a deck that cannot be read.
 pub fn unread_line() -> Line
     ensures { λ r. ⌜ r ≡ lined unreadText ⌝ }
@@ -130,5 +150,16 @@ pub fn label(out: &mut [u8], name: usize, words: &[u8]) -> usize
         put(out, at, words)
     } else {
         0
+    }
+}
+
+// The whole answer to a deck: the line of its five fields, or of the verdict on its sheet, or of its refusal.
+pub fn deck_line(form: Form, d: &[u8]) -> Line
+    ensures { λ r. ⌜ r ≡ lined (deckText form (now (d .entry))) ⌝ }
+    ensures { λ r. ⌜ Counts (r .len) (r .text) ⌝ }
+{
+    match form {
+        Form::Composed => measured_line(molecule::compose(d)),
+        Form::Judged => verdict_line(molecule::judge(d)),
     }
 }

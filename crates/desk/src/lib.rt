@@ -1,0 +1,128 @@
+// What the programs `sheet` and `judge` share: a deck from standard input or from each file that is named, and one line for it.
+ghost use mathlib.Core.Path.{_≡_};
+ghost use Prim.Native.Nat.{_≤_};
+ghost use lib.ListN.{length};
+ghost use Rattle.io.specs.Counts.{Counts};
+use deck::Form;
+use libc::STDIN_FILENO;
+use libc::STDOUT_FILENO;
+use line::Line;
+
+// One byte more than the longest deck, so that a longer one is seen to be longer.
+const ROOM: usize = deck::LONGEST + 1;
+
+// The longest argument that Linux hands over, and behind it `: ` and the longest line.
+const WIDTH: usize = 131072 + 2 + line::LONGEST;
+
+// How many bytes were read, and whether no read failed.
+struct Got {
+    whole: bool,
+    n: usize,
+}
+
+// One read.
+fn read_some(fd: i32, part: &mut [u8]) -> Got
+    ensures { λ r. ⌜ r .n ≤ length (now (part .exit)) ⌝ }
+{
+    let got = libc::read(fd, part);
+    if got < 0 {
+        return Got { whole: false, n: 0 };
+    }
+    let n = io::count(got, part);
+    Got { whole: true, n }
+}
+
+// Reads until the buffer is full, the input ends or a read fails.
+fn read_deck(fd: i32, deck: &mut [u8]) -> Got
+    ensures { λ r. ⌜ Counts (r .n) (now (deck .exit)) ⌝ }
+{
+    let mut n = 0;
+    while n < deck.len() {
+        let got = read_some(fd, &mut deck[n..]);
+        if got.n == 0 {
+            return Got {
+                whole: got.whole,
+                n,
+            };
+        }
+        n += got.n;
+    }
+    Got { whole: true, n }
+}
+
+// The line of a deck that stands in a descriptor.
+fn input_line(form: Form, fd: i32) -> Line
+    ensures { λ r. ⌜ Counts (r .len) (r .text) ⌝ }
+{
+    let mut deck = [0u8; ROOM];
+    let got = read_deck(fd, &mut deck);
+    if !got.whole {
+        return line::unread_line();
+    }
+    let n = got.n;
+    line::deck_line(form, &deck[..n])
+}
+
+// Writes a line in one piece, and answers whether it could.
+fn print(text: &[u8]) -> bool {
+    let written = io::write_all(STDOUT_FILENO, text);
+    if !written {
+        os::fail(b"standard output");
+    }
+    written
+}
+
+// The line of the file that argument i names.
+fn file_line(form: Form, i: usize) -> Line
+    ensures { λ r. ⌜ Counts (r .len) (r .text) ⌝ }
+{
+    let mut path = io::buffer();
+    let n = os::arg(i, &mut path);
+    let fd = os::open_read(&path[..n]);
+    if fd < 0 {
+        return line::unread_line();
+    }
+    let said = input_line(form, fd);
+    libc::close(fd);
+    said
+}
+
+// Prints a line behind argument i.
+fn print_named(i: usize, said: Line) -> bool
+    requires { ⌜ Counts (said .len) (said .text) ⌝ }
+{
+    let mut out = [0u8; WIDTH];
+    let n = os::arg(i, &mut out);
+    let text = said.text;
+    let len = said.len;
+    let k = line::label(&mut out, n, &text[..len]);
+    print(&out[..k])
+}
+
+// Prints the line of standard input.
+fn answer_input(form: Form) -> bool {
+    let said = input_line(form, STDIN_FILENO);
+    let text = said.text;
+    let len = said.len;
+    print(&text[..len])
+}
+
+// Prints the lines of the files that the arguments from 1 on name, as long as lines can be printed.
+fn answer_files(form: Form, count: usize) {
+    let mut i = 1;
+    while i < count && print_named(i, file_line(form, i)) {
+        i += 1;
+    }
+}
+
+// One line for each file that is named, or for standard input where none is. What is read and written no promise can say.
+pub fn serve(form: Form)
+    ensures { λ r. ⌜ r ≡ tt ⌝ }
+{
+    let count = os::arg_count();
+    if count < 2 {
+        answer_input(form);
+    } else {
+        answer_files(form, count);
+    }
+}

@@ -1,0 +1,4 @@
+// Prints the sheet of a deck that has none.
+fn main() {
+    desk::serve(deck::Form::Composed);
+}
