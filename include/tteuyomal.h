@@ -96,7 +96,7 @@ tteuyomal_reply tteuyomal_judge(const uint8_t *deck, size_t deck_len);
  * Refusals: 20, then 9 (out_len below 40), then the deck's. */
 tteuyomal_reply tteuyomal_write_sheet(const uint8_t *deck, size_t deck_len, uint8_t *out, size_t out_len);
 
-/* Writes the five fields of a deck without a sheet. Refusals: 20, then 9 (fields_len below 5), then the deck's. */
+/* Writes the five fields of a deck without a sheet. Refusals: the deck's, then 9 (fields_len below 5). */
 tteuyomal_reply tteuyomal_compose(const uint8_t *deck, size_t deck_len, uint64_t *fields, size_t fields_len);
 
 /* Writes one number: the distance, in the whole molecule of a deck without a sheet, from atom i of placement k to

@@ -31,25 +31,24 @@ pub fn judge(measurer: &mut Measurer, bytes: &[u8]) -> Verdict {
     }
 }
 
-/// The five fields: 20, then 9, then the deck's.
+/// The five fields: the deck's, then 9.
 pub fn compose(measurer: &mut Measurer, bytes: &[u8], room: usize) -> Result<[u64; 5], Refusal> {
-    fields_into(measurer, bytes, room, 5)
+    let deck = read_deck(bytes, Form::Composed)?;
+    if room < 5 {
+        return refuse(9, 0);
+    }
+    Ok(measurer.indices(write_out(&deck)).fields())
 }
 
 /// The sheet's record of 40 bytes: 20, then 9, then the deck's.
 pub fn write_sheet(measurer: &mut Measurer, bytes: &[u8], room: usize) -> Result<Vec<u8>, Refusal> {
-    fields_into(measurer, bytes, room, 40).map(sheet_record)
-}
-
-fn fields_into(measurer: &mut Measurer, bytes: &[u8], room: usize, needed: usize) -> Result<[u64; 5], Refusal> {
     if bytes.len() > MOST_BYTES {
         return refuse(20, 0);
     }
-    if room < needed {
+    if room < 40 {
         return refuse(9, 0);
     }
-    let deck = read_deck(bytes, Form::Composed)?;
-    Ok(measurer.indices(write_out(&deck)).fields())
+    compose(measurer, bytes, 5).map(sheet_record)
 }
 
 /// The distance of atom i of placement k and atom j of placement l: the deck's, then 18 at 0, then 9.

@@ -48,7 +48,8 @@ fn short_outputs_come_where_document_01_says() {
         answers::write_sheet(measurer, &good, 40).map(|sheet| sheet[..8].to_vec()),
         Ok(vec![36, 0, 3, 0, 12, 0, 0, 0])
     );
-    assert_eq!(answers::compose(measurer, &[], 4), refused(9, 0));
+    assert_eq!(answers::compose(measurer, &[], 4), refused(11, 0));
+    assert_eq!(answers::compose(measurer, &good, 4), refused(9, 0));
     assert_eq!(answers::compose(measurer, &good, 5), Ok([12, 198, 96, 102, 14]));
     assert_eq!(answers::placed_distance(&[], [0; 4], 0), refused(11, 0));
     assert_eq!(answers::placed_distance(&good, [3, 1, 1, 1], 0), refused(18, 0));
