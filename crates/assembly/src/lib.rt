@@ -5,7 +5,8 @@ ghost use Prim.Native.Nat.{_+_, _*_, _-_, _<_, _≤_, suc};
 ghost use lib.ListN.{length, take};
 ghost use Rattle.graph.specs.Graph.{degree};
 ghost use Rattle.block.specs.Block.{bondsOf, isOutside, saidBlock};
-ghost use Rattle.assembly.specs.Book.{find, isNumbered, bondBytes, blockGraph, bookOf};
+ghost use Rattle.records.specs.Bytes.{PartOf};
+ghost use Rattle.assembly.specs.Book.{find, isNumbered, blockGraph, bookOf};
 ghost use Rattle.assembly.specs.Placements.{placementAt, joinsOn, joinOn, isFull, mostPlacements, firstFault, parentFault, joinFault, laterFault, fault, assemblyReply};
 use block::LIMIT;
 use block::Refusal;
@@ -71,11 +72,11 @@ pub fn is_numbered(b: BlockAt, number: usize) -> bool
 
 // The part that holds a block's bonds.
 pub fn bonds_part(d: &[u8], b: BlockAt) -> &[u8]
-    ensures { λ r. ⌜ now r ≡ bondBytes (now (d .entry)) b ⌝ }
+    ensures { λ r. ⌜ PartOf (d .entry) (b .start + 6) (2 * b .bonds) r ⌝ }
 {
     let start = b.start;
     if d.len() < start {
-        return &d[..0];
+        return part(d, start, 0);
     }
     part(d, start + 6, 2 * (b.bonds as usize))
 }

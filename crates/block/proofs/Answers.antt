@@ -2,13 +2,13 @@
 use Prim.Native.Nat.{ℕ, min}
 use mathlib.Core.Bool.{Bool, true, false}
 use mathlib.Core.List.{List}
-use mathlib.Core.Path.{_≡_, refl, sym, ap, _∙_}
+use mathlib.Core.Path.{_≡_, refl, sym, _∙_}
 use Rattle.graph.specs.Graph.{distance}
 use Rattle.block.specs.Read.{Read, refused, read, _then_, refuseIf, refusal}
 use Rattle.block.specs.Chain.{not-read}
 use Rattle.block.specs.Block.{mostAtoms, isOutside, graphOf, blockReply}
 use Rattle.block.specs.Rows.{rowOf, rowsOf, rowReply, saidRow}
-use Rattle.block.specs.Index.{indicesOf, indicesReply, saidIndices, vertexOf, vertexReply, saidVertex, distanceReply, saidDistance, pairsOf, pairsReply, saidPairs}
+use Rattle.block.specs.Index.{indicesReply, saidIndices, vertexOf, vertexReply, saidVertex, distanceReply, saidDistance, pairsOf, pairsReply, saidPairs}
 use Rattle.block.specs.Sums.{entry, pairEntry, indicesBy, countsBy, vertexBy}
 use Rattle.block.specs.Found.{saidRead, Viewing}
 use Rattle.block.specs.Faults.{inside}

@@ -1,5 +1,5 @@
 -- The rows are filled one by one, and a row is looked up. Assumes nothing.
-use Prim.Native.Nat.{ℕ, zero, suc, _≤_, _<_}
+use Prim.Native.Nat.{ℕ, suc, _≤_, _<_}
 use mathlib.Core.Bool.{true}
 use mathlib.Core.List.{List, []}
 use mathlib.Core.Path.{_≡_, refl, sym, subst⁻¹, _∙_}
@@ -9,7 +9,7 @@ use lib.ListN.{length, getD, set, length-set, replicate, getD-replicate}
 use lib.Seq.{getD-set-same, getD-set-other, ext-getD}
 use borrow.Author.Tests.{lt-ltb, ne-eqb}
 use Rattle.graph.specs.Graph.{Within}
-use Rattle.block.specs.Read.{Read, refused, read, refusal}
+use Rattle.block.specs.Read.{refused, read, refusal}
 use Rattle.block.specs.Block.{mostAtoms, isOutside, graphOf, blockReply}
 use Rattle.block.specs.Rows.{table, rowOf, noRow, saidRow, rowReply, rowsOf}
 use Rattle.block.specs.Tables.{length-table, getD-table}

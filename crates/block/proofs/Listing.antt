@@ -1,19 +1,19 @@
 -- What neighbour lists say of a relation, and what stays true as a bond joins them. Assumes nothing.
-use Prim.Native.Nat.{ℕ, zero, suc, _+_, _*_, _≤_, _<_}
+use Prim.Native.Nat.{ℕ, _+_, _*_, _≤_, _<_}
 use mathlib.Core.Bool.{Bool, true, false, _&&_, _||_}
-use mathlib.Core.List.{List, [], _∷_}
+use mathlib.Core.List.{List, _∷_}
 use mathlib.Core.Logic.{_⊎_, inl, inr, ⊎-elim, ⊎-map, _≢_}
-use mathlib.Core.Path.{_≡_, refl, sym, ap, subst, subst⁻¹, subst₂, _∙_}
+use mathlib.Core.Path.{_≡_, refl, sym, subst, subst⁻¹, subst₂, _∙_}
 use native.Mathlib.Decide.{ℕ-discrete}
 use native.Mathlib.Omega.{arith}
 use borrow.Author.Tests.{le-leb, lt-leb, eq-eqb, ne-eqb, eqb-true}
 use lib.Dec.{eqb, leb}
-use lib.ListN.{length, getD, set, length-set}
+use lib.ListN.{length, length-set}
 use lib.Seq.{getD-set-same, getD-set-other}
 use Rattle.graph.specs.Graph.{Bond, bond, Within, anyJoins, degree}
 use Rattle.graph.specs.Bonds.{both, both-true, one-of, first-of, second-of, any-out, any-head, any-tail}
 use Rattle.graph.specs.Distance.{not-true}
-use Rattle.block.specs.Block.{limit, mostAtoms}
+use Rattle.block.specs.Block.{limit}
 use Rattle.block.specs.Near.{counted, neighbour, putting, Draws, Holds}
 use Rattle.block.specs.declared.Near.{Near}
 use Rattle.block.specs.Faults.{Faultless}

@@ -1,12 +1,11 @@
 -- A search over neighbour lists: what holds while it runs, whatever array holds what. Assumes nothing.
-use Prim.Native.Nat.{ℕ, zero, suc, _+_, _-_, _*_, _≤_, _<_}
+use Prim.Native.Nat.{ℕ, suc, _+_, _-_, _≤_, _<_}
 use mathlib.Core.Bool.{Bool, true, false, not, _||_, cond, false≢true}
 use mathlib.Core.List.{List, []}
 use mathlib.Core.Logic.{_⊎_, inl, inr, ⊎-elim, _≢_}
-use mathlib.Core.Path.{_≡_, refl, sym, ap, subst, subst⁻¹, _∙_}
+use mathlib.Core.Path.{_≡_, refl, sym, subst, subst⁻¹, _∙_}
 use native.Mathlib.Omega.{arith}
 use native.Mathlib.Decide.{ℕ-discrete, decLt}
-use native.Mathlib.Numerals.{add-one}
 use lib.Dec.{eqb, ltb}
 use lib.ListN.{length, getD, set, length-set, replicate}
 use lib.Seq.{getD-set-same, getD-set-other, ext-getD}
@@ -18,9 +17,8 @@ use Rattle.graph.specs.Search.{State, Seen, Push, begin, bound, room, pushed, a
 use Rattle.block.specs.Block.{mostAtoms, limit}
 use Rattle.block.specs.Rows.{table, rowOf}
 use Rattle.block.specs.Near.{counted, neighbour, Lists}
-use Rattle.block.specs.Found.{Task, Searched}
+use Rattle.block.specs.Found.{Searched}
 use Rattle.block.specs.declared.Near.{Near}
-use Rattle.block.specs.declared.Found.{Found}
 use Rattle.block.proofs.Reading.{zeros}
 use Rattle.block.specs.Tables.{length-table, getD-table}
 

@@ -10,8 +10,8 @@ use native.Mathlib.Numerals.{add-one}
 use lib.ListN.{length, getD, drop, replicate, getD-replicate, length-drop, length-replicate, List·getD-eq-default}
 use lib.Seq.{drop-cons}
 use Rattle.graph.specs.Graph.{Bond, bond, anyJoins, bonded, degree}
-use Rattle.graph.specs.Bonds.{any-out, any-head, any-tail, any-none, joins-out, joins-in}
-use Rattle.block.specs.Read.{Read, refused, read, _then_, refuseFor, refusal}
+use Rattle.graph.specs.Bonds.{any-out, any-head, any-tail, any-none}
+use Rattle.block.specs.Read.{refused, read, _then_, refuseFor, refusal}
 use Rattle.block.specs.Block.{limit, mostAtoms, bondsOf, graphOf, bondFault, bondsReply}
 use Rattle.block.specs.Near.{counted, near, putting, Draws, Holds, Lists}
 use Rattle.block.specs.declared.Near.{Near}

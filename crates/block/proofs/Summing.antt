@@ -1,5 +1,5 @@
 -- The tallies of rows add up to the indices, and one tally to the vertex sums. Assumes nothing.
-use Prim.Native.Nat.{ℕ, zero, suc, _+_, _*_, _-_, _≤_, _<_}
+use Prim.Native.Nat.{ℕ, suc, _+_, _*_, _-_, _≤_, _<_}
 use mathlib.Core.List.{List, []}
 use mathlib.Core.Path.{_≡_, refl, sym, ap, _∙_}
 use native.Mathlib.Numerals.{add-one}
@@ -12,8 +12,6 @@ use Rattle.block.specs.Block.{mostAtoms}
 use Rattle.block.specs.Sums.{entry, pairEntry, indicesBy, vertexBy}
 use Rattle.block.specs.Tally.{tallyBy, Tallied}
 use Rattle.block.specs.declared.Tally.{Tally}
-use Rattle.block.specs.declared.Indices.{Indices}
-use Rattle.block.specs.declared.Vertex.{Vertex}
 
 sum-whole : (n : ℕ) (d : ℕ → ℕ) → sum n (λ j. evenOf (d j)) + sum n (λ j. oddOf (d j)) ≡ sum n (λ j. d j)
 sum-whole n d = sym (sum-add n (λ j. evenOf (d j)) (λ j. oddOf (d j))) ∙ sum-cong n (λ j w. parts-of .parts (d j))

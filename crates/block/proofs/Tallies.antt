@@ -1,17 +1,17 @@
 -- How a tally grows by one distance. Assumes nothing.
-use Prim.Native.Nat.{ℕ, zero, suc, _+_, _*_, _-_, _%_, _≤_, _<_}
+use Prim.Native.Nat.{ℕ, suc, _+_, _-_, _%_, _≤_}
 use mathlib.Core.Bool.{Bool, true, false, cond}
 use mathlib.Core.List.{List}
-use mathlib.Core.Path.{_≡_, refl, sym, ap, _∙_}
+use mathlib.Core.Path.{_≡_, refl, _∙_}
 use native.Mathlib.Numerals.{add-one}
 use native.Mathlib.Omega.{arith}
 use borrow.Author.Tests.{eq-eqb, ne-eqb}
 use lib.Dec.{eqb}
 use lib.ListN.{getD}
 use mir.Val.{boolByte}
-use Rattle.graph.specs.Graph.{sum, isEven, evenOf, oddOf, evenOne, oddOne, isAt}
+use Rattle.graph.specs.Graph.{sum, evenOf, oddOf, evenOne, oddOne, isAt}
 use Rattle.block.specs.Sums.{entry}
-use Rattle.block.specs.Tally.{tallyBy, Below, Tallied}
+use Rattle.block.specs.Tally.{tallyBy, Tallied}
 use Rattle.block.specs.declared.Tally.{Tally}
 
 -- a test as a number

@@ -3,7 +3,7 @@ use Prim.Native.Nat.{ℕ, zero, suc}
 use mathlib.Core.Bool.{Bool, true, false}
 use mathlib.Core.Path.{_≡_, refl}
 use native.Mathlib.Omega.{arith}
-use Rattle.block.specs.Read.{Read, refused, read, _then_, refuseIf, refuseFor, refusal}
+use Rattle.block.specs.Read.{Read, refused, read, _then_, refuseIf, refuseFor}
 use Rattle.block.specs.declared.Refusal.{Refusal}
 
 pub not-read : {A : Type 0} {r : Refusal} {a : A} → refused r ≡ read a → ⊥

@@ -1,20 +1,17 @@
 -- The sums over the rows of a block that is not refused are its indices, its vertex sums and its counts of pairs. Assumes nothing.
-use Prim.Native.Nat.{ℕ, suc, _-_, _≤_, min}
-use mathlib.Core.List.{List, []}
+use Prim.Native.Nat.{ℕ, _-_, min}
+use mathlib.Core.List.{List}
 use mathlib.Core.Path.{_≡_, ap, fun-ext, _∙_}
 use native.Mathlib.Omega.{arith}
-use lib.ListN.{getD}
-use Rattle.graph.specs.Graph.{Graph, Within, distance, sum, sumPairs, total, vertex, itself, evenOf, oddOf, evenOne, oddOne, isAt}
+use Rattle.graph.specs.Graph.{Graph, sum, sumPairs, total, vertex, itself, evenOf, oddOf, evenOne, oddOne, isAt}
 use Rattle.graph.specs.Distance.{distance-sym}
 use Rattle.graph.specs.Sums.{sum-cong, sumPairs-cong}
-use Rattle.block.specs.Read.{Read, read}
+use Rattle.block.specs.Read.{read}
 use Rattle.block.specs.Block.{mostAtoms, graphOf, blockReply}
 use Rattle.block.specs.Rows.{table, rowOf, rowsOf}
 use Rattle.block.specs.Index.{indicesOf, vertexOf, pairsOf}
 use Rattle.block.specs.Sums.{entry, pairEntry, indicesBy, countsBy, vertexBy}
 use Rattle.block.specs.Told.{few-atoms, molecule, entry-at, distance-at}
-use Rattle.block.specs.declared.Indices.{Indices}
-use Rattle.block.specs.declared.Vertex.{Vertex}
 
 module _ (n : ℕ) (xs : List ℕ) (fine : blockReply n xs ≡ read tt) where
   abbrev g : Graph

@@ -1,28 +1,28 @@
 -- What a block tells that is not refused: it is a molecule of at most 64 atoms, none with more bonds than the limit, and its rows hold its distances. Assumes nothing.
-use Prim.Native.Nat.{ℕ, zero, suc, _+_, _*_, _-_, _%_, _≤_, _<_}
+use Prim.Native.Nat.{ℕ, zero, suc, _+_, _-_, _%_, _≤_}
 use mathlib.Core.Bool.{Bool, true, false, _||_, not, cond, true≢false}
 use mathlib.Core.List.{List, [], _∷_}
 use mathlib.Core.Logic.{_⊎_, inl, inr, ⊎-elim}
-use mathlib.Core.Path.{_≡_, refl, sym, ap, _∙_}
+use mathlib.Core.Path.{_≡_, refl, sym, _∙_}
 use native.Mathlib.Omega.{arith}
 use native.Mathlib.Decide.{ℕ-discrete}
 use lib.Dec.{eqb, ltb}
 use lib.ListN.{length, getD}
-use borrow.Author.Tests.{lt-ltb, le-ltb, ne-eqb, eq-eqb, eqb-true, ltb-false, not-false}
-use Rattle.graph.specs.Graph.{Graph, Bond, Within, Sound, Molecule, anyJoins, bonded, connected, degree, distance}
+use borrow.Author.Tests.{lt-ltb, le-ltb, ne-eqb, eq-eqb, not-false}
+use Rattle.graph.specs.Graph.{Bond, Within, Sound, Molecule, anyJoins, bonded, connected, degree, distance}
 use Rattle.graph.specs.Bonds.{Joins, any-out, any-head, any-tail, any-none, bonded-sym}
 use Rattle.graph.specs.Connected.{connected-molecule}
 use Rattle.graph.specs.Distance.{not-true}
 use Rattle.block.specs.Read.{Read, refused, read, _then_, refuseIf, refuseFor, refusal}
 use Rattle.block.specs.Chain.{not-read, then-read, if-read, for-read}
 use Rattle.block.specs.Block.{mostAtoms, mostBytes, limit, isOutside, bondsOf, graphOf, bondFault, bondsReply, blockReply}
-use Rattle.block.specs.Rows.{table, rowOf, rowReply, saidRow, rowsOf}
-use Rattle.block.specs.Faults.{neither, inside, Faultless, faultless}
+use Rattle.block.specs.Rows.{rowOf, rowReply, saidRow, rowsOf}
+use Rattle.block.specs.Faults.{inside, Faultless, faultless}
 use Rattle.block.specs.Tables.{getD-table}
 use Rattle.block.specs.declared.Refusal.{Refusal}
 
 -- a bond joins two atoms of 1 to n that none of the bonds bs joins
-pub record Plain (n : ℕ) (b : Bond) (bs : List Bond) : Type 0 where
+pub record NewBond (n : ℕ) (b : Bond) (bs : List Bond) : Type 0 where
   pub one : Within n (b .one)
   pub two : Within n (b .two)
   pub differ : b .one ≡ b .two → ⊥
@@ -55,7 +55,7 @@ bonds-new n before (b ∷ bs) e u v j =
     joined (inr q) = rw (q .0, q .1) (bonded-sym (record { atoms = n; bonds = before }) u v j)
 
 -- the bonds that are read, one by one from the last: each joins two atoms that no later one joins
-bonds-by : (n : ℕ) (P : List Bond → Type 0) → P [] → ((b : Bond) (bs : List Bond) → Plain n b bs → P bs → P (b ∷ bs)) → (before bs : List Bond) → bondsReply n before bs ≡ read tt → P bs
+bonds-by : (n : ℕ) (P : List Bond → Type 0) → P [] → ((b : Bond) (bs : List Bond) → NewBond n b bs → P bs → P (b ∷ bs)) → (before bs : List Bond) → bondsReply n before bs ≡ read tt → P bs
 bonds-by n P none more before [] e = none
 bonds-by n P none more before (b ∷ bs) e =
     let (f, r) = bonds-read n before b bs e in
@@ -103,13 +103,6 @@ place-within n xs r e =
     go false false (read v) true q h = zero-place q
     go false false (read v) false q h = absurd (not-read (sym q))
 
--- two bytes a bond
-pub bonds-length : (xs : List ℕ) → 2 * length (bondsOf xs) ≤ length xs
-unfolding bondsOf
-bonds-length [] = omega arith
-bonds-length (a ∷ []) = omega arith
-bonds-length (a ∷ (b ∷ xs)) = omega (arith, bonds-length xs)
-
 module _ (n : ℕ) (xs : List ℕ) (fine : blockReply n xs ≡ read tt) where
   -- the tests that it passed
   pub record Passed : Type 0 where
@@ -134,12 +127,6 @@ module _ (n : ℕ) (xs : List ℕ) (fine : blockReply n xs ≡ read tt) where
   pub few-atoms : Within mostAtoms n
   few-atoms = inside mostAtoms n (passed .size)
 
-  pub few-bytes : length xs ≤ mostBytes
-  few-bytes = ltb-false mostBytes (length xs) (neither (not (eqb (length xs % 2) 0)) (ltb mostBytes (length xs)) (passed .bytes) .1)
-
-  pub even-bytes : length xs % 2 ≡ 0
-  even-bytes = eqb-true (length xs % 2) 0 (not-false (eqb (length xs % 2) 0) (neither (not (eqb (length xs % 2) 0)) (ltb mostBytes (length xs)) (passed .bytes) .0))
-
   pub sound : Sound (graphOf n xs)
   unfolding bonded
   sound = record { ends = bonds-ends n [] (bondsOf xs) (passed .bonds) }
@@ -152,7 +139,7 @@ module _ (n : ℕ) (xs : List ℕ) (fine : blockReply n xs ≡ read tt) where
   few-bonds v = omega (arith, bonds-degrees n [] (bondsOf xs) (passed .bonds) v (omega arith))
 
   -- induction over its bonds
-  pub each-bond : (P : List Bond → Type 0) → P [] → ((b : Bond) (bs : List Bond) → Plain n b bs → P bs → P (b ∷ bs)) → P (bondsOf xs)
+  pub each-bond : (P : List Bond → Type 0) → P [] → ((b : Bond) (bs : List Bond) → NewBond n b bs → P bs → P (b ∷ bs)) → P (bondsOf xs)
   each-bond P none more = bonds-by n P none more [] (bondsOf xs) (passed .bonds)
 
   -- the row of an atom, and what stands in it for an atom

@@ -20,6 +20,11 @@ pub const LIMIT: usize = 4;
 
 pub const BYTES: usize = ATOMS * LIMIT;
 
+// The distances from one atom, and those from all, the distance matrix: that of atoms i and j stands in row i - 1 at j - 1.
+pub type DistanceRow = [u8; ATOMS];
+
+pub type DistanceMatrix = [DistanceRow; ATOMS];
+
 // What is wrong, by document 01's number, and where.
 pub struct Refusal {
     pub number: usize,
@@ -91,14 +96,14 @@ struct Built {
 
 // A search from one atom: the distances found, and how many atoms were met.
 struct Found {
-    pub row: [u8; ATOMS],
+    pub row: DistanceRow,
     pub met: usize,
 }
 
 // The row of one atom, or why there is none.
 struct View {
     pub reply: Reply,
-    pub row: [u8; ATOMS],
+    pub row: DistanceRow,
 }
 
 // What some distances add up to: the even ones and the odd ones, how many there are of each, and how many are 1, 2 and 3.
@@ -161,7 +166,7 @@ pub fn check(n: usize, bonds: &[u8]) -> Reply
 
 // The distances of a block: those from atom i are row i - 1, and that to atom j stands there at j - 1. All is 0 beyond the atoms, and
 // where the block is refused.
-pub fn rows(n: usize, bonds: &[u8]) -> [[u8; ATOMS]; ATOMS]
+pub fn rows(n: usize, bonds: &[u8]) -> DistanceMatrix
     ensures { λ r. ⌜ r ≡ rowsOf n (now (bonds .entry)) ⌝ }
 {
     let admitted = admit(n, bonds);
@@ -203,7 +208,7 @@ fn look(n: usize, bonds: &[u8], i: usize) -> View
 }
 
 // The distances from atom i, that to atom j at j - 1: all 0 where the block is refused or has no such atom.
-pub fn row(n: usize, bonds: &[u8], i: usize) -> [u8; ATOMS]
+pub fn row(n: usize, bonds: &[u8], i: usize) -> DistanceRow
     ensures { λ r. ⌜ r ≡ saidRow (rowReply n (now (bonds .entry)) i) ⌝ }
 {
     let view = look(n, bonds, i);
@@ -211,7 +216,7 @@ pub fn row(n: usize, bonds: &[u8], i: usize) -> [u8; ATOMS]
 }
 
 // The indices of the first n atoms, at most ATOMS, by rows of their distances: the pair i < j is read in the row of j.
-pub fn sums(rows: [[u8; ATOMS]; ATOMS], n: usize) -> Indices
+pub fn sums(rows: DistanceMatrix, n: usize) -> Indices
     ensures { λ r. ⌜ r ≡ indicesBy (min n mostAtoms) (pairEntry rows) ⌝ }
 {
     let m = totals::within(n);
@@ -237,7 +242,7 @@ pub fn sums(rows: [[u8; ATOMS]; ATOMS], n: usize) -> Indices
 }
 
 // The vertex sum of an atom and what goes with it, by the row of its distances to the first n atoms, at most ATOMS.
-pub fn around_row(row: [u8; ATOMS], n: usize) -> Vertex
+pub fn around_row(row: DistanceRow, n: usize) -> Vertex
     ensures { λ r. ⌜ r ≡ vertexBy (min n mostAtoms) (entry row) ⌝ }
 {
     let m = totals::within(n);

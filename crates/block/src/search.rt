@@ -1,5 +1,6 @@
 // Distances by breadth-first search over neighbour lists.
 use super::ATOMS;
+use super::DistanceMatrix;
 use super::Found;
 use super::LIMIT;
 use super::Near;
@@ -57,7 +58,7 @@ pub(crate) fn connected(near: Near, n: usize) -> bool
 }
 
 // The rows of a block of n atoms, filled one by one.
-pub(crate) fn from_all(near: Near, n: usize) -> [[u8; ATOMS]; ATOMS]
+pub(crate) fn from_all(near: Near, n: usize) -> DistanceMatrix
     requires { ⌜ ((xs : List ℕ) × Ready n xs near) ⌝ }
     ensures { λ r. ⌜ ((xs : List ℕ) → Ready n xs near → r ≡ rowsOf n xs) ⌝ }
 {

@@ -1,5 +1,7 @@
 // Sums over rows of distances, whatever the rows hold.
 use super::ATOMS;
+use super::DistanceMatrix;
+use super::DistanceRow;
 use super::Tally;
 ghost use mathlib.Core.Path.{_≡_};
 ghost use Prim.Native.Nat.{min, _*_, _≤_};
@@ -7,6 +9,7 @@ ghost use Rattle.block.specs.Block.{mostAtoms};
 ghost use Rattle.block.specs.Sums.{pairEntry, countsBy};
 ghost use Rattle.block.specs.Tally.{Tallied, Counts, Counted};
 
+// A byte as a number, with its bound.
 pub(crate) fn wide(x: u8) -> u64
     ensures { λ r. ⌜ (r ≡ x) × (r ≤ 255) ⌝ }
 {
@@ -14,7 +17,7 @@ pub(crate) fn wide(x: u8) -> u64
 }
 
 // The first k entries of a row.
-pub(crate) fn along(row: [u8; ATOMS], k: usize) -> Tally
+pub(crate) fn along(row: DistanceRow, k: usize) -> Tally
     requires { ⌜ k ≤ mostAtoms ⌝ }
     ensures { λ r. ⌜ Tallied row k r ⌝ }
 {
@@ -59,7 +62,7 @@ pub(crate) fn within(n: usize) -> usize
 }
 
 // How often each number stands among the first k entries of a row, added to counts.
-fn count_row(at: [u16; ATOMS], row: [u8; ATOMS], k: usize) -> [u16; ATOMS]
+fn count_row(at: [u16; ATOMS], row: DistanceRow, k: usize) -> [u16; ATOMS]
     requires { ⌜ (k ≤ mostAtoms) × Counts (mostAtoms * mostAtoms) at ⌝ }
     ensures { λ r. ⌜ Counted at row k r ⌝ }
 {
@@ -76,7 +79,7 @@ fn count_row(at: [u16; ATOMS], row: [u8; ATOMS], k: usize) -> [u16; ATOMS]
 }
 
 // How many pairs of the first n atoms, at most ATOMS, lie at each distance.
-pub(crate) fn count_pairs(rows: [[u8; ATOMS]; ATOMS], n: usize) -> [u16; ATOMS]
+pub(crate) fn count_pairs(rows: DistanceMatrix, n: usize) -> [u16; ATOMS]
     ensures { λ r. ⌜ r ≡ countsBy (min n mostAtoms) (pairEntry rows) ⌝ }
 {
     let m = within(n);

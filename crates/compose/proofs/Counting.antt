@@ -8,9 +8,12 @@ use native.Mathlib.Omega.{arith}
 use borrow.Author.Tests.{eq-eqb, ne-eqb}
 use lib.ListN.{getD}
 use Rattle.graph.specs.Graph.{Graph, Within, Molecule, sum, evenOf, oddOf, evenOne, oddOne, isAt, vertex}
+use Rattle.graph.specs.Sums.{sum-cong, sum-add}
 use Rattle.graph.specs.Rules.{Grown}
+use Rattle.graph.specs.Parts.{parts-of}
 use Rattle.graph.specs.Bounds.{Tame, tame-even, tame-odd, tame-even-one, tame-odd-one, tame-at}
 use Rattle.block.specs.declared.Vertex.{Vertex}
+use Rattle.block.specs.Sums.{vertexBy}
 use Rattle.compose.specs.Counted.{Counts, Adds, Below}
 
 -- an even distance, and an odd one
@@ -46,17 +49,6 @@ counts-eq h c = record {
   twos = c .twos ∙ h (isAt 2);
 }
 
-pub adds : {v : Vertex} {p new old : (ℕ → ℕ) → ℕ} → ((f : ℕ → ℕ) → new f ≡ old f + p f) → Counts v p → Adds v new old
-adds h c = record {
-  sum = c .sum;
-  even = omega (arith, h evenOf, c .even);
-  odd = omega (arith, h oddOf, c .odd);
-  evens = omega (arith, h evenOne, c .evens);
-  odds = omega (arith, h oddOne, c .odds);
-  ones = omega (arith, h (isAt 1), c .ones);
-  twos = omega (arith, h (isAt 2), c .twos);
-}
-
 -- what keeps everything tame below n is below n
 pub below : {v : Vertex} {p : (ℕ → ℕ) → ℕ} (n : ℕ) → Counts v p → ((f : ℕ → ℕ) → Tame f → p f + p f < n) → Below n v
 below n c h = record {
@@ -69,10 +61,18 @@ below n c h = record {
   twos = omega (arith, c .twos, h (isAt 2) (tame-at 2));
 }
 
--- a row's first distance more
-pub row-more : (row : List ℕ) (j d : ℕ) → d ≡ getD row j 0 → (f : ℕ → ℕ) → sum (j + 1) (λ i. f (getD row (i - 1) 0)) ≡ sum j (λ i. f (getD row (i - 1) 0)) + f d
-unfolding sum
-row-more row j d e f = rw (e, add-one j) (ap (λ (i : ℕ). sum j (λ i. f (getD row (i - 1) 0)) + f (getD row i 0)) (omega arith))
+-- what is counted of the distances d of n atoms
+pub counts-by : (n : ℕ) (d : ℕ → ℕ) → Counts (vertexBy n d) (λ f. sum n (λ j. f (d j)))
+unfolding vertexBy
+counts-by n d = record {
+  sum = sum-cong n (λ j w. sym (parts-of .parts (d j))) ∙ sum-add n (λ j. evenOf (d j)) (λ j. oddOf (d j));
+  even = refl;
+  odd = refl;
+  evens = refl;
+  odds = refl;
+  ones = refl;
+  twos = refl;
+}
 
 -- What `far` adds from an atom at distance d of the joining atom: sums and counts change sides where d is even.
 module _ {far : Vertex} {new old other : (ℕ → ℕ) → ℕ} {d : ℕ} (g : Grown new old other d) (z : other (isAt 0) ≡ 1) (c : Counts far other) where

@@ -1,5 +1,10 @@
 -- The laws behind the proofs of composing.
+pub mod Stored
 pub mod Counting
 pub mod Joining
 pub mod Ports
 pub mod Seeing
+pub mod Steps
+pub mod Copying
+pub mod Filling
+pub mod Reading

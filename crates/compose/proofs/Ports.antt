@@ -10,7 +10,7 @@ use Rattle.graph.specs.Climb.{apart, placed-within, written-molecule, apart-sam
 use Rattle.graph.specs.Bounds.{atoms-most}
 use Rattle.block.specs.Block.{mostAtoms}
 use Rattle.assembly.specs.Placements.{mostPlacements}
-use Rattle.compose.specs.declared.joints.Link.{Link}
+use Rattle.compose.specs.declared.links.Link.{Link}
 use Rattle.compose.specs.Joints.{link, joinsOf, entry, between, Laid}
 
 module _ {blocks : ℕ → Graph} {last : ℕ} {ls : List Link} {rs : List (List ℕ)} (l : Laid blocks last ls rs) where

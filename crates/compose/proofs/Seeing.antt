@@ -1,10 +1,10 @@
 -- What is counted from the ends of a join, by the arrays: how it begins at the parent and grows with each placement after it. Assumes nothing.
-use Prim.Native.Nat.{ℕ, zero, suc, _+_, _*_, _-_, _^_, _≤_, _<_}
+use Prim.Native.Nat.{ℕ, zero, suc, _+_, _*_, _-_, _^_, _≤_, _<_, min}
 use mathlib.Core.List.{List}
 use mathlib.Core.Path.{_≡_, sym, _∙_, ap, ap₂, subst}
 use native.Mathlib.Nat.{mul-le-mul, zero-add}
 use native.Mathlib.Omega.{arith}
-use Rattle.graph.specs.Graph.{Graph, Within, Molecule, distance, sum, isAt, vertex, countAt}
+use Rattle.graph.specs.Graph.{Graph, Within, Molecule, distance, isAt, vertex, countAt}
 use Rattle.graph.specs.Assembly.{Placed, startAt, written}
 use Rattle.graph.specs.Sums.{sum-cong}
 use Rattle.graph.specs.Rules.{Grown}
@@ -14,19 +14,22 @@ use Rattle.graph.specs.Bounds.{vertex-most}
 use Rattle.block.specs.declared.Indices.{Indices}
 use Rattle.block.specs.declared.Vertex.{Vertex}
 use Rattle.block.specs.Block.{mostAtoms}
+use Rattle.block.specs.Sums.{vertexBy}
 use Rattle.assembly.specs.Placements.{mostPlacements}
-use Rattle.compose.specs.declared.joints.Link.{Link}
+use Rattle.compose.specs.declared.links.Link.{Link}
 use Rattle.compose.specs.declared.joints.Joint.{Joint}
 use Rattle.compose.specs.Counted.{Counts, Below}
 use Rattle.compose.specs.Joints.{link, joinsOf, entry, between, numbersAt, jointAt, sightAt, Laid, Task, Jointed, Turn}
-use Rattle.compose.proofs.Counting.{counts-eq, below}
+use Rattle.compose.proofs.Counting.{counts-eq, counts-by, below}
 use Rattle.compose.proofs.Joining.{measures}
 use Rattle.compose.proofs.Ports.{few-atoms, stands, port, above}
 
 -- a row that has the distances from an atom counts what the atom does
-rowed : {v : Vertex} {n : ℕ} (g : Graph) (a : ℕ) (d : ℕ → ℕ) → n ≡ g .atoms → ((j : ℕ) → Within (g .atoms) j → d j ≡ distance g a j) → Counts v (λ f. sum n (λ j. f (d j))) → Counts v (vertex g a)
+rowed : {v : Vertex} {n : ℕ} (g : Graph) (a : ℕ) (d : ℕ → ℕ) → n ≡ g .atoms → g .atoms ≤ mostAtoms → ((j : ℕ) → Within (g .atoms) j → d j ≡ distance g a j) → v ≡ vertexBy (min n mostAtoms) d → Counts v (vertex g a)
 unfolding vertex
-rowed g a d e h c = counts-eq (λ f. ap (λ (n : ℕ). sum n (λ j. f (d j))) e ∙ sum-cong (g .atoms) (λ j w. ap f (h j w))) c
+rowed {v} {n} g a d e small h q =
+    let m : min n mostAtoms ≡ g .atoms = omega arith in
+    rw (q, m) (counts-eq (λ f. sum-cong (g .atoms) (λ j w. ap f (h j w))) (counts-by (g .atoms) d))
 
 vertex-below : {v : Vertex} {g : Graph} {a : ℕ} → Molecule g → g .atoms ≤ mostAtoms * mostPlacements → Within (g .atoms) a → Counts v (vertex g a) → Below (2 ^ 24) v
 vertex-below m few w c = below (2 ^ 24) c (λ f t. omega (arith, vertex-most m t w, mul-le-mul few few))
@@ -36,18 +39,15 @@ module _ {blocks : ℕ → Graph} {last : ℕ} {ls : List Link} {rs : List (List
   size : (k : ℕ) → k ≤ last → numbersAt ns (link ls k .block) .atoms ≡ blocks k .atoms
   size k h = measures (t .measured k h) .atoms
 
-  pub size-small : (k : ℕ) → k ≤ last → numbersAt ns (link ls k .block) .atoms ≤ mostAtoms
-  size-small k h = omega (arith, size k h, t .laid .small k h)
-
   -- the rows of both ends
-  pub own-counts : {v : Vertex} {k : ℕ} → Within last k → Counts v (λ f. sum (numbersAt ns (link ls k .block) .atoms) (λ j. f (entry rs (2 * k) j))) → Counts v (vertex (blocks k) (link ls k .own))
-  own-counts {k = k} w = rowed (blocks k) (link ls k .own) (entry rs (2 * k)) (size k (w .high)) (λ j v. t .laid .own k j w v)
+  pub own-counts : {v : Vertex} {k : ℕ} → Within last k → v ≡ vertexBy (min (numbersAt ns (link ls k .block) .atoms) mostAtoms) (entry rs (2 * k)) → Counts v (vertex (blocks k) (link ls k .own))
+  own-counts {k = k} w = rowed (blocks k) (link ls k .own) (entry rs (2 * k)) (size k (w .high)) (t .laid .small k (w .high)) (λ j v. t .laid .own k j w v)
 
   pub site-counts : {v : Vertex} {k : ℕ} → Within last k
-      → Counts v (λ f. sum (numbersAt ns (link ls (link ls k .parent - 1) .block) .atoms) (λ j. f (entry rs (2 * k + 1) j))) → Counts v (vertex (blocks (link ls k .parent - 1)) (link ls k .site))
+      → v ≡ vertexBy (min (numbersAt ns (link ls (link ls k .parent - 1) .block) .atoms) mostAtoms) (entry rs (2 * k + 1)) → Counts v (vertex (blocks (link ls k .parent - 1)) (link ls k .site))
   site-counts {k = k} w =
-      rowed (blocks (link ls k .parent - 1)) (link ls k .site) (entry rs (2 * k + 1))
-      (size (link ls k .parent - 1) (omega (arith, stands (t .laid) w .parent))) (λ j v. t .laid .site k j w v)
+      let h : link ls k .parent - 1 ≤ last = omega (arith, stands (t .laid) w .parent) in
+      rowed (blocks (link ls k .parent - 1)) (link ls k .site) (entry rs (2 * k + 1)) (size (link ls k .parent - 1) h) (t .laid .small (link ls k .parent - 1) h) (λ j v. t .laid .site k j w v)
 
 module _ {blocks : ℕ → Graph} {last : ℕ} {ls : List Link} {rs : List (List ℕ)} (l : Laid blocks last ls rs) where
   -- with the placement at an index a that is not 0: an atom of its block, and an atom that was there
@@ -124,4 +124,4 @@ module _ {blocks : ℕ → Graph} {last : ℕ} {ls : List Link} {rs : List (List
     up-earlier = stands (t .laid) up .parent .high
 
     pub up-joint : Jointed blocks ls (jointAt js (link ls k .parent - 1)) (link ls k .parent - 1)
-    up-joint = t .known (link ls k .parent - 1) (up .low) (omega (arith, stands (t .laid) (t .index) .parent))
+    up-joint = t .known (link ls k .parent - 1) (omega (arith, stands (t .laid) (t .index) .parent)) (up .low)

@@ -11,17 +11,19 @@ use Rattle.assembly.specs.Placements.{mostPlacements}
 use Rattle.block.specs.Index.{indicesOf}
 use Rattle.block.specs.declared.Indices.{Indices}
 use Rattle.block.specs.declared.Vertex.{Vertex}
-use Rattle.deck.specs.Deck.{mostBlocks}
 use Rattle.compose.specs.Counted.{Counts}
-use Rattle.compose.specs.declared.joints.Link.{Link}
+use Rattle.compose.specs.declared.links.Link.{Link}
 use Rattle.compose.specs.declared.joints.Joint.{Joint}
 
 abbrev pub ends : ℕ
 ends = 2 * mostPlacements
 
 -- the link at an index, and the join that it says
+abbrev pub noLink : Link
+noLink = record { block = 0; parent = 0; site = 0; own = 0 }
+
 abbrev pub link : List Link → ℕ → Link
-link ls k = getD ls k (record { block = 0; parent = 0; site = 0; own = 0 })
+link ls k = getD ls k noLink
 
 abbrev pub joinsOf : List Link → ℕ → Join
 joinsOf ls k = record { parent = link ls k .parent; site = link ls k .site; own = link ls k .own }
@@ -38,15 +40,21 @@ between blocks ls last x y = apart blocks (joinsOf ls) last (link ls x .parent) 
 abbrev pub sightAt : (ℕ → Graph) → List Link → ℕ → ℕ → (ℕ → ℕ) → ℕ
 sightAt blocks ls m k = seen blocks (joinsOf ls) (m - 1) (link ls k .parent) (link ls k .site)
 
--- the five numbers at a place of the table, and what is counted at the join of the placement at an index
+-- the five numbers of the block of a placement that has it first, and what is counted at the join of the placement at an index
+abbrev pub noIndices : Indices
+noIndices = record { atoms = 0; w = 0; even = 0; odd = 0; polarity = 0 }
+
 abbrev pub numbersAt : List Indices → ℕ → Indices
-numbersAt ns b = getD ns b (record { atoms = 0; w = 0; even = 0; odd = 0; polarity = 0 })
+numbersAt ns b = getD ns b noIndices
 
 abbrev pub noVertex : Vertex
 noVertex = record { sum = 0; even = 0; odd = 0; evens = 0; odds = 0; ones = 0; twos = 0 }
 
+abbrev pub noJoint : Joint
+noJoint = record { core = noVertex; own = noVertex }
+
 abbrev pub jointAt : List Joint → ℕ → Joint
-jointAt js k = getD js k (record { core = noVertex; own = noVertex })
+jointAt js k = getD js k noJoint
 
 -- The links are an assembly of the blocks. At 2 k and 2 k + 1 stand the rows of the own atom of the placement at index k and of its parent's atom.
 pub record Laid (blocks : ℕ → Graph) (last : ℕ) (ls : List Link) (rs : List (List ℕ)) : Type 0 where
@@ -56,10 +64,10 @@ pub record Laid (blocks : ℕ → Graph) (last : ℕ) (ls : List Link) (rs : Lis
   pub own : (k j : ℕ) → Within last k → Within (blocks k .atoms) j → entry rs (2 * k) j ≡ distance (blocks k) (link ls k .own) j
   pub site : (k j : ℕ) → Within last k → Within (blocks (link ls k .parent - 1) .atoms) j → entry rs (2 * k + 1) j ≡ distance (blocks (link ls k .parent - 1)) (link ls k .site) j
 
--- the table has the five numbers of each placed block
+-- and the five numbers of each block stand at the first placement that has it
 pub record Task (blocks : ℕ → Graph) (last : ℕ) (ls : List Link) (rs : List (List ℕ)) (ns : List Indices) : Type 0 where
   pub laid : Laid blocks last ls rs
-  pub listed : (k : ℕ) → k ≤ last → link ls k .block < mostBlocks
+  pub listed : (k : ℕ) → k ≤ last → link ls k .block < mostPlacements
   pub measured : (k : ℕ) → k ≤ last → numbersAt ns (link ls k .block) ≡ indicesOf (blocks k)
 
 -- a joint has what is counted at the join of the placement at index k
@@ -71,4 +79,4 @@ pub record Jointed (blocks : ℕ → Graph) (ls : List Link) (j : Joint) (k : �
 pub record Turn (blocks : ℕ → Graph) (last : ℕ) (ls : List Link) (rs : List (List ℕ)) (js : List Joint) (k : ℕ) : Type 0 where
   pub laid : Laid blocks last ls rs
   pub index : Within last k
-  pub known : (m : ℕ) → 1 ≤ m → m < k → Jointed blocks ls (jointAt js m) m
+  pub known : (m : ℕ) → m < k → 1 ≤ m → Jointed blocks ls (jointAt js m) m

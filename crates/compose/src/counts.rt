@@ -1,12 +1,9 @@
 // What is counted from an atom, and how it grows when another molecule is joined.
-use block::ATOMS;
 use block::Vertex;
 ghost use mathlib.Core.Path.{_≡_};
 ghost use Prim.Native.Nat.{ℕ, _+_, _*_, _-_, _^_, _≤_, _<_};
-ghost use lib.ListN.{getD};
-ghost use Rattle.graph.specs.Graph.{sum, isAt};
+ghost use Rattle.graph.specs.Graph.{isAt};
 ghost use Rattle.graph.specs.Rules.{Grown};
-ghost use Rattle.block.specs.Block.{mostAtoms};
 ghost use Rattle.compose.specs.Counted.{Counts, Adds, Below};
 
 pub(crate) fn times(a: u64, b: u64) -> u64
@@ -29,35 +26,6 @@ fn is_at(k: u64, d: u64) -> u64
     if d == k { 1 } else { 0 }
 }
 
-// One atom, at distance d.
-fn one(d: u64) -> Vertex
-    ensures { λ r. ⌜ Counts r (λ f. f d) ⌝ }
-{
-    let ones = is_at(1, d);
-    let twos = is_at(2, d);
-    if d % 2 == 0 {
-        Vertex {
-            sum: d,
-            even: d,
-            odd: 0,
-            evens: 1,
-            odds: 0,
-            ones,
-            twos,
-        }
-    } else {
-        Vertex {
-            sum: d,
-            even: 0,
-            odd: d,
-            evens: 0,
-            odds: 1,
-            ones,
-            twos,
-        }
-    }
-}
-
 // What is counted of both.
 fn with(v: Vertex, more: Vertex) -> Vertex
     requires { ⌜ Below (2 ^ 60) v ⌝ }
@@ -73,28 +41,6 @@ fn with(v: Vertex, more: Vertex) -> Vertex
         ones: v.ones + more.ones,
         twos: v.twos + more.twos,
     }
-}
-
-// What the first n distances of a row count.
-pub(crate) fn counted(row: [u8; ATOMS], n: usize) -> Vertex
-    requires { ⌜ n ≤ mostAtoms ⌝ }
-    ensures { λ r. ⌜ Counts r (λ f. sum n (λ j. f (getD row (j - 1) 0))) ⌝ }
-{
-    let mut v = Vertex {
-        sum: 0,
-        even: 0,
-        odd: 0,
-        evens: 0,
-        odds: 0,
-        ones: 0,
-        twos: 0,
-    };
-    let mut j: usize = 0;
-    while j < n {
-        v = with(v, one(wide(row[j])));
-        j += 1;
-    }
-    v
 }
 
 // What is counted of `far`, from an atom d bonds before the joining bond at whose other end `far` is counted.

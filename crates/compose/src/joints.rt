@@ -1,31 +1,21 @@
 // The joins of an assembly: how far their atoms are apart, and what is counted from both ends of each.
-use super::counts::counted;
 use super::counts::grown;
 use super::counts::wide;
-use assembly::BLOCKS;
+use super::links::ENDS;
+use super::links::Link;
 use assembly::PLACEMENTS;
 use block::ATOMS;
 use block::Indices;
 use block::Vertex;
+use block::around_row;
 ghost use mathlib.Core.Path.{_≡_};
-ghost use Prim.Native.Nat.{ℕ, _+_, _*_, _-_, _≤_, _<_};
-ghost use Rattle.graph.specs.Graph.{Graph, Within, sum};
+ghost use Prim.Native.Nat.{ℕ, _+_, _*_, _-_, _<_, min};
+ghost use Rattle.graph.specs.Graph.{Graph, Within};
 ghost use Rattle.block.specs.Block.{mostAtoms};
+ghost use Rattle.block.specs.Sums.{vertexBy};
 ghost use Rattle.assembly.specs.Placements.{mostPlacements};
 ghost use Rattle.compose.specs.Counted.{Counts};
-ghost use Rattle.deck.specs.Deck.{mostBlocks};
 ghost use Rattle.compose.specs.Joints.{ends, entry, link, numbersAt, between, sightAt, Laid, Task, Jointed, Turn};
-
-// Both ends of each join.
-pub(crate) const ENDS: usize = 2 * PLACEMENTS;
-
-// A placement: the place of its block in the table, its parent's number, the parent's atom and its own atom.
-pub(crate) struct Link {
-    pub(crate) block: usize,
-    pub(crate) parent: usize,
-    pub(crate) site: usize,
-    pub(crate) own: usize,
-}
 
 // What is counted from both ends of a join before it is made: from the parent's atom in the molecule, from the own atom in the block.
 pub(crate) struct Joint {
@@ -79,22 +69,22 @@ fn apart(links: [Link; PLACEMENTS], rows: &[[u8; ATOMS]; ENDS], x: usize, y: usi
 fn end_counts(
     rows: &[[u8; ATOMS]; ENDS],
     end: usize,
-    numbers: [Indices; BLOCKS],
+    numbers: [Indices; PLACEMENTS],
     block: usize,
 ) -> Vertex
-    requires { ⌜ (end < ends) × (block < mostBlocks) × (numbersAt numbers block .atoms ≤ mostAtoms) ⌝ }
-    ensures { λ r. ⌜ Counts r (λ f. sum (numbersAt numbers block .atoms) (λ j. f (entry (now (rows .entry)) end j))) ⌝ }
+    requires { ⌜ (end < ends) × (block < mostPlacements) ⌝ }
+    ensures { λ r. ⌜ r ≡ vertexBy (min (numbersAt numbers block .atoms) mostAtoms) (entry (now (rows .entry)) end) ⌝ }
 {
     let all = numbers[block];
     let row = rows[end];
-    counted(row, all.atoms as usize)
+    around_row(row, all.atoms as usize)
 }
 
 // What is counted from the parent's atom of the placement at index k, in the molecule up to the parent.
 fn begun(
     links: [Link; PLACEMENTS],
     rows: &[[u8; ATOMS]; ENDS],
-    numbers: [Indices; BLOCKS],
+    numbers: [Indices; PLACEMENTS],
     joints: [Joint; PLACEMENTS],
     k: usize,
 ) -> Vertex
@@ -140,7 +130,7 @@ fn since(
 pub(crate) fn joint_of(
     links: [Link; PLACEMENTS],
     rows: &[[u8; ATOMS]; ENDS],
-    numbers: [Indices; BLOCKS],
+    numbers: [Indices; PLACEMENTS],
     joints: [Joint; PLACEMENTS],
     k: usize,
 ) -> Joint

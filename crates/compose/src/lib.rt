@@ -1,4 +1,121 @@
 // Composing: the five fields of the molecule that a deck describes, by the building-block rules.
 mod counts;
 mod joints;
+mod links;
 mod summary;
+mod tables;
+
+use assembly::BLOCKS;
+use assembly::BlockAt;
+use assembly::PLACEMENTS;
+use assembly::bonds_part;
+use assembly::find_block;
+use assembly::placement_at;
+use block::ATOMS;
+use block::Indices;
+use block::Measured;
+use block::Reply;
+use block::rows;
+use block::sums;
+use deck::Form;
+use deck::Layout;
+use deck::read_deck;
+use links::ENDS;
+use links::Link;
+use links::links_of;
+use records::payload_at;
+use summary::composed;
+use tables::copied;
+ghost use mathlib.Core.Path.{_≡_};
+ghost use Prim.Native.Nat.{_-_};
+ghost use Rattle.graph.specs.Assembly.{written};
+ghost use Rattle.block.specs.Rows.{rowsOf};
+ghost use Rattle.block.specs.Read.{read};
+ghost use Rattle.block.specs.Index.{indicesOf, saidIndices};
+ghost use Rattle.assembly.specs.Book.{bondBytes};
+ghost use Rattle.deck.specs.Deck.{Deck, deckReply};
+ghost use Rattle.deck.specs.Molecule.{moleculeOf};
+ghost use Rattle.deck.specs.Said.{layoutOf};
+ghost use Rattle.deck.specs.declared.Form.{Form};
+ghost use Rattle.compose.specs.Fields.{fieldsReply};
+ghost use Rattle.compose.specs.Joints.{joinsOf};
+ghost use Rattle.compose.specs.Ready.{placedBlock, placedGraph, Ready};
+
+// The block of the placement at index f.
+fn block_of(xs: &[u8], blocks: [BlockAt; BLOCKS], count: usize, f: usize) -> BlockAt
+    ensures { λ r. ⌜ r ≡ placedBlock (now (xs .entry)) blocks count f ⌝ }
+{
+    let q = placement_at(xs, f);
+    find_block(blocks, count, q.block as usize)
+}
+
+// The distances of a block.
+fn table_of(d: &[u8], b: BlockAt) -> [[u8; ATOMS]; ATOMS]
+    ensures { λ r. ⌜ r ≡ rowsOf (b .atoms) (bondBytes (now (d .entry)) b) ⌝ }
+{
+    rows(b.atoms as usize, bonds_part(d, b))
+}
+
+// The five numbers of the molecule: each placed block's table is filled once, its numbers and the rows that joins need are kept.
+fn filled(
+    d: &[u8],
+    xs: &[u8],
+    blocks: [BlockAt; BLOCKS],
+    count: usize,
+    placements: usize,
+    links: [Link; PLACEMENTS],
+) -> Indices
+    requires { ⌜ Ready (now d) (now xs) blocks count placements links ⌝ }
+    ensures { λ r. ⌜ r ≡ indicesOf (written (placedGraph (now (d .entry)) (now (xs .entry)) blocks count) (joinsOf links) (placements - 1)) ⌝ }
+{
+    let none = Indices {
+        atoms: 0,
+        w: 0,
+        even: 0,
+        odd: 0,
+        polarity: 0,
+    };
+    let mut numbers = [none; PLACEMENTS];
+    let mut ends = [[0u8; ATOMS]; ENDS];
+    let mut f: usize = 0;
+    while f < placements {
+        let q = links[f];
+        if q.block == f {
+            let b = block_of(xs, blocks, count, f);
+            let table = table_of(d, b);
+            numbers[f] = sums(table, b.atoms as usize);
+            let next = copied(&table, links, placements, f, ends);
+            ends = next;
+        }
+        f += 1;
+    }
+    composed(links, &ends, numbers, placements)
+}
+
+// The five numbers of the molecule that a layout of the deck describes.
+fn laid_out(d: &[u8], layout: Layout) -> Indices
+    requires { ⌜ ((form : Form) × (k : Deck) × (deckReply form (now d) ≡ read k) × (layout ≡ layoutOf k)) ⌝ }
+    ensures { λ r. ⌜ ((form : Form) (k : Deck) → deckReply form (now (d .entry)) ≡ read k → layout ≡ layoutOf k → r ≡ indicesOf (moleculeOf (now (d .entry)) k)) ⌝ }
+{
+    let blocks = layout.blocks;
+    let placements = layout.placements;
+    let xs = payload_at(d, layout.assembly);
+    let links = links_of(xs, placements);
+    filled(d, xs, blocks, layout.count, placements, links)
+}
+
+// The five fields of a deck in a form: atom count, W, even part, odd part and polarity of its molecule; or the deck's refusal.
+pub fn fields(d: &[u8], form: Form) -> Measured
+    ensures { λ r. ⌜ r ≡ saidIndices (fieldsReply form (now (d .entry))) ⌝ }
+{
+    let k = read_deck(d, form);
+    let reply = k.reply;
+    match reply {
+        Reply::Refused(refusal) => Measured::Refused(refusal),
+        Reply::Fine => {
+            let layout = k.layout;
+            let all = laid_out(d, layout);
+            Measured::Of(all)
+        }
+    }
+}

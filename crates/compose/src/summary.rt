@@ -1,13 +1,20 @@
 // The running summary: the five numbers of the molecule as far as it is built, and how they grow with one placement more.
 use super::counts::times;
+use super::joints::Joint;
+use super::joints::joint_of;
+use super::links::ENDS;
+use super::links::Link;
+use assembly::PLACEMENTS;
+use block::ATOMS;
 use block::Indices;
 use block::Vertex;
 ghost use mathlib.Core.Path.{_≡_};
-ghost use Prim.Native.Nat.{ℕ, _+_, _*_, _^_, _<_};
+ghost use Prim.Native.Nat.{ℕ, _+_, _*_, _-_, _^_, _<_};
 ghost use Rattle.graph.specs.Graph.{Graph, vertex};
-ghost use Rattle.graph.specs.Assembly.{joined};
+ghost use Rattle.graph.specs.Assembly.{joined, written};
 ghost use Rattle.block.specs.Index.{indicesOf};
 ghost use Rattle.compose.specs.Counted.{Counts, Below, Room, Bridge};
+ghost use Rattle.compose.specs.Joints.{joinsOf, Task};
 
 // The even distances across a joining bond: `core` is counted from one end, `own` from the other.
 fn even_across(core: Vertex, own: Vertex) -> u64
@@ -90,4 +97,48 @@ impl Summary {
             },
         }
     }
+}
+
+// Nothing is counted yet at any join.
+fn no_joints() -> [Joint; PLACEMENTS] {
+    let none = Vertex {
+        sum: 0,
+        even: 0,
+        odd: 0,
+        evens: 0,
+        odds: 0,
+        ones: 0,
+        twos: 0,
+    };
+    let j = Joint {
+        core: none,
+        own: none,
+    };
+    [j; PLACEMENTS]
+}
+
+// The five numbers of the molecule: the first placement's block, and one join after the other.
+pub(crate) fn composed(
+    links: [Link; PLACEMENTS],
+    rows: &[[u8; ATOMS]; ENDS],
+    numbers: [Indices; PLACEMENTS],
+    count: usize,
+) -> Indices
+    requires { ⌜ ((blocks : ℕ → Graph) × Task blocks (count - 1) links (now rows) numbers) ⌝ }
+    ensures { λ r. ⌜ ((blocks : ℕ → Graph) → Task blocks (count - 1) links (now (rows .entry)) numbers → r ≡ indicesOf (written blocks (joinsOf links) (count - 1))) ⌝ }
+{
+    let first = links[0];
+    let b = first.block;
+    let mut s = Summary { fields: numbers[b] };
+    let mut joints = no_joints();
+    let mut k: usize = 1;
+    while k < count {
+        let j = joint_of(links, rows, numbers, joints, k);
+        let q = links[k];
+        let b = q.block;
+        s = s.joined(numbers[b], j.core, j.own);
+        joints[k] = j;
+        k += 1;
+    }
+    s.fields
 }

@@ -1,8 +1,8 @@
 -- A deck's answer, part by part, and what the code's answer says of it. Assumes nothing.
 use Prim.Native.Nat.{ℕ, _+_, _*_, _<_, _≤_}
 use mathlib.Core.Bool.{true, false}
-use mathlib.Core.List.{List, []}
-use mathlib.Core.Path.{_≡_, refl, sym, _∙_, ap}
+use mathlib.Core.List.{List}
+use mathlib.Core.Path.{_≡_, refl, sym, _∙_, ap, subst}
 use native.Mathlib.Omega.{arith}
 use borrow.Author.Tests.{lt-ltb, le-ltb}
 use lib.ListN.{length, take}
@@ -10,11 +10,12 @@ use lib.Seq.{take-append-seam}
 use Rattle.block.specs.Read.{Read, refused, read, refusal}
 use Rattle.block.specs.declared.Refusal.{Refusal}
 use Rattle.block.specs.declared.Reply.the-variants.{Fine, Refused}
-use Rattle.records.specs.Bytes.{part}
+use denote.Ref.{RefT}
+use Rattle.records.specs.Bytes.{PartOf}
 use Rattle.records.specs.Records.{assemblyKind, endAt, recordReply}
 use Rattle.assembly.specs.Book.{find, used}
 use Rattle.assembly.specs.declared.BlockAt.{BlockAt}
-use Rattle.deck.specs.Deck.{longestDeck, Deck, blocksReply, assemblyReplyAt, endReply, sheetKinds, sheetReply, deckReply, payload, blockPart}
+use Rattle.deck.specs.Deck.{longestDeck, Deck, blocksReply, assemblyReplyAt, endReply, sheetKinds, sheetReply, deckReply, Span, nowhere, payload, blockSpan}
 use Rattle.deck.specs.Said.{saidDeck}
 use Rattle.deck.specs.declared.DeckRead.{DeckRead}
 use Rattle.deck.specs.declared.Form.{Form}
@@ -83,24 +84,35 @@ pub table-blocks : (k : Deck) (r : DeckRead) → r ≡ saidDeck (read k) → tak
 table-blocks k r e = rw e (take-append-seam (k .blocks) _)
 
 -- the lookup
-module _ (d : List ℕ) (bs : List BlockAt) (x : ℕ) where
-  pub has-payload : used bs x ≡ true → payload d bs x ≡ part d (find bs x .start) (6 + 2 * find bs x .bonds)
+module _ (bs : List BlockAt) (x : ℕ) where
+  pub has-payload : used bs x ≡ true → payload bs x ≡ record { from = find bs x .start; len = 6 + 2 * find bs x .bonds }
   unfolding payload
   has-payload e = rw e
 
-  pub no-payload : used bs x ≡ false → payload d bs x ≡ []
+  pub no-payload : used bs x ≡ false → payload bs x ≡ nowhere
   unfolding payload
   no-payload e = rw e
 
 module _ (d : List ℕ) (x : ℕ) where
-  pub in-composed : (k : Deck) → deckReply Composed d ≡ read k → blockPart d x ≡ payload d (k .blocks) x
-  unfolding blockPart
+  pub in-composed : (k : Deck) → deckReply Composed d ≡ read k → blockSpan d x ≡ payload (k .blocks) x
+  unfolding blockSpan
   in-composed k e = rw e
 
-  pub in-judged : (r : Refusal) (k : Deck) → deckReply Composed d ≡ refused r → deckReply Judged d ≡ read k → blockPart d x ≡ payload d (k .blocks) x
-  unfolding blockPart
+  pub in-judged : (r : Refusal) (k : Deck) → deckReply Composed d ≡ refused r → deckReply Judged d ≡ read k → blockSpan d x ≡ payload (k .blocks) x
+  unfolding blockSpan
   in-judged r k e f = rw (e, f)
 
-  pub in-neither : (r q : Refusal) → deckReply Composed d ≡ refused r → deckReply Judged d ≡ refused q → blockPart d x ≡ []
-  unfolding blockPart
+  pub in-neither : (r q : Refusal) → deckReply Composed d ≡ refused r → deckReply Judged d ≡ refused q → blockSpan d x ≡ nowhere
+  unfolding blockSpan
   in-neither r q e f = rw (e, f)
+
+  -- the blocks that the code looks in, of a deck that is read
+  pub held : (form : Form) (r : DeckRead) → r ≡ saidDeck (deckReply form d) → r .reply ≡ Fine
+      → (k : Deck) × (deckReply form d ≡ read k) × (payload (take (r .layout .count) (r .layout .blocks)) x ≡ payload (k .blocks) x)
+  held form r e f =
+      let (k, g, h) = deck-ended (deckReply form d) r e f in
+      (k, g, ap (λ (bs : List BlockAt). payload bs x) (table-blocks k r h))
+
+-- a part that stands elsewhere only by name
+pub part-at : {s r : RefT (List ℕ)} {a b : Span} → a ≡ b → PartOf s (a .from) (a .len) r → PartOf s (b .from) (b .len) r
+part-at {s} {r} e p = subst (λ (x : Span). PartOf s (x .from) (x .len) r) e p

@@ -102,14 +102,25 @@ deckReply form d =
     sheetReply form d (k .sheet) then λ _.
     read k
 
+-- a part of a deck: its first byte, and how many bytes it has
+pub record Span : Type 0 where
+  pub from : ℕ
+  pub len : ℕ
+
+abbrev pub nowhere : Span
+nowhere = record { from = 0; len = 0 }
+
 -- the payload of the block of a number, and nothing where there is no such block
-unfoldable pub payload : List ℕ → List BlockAt → ℕ → List ℕ
-payload d bs x = let b = find bs x in cond (used bs x) (part d (b .start) (6 + 2 * b .bonds)) []
+unfoldable pub payload : List BlockAt → ℕ → Span
+payload bs x = let b = find bs x in cond (used bs x) (record { from = b .start; len = 6 + 2 * b .bonds }) nowhere
 
-abbrev pub payloadOr : List ℕ → ℕ → Read Deck → List ℕ → List ℕ
-payloadOr d x (refused r) other = other
-payloadOr d x (read k) other = payload d (k .blocks) x
+abbrev pub payloadOr : ℕ → Read Deck → Span → Span
+payloadOr x (refused r) other = other
+payloadOr x (read k) other = payload (k .blocks) x
 
--- the lookup: the payload of a block, in whichever form the deck is not refused
-unfoldable pub blockPart : List ℕ → ℕ → List ℕ
-blockPart d x = payloadOr d x (deckReply Composed d) (payloadOr d x (deckReply Judged d) [])
+-- the lookup: where the payload of a block stands, in whichever form the deck is not refused
+unfoldable pub blockSpan : List ℕ → ℕ → Span
+blockSpan d x = payloadOr x (deckReply Composed d) (payloadOr x (deckReply Judged d) nowhere)
+
+abbrev pub blockPart : List ℕ → ℕ → List ℕ
+blockPart d x = part d (blockSpan d x .from) (blockSpan d x .len)

@@ -8,13 +8,13 @@ use Rattle.graph.specs.Graph.{joins, anyJoins, bonded, anyAtom, reaches, firstF
 use Rattle.graph.specs.Assembly.{shifted, joined, startAt, written}
 use Rattle.block.specs.Read.{Read, refused, read, refusal}
 use Rattle.block.specs.declared.Refusal.{Refusal}
-use Rattle.block.specs.Block.{bondsOf, bondFault, bondsReply, blockReply}
+use Rattle.block.specs.Block.{mostAtoms, limit, mostBytes, bondsOf, bondFault, bondsReply, blockReply}
 use Rattle.block.specs.Index.{indicesOf}
 use Rattle.records.specs.Bytes.{little}
 use Rattle.records.specs.Records.{kindReply, lengthReply, recordReply}
 use Rattle.assembly.specs.Book.{find, bookOf}
-use Rattle.assembly.specs.Placements.{placementAt, joinOf, joinEnds, joinsOn, bondsOn, firstFault, parentFault, joinFault, laterFault, fault, placedReply, assemblyReply}
-use Rattle.deck.specs.Deck.{longestDeck, Deck, blockReplyAt, assemblyReplyAt, blocksFrom, blocksReply, endReply, sheetReply, deckReply, payload, blockPart}
+use Rattle.assembly.specs.Placements.{mostPlacements, placementAt, joinOf, joinEnds, joinsOn, bondsOn, firstFault, parentFault, joinFault, laterFault, fault, placedReply, assemblyReply}
+use Rattle.deck.specs.Deck.{longestDeck, mostBlocks, Deck, blockReplyAt, assemblyReplyAt, blocksFrom, blocksReply, endReply, sheetReply, deckReply, payload, blockSpan, blockPart}
 use Rattle.deck.specs.Molecule.{placedIn, graphAt, joinAt, moleculeOf, fieldsOf, sheetOf, fieldsAt, claimedAt}
 use Rattle.deck.specs.declared.Form.{Form}
 use Rattle.deck.specs.declared.Form.the-variants.{Composed, Judged}
@@ -99,23 +99,32 @@ infix 90 _is_at_
 _is_at_ : List ℕ → ℕ → ℕ → Case
 d is n at p = record { deck = d; number = n; place = p }
 
--- blocks of one atom, numbered from k on
+-- blocks of one atom, numbered from k on; n bonds on atom 1; n placements joined to the first
 atoms : ℕ → ℕ → List ℕ
 unfolding block record'
 atoms zero k = []
 atoms (suc n) k = block k 1 [] ++ atoms n (suc k)
 
+star : ℕ → List ℕ
+star zero = []
+star (suc n) = 1 ∷ (n + 2) ∷ star n
+
+joinsTo : ℕ → List ℕ
+unfolding joinTo
+joinsTo zero = []
+joinsTo (suc n) = joinTo 1 1 1 ++ joinsTo n
+
 cases : List Case
-unfolding _is_at_ record' block assembly sheet atom ring first joinTo alone atoms
+unfolding _is_at_ record' block assembly sheet atom first joinTo alone atoms star joinsTo
 cases =
     -- 1 to 7, at the block's record
     (atom ++ block 2 0 [] ++ alone) is 1 at 10
-    ∷ (block 1 65 [] ++ alone) is 1 at 0
-    ∷ (block 1 64 (replicate 258 1) ++ alone) is 2 at 0
+    ∷ (block 1 (mostAtoms + 1) [] ++ alone) is 1 at 0
+    ∷ (block 1 mostAtoms (replicate (mostBytes + 2) 1) ++ alone) is 2 at 0
     ∷ (atom ++ block 2 2 (1 ∷ 3 ∷ []) ++ alone) is 3 at 10
     ∷ (block 1 2 (1 ∷ 1 ∷ []) ++ alone) is 4 at 0
     ∷ (block 1 2 (1 ∷ 2 ∷ 2 ∷ 1 ∷ []) ++ alone) is 5 at 0
-    ∷ (block 1 6 (1 ∷ 2 ∷ 1 ∷ 3 ∷ 1 ∷ 4 ∷ 1 ∷ 5 ∷ 1 ∷ 6 ∷ []) ++ alone) is 6 at 0
+    ∷ (block 1 (limit + 2) (star (limit + 1)) ++ alone) is 6 at 0
     ∷ (atom ++ block 2 2 [] ++ alone) is 7 at 10
     -- the deck ends early: before a block, before the assembly, within a head, within a payload; bytes follow the last record
     ∷ [] is 11 at 0
@@ -135,23 +144,23 @@ cases =
     -- number 0, used before, a 17th block
     ∷ (block 0 1 [] ++ alone) is 14 at 0
     ∷ (atom ++ atom ++ alone) is 14 at 10
-    ∷ (atoms 17 1 ++ alone) is 14 at 160
+    ∷ (atoms (mostBlocks + 1) 1 ++ alone) is 14 at (10 * mostBlocks)
     -- no placement, 33 placements
     ∷ (atom ++ assembly 0 []) is 15 at 10
-    ∷ (atom ++ assembly 33 (replicate 198 0)) is 15 at 10
-    -- at the placement: no such block, a first placement with a join, a parent that is 0 or not earlier, atoms that there are not, fifth bonds
+    ∷ (atom ++ assembly (mostPlacements + 1) (first ++ joinsTo mostPlacements)) is 15 at 10
+    -- at the placement: no such block, a first placement with a join, a parent that is 0 or not earlier, atoms that there are not, one bond too many
     ∷ (block 2 1 [] ++ alone) is 16 at 16
     ∷ (atom ++ assembly 1 (joinTo 0 0 1)) is 17 at 16
     ∷ (atom ++ assembly 2 (first ++ joinTo 0 1 1)) is 17 at 22
     ∷ (atom ++ assembly 2 (first ++ joinTo 2 1 1)) is 17 at 22
     ∷ (atom ++ assembly 2 (first ++ joinTo 1 2 1)) is 18 at 22
     ∷ (atom ++ assembly 2 (first ++ joinTo 1 1 0)) is 18 at 22
-    ∷ (atom ++ assembly 6 (first ++ joinTo 1 1 1 ++ joinTo 1 1 1 ++ joinTo 1 1 1 ++ joinTo 1 1 1 ++ joinTo 1 1 1)) is 19 at 46
-    ∷ (block 1 5 (1 ∷ 2 ∷ 1 ∷ 3 ∷ 1 ∷ 4 ∷ 1 ∷ 5 ∷ []) ++ assembly 2 (first ++ joinTo 1 2 1)) is 19 at 30
+    ∷ (atom ++ assembly (limit + 2) (first ++ joinsTo (limit + 1))) is 19 at (10 + 6 * (limit + 2))
+    ∷ (block 1 (limit + 1) (star limit) ++ assembly 2 (first ++ joinTo 1 2 1)) is 19 at (22 + 2 * limit)
     ∷ []
 
 refusals : map (λ (c : Case). told Composed (c .deck)) cases ≡ map (λ (c : Case). c .number ∷ c .place ∷ []) cases
-unfolding told cases _is_at_ record' block assembly sheet atom ring first joinTo alone atoms
+unfolding told cases _is_at_ record' block assembly sheet atom first joinTo alone atoms star joinsTo
 refusals = refl
 
 -- 20 needs no list of 32,769 bytes
@@ -161,7 +170,7 @@ too-long form d h = rw (lt-ltb longestDeck (length d) h)
 
 -- the lookup: the payload in either form, nothing for another number, nothing of a refused deck
 looked : List ℕ → ℕ → List ℕ
-unfolding joins anyJoins bonded anyAtom reaches firstFrom distance allAtoms connected degree sum bondsOf bondFault bondsReply blockReply little kindReply lengthReply recordReply find bookOf placementAt joinOf joinEnds joinsOn bondsOn firstFault parentFault joinFault laterFault fault placedReply assemblyReply blockReplyAt assemblyReplyAt blocksFrom blocksReply endReply sheetReply deckReply payload blockPart
+unfolding joins anyJoins bonded anyAtom reaches firstFrom distance allAtoms connected degree sum bondsOf bondFault bondsReply blockReply little kindReply lengthReply recordReply find bookOf placementAt joinOf joinEnds joinsOn bondsOn firstFault parentFault joinFault laterFault fault placedReply assemblyReply blockReplyAt assemblyReplyAt blocksFrom blocksReply endReply sheetReply deckReply payload blockSpan
 looked d x = blockPart d x
 
 lookups :

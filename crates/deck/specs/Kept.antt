@@ -44,11 +44,11 @@ unfolding Each
 each-last P [] b e p = (p, tt)
 each-last P (c ∷ bs) b e p = (e .0, each-last P bs b (e .1) p)
 
-chosen : {A : Type 0} {b : A} (t : Bool) (f g : Unit {0} → A) → ifElse t f g ≡ b → ((t ≡ true) × (f tt ≡ b)) ⊎ ((t ≡ false) × (g tt ≡ b))
+pub chosen : {A : Type 0} {b : A} (t : Bool) (f g : Unit {0} → A) → ifElse t f g ≡ b → ((t ≡ true) × (f tt ≡ b)) ⊎ ((t ≡ false) × (g tt ≡ b))
 chosen true f g e = inl (refl, e)
 chosen false f g e = inr (refl, e)
 
-unmoved : (place : Refusal → ℕ) (x : Read (Unit {0})) → moved place x ≡ read tt → x ≡ read tt
+pub unmoved : (place : Refusal → ℕ) (x : Read (Unit {0})) → moved place x ≡ read tt → x ≡ read tt
 unmoved place (refused r) e = absurd (not-read e)
 unmoved place (read u) e = refl
 
@@ -76,7 +76,7 @@ fit d at done e =
 
 module _ (last : Kind) (d : List ℕ) where
   -- a block that is taken stands in the deck
-  stands : (at : ℕ) (done : List BlockAt) → recordReply (kindsAfter done last) d at ≡ read tt → kindAt d at ≡ blockKind .number → Fit d at done → Standing d (blockAt d at)
+  pub stands : (at : ℕ) (done : List BlockAt) → recordReply (kindsAfter done last) d at ≡ read tt → kindAt d at ≡ blockKind .number → Fit d at done → Standing d (blockAt d at)
   stands at done e k f =
       let w = taken d at (kindsAfter done last) e .whole in
       let n : lengthAt d at ≡ wanted blockKind d at = long done e in

@@ -3,4 +3,8 @@ pub mod Deck
 pub mod Molecule
 pub mod Said
 pub mod Kept
+pub mod Sound
+pub mod Followed
+pub mod Lookup
+pub mod Unique
 pub mod Examples

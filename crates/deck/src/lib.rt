@@ -5,10 +5,11 @@ ghost use Prim.Native.Nat.{_+_, _≤_};
 ghost use lib.Dec.{eqb, leb};
 ghost use lib.ListN.{length, take};
 ghost use Rattle.block.specs.Block.{saidBlock};
+ghost use Rattle.records.specs.Bytes.{PartOf};
 ghost use Rattle.records.specs.Records.{blockKind, payloadAt, endAt};
 ghost use Rattle.assembly.specs.Book.{used};
 ghost use Rattle.assembly.specs.Placements.{mostPlacements, placementAt};
-ghost use Rattle.deck.specs.Deck.{mostBlocks, longestDeck, blockAt, blockPlace, placementPlace, blockReplyAt, assemblyReplyAt, blocksReply, endReply, sheetReply, deckReply, payload, blockPart};
+ghost use Rattle.deck.specs.Deck.{mostBlocks, longestDeck, blockAt, blockPlace, placementPlace, blockReplyAt, assemblyReplyAt, blocksReply, endReply, sheetReply, deckReply, payload, blockSpan};
 ghost use Rattle.deck.specs.Molecule.{claimedAt, saidFields};
 ghost use Rattle.deck.specs.Said.{refusedDeck, tabledDeck, movedReply, saidDeck};
 use assembly::BLOCKS;
@@ -275,18 +276,18 @@ pub fn read_deck(d: &[u8], form: Form) -> DeckRead
 
 // The payload of the block of a number among the first `count`, and nothing where there is no such block.
 fn payload_of(d: &[u8], blocks: [BlockAt; BLOCKS], count: usize, number: usize) -> &[u8]
-    ensures { λ r. ⌜ now r ≡ payload (now (d .entry)) (take count blocks) number ⌝ }
+    ensures { λ r. ⌜ PartOf (d .entry) (payload (take count blocks) number .from) (payload (take count blocks) number .len) r ⌝ }
 {
     let b = assembly::find_block(blocks, count, number);
     if !assembly::is_numbered(b, number) {
-        return &d[..0];
+        return part(d, 0, 0);
     }
     part(d, b.start, 6 + 2 * (b.bonds as usize))
 }
 
 // The part of a deck that holds the payload of a block: empty exactly where the deck is refused in both forms or has no such block.
 pub fn block_part(d: &[u8], number: usize) -> &[u8]
-    ensures { λ r. ⌜ now r ≡ blockPart (now (d .entry)) number ⌝ }
+    ensures { λ r. ⌜ PartOf (d .entry) (blockSpan (now (d .entry)) number .from) (blockSpan (now (d .entry)) number .len) r ⌝ }
 {
     let k = read_deck(d, Form::Composed);
     let composed = k.reply;
@@ -294,7 +295,7 @@ pub fn block_part(d: &[u8], number: usize) -> &[u8]
         let j = read_deck(d, Form::Judged);
         let judged = j.reply;
         let Reply::Fine = judged else {
-            return &d[..0];
+            return part(d, 0, 0);
         };
         let layout = j.layout;
         let blocks = layout.blocks;

@@ -1,12 +1,13 @@
 -- Little-endian numbers past the end and in halves, and parts of a list that ends early. Assumes nothing.
-use Prim.Native.Nat.{ℕ, zero, suc, _+_, _*_, _-_, _<_, _≤_}
+use Prim.Native.Nat.{ℕ, zero, suc, _+_, _*_, _-_, _<_, _≤_, min}
 use mathlib.Core.List.{List, []}
 use mathlib.Core.Path.{_≡_, refl, sym, _∙_, ap}
 use native.Mathlib.Nat.{mul-le-mul}
 use native.Mathlib.Omega.{arith}
 use lib.ListN.{length, take, drop, List·getD-eq-default, drop-of-length-le, length-drop}
 use lib.Seq.{take-all, take-nil}
-use Rattle.records.specs.Bytes.{byteAt, little, le16, part}
+use denote.Ref.{RefT, ptr, now}
+use Rattle.records.specs.Bytes.{byteAt, little, le16, part, PartOf}
 
 pub past : (k : ℕ) (d : List ℕ) (at : ℕ) → length d ≤ at → little k d at ≡ 0
 unfolding little
@@ -26,8 +27,17 @@ pub product : (x y : ℕ) → x < 65536 → y < 65536 → x * y ≤ 65535 * 6553
 product x y h k = mul-le-mul {n₂ = 65535} {m₂ = 65535} (omega arith) (omega arith)
 
 -- what starts past the end, and what reaches past it
-pub part-none : (d : List ℕ) (from len : ℕ) → length d < from → part d from len ≡ []
+pub part-none : (d : List ℕ) (from len : ℕ) → length d ≤ from → part d from len ≡ []
 part-none d from len h = ap (take len) (drop-of-length-le d {i = from} (omega arith)) ∙ take-nil len
 
-pub part-rest : (d : List ℕ) (from len : ℕ) → length d - from < len → part d from len ≡ drop from d
+pub part-rest : (d : List ℕ) (from len : ℕ) → length d - from ≤ len → part d from len ≡ drop from d
 part-rest d from len h = take-all len (drop from d) (omega (arith, length-drop from d))
+
+-- from the end on every part is empty
+pub past-end : {s r : RefT (List ℕ)} {from : ℕ} (to len : ℕ) → length (now s) ≤ from → from ≤ to → PartOf s from 0 r → PartOf s to len r
+past-end {s} {r} {from} to len h l p =
+    let e : min from (length (now s)) ≡ min to (length (now s)) = omega arith in
+    record {
+      bytes = p .bytes ∙ sym (part-none (now s) to len (omega arith));
+      place = p .place ∙ ap (λ (n : ℕ). (ptr s .0, n + ptr s .1)) e;
+    }

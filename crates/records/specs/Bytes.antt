@@ -1,7 +1,9 @@
 -- Bytes and little-endian numbers.
-use Prim.Native.Nat.{ℕ, zero, suc, _+_, _*_}
+use Prim.Native.Nat.{ℕ, zero, suc, _+_, _*_, min}
 use mathlib.Core.List.{List}
-use lib.ListN.{getD, take, drop}
+use mathlib.Core.Path.{_≡_}
+use lib.ListN.{length, getD, take, drop}
+use denote.Ref.{RefT, ptr, now}
 
 -- the byte at a place, 0 past the end
 abbrev pub byteAt : List ℕ → ℕ → ℕ
@@ -18,3 +20,8 @@ le16 d at = little 2 d at
 -- the len bytes from a place on, fewer where the list ends
 abbrev pub part : List ℕ → ℕ → ℕ → List ℕ
 part d from len = take len (drop from d)
+
+-- r is the part of the lent bytes s from a place on: it holds these bytes, and points to where they stand
+pub record PartOf (s : RefT (List ℕ)) (from len : ℕ) (r : RefT (List ℕ)) : Type 0 where
+  pub bytes : now r ≡ part (now s) from len
+  pub place : ptr r ≡ (ptr s .0, min from (length (now s)) + ptr s .1)

@@ -2,3 +2,5 @@
 pub mod Bytes
 pub mod Records
 pub mod Taken
+pub mod Longer
+pub mod Unique

@@ -4,8 +4,8 @@ ghost use mathlib.Core.List.{[], _∷_};
 ghost use Prim.Native.Nat.{_+_, _≤_};
 ghost use lib.ListN.{length};
 ghost use Rattle.block.specs.Block.{saidBlock};
-ghost use Rattle.records.specs.Bytes.{byteAt, little, le16, part};
-ghost use Rattle.records.specs.Records.{payloadAt, lengthReply, recordReply};
+ghost use Rattle.records.specs.Bytes.{byteAt, little, le16, PartOf};
+ghost use Rattle.records.specs.Records.{lengthAt, lengthReply, recordReply};
 use block::Refusal;
 use block::Reply;
 
@@ -76,12 +76,13 @@ pub fn le64_at(d: &[u8], at: usize) -> u64
 
 // The len bytes from a place on, fewer where the slice ends.
 pub fn part(d: &[u8], from: usize, len: usize) -> &[u8]
-    ensures { λ r. ⌜ now r ≡ part (now (d .entry)) from len ⌝ }
+    ensures { λ r. ⌜ PartOf (d .entry) from len r ⌝ }
 {
-    if d.len() < from {
-        return &d[..0];
+    let end = d.len();
+    if end < from {
+        return &d[end..];
     }
-    if d.len() - from < len {
+    if end - from < len {
         return &d[from..];
     }
     let to = from + len;
@@ -90,10 +91,10 @@ pub fn part(d: &[u8], from: usize, len: usize) -> &[u8]
 
 // The payload of the record at a place.
 pub fn payload_at(d: &[u8], at: usize) -> &[u8]
-    ensures { λ r. ⌜ now r ≡ payloadAt (now (d .entry)) at ⌝ }
+    ensures { λ r. ⌜ PartOf (d .entry) (at + 4) (lengthAt (now (d .entry)) at) r ⌝ }
 {
     if d.len() < at {
-        return &d[..0];
+        return part(d, at, 0);
     }
     part(d, at + 4, le16_at(d, at) as usize)
 }

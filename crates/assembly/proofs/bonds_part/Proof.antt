@@ -1,16 +1,15 @@
 use Prim.Native.Nat.{_+_, _*_}
-use mathlib.Core.Path.{sym}
 use native.Mathlib.Omega.{arith}
-use Rattle.records.proofs.Numbers.{part-none}
+use Rattle.records.proofs.Numbers.{past-end}
 use borrow.Author.Needs.{needs}
 use Rattle.assembly.proofs.bonds_part.Statement.{statement}
 use Rattle.assembly.proofs.bonds_part.Tie as tie
 
-slice-aggregate-result : tie.Need-slice-aggregate-result
-slice-aggregate-result c = search needs
+part-requires : tie.Need-part-requires
+part-requires c κs = search needs
 
 returns : tie.Need-returns
-returns c = let a = c .before .before .before .args in sym (part-none (a .d .now) (a .b .start + 6) (2 * a .b .bonds) (omega arith))
+returns c = let a = c .before .before .before .args in past-end (a .b .start + 6) (2 * a .b .bonds) (omega arith) (omega arith) (c .part .ensures)
 
 add-part : tie.Need-add-part
 add-part c = search needs
@@ -21,8 +20,8 @@ cast-part c = search needs
 mul-part : tie.Need-mul-part
 mul-part c = search needs
 
-part-requires : tie.Need-part-requires
-part-requires c κs = search needs
+part-requires-2 : tie.Need-part-requires-2
+part-requires-2 c κs = search needs
 
 returns-2 : tie.Need-returns-2
 returns-2 c = search needs
@@ -30,4 +29,4 @@ returns-2 c = search needs
 pub bonds-part-spec : {M : Type 1} → statement M
 bonds-part-spec =
     tie.close
-    (tie.spec slice-aggregate-result returns add-part cast-part mul-part part-requires returns-2)
+    (tie.spec part-requires returns add-part cast-part mul-part part-requires-2 returns-2)

@@ -28,7 +28,7 @@ add-result c = search needs
 returns : tie.Need-returns
 unfolding bondsOn
 returns c = let a = c .before .before .before .before .before .args in
-    ap (leb limit) (ap₂ _+_ (c .before .degree-of .ensures .0 ∙ ap (λ (bs : List ℕ). degree (bondsOf bs) (a .a)) (c .before .before .bonds-part .ensures)) (c .joins-on .ensures .0))
+    ap (leb limit) (ap₂ _+_ (c .before .degree-of .ensures .0 ∙ ap (λ (bs : List ℕ). degree (bondsOf bs) (a .a)) (c .before .before .bonds-part .ensures .bytes)) (c .joins-on .ensures .0))
 
 pub is-full-spec : {M : Type 1} → statement M
 is-full-spec =

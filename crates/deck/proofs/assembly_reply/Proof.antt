@@ -23,7 +23,7 @@ abbrev blocks : tie.Start → List BlockAt
 blocks s = take (s .args .count) (s .args .blocks)
 
 check-is : (c : tie.After-check) → let s = c .before .before .before in c .check .result ≡ saidBlock (assemblyReply (bookOf (s .args .d .now) (blocks s)) (payloadAt (s .args .d .now) (s .args .at)))
-check-is c = let s = c .before .before .before in c .check .ensures ∙ ap (λ (xs : List ℕ). saidBlock (assemblyReply (bookOf (s .args .d .now) (blocks s)) xs)) (c .before .payload-at .ensures)
+check-is c = let s = c .before .before .before in c .check .ensures ∙ ap (λ (xs : List ℕ). saidBlock (assemblyReply (bookOf (s .args .d .now) (blocks s)) xs)) (c .before .payload-at .ensures .bytes)
 
 payload-at-requires : tie.Need-payload-at-requires
 payload-at-requires c κs = search needs

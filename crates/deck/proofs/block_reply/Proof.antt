@@ -47,7 +47,7 @@ returns-2 : tie.Need-returns-2
 returns-2 c = let s = c .before .before .before .before .before .before .before .before in
     let d = s .args .d .now in
     c .block-moved .ensures
-    ∙ ap (movedReply (blockPlace (s .args .at))) (c .before .check .ensures ∙ ap (λ (xs : List ℕ). saidBlock (blockReply (s .args .b .atoms) xs)) (c .before .before .before .bonds-part .ensures) ∙ ap (λ (b : BlockAt). saidBlock (blockReply (b .atoms) (bondBytes d b))) (s .pre .1))
+    ∙ ap (movedReply (blockPlace (s .args .at))) (c .before .check .ensures ∙ ap (λ (xs : List ℕ). saidBlock (blockReply (s .args .b .atoms) xs)) (c .before .before .before .bonds-part .ensures .bytes) ∙ ap (λ (b : BlockAt). saidBlock (blockReply (b .atoms) (bondBytes d b))) (s .pre .1))
     ∙ moved-said (blockPlace (s .args .at)) (blockReply (blockAt d (s .args .at) .atoms) (bondBytes d (blockAt d (s .args .at))))
     ∙ ap saidBlock (sym (number-fit d (s .args .at) (done s) (sym (unfit-is (c .before .before .before .before .before)) ∙ c .before .before .before .before .if1 .left)))
 

@@ -25,7 +25,7 @@ add-t12 : tie.Need-add-t12
 add-t12 c = search needs
 
 returns : tie.Need-returns
-returns c = rw (c .le16-at2 .ensures, c .before .le16-at .ensures, c .before .before .payload-at .ensures)
+returns c = rw (c .le16-at2 .ensures, c .before .le16-at .ensures, c .before .before .payload-at .ensures .bytes)
 
 pub deck-at-spec : {M : Type 1} → statement M
 deck-at-spec =

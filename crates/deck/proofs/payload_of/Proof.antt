@@ -4,16 +4,19 @@ use mathlib.Core.Path.{_≡_, sym, ap, _∙_}
 use lib.ListN.{take}
 use borrow.Author.Tests.{not-true, not-false}
 use borrow.Author.Needs.{needs}
-use Rattle.records.specs.Bytes.{part}
 use Rattle.assembly.specs.Book.{isNumbered, used}
 use Rattle.assembly.specs.declared.BlockAt.{BlockAt}
-use Rattle.deck.proofs.Parts.{no-payload, has-payload}
+use Rattle.deck.specs.Deck.{Span}
+use Rattle.deck.proofs.Parts.{no-payload, has-payload, part-at}
 use borrow.Author.Needs.{needs}
 use Rattle.deck.proofs.payload_of.Statement.{statement}
 use Rattle.deck.proofs.payload_of.Tie as tie
 
 abbrev blocks : tie.Start → List BlockAt
 blocks s = take (s .args .count) (s .args .blocks)
+
+abbrev span : BlockAt → Span
+span b = record { from = b .start; len = 6 + 2 * b .bonds }
 
 used-is : (c : tie.After-is-numbered) → let s = c .before .before .before in used (blocks s) (s .args .number) ≡ c .is-numbered .result
 used-is c = let s = c .before .before .before in sym (c .is-numbered .ensures ∙ ap (λ (b : BlockAt). isNumbered b (s .args .number)) (c .before .find-block .ensures))
@@ -24,11 +27,11 @@ find-block-requires c κs = search needs
 is-numbered-requires : tie.Need-is-numbered-requires
 is-numbered-requires c κs = search needs
 
-slice-aggregate-result : tie.Need-slice-aggregate-result
-slice-aggregate-result c = search needs
+part-requires : tie.Need-part-requires
+part-requires c κs = search needs
 
 returns : tie.Need-returns
-returns c = let s = c .before .before .before .before .before in let a = s .args in sym (no-payload (a .d .now) (blocks s) (a .number) (used-is (c .before .before) ∙ not-true (c .before .before .is-numbered .result) (c .before .if1 .taken)))
+returns c = let s = c .before .before .before .before .before in part-at (sym (no-payload (blocks s) (s .args .number) (used-is (c .before .before) ∙ not-true (c .before .before .is-numbered .result) (c .before .if1 .taken)))) (c .part .ensures)
 
 cast-part : tie.Need-cast-part
 cast-part c = search needs
@@ -39,15 +42,12 @@ mul-part c = search needs
 add-part : tie.Need-add-part
 add-part c = search needs
 
-part-requires : tie.Need-part-requires
-part-requires c κs = search needs
+part-requires-2 : tie.Need-part-requires-2
+part-requires-2 c κs = search needs
 
 returns-2 : tie.Need-returns-2
 returns-2 c = let s = c .before .before .before .before .before .before in
-    let a = s .args in
-    c .part .ensures
-    ∙ ap (λ (b : BlockAt). part (a .d .now) (b .start) (6 + 2 * b .bonds)) (c .before .before .before .before .find-block .ensures)
-    ∙ sym (has-payload (a .d .now) (blocks s) (a .number) (used-is (c .before .before .before) ∙ not-false (c .before .before .before .is-numbered .result) (c .before .before .if1 .left)))
+    part-at (ap span (c .before .before .before .before .find-block .ensures) ∙ sym (has-payload (blocks s) (s .args .number) (used-is (c .before .before .before) ∙ not-false (c .before .before .before .is-numbered .result) (c .before .before .if1 .left)))) (c .part2 .ensures)
 
 pub payload-of-spec : {M : Type 1} → statement M
 payload-of-spec =
@@ -55,10 +55,10 @@ payload-of-spec =
     (tie.spec
     find-block-requires
     is-numbered-requires
-    slice-aggregate-result
+    part-requires
     returns
     cast-part
     mul-part
     add-part
-    part-requires
+    part-requires-2
     returns-2)

@@ -14,7 +14,7 @@ placement-at-requires : tie.Need-placement-at-requires
 placement-at-requires c κs = search needs
 
 returns : tie.Need-returns
-returns c = let a = c .before .before .before .args in c .placement-at .ensures ∙ ap (λ (xs : List ℕ). placementAt xs (a .k)) (c .before .payload-at .ensures)
+returns c = let a = c .before .before .before .args in c .placement-at .ensures ∙ ap (λ (xs : List ℕ). placementAt xs (a .k)) (c .before .payload-at .ensures .bytes)
 
 pub placement-spec : {M : Type 1} → statement M
 placement-spec = tie.close (tie.spec payload-at-requires placement-at-requires returns)

@@ -1,21 +1,14 @@
-use Prim.Native.Nat.{ℕ, _+_, _-_}
+use Prim.Native.Nat.{ℕ, _+_, _-_, min}
 use mathlib.Core.Path.{_≡_, sym, ap, _∙_}
 use native.Mathlib.Omega.{arith}
-use lib.ListN.{length, take, drop, length-drop}
-use lib.Seq.{take-all}
+use lib.ListN.{length}
+use borrow.Author.Needs.{needs}
+use denote.Ref.{ptr}
+use Rattle.records.specs.Bytes.{part}
 use Rattle.records.proofs.Numbers.{part-none, part-rest}
 use borrow.Author.Needs.{needs}
 use Rattle.records.proofs.part.Statement.{statement}
 use Rattle.records.proofs.part.Tie as tie
-
-slice-aggregate-result : tie.Need-slice-aggregate-result
-slice-aggregate-result c = search needs
-
-returns : tie.Need-returns
-returns c = let a = c .before .before .args in sym (part-none (a .d .now) (a .from) (a .len) (c .before .if1 .taken))
-
-sub-if2 : tie.Need-sub-if2
-sub-if2 c = search needs
 
 sub-result : tie.Need-sub-result
 sub-result c = search needs
@@ -26,12 +19,11 @@ part-result-start c = search needs
 part-result-end : tie.Need-part-result-end
 part-result-end c = search needs
 
-returns-2 : tie.Need-returns-2
-returns-2 c = let a = c .before .before .before .args in
-    take-all (length (a .d .now) - a .from) (drop (a .from) (a .d .now)) (omega (arith, length-drop (a .from) (a .d .now))) ∙ sym (part-rest (a .d .now) (a .from) (a .len) (c .before .if2 .taken))
-
-add-to : tie.Need-add-to
-add-to c = search needs
+returns : tie.Need-returns
+returns c = let a = c .before .before .args in
+    let d = a .d .now in
+    let e : length d ≡ min (a .from) (length d) = omega arith in
+    record { bytes = part-none d (length d) (length d - length d) (omega arith) ∙ sym (part-none d (a .from) (a .len) (omega arith)); place = ap (λ (n : ℕ). (ptr (a .d) .0, n + ptr (a .d) .1)) e }
 
 sub-result-2 : tie.Need-sub-result-2
 sub-result-2 c = search needs
@@ -42,24 +34,44 @@ part-result-start-2 c = search needs
 part-result-end-2 : tie.Need-part-result-end-2
 part-result-end-2 c = search needs
 
+returns-2 : tie.Need-returns-2
+returns-2 c = let a = c .before .before .before .args in
+    let d = a .d .now in
+    let e : a .from ≡ min (a .from) (length d) = omega arith in
+    record { bytes = part-rest d (a .from) (length d - a .from) (omega arith) ∙ sym (part-rest d (a .from) (a .len) (omega arith)); place = ap (λ (n : ℕ). (ptr (a .d) .0, n + ptr (a .d) .1)) e }
+
+add-to : tie.Need-add-to
+add-to c = search needs
+
+sub-result-3 : tie.Need-sub-result-3
+sub-result-3 c = search needs
+
+part-result-start-3 : tie.Need-part-result-start-3
+part-result-start-3 c = search needs
+
+part-result-end-3 : tie.Need-part-result-end-3
+part-result-end-3 c = search needs
+
 returns-3 : tie.Need-returns-3
 returns-3 c = let a = c .before .before .before .args in
-    let e : a .from + a .len - a .from ≡ a .len = omega arith in
-    ap (λ (n : ℕ). take n (drop (a .from) (a .d .now))) e
+    let e : a .from ≡ min (a .from) (length (a .d .now)) = omega arith in
+    let f : a .from + a .len - a .from ≡ a .len = omega arith in
+    record { bytes = ap (part (a .d .now) (a .from)) f; place = ap (λ (n : ℕ). (ptr (a .d) .0, n + ptr (a .d) .1)) e }
 
 pub part-spec : {M : Type 1} → statement M
 part-spec =
     tie.close
     (tie.spec
-    slice-aggregate-result
-    returns
-    sub-if2
     sub-result
     part-result-start
     part-result-end
-    returns-2
-    add-to
+    returns
     sub-result-2
     part-result-start-2
     part-result-end-2
+    returns-2
+    add-to
+    sub-result-3
+    part-result-start-3
+    part-result-end-3
     returns-3)

@@ -1,12 +1,12 @@
 use mathlib.Core.Bool.{false}
 use mathlib.Core.List.{List}
 use mathlib.Core.Path.{_≡_, sym, _∙_}
-use lib.Dec.{eqb, leb}
+use lib.Dec.{eqb}
 use native.Mathlib.Omega.{arith}
 use borrow.Author.Needs.{needs}
 use borrow.Author.Tests.{eq-eqb, ne-eqb}
-use Rattle.graph.specs.Graph.{Bond, Within, anyJoins, degree}
-use Rattle.block.specs.Block.{limit, isOutside}
+use Rattle.graph.specs.Graph.{Bond, Within, anyJoins}
+use Rattle.block.specs.Block.{isOutside}
 use Rattle.block.specs.Near.{near, Holds}
 use Rattle.block.specs.Faults.{inside, three, three′, four, five, six, six′, none}
 use Rattle.block.proofs.Listing.{full, room}

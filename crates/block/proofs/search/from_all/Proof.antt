@@ -1,11 +1,10 @@
-use Prim.Native.Nat.{ℕ, _≤_, _-_, _+_}
+use Prim.Native.Nat.{ℕ, _≤_, _-_}
 use mathlib.Core.List.{List}
 use mathlib.Core.Path.{_≡_}
 use native.Mathlib.Numerals.{add-one}
 use native.Mathlib.Omega.{arith}
 use Rattle.block.specs.Block.{graphOf, mostAtoms}
 use Rattle.block.specs.Near.{near, Ready}
-use Rattle.block.specs.Found.{Task}
 use Rattle.block.specs.Told.{passed}
 use Rattle.block.proofs.Filling.{Filled, fill-start, fill-next, fill-end}
 use Rattle.block.proofs.search.from_all.Statement.{statement}

@@ -2,7 +2,7 @@
 use borrow.Author.Needs.{needs}
 use native.Mathlib.Omega.{arith}
 use Rattle.compose.proofs.Ports.{parent-earlier, site-small}
-use Rattle.compose.proofs.Seeing.{parent-index, up, up-earlier, up-joint, size-small, site-counts, sight-below, sight-self, site-below, sight-first, sight-begun}
+use Rattle.compose.proofs.Seeing.{parent-index, up, up-earlier, up-joint, site-counts, sight-below, sight-self, site-below, sight-first, sight-begun}
 use Rattle.compose.proofs.joints.begun.Statement.{statement}
 use Rattle.compose.proofs.joints.begun.Tie as tie
 
@@ -31,7 +31,7 @@ end-counts-requires : tie.Need-end-counts-requires
 end-counts-requires c κs =
     let s = c .before .before .before in
     let t = s .pre .3 in
-    (omega (arith, t .index, t .laid .few), s .pre .2 .listed _ (parent-index t), size-small (s .pre .2) _ (parent-index t))
+    (omega (arith, t .index, t .laid .few), s .pre .2 .listed _ (parent-index t))
 
 returns : tie.Need-returns
 returns c blocks last a t = sight-first (t .laid) (t .index) (c .if1 .taken) (site-counts a (t .index) (c .before .end-counts .ensures))

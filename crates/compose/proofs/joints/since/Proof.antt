@@ -51,7 +51,7 @@ grown-requires c κs =
     let t = p .2 in
     let w = earlier s t in (
       sight-below (t .laid) (t .index) _ (i .0) (w .high) (i .2 (p .0) (p .1) t (p .3)),
-      (own-below (t .laid) w (t .known _ (w .low) (s .loop-test .taken) .own), omega (arith, between-below (t .laid) w (t .index), c .apart .ensures (p .0) (p .1) (t .laid) w (t .index))),
+      (own-below (t .laid) w (t .known _ (s .loop-test .taken) (w .low) .own), omega (arith, between-below (t .laid) w (t .index), c .apart .ensures (p .0) (p .1) (t .laid) w (t .index))),
     )
 
 add-m : tie.Need-add-m Inv-loop μ-loop
@@ -69,7 +69,7 @@ loop-again c =
       λ blocks last t b.
           let w = earlier s t in
           c .grown .ensures _ _ _ (rw (c .before .apart .ensures blocks last (t .laid) w (t .index)) (sight-grown (t .laid) (t .index) _ (i .0) (s .loop-test .taken)))
-          (own-self (t .laid) w) (i .2 blocks last t b) (t .known _ (w .low) (s .loop-test .taken) .own),
+          (own-self (t .laid) w) (i .2 blocks last t b) (t .known _ (s .loop-test .taken) (w .low) .own),
     )
 
 returns : tie.Need-returns Inv-loop μ-loop

@@ -1,0 +1,30 @@
+-- Each promise determines the reply: two replies that satisfy it are equal. Assumes nothing.
+use Prim.Native.Nat.{ℕ, _+_, _*_}
+use mathlib.Core.Bool.{Bool}
+use mathlib.Core.List.{List}
+use mathlib.Core.Path.{_≡_}
+use lib.ListN.{take}
+use denote.Ref.{RefT, ptr, now}
+use Rattle.block.specs.Block.{saidBlock}
+use Rattle.block.specs.declared.Reply.{Reply}
+use Rattle.records.specs.Bytes.{PartOf}
+use Rattle.records.specs.Unique.{unique, unique-part}
+use Rattle.assembly.specs.Book.{find, isNumbered, bookOf}
+use Rattle.assembly.specs.Placements.{placementAt, assemblyReply}
+use Rattle.assembly.specs.declared.BlockAt.{BlockAt}
+use Rattle.assembly.specs.declared.Placement.{Placement}
+
+pub unique-find-block : (blocks : List BlockAt) (count number : ℕ) (r s : BlockAt) → r ≡ find (take count blocks) number → s ≡ find (take count blocks) number → r ≡ s
+unique-find-block blocks count number r s = unique
+
+pub unique-is-numbered : (b : BlockAt) (number : ℕ) (r s : Bool) → r ≡ isNumbered b number → s ≡ isNumbered b number → r ≡ s
+unique-is-numbered b number r s = unique
+
+pub unique-bonds-part : (s : RefT (List ℕ)) (b : BlockAt) (q r : RefT (List ℕ)) → PartOf s (b .start + 6) (2 * b .bonds) q → PartOf s (b .start + 6) (2 * b .bonds) r → (now q ≡ now r) × (ptr q ≡ ptr r)
+unique-bonds-part s b q r = unique-part
+
+pub unique-placement-at : (xs : List ℕ) (k : ℕ) (r s : Placement) → r ≡ placementAt xs k → s ≡ placementAt xs k → r ≡ s
+unique-placement-at xs k r s = unique
+
+pub unique-check : (d : List ℕ) (blocks : List BlockAt) (count : ℕ) (xs : List ℕ) (r s : Reply) → r ≡ saidBlock (assemblyReply (bookOf d (take count blocks)) xs) → s ≡ saidBlock (assemblyReply (bookOf d (take count blocks)) xs) → r ≡ s
+unique-check d blocks count xs r s = unique

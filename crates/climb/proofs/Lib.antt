@@ -1,0 +1,2 @@
+-- Laws of reading a deck's blocks.
+pub mod Reading

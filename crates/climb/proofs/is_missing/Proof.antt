@@ -1,0 +1,46 @@
+-- `climb::is_missing` meets its contract: the placement's number, then the atom's.
+use Prim.Native.Nat.{_-_}
+use mathlib.Core.Path.{sym, _∙_}
+use native.Mathlib.Omega.{arith}
+use borrow.Author.Needs.{needs}
+use denote.Ref.{now}
+use Rattle.block.specs.Faults.{inside}
+use Rattle.climb.specs.Placed.{isMissing}
+use Rattle.climb.specs.Pairs.{deckOf}
+use Rattle.climb.proofs.Reading.{block-atoms}
+use Rattle.climb.proofs.is_missing.Statement.{statement}
+use Rattle.climb.proofs.is_missing.Tie as tie
+
+is-outside-requires : tie.Need-is-outside-requires
+is-outside-requires c κs = search needs
+
+returns : tie.Need-returns
+unfolding isMissing
+returns c = rw (sym (c .before .is-outside .ensures) ∙ c .if1 .taken)
+
+block-of-requires : tie.Need-block-of-requires
+block-of-requires c κs = let a = c .before .before .before .args in omega (arith, inside (a .deck .placements) (a .k) (sym (c .before .is-outside .ensures) ∙ c .if1 .left))
+
+cast-is-outside : tie.Need-cast-is-outside
+cast-is-outside c = search needs
+
+is-outside-requires-2 : tie.Need-is-outside-requires-2
+is-outside-requires-2 c κs = search needs
+
+returns-2 : tie.Need-returns-2
+unfolding isMissing
+returns-2 c =
+    let a = c .before .before .before .before .before .before .args in
+    let b = c .before .before .block-of in
+    rw (sym (c .before .before .before .before .is-outside .ensures) ∙ c .before .before .before .if1 .left, block-atoms (now (a .d)) (deckOf (a .deck)) (a .k - 1) (b .result) (b .ensures)) (c .is-outside2 .ensures)
+
+pub is-missing-spec : {M : Type 1} → statement M
+is-missing-spec =
+    tie.close
+    (tie.spec
+    is-outside-requires
+    returns
+    block-of-requires
+    cast-is-outside
+    is-outside-requires-2
+    returns-2)

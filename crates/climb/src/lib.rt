@@ -1,0 +1,100 @@
+// The distance of two placed atoms of a deck: it climbs from the later placement to its parent.
+ghost use mathlib.Core.Path.{_≡_};
+ghost use Prim.Native.Nat.{_-_, _≤_};
+ghost use Rattle.graph.specs.Graph.{distance};
+ghost use Rattle.block.specs.Index.{saidDistance};
+ghost use Rattle.block.specs.Block.{isOutside};
+ghost use Rattle.assembly.specs.Book.{find};
+ghost use Rattle.deck.specs.Molecule.{placedIn, graphAt};
+ghost use Rattle.climb.specs.Placed.{isMissing, placedReply};
+ghost use Rattle.climb.specs.Pairs.{deckOf, between, Pair};
+use assembly::BlockAt;
+use block::Apart;
+use block::Refusal;
+use block::Reply;
+use deck::Form;
+use deck::Layout;
+
+// The block of placement number k.
+fn block_of(d: &[u8], deck: Layout, k: usize) -> BlockAt
+    requires { ⌜ 1 ≤ k ⌝ }
+    ensures { λ r. ⌜ r ≡ find (deckOf deck .blocks) (placedIn (now (d .entry)) (deckOf deck) (k - 1) .block) ⌝ }
+{
+    let p = deck::placement(d, deck.assembly, k - 1);
+    let blocks = deck.blocks;
+    assembly::find_block(blocks, deck.count, p.block as usize)
+}
+
+// 0 or above n.
+fn is_outside(n: usize, v: usize) -> bool
+    ensures { λ r. ⌜ r ≡ isOutside n v ⌝ }
+{
+    if v == 0 {
+        return true;
+    }
+    n < v
+}
+
+// Whether placement number k does not exist, or has no atom i.
+fn is_missing(d: &[u8], deck: Layout, k: usize, i: usize) -> bool
+    ensures { λ r. ⌜ r ≡ isMissing (now (d .entry)) (deckOf deck) k i ⌝ }
+{
+    if is_outside(deck.placements, k) {
+        return true;
+    }
+    let b = block_of(d, deck, k);
+    is_outside(b.atoms as usize, i)
+}
+
+// The distance of atoms i and j of placement number k.
+fn inside(d: &[u8], deck: Layout, k: usize, i: usize, j: usize) -> u64
+    requires { ⌜ Pair (now d) (deckOf deck) k i k j ⌝ }
+    ensures { λ r. ⌜ r ≡ distance (graphAt (now (d .entry)) (deckOf deck) (k - 1)) i j ⌝ }
+{
+    let b = block_of(d, deck, k);
+    let bonds = assembly::bonds_part(d, b);
+    let reply = block::distance(b.atoms as usize, bonds, i, j);
+    match reply {
+        Apart::Of(x) => x,
+        Apart::Refused(r) => 0,
+    }
+}
+
+// The distance of atom i of placement number k and atom j of placement number l. The larger placement number falls at each call.
+fn climb(d: &[u8], deck: Layout, k: usize, i: usize, l: usize, j: usize) -> u64
+    requires { ⌜ Pair (now d) (deckOf deck) k i l j ⌝ }
+    ensures { λ r. ⌜ r ≡ between (now (d .entry)) (deckOf deck) k i l j ⌝ }
+{
+    if k == l {
+        return inside(d, deck, k, i, j);
+    }
+    if k < l {
+        let p = deck::placement(d, deck.assembly, l - 1);
+        let rest = climb(d, deck, k, i, p.parent as usize, p.site as usize);
+        return rest + 1 + inside(d, deck, l, p.own as usize, j);
+    }
+    let p = deck::placement(d, deck.assembly, k - 1);
+    let rest = climb(d, deck, l, j, p.parent as usize, p.site as usize);
+    rest + 1 + inside(d, deck, k, p.own as usize, i)
+}
+
+// The distance of atom i of placement number k and atom j of placement number l of a deck without a sheet, or its refusal; 18 at place 0 where one does not exist.
+pub fn placed_distance(d: &[u8], k: usize, i: usize, l: usize, j: usize) -> Apart
+    ensures { λ r. ⌜ r ≡ saidDistance (placedReply (now (d .entry)) k i l j) ⌝ }
+{
+    let read = deck::read_deck(d, Form::Composed);
+    let reply = read.reply;
+    match reply {
+        Reply::Refused(r) => Apart::Refused(r),
+        Reply::Fine => {
+            let deck = read.layout;
+            if is_missing(d, deck, k, i) || is_missing(d, deck, l, j) {
+                return Apart::Refused(Refusal {
+                    number: 18,
+                    place: 0,
+                });
+            }
+            Apart::Of(climb(d, deck, k, i, l, j))
+        }
+    }
+}

@@ -1,0 +1,155 @@
+-- The tables of the blocks, filled one after the other: once all are, the arrays are what composing asks. Assumes nothing.
+use Prim.Native.Nat.{ℕ, suc, _+_, _*_, _-_, _/_, _%_, _≤_, _<_, min}
+use mathlib.Core.Bool.{Bool, true, false}
+use mathlib.Core.List.{List, []}
+use mathlib.Core.Logic.{⊎-elim}
+use mathlib.Core.Path.{_≡_, refl, sym, _∙_, ap, subst}
+use native.Mathlib.Nat.{eq-or-lt-of-le}
+use native.Mathlib.Omega.{arith}
+use borrow.Author.Tests.{eqb-true, eqb-false, eq-eqb, ne-eqb}
+use lib.Dec.{eqb}
+use lib.ListN.{length, getD, set, length-set}
+use lib.Seq.{getD-set-same, getD-set-other}
+use Rattle.graph.specs.Graph.{Graph, Within, distance}
+use Rattle.graph.specs.Assembly.{Stands}
+use Rattle.block.specs.Block.{mostAtoms, graphOf}
+use Rattle.block.specs.Rows.{rowsOf}
+use Rattle.block.specs.Index.{indicesOf}
+use Rattle.block.specs.Sums.{pairEntry, indicesBy}
+use Rattle.block.specs.Told.{distance-at}
+use Rattle.block.specs.Told as told
+use Rattle.block.specs.Measures.{indices-are, all-atoms}
+use Rattle.block.specs.declared.Indices.{Indices}
+use Rattle.assembly.specs.Book.{bondBytes, blockGraph}
+use Rattle.assembly.specs.Placements.{mostPlacements, placementAt}
+use Rattle.assembly.specs.declared.BlockAt.{BlockAt}
+use Rattle.compose.specs.declared.links.Link.{Link}
+use Rattle.compose.specs.declared.tables.End.{End}
+use Rattle.compose.specs.Joints.{link, joinsOf, entry, noIndices, numbersAt, Laid, Task}
+use Rattle.compose.specs.Tables.{endAt, homeOf, Ranged, Copied}
+use Rattle.compose.specs.Ready.{placedBlock, placedGraph, Ready}
+
+-- an end is a placement's own atom, or its parent's atom
+end-own : (ls : List Link) (e : ℕ) → e % 2 ≡ 0 → endAt ls e ≡ record { home = e / 2; atom = link ls (e / 2) .own }
+unfolding endAt
+end-own ls e p = rw (eq-eqb (e % 2) 0 p)
+
+end-site : (ls : List Link) (e : ℕ) → (e % 2 ≡ 0 → ⊥) → endAt ls e ≡ record { home = link ls (e / 2) .parent - 1; atom = link ls (e / 2) .site }
+unfolding endAt
+end-site ls e p = rw (ne-eqb (e % 2) 0 p)
+
+module _ {d xs : List ℕ} {bs : List BlockAt} {count placements : ℕ} {ls : List Link} (r : Ready d xs bs count placements ls) where
+  abbrev graphs : ℕ → Graph
+  graphs = placedGraph d xs bs count
+
+  -- the parent's atom and the own atom of a later placement, and so every end
+  pub record Inside (x : End) : Type 0 where
+    pub home : x .home < placements
+    pub atom : Within (graphs (x .home) .atoms) (x .atom)
+
+  inside : (e : ℕ) → 2 ≤ e → e < 2 * placements → Inside (endAt ls e)
+  inside e h l = go (eqb (e % 2) 0) refl (r .assembled .stands (e / 2) (omega arith) (omega arith))
+    where
+      go : (t : Bool) → eqb (e % 2) 0 ≡ t → Stands graphs (joinsOf ls) (e / 2) → Inside (endAt ls e)
+      go true q s = rw (end-own ls e (eqb-true (e % 2) 0 q)) (record { home = omega arith; atom = s .own })
+      go false q s = rw (end-site ls e (eqb-false (e % 2) 0 q)) (record { home = omega (arith, s .parent); atom = s .site })
+
+  small : (i : ℕ) → i < placements → graphs i .atoms ≤ mostAtoms
+  small i l = told.few-atoms _ _ (r .fine i l) .high
+
+  pub ranged : Ranged ls placements
+  ranged = record {
+    few = r .few .high;
+    parent = λ k h l. r .assembled .stands k h (omega arith) .parent .low;
+    home = λ e h l. omega (arith, inside e h l .home, r .few);
+    atom = λ e h l. omega (arith, inside e h l .atom, small (endAt ls e .home) (inside e h l .home));
+  }
+
+  -- placements that have one block first have one block
+  same-block : (i f : ℕ) → i < placements → link ls i .block ≡ f → placedBlock xs bs count i ≡ placedBlock xs bs count f
+  same-block i f l e = rw (← e, r .linked i l .block .same)
+
+  -- what a placement has first is had first by that one
+  first-first : (i f : ℕ) → i < placements → link ls i .block ≡ f → link ls f .block ≡ f
+  first-first i f l e =
+      let a = r .linked i l .block in
+      let b = r .linked f (omega (arith, a .early)) .block in
+      ⊎-elim (λ q. q) (λ q. absurd (a .least (link ls f .block) (rw e q) (b .same ∙ ap (λ (j : ℕ). placementAt xs j .block) (sym e) ∙ a .same)))
+      (eq-or-lt-of-le {n = link ls f .block} {m = f} (b .early))
+
+  -- the blocks that are had first before index f are done
+  pub record Filled (f : ℕ) (rs : List (List ℕ)) (ns : List Indices) : Type 0 where
+    pub long : length ns ≡ mostPlacements
+    pub numbers : (i : ℕ) → i < placements → link ls i .block < f → numbersAt ns (link ls i .block) ≡ indicesOf (graphs i)
+    pub rows : (e : ℕ) → 2 ≤ e → e < 2 * placements → homeOf ls e < f → (j : ℕ) → Within (graphs (endAt ls e .home) .atoms) j
+        → entry rs e j ≡ distance (graphs (endAt ls e .home)) (endAt ls e .atom) j
+
+  pub fill-start : {rs : List (List ℕ)} {ns : List Indices} → length ns ≡ mostPlacements → Filled 0 rs ns
+  fill-start n = record { long = n; numbers = λ i l h. absurd (omega arith); rows = λ e h l q. absurd (omega arith) }
+
+  module _ {f : ℕ} {rs : List (List ℕ)} {ns : List Indices} (l : f < placements) (s : Filled f rs ns) where
+    -- no block is had first at f
+    pub fill-none : (link ls f .block ≡ f → ⊥) → Filled (f + 1) rs ns
+    fill-none n = record {
+      long = s .long;
+      numbers = λ i m h. s .numbers i m (before i m h);
+      rows = λ e g m h. s .rows e g m (before (endAt ls e .home) (inside e g m .home) h);
+    }
+      where
+        before : (i : ℕ) → i < placements → link ls i .block < f + 1 → link ls i .block < f
+        before i m h = ⊎-elim (λ q. absurd (n (first-first i f m q))) (λ q. q) (eq-or-lt-of-le {n = link ls i .block} {m = f} (omega arith))
+
+    -- one is: its table gives the numbers, and the rows of the ends that are in it
+    module _ {rs' table : List (List ℕ)} {x : Indices} (t : table ≡ rowsOf (placedBlock xs bs count f .atoms) (bondBytes d (placedBlock xs bs count f)))
+        (q : x ≡ indicesBy (min (placedBlock xs bs count f .atoms) mostAtoms) (pairEntry table)) (c : Copied ls placements f table rs rs') where
+      numbers-here : x ≡ indicesOf (graphs f)
+      numbers-here = q ∙ rw (t, all-atoms _ _ (r .fine f l)) (indices-are _ _ (r .fine f l))
+
+      row-here : (e : ℕ) → 2 ≤ e → e < 2 * placements → homeOf ls e ≡ f → (j : ℕ) → Within (graphs (endAt ls e .home) .atoms) j
+          → entry rs' e j ≡ distance (graphs (endAt ls e .home)) (endAt ls e .atom) j
+      row-here e h m p j w =
+          let b = same-block (endAt ls e .home) f (inside e h m .home) p in
+          rw (c .taken e h m p, t, b) (distance-at _ _ (r .fine f l) (rw b at (inside e h m .atom)) (rw b at w))
+
+      pub fill-one : Filled (f + 1) rs' (set ns f x)
+      fill-one = record {
+        long = length-set ns f x ∙ s .long;
+        numbers = λ i m h. ⊎-elim
+            (λ p. ap (numbersAt (set ns f x)) p ∙ getD-set-same ns f x noIndices (omega (arith, s .long, r .few)) ∙ numbers-here ∙ ap (λ (b : BlockAt). indicesOf (blockGraph d b)) (sym (same-block i f m p)))
+            (λ p. getD-set-other ns f (link ls i .block) x noIndices (λ k. omega arith) ∙ s .numbers i m p)
+            (eq-or-lt-of-le {n = link ls i .block} {m = f} (omega arith));
+        rows = λ e g m h j w. ⊎-elim
+            (λ p. row-here e g m p j w)
+            (λ p. rw (c .kept e (λ k. omega arith)) (s .rows e g m p j w))
+            (eq-or-lt-of-le {n = homeOf ls e} {m = f} (omega arith));
+      }
+
+  -- all are done: the row of an end, whatever it is
+  row-of : {rs : List (List ℕ)} {ns : List Indices} (e : ℕ) {x : End} → endAt ls e ≡ x → Filled placements rs ns → 2 ≤ e → e < 2 * placements → (j : ℕ) → Within (graphs (x .home) .atoms) j
+      → entry rs e j ≡ distance (graphs (x .home)) (x .atom) j
+  row-of {rs} e p s h l j =
+      let i = inside e h l .home in
+      subst (λ (x : End). Within (graphs (x .home) .atoms) j → entry rs e j ≡ distance (graphs (x .home)) (x .atom) j) p
+      (s .rows e h l (omega (arith, r .linked (endAt ls e .home) i .block .early)) j)
+
+  pub fill-end : {rs : List (List ℕ)} {ns : List Indices} → Filled placements rs ns → Task graphs (placements - 1) ls rs ns
+  fill-end {rs} {ns} s = record {
+    laid = record {
+      few = omega (arith, r .few);
+      assembled = r .assembled;
+      small = λ k h. small k (within k h);
+      own = λ k j w v. row-of (2 * k) (end-own ls (2 * k) (omega arith) ∙ ap (λ (i : ℕ). record { home = i; atom = link ls i .own }) (half k)) s (omega arith) (omega arith) j v;
+      site = λ k j w v. row-of (2 * k + 1) (end-site ls (2 * k + 1) (λ q. omega arith) ∙ ap (λ (i : ℕ). record { home = link ls i .parent - 1; atom = link ls i .site }) (half-more k)) s (omega arith) (omega arith) j v;
+    };
+    listed = λ k h. omega (arith, r .linked k (within k h) .block .early, within k h, r .few);
+    measured = λ k h. s .numbers k (within k h) (omega (arith, r .linked k (within k h) .block .early, within k h));
+  }
+    where
+      within : (k : ℕ) → k ≤ placements - 1 → k < placements
+      within k h = omega (arith, r .few)
+
+      half : (k : ℕ) → 2 * k / 2 ≡ k
+      half k = omega arith
+
+      half-more : (k : ℕ) → (2 * k + 1) / 2 ≡ k
+      half-more k = omega arith

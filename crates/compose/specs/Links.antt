@@ -1,0 +1,18 @@
+-- What is read of a placement.
+use Prim.Native.Nat.{ℕ, _≤_, _<_}
+use mathlib.Core.Path.{_≡_}
+use Rattle.assembly.specs.declared.Placement.{Placement}
+use Rattle.compose.specs.declared.links.Link.{Link}
+
+-- r is the index of the first placement that has the block of the one at index k
+pub record First (placed : ℕ → Placement) (k r : ℕ) : Type 0 where
+  pub early : r ≤ k
+  pub same : placed r .block ≡ placed k .block
+  pub least : (j : ℕ) → j < r → placed j .block ≡ placed k .block → ⊥
+
+-- l says the placement at index k
+pub record Linked (placed : ℕ → Placement) (k : ℕ) (l : Link) : Type 0 where
+  pub block : First placed k (l .block)
+  pub parent : l .parent ≡ placed k .parent
+  pub site : l .site ≡ placed k .site
+  pub own : l .own ≡ placed k .own

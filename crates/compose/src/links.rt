@@ -1,0 +1,68 @@
+// The placements of an assembly as they are read, with the first placement of each block.
+use assembly::PLACEMENTS;
+use assembly::placement_at;
+ghost use mathlib.Core.Path.{_≡_};
+ghost use Prim.Native.Nat.{ℕ, _≤_, _<_};
+ghost use Rattle.assembly.specs.Placements.{mostPlacements, placementAt};
+ghost use Rattle.compose.specs.Joints.{link};
+ghost use Rattle.compose.specs.Links.{First, Linked};
+
+// Both ends of each join.
+pub(crate) const ENDS: usize = 2 * PLACEMENTS;
+
+// A placement: the index of the first one that has its block, its parent's number, the parent's atom and its own atom.
+pub(crate) struct Link {
+    pub(crate) block: usize,
+    pub(crate) parent: usize,
+    pub(crate) site: usize,
+    pub(crate) own: usize,
+}
+
+// The first placement that has the block of the placement at index k.
+fn first_of(xs: &[u8], k: usize) -> usize
+    ensures { λ r. ⌜ First (placementAt (now (xs .entry))) k r ⌝ }
+{
+    let q = placement_at(xs, k);
+    let number = q.block;
+    let mut j: usize = 0;
+    while j < k {
+        let p = placement_at(xs, j);
+        if p.block == number {
+            return j;
+        }
+        j += 1;
+    }
+    k
+}
+
+fn link_of(xs: &[u8], k: usize) -> Link
+    ensures { λ r. ⌜ Linked (placementAt (now (xs .entry))) k r ⌝ }
+{
+    let q = placement_at(xs, k);
+    Link {
+        block: first_of(xs, k),
+        parent: q.parent as usize,
+        site: q.site as usize,
+        own: q.own as usize,
+    }
+}
+
+// The first `count` placements of an assembly's payload.
+pub(crate) fn links_of(xs: &[u8], count: usize) -> [Link; PLACEMENTS]
+    requires { ⌜ count ≤ mostPlacements ⌝ }
+    ensures { λ r. ⌜ ((k : ℕ) → k < count → Linked (placementAt (now (xs .entry))) k (link r k)) ⌝ }
+{
+    let none = Link {
+        block: 0,
+        parent: 0,
+        site: 0,
+        own: 0,
+    };
+    let mut links = [none; PLACEMENTS];
+    let mut k: usize = 0;
+    while k < count {
+        links[k] = link_of(xs, k);
+        k += 1;
+    }
+    links
+}

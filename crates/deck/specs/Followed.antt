@@ -1,0 +1,155 @@
+-- A deck that composes, with a sheet behind it, is read in the form that is judged, and describes the same molecule. Assumes nothing.
+use Prim.Native.Nat.{ℕ, zero, suc, _+_, _*_, _-_, _<_, _≤_}
+use mathlib.Core.Bool.{Bool, true, false, _||_, cond}
+use mathlib.Core.List.{List, [], _∷_, _++_}
+use mathlib.Core.Logic.{⊎-elim}
+use mathlib.Core.Path.{_≡_, refl, sym, _∙_, ap, ap₂}
+use native.Mathlib.Omega.{arith}
+use borrow.Author.Tests.{eq-eqb, ne-eqb, eqb-true, eqb-false, le-ltb, ltb-false}
+use lib.Dec.{eqb, leb, ltb}
+use lib.ListN.{length, length-append}
+use Rattle.graph.specs.Graph.{Graph}
+use Rattle.graph.specs.Assembly.{Join, written}
+use Rattle.block.specs.Read.{Read, refused, read, _then_, refuseIf}
+use Rattle.block.specs.Block.{graphOf, blockReply}
+use Rattle.block.specs.Chain.{not-read, then-read, if-read}
+use Rattle.records.specs.Bytes.{little, le16, part}
+use Rattle.records.specs.Records.{blockKind, assemblyKind, sheetKind, lengthAt, kindAt, endAt, payloadAt, wanted, kindReply, lengthReply, recordReply}
+use Rattle.records.specs.Taken.{taken}
+use Rattle.records.specs.Longer.{Counted, little-same, little-behind, part-same, kind-same, end-same, payload-same, record-same}
+use Rattle.records.specs.declared.Kind.{Kind}
+use Rattle.assembly.specs.Book.{Book, noBlock, find, used, bondBytes, blockGraph, bookOf}
+use Rattle.assembly.specs.Placements.{placementAt, joinOn, graphOn, assemblyReply}
+use Rattle.assembly.specs.declared.BlockAt.{BlockAt}
+use Rattle.deck.specs.Deck.{longestDeck, mostBlocks, kindsAfter, sheetKinds, Deck, deckAt, blockAt, moved, blockPlace, placementPlace, blockReplyAt, assemblyReplyAt, blocksFrom, blocksReply, endReply, sheetReply, deckReply}
+use Rattle.deck.specs.Kept.{Each, Standing, Kept, kept, chosen, fit, stands}
+use Rattle.deck.specs.Sound.{parts}
+use Rattle.deck.specs.Molecule.{placedIn, graphAt, joinAt, moleculeOf, widths, fieldsAt, claimedAt}
+use Rattle.deck.specs.declared.Form.the-variants.{Composed, Judged}
+
+module _ (d s : List ℕ) where
+  -- a block that stands in the deck
+  bonds-same : (b : BlockAt) → b .start + 6 + 2 * b .bonds ≤ length d → bondBytes (d ++ s) b ≡ bondBytes d b
+  bonds-same b h = part-same d s (b .start + 6) (2 * b .bonds) h
+
+  block-same : (at : ℕ) → at + 10 ≤ length d → blockAt (d ++ s) at ≡ blockAt d at
+  block-same at h = rw (little-same d s 2 (at + 4) (omega arith), little-same d s 2 (at + 6) (omega arith), little-same d s 2 (at + 8) (omega arith))
+
+  reply-same : (at : ℕ) (done : List BlockAt) → Standing d (blockAt d at) → blockReplyAt (d ++ s) at done ≡ blockReplyAt d at done
+  unfolding blockReplyAt
+  reply-same at done t =
+      let e = block-same at (omega (arith, t .within)) in
+      ap₂ (λ (b : BlockAt) (xs : List ℕ). refuseIf (eqb (b .number) 0 || used done (b .number) || leb mostBlocks (length done)) 14 at then λ _. moved (blockPlace at) (blockReply (b .atoms) xs)) e
+      (ap (bondBytes (d ++ s)) e ∙ bonds-same (blockAt d at) (t .within))
+
+  counted : (done : List BlockAt) (last : Kind) → Counted (last ∷ []) → Counted (kindsAfter done last)
+  unfolding Counted
+  counted [] last c = (omega arith, tt)
+  counted (b ∷ bs) last c = (omega arith, c)
+
+  module _ (last : Kind) (c : Counted (last ∷ [])) where
+    from-same : (fuel at : ℕ) (done : List BlockAt) {k : Deck} → blocksFrom fuel last d at done ≡ read k → blocksFrom fuel last (d ++ s) at done ≡ read k
+    unfolding blocksFrom
+    from-same zero at done e = absurd (not-read e)
+    from-same (suc fuel) at done {k} e =
+        let (u, p, f) = then-read (recordReply (kindsAfter done last) d at) _ e in
+        let w = taken d at (kindsAfter done last) p .whole in
+        let q = record-same d s (kindsAfter done last) at (counted done last c) p in
+        ⊎-elim
+        (λ t.
+        let (v, g, h) = then-read (blockReplyAt d at done) _ (t .1) in
+        let r = stands last d at done p (eqb-true _ _ (t .0)) (fit d at done g) in
+        rw (q, kind-same d s at w, t .0, reply-same at done r ∙ g, end-same d s at w, block-same at (omega (arith, r .within))) (from-same fuel (endAt d at) (done ++ blockAt d at ∷ []) h))
+        (λ t. rw (q, kind-same d s at w, t .0, payload-same d s at w, end-same d s at w) (t .1))
+        (chosen (eqb (kindAt d at) (blockKind .number)) _ _ f)
+
+  found-same : (bs : List BlockAt) (x : ℕ) → Each (Standing d) bs → bondBytes (d ++ s) (find bs x) ≡ bondBytes d (find bs x)
+  unfolding Each find
+  found-same [] x t = refl
+  found-same (b ∷ bs) x t = go (eqb (b .number) x) (found-same bs x (t .1))
+    where
+      go : (u : Bool) → bondBytes (d ++ s) (find bs x) ≡ bondBytes d (find bs x) → bondBytes (d ++ s) (cond u b (find bs x)) ≡ bondBytes d (cond u b (find bs x))
+      go true more = bonds-same b (t .0 .within)
+      go false more = more
+
+  book-same : (bs : List BlockAt) → Each (Standing d) bs → bookOf (d ++ s) bs ≡ bookOf d bs
+  unfolding bookOf
+  book-same bs t = λ i. record { has = used bs; graph = λ x. graphOf (find bs x .atoms) (found-same bs x t i) }
+
+-- a record of a sheet: 36 bytes of payload, kind 3
+pub record IsSheet (s : List ℕ) : Type 0 where
+  pub size : length s ≡ 40
+  pub payload : le16 s 0 ≡ 36
+  pub kind : le16 s 2 ≡ 3
+
+fields-behind : (d s ws : List ℕ) (at : ℕ) → fieldsAt ws (d ++ s) (length d + at) ≡ fieldsAt ws s at
+unfolding fieldsAt
+fields-behind d s [] at = refl
+fields-behind d s (w ∷ ws) at =
+    let e : length d + at + w ≡ length d + (at + w) = omega arith in
+    ap₂ _∷_ (little-behind d s w at) (ap (fieldsAt ws (d ++ s)) e ∙ fields-behind d s ws (at + w))
+
+sheet-behind : (d s : List ℕ) → IsSheet s → sheetReply Judged (d ++ s) (length d) ≡ read tt
+unfolding sheetReply recordReply kindReply lengthReply endReply
+sheet-behind d s i =
+    let z : length d + 0 ≡ length d = omega arith in
+    let n : lengthAt (d ++ s) (length d) ≡ 36 = ap (le16 (d ++ s)) (sym z) ∙ little-behind d s 2 0 ∙ i .payload in
+    let m : kindAt (d ++ s) (length d) ≡ 3 = little-behind d s 2 2 ∙ i .kind in
+    let l : length (d ++ s) ≡ endAt (d ++ s) (length d) = omega (arith, length-append d s, i .size, n) in
+    rw (
+      le-ltb (length (d ++ s)) (endAt (d ++ s) (length d)) (omega arith),
+      eq-eqb (kindAt (d ++ s) (length d)) 3 m,
+      eq-eqb (lengthAt (d ++ s) (length d)) (wanted sheetKind (d ++ s) (length d)) (omega (arith, n)),
+      le-ltb (endAt (d ++ s) (length d)) (length (d ++ s)) (omega arith),
+    )
+
+module _ (d : List ℕ) (k : Deck) (e : deckReply Composed d ≡ read k) where
+  -- a deck that composes ends with its assembly
+  pub ends : k .sheet ≡ length d
+  unfolding sheetReply endReply
+  ends =
+      let p = parts Composed d k e in
+      let q = kept assemblyKind d (p .blocks) in
+      omega (
+        arith,
+        ltb-false (k .sheet) (length d) (if-read _ 11 (k .sheet) (p .sheet)),
+        taken d (k .assembly) (assemblyKind ∷ []) (q .after) .whole,
+        ap (λ (x : Deck). x .sheet) (q .places),
+      )
+
+  whole : endAt d (k .assembly) ≤ length d
+  whole = taken d (k .assembly) (assemblyKind ∷ []) (kept assemblyKind d (parts Composed d k e .blocks) .after) .whole
+
+  module _ (s : List ℕ) where
+    books : bookOf (d ++ s) (k .blocks) ≡ bookOf d (k .blocks)
+    books = book-same d s (k .blocks) (kept assemblyKind d (parts Composed d k e .blocks) .blocks)
+
+    payloads : payloadAt (d ++ s) (k .assembly) ≡ payloadAt d (k .assembly)
+    payloads = payload-same d s (k .assembly) whole
+
+    -- the molecule is the same with anything behind the deck, and what a sheet there claims is its own
+    pub same-graphs : graphAt (d ++ s) k ≡ graphAt d k
+    unfolding graphAt placedIn
+    same-graphs = ap₂ (λ (b : Book) (xs : List ℕ). graphOn b (placementAt xs)) books payloads
+
+    pub same-joins : joinAt (d ++ s) k ≡ joinAt d k
+    unfolding joinAt placedIn
+    same-joins = ap (λ (xs : List ℕ). joinOn (placementAt xs)) payloads
+
+    pub same-molecule : moleculeOf (d ++ s) k ≡ moleculeOf d k
+    unfolding moleculeOf
+    same-molecule = ap₂ (λ (blocks : ℕ → Graph) (joins : ℕ → Join). written blocks joins (k .placements - 1)) same-graphs same-joins
+
+    pub claims : claimedAt (d ++ s) (k .sheet) ≡ fieldsAt widths s 4
+    unfolding claimedAt
+    claims = ap (λ (n : ℕ). fieldsAt widths (d ++ s) (n + 4)) ends ∙ fields-behind d s widths 4
+
+    -- with a sheet behind it, it is read in the form that is judged
+    pub followed : IsSheet s → length d + length s ≤ longestDeck → deckReply Judged (d ++ s) ≡ read k
+    unfolding deckReply assemblyReplyAt blocksReply Counted
+    followed i h =
+        let p = parts Composed d k e in
+        let b = from-same d s assemblyKind (omega arith, tt) (suc mostBlocks) 0 [] (p .blocks) in
+        let a : assemblyReply (bookOf (d ++ s) (k .blocks)) (payloadAt (d ++ s) (k .assembly)) ≡ read tt = ap₂ assemblyReply books payloads ∙ p .assembly in
+        let c : sheetReply Judged (d ++ s) (k .sheet) ≡ read tt = ap (sheetReply Judged (d ++ s)) ends ∙ sheet-behind d s i in
+        rw (le-ltb longestDeck (length (d ++ s)) (omega (arith, length-append d s)), b, a, c)

@@ -1,0 +1,2 @@
+-- The laws behind the proofs of the judge.
+pub mod Judging

@@ -1,0 +1,3 @@
+-- What the judge is told, and the theorems about it.
+pub mod Molecule
+pub mod Theorems

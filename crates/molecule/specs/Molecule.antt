@@ -1,0 +1,41 @@
+-- What a judged deck is told, and what is written into a buffer. Over the one graph with every atom and bond written out: no rule of composition.
+use Prim.Native.Nat.{ℕ, zero, suc}
+use mathlib.Core.List.{List}
+use lib.Dec.{ltb}
+use lib.ListN.{length}
+use Rattle.block.specs.Read.{Read, refused, read, _then_, refuseIf}
+use Rattle.block.specs.declared.Indices.{Indices}
+use Rattle.deck.specs.Deck.{longestDeck, deckReply}
+use Rattle.deck.specs.Molecule.{fieldsOf, sheetOf, claimedAt, moleculeOf}
+use Rattle.deck.specs.declared.Form.the-variants.{Composed, Judged}
+use Rattle.sheets.specs.Sheets.{sheetBytes, sheetPut, firstWrong}
+use Rattle.compose.specs.Fields.{fieldsReply}
+use Rattle.molecule.specs.declared.Verdict.{Verdict}
+use Rattle.molecule.specs.declared.Verdict.the-variants as verdict
+use Rattle.molecule.specs.declared.Written.{Written}
+use Rattle.molecule.specs.declared.Written.the-variants as written
+
+-- the first field of the claimed sheet that is not the molecule's, 1 to 5, or 0 for none
+unfoldable pub judgeReply : List ℕ → Read ℕ
+judgeReply d = deckReply Judged d then λ k. read (firstWrong 1 (sheetOf (moleculeOf d k)) (claimedAt d (k .sheet)))
+
+abbrev pub saidVerdict : Read ℕ → Verdict
+saidVerdict (refused r) = verdict.Refused r
+saidVerdict (read zero) = verdict.Accepted
+saidVerdict (read (suc n)) = verdict.Differs (suc n)
+
+-- 20, then 9 where the buffer of n bytes is too short, then the deck's refusals
+unfoldable pub writeReply : List ℕ → ℕ → Read Indices
+writeReply d n =
+    refuseIf (ltb longestDeck (length d)) 20 0 then λ _.
+    refuseIf (ltb n sheetBytes) 9 0 then λ _.
+    fieldsReply Composed d
+
+abbrev pub saidWritten : Read Indices → Written
+saidWritten (refused r) = written.Refused r
+saidWritten (read x) = written.Sheet
+
+-- the buffer afterwards
+abbrev pub sheetOut : List ℕ → Read Indices → List ℕ
+sheetOut out (refused r) = out
+sheetOut out (read x) = sheetPut out (fieldsOf x)

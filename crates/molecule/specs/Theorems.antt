@@ -1,0 +1,111 @@
+-- Demand 3: a sheet is accepted exactly when it is right, a written sheet is accepted, and each promise determines its reply and its bytes. Assumes nothing.
+use Prim.Native.Nat.{ℕ, zero, suc, _+_, _*_, _-_, _≤_, _<_}
+use mathlib.Core.List.{List, _++_}
+use mathlib.Core.Logic.{_↔_}
+use mathlib.Core.Path.{_≡_, refl, sym, _∙_, ap}
+use native.Mathlib.Omega.{arith}
+use borrow.Author.Tests.{le-ltb, ltb-false}
+use lib.Dec.{ltb}
+use lib.ListN.{length, take, drop}
+use lib.Seq.{take-at}
+use Rattle.graph.specs.Graph.{Graph, Molecule}
+use Rattle.graph.specs.Climb.{written-molecule}
+use Rattle.graph.specs.Bounds.{atoms-most}
+use Rattle.block.specs.Read.{Read, refused, read, refuseIf}
+use Rattle.block.specs.Chain.{then-read, if-read}
+use Rattle.block.specs.Block.{mostAtoms}
+use Rattle.block.specs.Index.{indicesOf, saidIndices}
+use Rattle.block.specs.declared.Indices.{Indices}
+use Rattle.block.specs.declared.Measured.{Measured}
+use Rattle.assembly.specs.Placements.{mostPlacements}
+use Rattle.deck.specs.Deck.{longestDeck, Deck, deckReply}
+use Rattle.deck.specs.Molecule.{graphAt, joinAt, moleculeOf, fieldsOf, widths, sheetOf, claimedAt}
+use Rattle.deck.specs.Sound.{whole}
+use Rattle.deck.specs.Followed.{same-molecule}
+use Rattle.deck.specs.declared.Form.{Form}
+use Rattle.deck.specs.declared.Form.the-variants.{Composed, Judged}
+use Rattle.sheets.specs.Sheets.{sheetBytes, sheetRecord, sheetPut, firstWrong}
+use Rattle.sheets.specs.Back.{Fit, length-sheet, sheet-taken, sheet-claimed, none-wrong, wrong-none}
+use Rattle.compose.specs.Fields.{fieldsReply}
+use Rattle.compose.proofs.Steps.{room}
+use Rattle.molecule.specs.Molecule.{judgeReply, saidVerdict, writeReply, saidWritten, sheetOut}
+use Rattle.molecule.specs.declared.Verdict.{Verdict}
+use Rattle.molecule.specs.declared.Verdict.the-variants as verdict
+use Rattle.molecule.specs.declared.Written.{Written}
+use Rattle.molecule.specs.declared.Written.the-variants as written
+
+-- a verdict accepts where no field is wrong, and only there
+no-wrong : (n : ℕ) → saidVerdict (read n) ≡ verdict.Accepted → n ≡ 0
+no-wrong zero e = refl
+no-wrong (suc n) e = absurd (let z : _≡_ {A = ℕ} 0 1 = cc in omega arith)
+
+-- (a) a judged deck that is not refused is accepted if and only if its five fields are those of the molecule written out
+pub accepted-exactly : (d : List ℕ) (k : Deck) → deckReply Judged d ≡ read k
+    → (saidVerdict (judgeReply d) ≡ verdict.Accepted) ↔ (claimedAt d (k .sheet) ≡ sheetOf (moleculeOf d k))
+unfolding judgeReply
+accepted-exactly d k e = (
+  λ a. sym (wrong-none 0 (sheetOf (moleculeOf d k)) (claimedAt d (k .sheet)) (no-wrong _ (rw e at a))),
+  λ q. rw (e, q, none-wrong 1 (sheetOf (moleculeOf d k))),
+)
+
+-- the five fields of a deck's molecule fit their widths
+fields-fit : (form : Form) (d : List ℕ) (k : Deck) → deckReply form d ≡ read k → Fit widths (fieldsOf (indicesOf (moleculeOf d k)))
+unfolding fieldsOf moleculeOf indicesOf
+fields-fit form d k e =
+    let w = whole form d k e in
+    let r = room (written-molecule (k .placements - 1) (w .assembled)) (omega (arith, atoms-most mostAtoms (graphAt d k) (joinAt d k) (k .placements - 1) (λ i h. w .atoms i (omega (arith, w .count)) .high), w .count)) refl in
+    (omega (arith, r .atoms), (omega (arith, r .w), (omega (arith, r .even), (omega (arith, r .odd), (omega (arith, r .polarity), tt)))))
+
+module _ (d : List ℕ) (k : Deck) (e : deckReply Composed d ≡ read k) (h : length d + sheetBytes ≤ longestDeck) where
+  -- the record of the molecule's sheet, put behind its deck
+  abbrev longer : List ℕ
+  longer = d ++ sheetRecord (sheetOf (moleculeOf d k))
+
+  sheet-accepted : judgeReply longer ≡ read 0
+  unfolding judgeReply sheetOf
+  sheet-accepted =
+      let x = indicesOf (moleculeOf d k) in
+      let f = fields-fit Composed d k e in
+      rw (sheet-taken x f d k e h, sheet-claimed x f d k e, same-molecule d k e (sheetRecord (fieldsOf x)), none-wrong 1 (fieldsOf x))
+
+-- a buffer that took a sheet begins with its record
+put-record : (out : List ℕ) (x : Indices) → sheetBytes ≤ length out → take sheetBytes (sheetPut out (fieldsOf x)) ≡ sheetRecord (fieldsOf x)
+unfolding sheetPut
+put-record out x h = rw (le-ltb (length out) sheetBytes h) (take-at (sheetRecord (fieldsOf x)) _ sheetBytes (length-sheet x))
+
+-- a sheet that was written is that of the deck's molecule, and the buffer was long enough
+sheet-made : (y : Read Indices) → saidWritten y ≡ written.Sheet → (x : Indices) × (y ≡ read x)
+sheet-made (refused r) e = absurd (let z : _≡_ {A = ℕ} 0 1 = cc in omega arith)
+sheet-made (read x) e = (x, refl)
+
+made : (d : List ℕ) (n : ℕ) (x : Indices) → writeReply d n ≡ read x → (k : Deck) × (deckReply Composed d ≡ read k) × (x ≡ indicesOf (moleculeOf d k)) × (sheetBytes ≤ n)
+unfolding writeReply fieldsReply
+made d n x p =
+    let (u, a, f) = then-read (refuseIf (ltb longestDeck (length d)) 20 0) _ p in
+    let (v, b, g) = then-read (refuseIf (ltb n sheetBytes) 9 0) _ f in
+    let (k, e, i) = then-read (deckReply Composed d) (λ k. read (indicesOf (moleculeOf d k))) g in
+    (k, e, cc, ltb-false n sheetBytes (if-read _ 9 0 b))
+
+-- (b) the record that `write_sheet` writes, put behind the same deck, is accepted, if the longer deck is not too long
+pub written-accepted : (d out : List ℕ) → saidWritten (writeReply d (length out)) ≡ written.Sheet → length d + sheetBytes ≤ longestDeck
+    → saidVerdict (judgeReply (d ++ take sheetBytes (sheetOut out (writeReply d (length out))))) ≡ verdict.Accepted
+unfolding sheetOf
+written-accepted d out s h =
+    let (x, p) = sheet-made (writeReply d (length out)) s in
+    let (k, e, q, l) = made d (length out) x p in
+    let b : take sheetBytes (sheetOut out (writeReply d (length out))) ≡ sheetRecord (sheetOf (moleculeOf d k)) =
+    ap (λ (y : Read Indices). take sheetBytes (sheetOut out y)) p ∙ put-record out x l ∙ ap (λ (y : Indices). sheetRecord (fieldsOf y)) q in
+    ap (λ (r : List ℕ). saidVerdict (judgeReply (d ++ r))) b ∙ ap saidVerdict (sheet-accepted d k e h)
+
+-- (c) two replies, and two buffers, that satisfy a promise are equal
+pub unique-compose : (d : List ℕ) (r s : Measured) → r ≡ saidIndices (fieldsReply Composed d) → s ≡ saidIndices (fieldsReply Composed d) → r ≡ s
+unique-compose d r s p q = p ∙ sym q
+
+pub unique-judge : (d : List ℕ) (r s : Verdict) → r ≡ saidVerdict (judgeReply d) → s ≡ saidVerdict (judgeReply d) → r ≡ s
+unique-judge d r s p q = p ∙ sym q
+
+pub unique-written : (d : List ℕ) (n : ℕ) (r s : Written) → r ≡ saidWritten (writeReply d n) → s ≡ saidWritten (writeReply d n) → r ≡ s
+unique-written d n r s p q = p ∙ sym q
+
+pub unique-bytes : (d out a b : List ℕ) → a ≡ sheetOut out (writeReply d (length out)) → b ≡ sheetOut out (writeReply d (length out)) → a ≡ b
+unique-bytes d out a b p q = p ∙ sym q

@@ -1,0 +1,89 @@
+// The judge: composing a deck's sheet, writing it, and judging one that somebody else wrote.
+use block::Indices;
+use block::Measured;
+use block::Refusal;
+use compose::fields;
+use deck::Form;
+use deck::LONGEST;
+use deck::claimed;
+use sheets::BYTES;
+use sheets::first_wrong;
+use sheets::put_sheet;
+ghost use mathlib.Core.Path.{_≡_};
+ghost use lib.ListN.{length};
+ghost use Rattle.block.specs.Read.{read};
+ghost use Rattle.block.specs.Index.{saidIndices};
+ghost use Rattle.deck.specs.Molecule.{fieldsOf};
+ghost use Rattle.deck.specs.declared.Form.the-variants.{Composed};
+ghost use Rattle.sheets.specs.Sheets.{firstWrong};
+ghost use Rattle.compose.specs.Fields.{fieldsReply};
+ghost use Rattle.molecule.specs.Molecule.{judgeReply, saidVerdict, writeReply, saidWritten, sheetOut};
+
+// What a judged deck is told: it differs in the first wrong field, 1 to 5.
+pub enum Verdict {
+    Refused(Refusal),
+    Accepted,
+    Differs(usize),
+}
+
+// What came of writing a sheet.
+pub enum Written {
+    Refused(Refusal),
+    Sheet,
+}
+
+// The five fields of a deck without a sheet, or its refusal.
+pub fn compose(d: &[u8]) -> Measured
+    ensures { λ r. ⌜ r ≡ saidIndices (fieldsReply Composed (now (d .entry))) ⌝ }
+{
+    fields(d, Form::Composed)
+}
+
+// Writes the sheet of a deck without one, a whole record of 40 bytes, into the first bytes of a buffer. A refusal writes nothing.
+pub fn write_sheet(d: &[u8], out: &mut [u8]) -> Written
+    ensures reply { λ r. ⌜ r ≡ saidWritten (writeReply (now (d .entry)) (length (now (out .entry)))) ⌝ }
+    ensures bytes { λ r. ⌜ now (out .exit) ≡ sheetOut (now (out .entry)) (writeReply (now (d .entry)) (length (now (out .entry)))) ⌝ }
+{
+    if LONGEST < d.len() {
+        return Written::Refused(Refusal {
+            number: 20,
+            place: 0,
+        });
+    }
+    if out.len() < BYTES {
+        return Written::Refused(Refusal {
+            number: 9,
+            place: 0,
+        });
+    }
+    let told = compose(d);
+    match told {
+        Measured::Refused(refusal) => Written::Refused(refusal),
+        Measured::Of(all) => {
+            put_sheet(out, all);
+            Written::Sheet
+        }
+    }
+}
+
+// Whether two sheets are the same, or the first field in which they differ.
+fn compared(all: Indices, sheet: Indices) -> Verdict
+    ensures { λ r. ⌜ r ≡ saidVerdict (read (firstWrong 1 (fieldsOf all) (fieldsOf sheet))) ⌝ }
+{
+    let n = first_wrong(all, sheet);
+    if n == 0 {
+        return Verdict::Accepted;
+    }
+    Verdict::Differs(n)
+}
+
+// Judges the sheet at the end of a deck: accepted, or the first wrong field, or the deck's refusal.
+pub fn judge(d: &[u8]) -> Verdict
+    ensures { λ r. ⌜ r ≡ saidVerdict (judgeReply (now (d .entry))) ⌝ }
+{
+    let told = fields(d, Form::Judged);
+    match told {
+        Measured::Refused(refusal) => Verdict::Refused(refusal),
+        Measured::Of(all) => compared(all, claimed(d, d.len() - BYTES)),
+    }
+}

@@ -1,0 +1,2 @@
+-- Laws of putting.
+pub mod Puts

@@ -1,0 +1,3 @@
+-- What the C functions reply.
+pub mod Convention
+pub mod Replies

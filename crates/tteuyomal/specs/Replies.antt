@@ -1,0 +1,63 @@
+-- What each C function answers: the library's reply, its numbers as a list in the order in which they are lent out.
+use Prim.Native.Nat.{ℕ}
+use mathlib.Core.Path.{_≡_}
+use lib.Dec.{ltb}
+use lib.ListN.{length}
+use mathlib.Core.List.{List, [], _∷_}
+use Rattle.block.specs.Read.{Read, refused, read, _then_, refuseIf, refusal}
+use Rattle.block.specs.Block.{graphOf, blockReply}
+use Rattle.shares.specs.Reply.{sharesReply, filled}
+use Rattle.tteuyomal.specs.Convention.{coded, after}
+use Rattle.block.specs.Index.{indicesReply, vertexReply}
+use Rattle.block.specs.declared.Vertex.{Vertex}
+use Rattle.deck.specs.Molecule.{fieldsOf}
+use Rattle.deck.specs.declared.Form.the-variants.{Composed}
+use Rattle.compose.specs.Fields.{fieldsReply}
+use Rattle.climb.specs.Placed.{placedReply}
+use Rattle.poly.specs.declared.Values.{Values}
+use Rattle.poly.specs.Poly.{polynomialReply}
+use lib.Ieee.{Float}
+
+-- atom count, W, even part, odd part, polarity
+abbrev pub indicesList : ℕ → List ℕ → Read (List ℕ)
+indicesList n bonds = indicesReply n bonds then λ x. read (fieldsOf x)
+
+-- the same of a deck without a sheet
+abbrev pub composedList : List ℕ → Read (List ℕ)
+composedList d = fieldsReply Composed d then λ x. read (fieldsOf x)
+
+-- the distance of two placed atoms
+abbrev pub placedList : List ℕ → ℕ → ℕ → ℕ → ℕ → Read (List ℕ)
+placedList d k i l j = placedReply d k i l j then λ n. read (n ∷ [])
+
+-- sum, even part, odd part, even count, odd count, f(1), f(2)
+abbrev pub sumsOf : Vertex → List ℕ
+sumsOf v = v .sum ∷ v .even ∷ v .odd ∷ v .evens ∷ v .odds ∷ v .ones ∷ v .twos ∷ []
+
+abbrev pub vertexList : ℕ → List ℕ → ℕ → Read (List ℕ)
+vertexList n bonds a = vertexReply n bonds a then λ v. read (sumsOf v)
+
+-- the even and the odd value
+abbrev pub valuesList : Values → List Float
+valuesList v = v .even ∷ v .odd ∷ []
+
+abbrev pub polynomialList : ℕ → List ℕ → Float → Read (List Float)
+polynomialList n bonds x = polynomialReply n bonds x then λ v. read (valuesList v)
+
+-- the block's refusal, then 9
+abbrev pub thenNine : Read (Unit {0}) → Read ℕ
+thenNine (refused r) = refused r
+thenNine (read u) = refused (refusal 9 0)
+
+abbrev pub unlentReply : ℕ → List ℕ → Read ℕ
+unlentReply n bonds = thenNine (blockReply n bonds)
+
+-- the contributions, with D lent out beside them: 9 where there is no entry for it
+abbrev pub contributionsReply : ℕ → List ℕ → ℕ → ℕ → Read ℕ
+contributionsReply n bonds room entries = blockReply n bonds then λ _. refuseIf (ltb entries 1) 9 0 then λ _. sharesReply n bonds room
+
+-- the reply and both outputs after the call
+pub record Contributed (n : ℕ) (bonds shares denominator : List ℕ) (reply : ℕ) (shares′ denominator′ : List ℕ) : Type 0 where
+  pub replied : reply ≡ coded (contributionsReply n bonds (length shares) (length denominator))
+  pub shared : shares′ ≡ filled (contributionsReply n bonds (length shares) (length denominator)) (graphOf n bonds) shares
+  pub common : denominator′ ≡ after (contributionsReply n bonds (length shares) (length denominator) then λ d. read (d ∷ [])) denominator

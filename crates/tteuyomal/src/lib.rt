@@ -1,0 +1,217 @@
+// The functions of the library as C calls them: each is the library's under the convention of include/tteuyomal.h.
+ghost use mathlib.Core.Path.{_≡_};
+ghost use Prim.Native.Nat.{_+_, _*_, _%_, _≤_};
+ghost use lib.ListN.{length};
+ghost use Rattle.block.specs.Read.{read};
+ghost use Rattle.block.specs.Block.{blockReply};
+ghost use Rattle.molecule.specs.Molecule.{judgeReply, saidVerdict, writeReply, sheetOut};
+ghost use Rattle.tteuyomal.specs.Convention.{places, code, coded, verdictCode, over, Lent};
+ghost use Rattle.tteuyomal.specs.Replies.{indicesList, composedList, placedList, vertexList, valuesList, polynomialList, unlentReply, Contributed};
+use block::Apart;
+use block::Around;
+use block::Measured;
+use block::Refusal;
+use block::Reply;
+use molecule::Verdict;
+use molecule::Written;
+use poly::Answer;
+use poly::Values;
+use shares::Shares;
+
+const PLACES: usize = 72_057_594_037_927_936;
+
+// A refusal as one number.
+fn code_of(r: Refusal) -> u64
+    ensures { λ x. ⌜ x ≡ code r ⌝ }
+{
+    (r.number % 256) as u64 + 256 * ((r.place % PLACES) as u64)
+}
+
+// Puts numbers at the front of a lent output.
+fn put(out: &mut [u64], numbers: &[u64])
+    requires { ⌜ length (now numbers) ≤ length (now out) ⌝ }
+    ensures { λ _. ⌜ now (out .exit) ≡ over (now (numbers .entry)) (now (out .entry)) ⌝ }
+{
+    let mut i = 0;
+    while i < numbers.len() {
+        out[i] = numbers[i];
+        i += 1;
+    }
+}
+
+// The same where they fit, and 9 where they do not.
+fn give(out: &mut [u64], numbers: &[u64]) -> u64
+    ensures { λ r. ⌜ Lent (read (now (numbers .entry))) (now (out .entry)) r (now (out .exit)) ⌝ }
+{
+    if out.len() < numbers.len() {
+        return 9;
+    }
+    put(out, numbers);
+    0
+}
+
+#[no_mangle]
+pub extern "C" fn tteuyomal_check_block(atoms: usize, bonds: &[u8]) -> u64
+    ensures { λ r. ⌜ r ≡ coded (blockReply atoms (now (bonds .entry))) ⌝ }
+{
+    let reply = block::check(atoms, bonds);
+    match reply {
+        Reply::Fine => 0,
+        Reply::Refused(r) => code_of(r),
+    }
+}
+
+#[no_mangle]
+pub extern "C" fn tteuyomal_indices(atoms: usize, bonds: &[u8], fields: &mut [u64]) -> u64
+    ensures { λ r. ⌜ Lent (indicesList atoms (now (bonds .entry))) (now (fields .entry)) r (now (fields .exit)) ⌝ }
+{
+    let answer = block::measure(atoms, bonds);
+    match answer {
+        Measured::Refused(r) => code_of(r),
+        Measured::Of(x) => {
+            let numbers = [x.atoms, x.w, x.even, x.odd, x.polarity];
+            give(fields, &numbers)
+        }
+    }
+}
+
+#[no_mangle]
+pub extern "C" fn tteuyomal_vertex(atoms: usize, bonds: &[u8], atom: usize, sums: &mut [u64]) -> u64
+    ensures { λ r. ⌜ Lent (vertexList atoms (now (bonds .entry)) atom) (now (sums .entry)) r (now (sums .exit)) ⌝ }
+{
+    let answer = block::vertex_sums(atoms, bonds, atom);
+    match answer {
+        Around::Refused(r) => code_of(r),
+        Around::Of(v) => {
+            let numbers = [v.sum, v.even, v.odd, v.evens, v.odds, v.ones, v.twos];
+            give(sums, &numbers)
+        }
+    }
+}
+
+// The same with two values.
+fn give_values(out: &mut [f64], v: Values) -> u64
+    ensures { λ r. ⌜ Lent (read (valuesList v)) (now (out .entry)) r (now (out .exit)) ⌝ }
+{
+    if out.len() < 2 {
+        return 9;
+    }
+    out[0] = v.even;
+    out[1] = v.odd;
+    0
+}
+
+#[no_mangle]
+pub extern "C" fn tteuyomal_polynomial(
+    atoms: usize,
+    bonds: &[u8],
+    x: f64,
+    values: &mut [f64],
+) -> u64
+    ensures { λ r. ⌜ Lent (polynomialList atoms (now (bonds .entry)) x) (now (values .entry)) r (now (values .exit)) ⌝ }
+{
+    let answer = poly::polynomial(atoms, bonds, x);
+    match answer {
+        Answer::Refused(r) => code_of(r),
+        Answer::Values(v) => give_values(values, v),
+    }
+}
+
+// The block's refusal, and 9 where it is fine.
+fn unlent(atoms: usize, bonds: &[u8]) -> u64
+    ensures { λ r. ⌜ r ≡ coded (unlentReply atoms (now (bonds .entry))) ⌝ }
+{
+    let reply = block::check(atoms, bonds);
+    match reply {
+        Reply::Fine => 9,
+        Reply::Refused(r) => code_of(r),
+    }
+}
+
+#[no_mangle]
+pub extern "C" fn tteuyomal_contributions(
+    atoms: usize,
+    bonds: &[u8],
+    shares: &mut [u64],
+    denominator: &mut [u64],
+) -> u64
+    ensures { λ r. ⌜ Contributed atoms (now (bonds .entry)) (now (shares .entry)) (now (denominator .entry)) r (now (shares .exit)) (now (denominator .exit)) ⌝ }
+{
+    if denominator.len() < 1 {
+        return unlent(atoms, bonds);
+    }
+    let answer = shares::contributions(atoms, bonds, shares);
+    match answer {
+        Shares::Refused(r) => code_of(r),
+        Shares::Denominator(d) => {
+            denominator[0] = d;
+            0
+        }
+    }
+}
+
+// The first wrong field as one number.
+fn field_of(k: usize) -> u64
+    ensures { λ x. ⌜ x ≡ 255 + 256 * (k % places) ⌝ }
+{
+    255 + 256 * ((k % PLACES) as u64)
+}
+
+#[no_mangle]
+pub extern "C" fn tteuyomal_judge(deck: &[u8]) -> u64
+    ensures { λ r. ⌜ r ≡ verdictCode (saidVerdict (judgeReply (now (deck .entry)))) ⌝ }
+{
+    let verdict = molecule::judge(deck);
+    match verdict {
+        Verdict::Refused(r) => code_of(r),
+        Verdict::Accepted => 0,
+        Verdict::Differs(k) => field_of(k),
+    }
+}
+
+#[no_mangle]
+pub extern "C" fn tteuyomal_write_sheet(deck: &[u8], out: &mut [u8]) -> u64
+    ensures reply { λ r. ⌜ r ≡ coded (writeReply (now (deck .entry)) (length (now (out .entry)))) ⌝ }
+    ensures bytes { λ _. ⌜ now (out .exit) ≡ sheetOut (now (out .entry)) (writeReply (now (deck .entry)) (length (now (out .entry)))) ⌝ }
+{
+    let written = molecule::write_sheet(deck, out);
+    match written {
+        Written::Refused(r) => code_of(r),
+        Written::Sheet => 0,
+    }
+}
+
+#[no_mangle]
+pub extern "C" fn tteuyomal_compose(deck: &[u8], fields: &mut [u64]) -> u64
+    ensures { λ r. ⌜ Lent (composedList (now (deck .entry))) (now (fields .entry)) r (now (fields .exit)) ⌝ }
+{
+    let answer = molecule::compose(deck);
+    match answer {
+        Measured::Refused(r) => code_of(r),
+        Measured::Of(x) => {
+            let numbers = [x.atoms, x.w, x.even, x.odd, x.polarity];
+            give(fields, &numbers)
+        }
+    }
+}
+
+#[no_mangle]
+pub extern "C" fn tteuyomal_placed_distance(
+    deck: &[u8],
+    k: usize,
+    i: usize,
+    l: usize,
+    j: usize,
+    distance: &mut [u64],
+) -> u64
+    ensures { λ r. ⌜ Lent (placedList (now (deck .entry)) k i l j) (now (distance .entry)) r (now (distance .exit)) ⌝ }
+{
+    let answer = climb::placed_distance(deck, k, i, l, j);
+    match answer {
+        Apart::Refused(r) => code_of(r),
+        Apart::Of(n) => {
+            let numbers = [n];
+            give(distance, &numbers)
+        }
+    }
+}
