@@ -6,7 +6,7 @@ use native.Mathlib.Omega.{arith}
 use borrow.Author.Needs.{needs}
 use borrow.Author.Tests.{lt-ltb, le-ltb}
 use lib.Dec.{ltb}
-use lib.ListN.{length, length-set}
+use lib.ListN.{length}
 use Rattle.graph.specs.Graph.{Within}
 use Rattle.block.specs.Block.{mostAtoms}
 use Rattle.shares.specs.Work.{at}
@@ -55,7 +55,7 @@ loop-again c =
     let l = c .before .before .loop in (
       omega arith,
       omega arith,
-      length-set (l .row) (l .v + 1) (a .d / at (a .c .now) (l .v + 1)) ∙ l .inv .2,
+      search needs,
       seated-next (l .row) (l .v) (a .d / at (a .c .now) (l .v + 1)) (λ u. cond (ltb (a .start) u) (a .d / at (a .c .now) u) 0) (omega arith) (l .inv .3)
           (sym (ap (λ (t : Bool). cond t (a .d / at (a .c .now) (l .v + 1)) 0) (lt-ltb (a .start) (l .v + 1) (omega arith)))),
     )
