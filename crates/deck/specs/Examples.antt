@@ -7,7 +7,6 @@ use borrow.Author.Tests.{lt-ltb}
 use Rattle.graph.specs.Graph.{joins, anyJoins, bonded, anyAtom, reaches, firstFrom, distance, allAtoms, connected, degree, sum, sumPairs, evenOf, oddOf, isAt, total}
 use Rattle.graph.specs.Assembly.{shifted, joined, startAt, written}
 use Rattle.block.specs.Read.{Read, refused, read, refusal}
-use Rattle.block.specs.declared.Refusal.{Refusal}
 use Rattle.block.specs.Block.{mostAtoms, limit, mostBytes, bondsOf, bondFault, bondsReply, blockReply}
 use Rattle.block.specs.Index.{indicesOf}
 use Rattle.records.specs.Bytes.{little}
@@ -15,7 +14,7 @@ use Rattle.records.specs.Records.{kindReply, lengthReply, recordReply}
 use Rattle.assembly.specs.Book.{find, bookOf}
 use Rattle.assembly.specs.Placements.{mostPlacements, placementAt, joinOf, joinEnds, joinsOn, bondsOn, firstFault, parentFault, joinFault, laterFault, fault, placedReply, assemblyReply}
 use Rattle.deck.specs.Deck.{longestDeck, mostBlocks, Deck, blockReplyAt, assemblyReplyAt, blocksFrom, blocksReply, endReply, sheetReply, deckReply, payload, blockSpan, blockPart}
-use Rattle.deck.specs.Molecule.{placedIn, graphAt, joinAt, moleculeOf, fieldsOf, sheetOf, fieldsAt, claimedAt}
+use Rattle.deck.specs.Molecule.{placedIn, graphAt, joinAt, moleculeOf, fieldsOf, sheetOf}
 use Rattle.deck.specs.declared.Form.{Form}
 use Rattle.deck.specs.declared.Form.the-variants.{Composed, Judged}
 
