@@ -14,7 +14,7 @@ use Rattle.records.specs.Records.{kindReply, lengthReply, recordReply}
 use Rattle.assembly.specs.Book.{find, bookOf}
 use Rattle.assembly.specs.Placements.{mostPlacements, placementAt, joinOf, joinEnds, joinsOn, bondsOn, firstFault, parentFault, joinFault, laterFault, fault, placedReply, assemblyReply}
 use Rattle.deck.specs.Deck.{longestDeck, mostBlocks, Deck, blockReplyAt, assemblyReplyAt, blocksFrom, blocksReply, endReply, sheetReply, deckReply, payload, blockSpan, blockPart}
-use Rattle.deck.specs.Molecule.{placedIn, graphAt, joinAt, moleculeOf, fieldsOf, sheetOf}
+use Rattle.deck.specs.Molecule.{placedIn, graphAt, joinAt, moleculeOf, fieldsOf, sheetOf, fieldsAt, claimedAt}
 use Rattle.deck.specs.declared.Form.{Form}
 use Rattle.deck.specs.declared.Form.the-variants.{Composed, Judged}
 
@@ -87,6 +87,10 @@ forms :
     ≡ ([] ∷ [] ∷ (11 ∷ 40 ∷ []) ∷ (11 ∷ 40 ∷ []) ∷ (11 ∷ 0 ∷ []) ∷ [])
 unfolding told document sheet record'
 forms = refl
+
+claims : claimedAt (document ++ sheet 12 198 96 102 14) 40 ≡ 12 ∷ 198 ∷ 96 ∷ 102 ∷ 14 ∷ []
+unfolding claimedAt fieldsAt little document sheet record'
+claims = refl
 
 -- a deck that is refused, with the number and the place
 record Case : Type 0 where
