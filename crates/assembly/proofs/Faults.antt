@@ -1,13 +1,13 @@
 -- What an assembly is told, test by test. Assumes nothing.
-use Prim.Native.Nat.{ℕ, zero, suc, _+_, _-_, _<_, _≤_}
-use mathlib.Core.Bool.{Bool, true, false, not}
+use Prim.Native.Nat.{ℕ, zero, suc, _+_, _-_, _≤_}
+use mathlib.Core.Bool.{Bool, true, false}
 use mathlib.Core.List.{List}
 use mathlib.Core.Path.{_≡_, refl, sym, _∙_}
 use native.Mathlib.Omega.{arith}
 use borrow.Author.Tests.{eq-eqb, ne-eqb}
 use Rattle.graph.specs.Graph.{Graph}
 use Rattle.graph.specs.Assembly.{Join}
-use Rattle.block.specs.Read.{Read, refused, read, refusal, refuseFor}
+use Rattle.block.specs.Read.{refused, read, refusal, refuseFor}
 use Rattle.block.specs.Block.{isOutside}
 use Rattle.block.specs.Chain.{not-read}
 use Rattle.block.specs.Faults.{inside}

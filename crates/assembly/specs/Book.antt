@@ -1,6 +1,6 @@
 -- A book: a graph under each of some numbers. The blocks of a list of bytes are one.
 use Prim.Native.Nat.{ℕ, _+_, _*_}
-use mathlib.Core.Bool.{Bool, true, false, _&&_, not, cond}
+use mathlib.Core.Bool.{Bool, _&&_, not, cond}
 use mathlib.Core.List.{List, [], _∷_}
 use lib.Dec.{eqb}
 use Rattle.graph.specs.Graph.{Graph}

@@ -3,13 +3,12 @@ use Prim.Native.Nat.{ℕ, zero, suc, _+_, _-_, _≤_, _<_}
 use mathlib.Core.Bool.{Bool, true, false, _&&_, cond}
 use mathlib.Core.List.{List, [], _∷_, _++_}
 use mathlib.Core.Logic.{inl, inr, ⊎-elim}
-use mathlib.Core.Path.{_≡_, refl, sym, _∙_, ap, ap₂, subst}
-use native.Mathlib.Decide.{ℕ-discrete}
+use mathlib.Core.Path.{_≡_, refl, _∙_, ap, subst}
 use native.Mathlib.Nat.{le-suc-iff}
 use native.Mathlib.Omega.{arith}
 use borrow.Author.Tests.{eq-eqb, ne-eqb, eqb-true, eqb-false, ltb-true, ltb-false}
 use lib.Dec.{eqb, ltb}
-use Rattle.graph.specs.Graph.{Bond, bond, Graph, Within, Sound, Molecule, anyJoins, bonded, degree, sum}
+use Rattle.graph.specs.Graph.{Bond, bond, Graph, Within, Sound, anyJoins, bonded, degree, sum}
 use Rattle.graph.specs.Assembly.{Join, shifted, joined, startAt, atomOf, written, Assembled, Placed}
 use Rattle.graph.specs.Bonds.{any-head, any-tail}
 use Rattle.graph.specs.Climb.{size-written, placed-within, placed-sooner, sooner, site-placed, written-molecule}

@@ -1,11 +1,11 @@
 -- An assembly over a book of blocks, wherever those stand: refusals 15 to 19. A place is the placement's number from 1, or 0.
 use Prim.Native.Nat.{ℕ, zero, suc, _+_, _*_, _-_}
-use mathlib.Core.Bool.{Bool, true, false, _&&_, _||_, not, cond}
+use mathlib.Core.Bool.{Bool, _&&_, _||_, not, cond}
 use mathlib.Core.List.{List}
 use lib.Dec.{eqb, leb}
 use Rattle.graph.specs.Graph.{Graph, degree, sum}
 use Rattle.graph.specs.Assembly.{Join}
-use Rattle.block.specs.Read.{Read, refused, read, _then_, refuseIf, refuseFor}
+use Rattle.block.specs.Read.{Read, read, _then_, refuseIf, refuseFor}
 use Rattle.block.specs.Block.{limit, isOutside}
 use Rattle.records.specs.Bytes.{byteAt, le16}
 use Rattle.assembly.specs.Book.{Book}

@@ -3,21 +3,21 @@ use Prim.Native.Nat.{ℕ, zero, suc, _+_, _-_, _≤_, _<_}
 use mathlib.Core.Bool.{Bool, true, false, _&&_, _||_, not, cond}
 use mathlib.Core.List.{List}
 use mathlib.Core.Logic.{⊎-elim}
-use mathlib.Core.Path.{_≡_, refl, sym, _∙_, ap, subst}
+use mathlib.Core.Path.{_≡_, refl}
 use native.Mathlib.Decide.{ℕ-discrete}
 use native.Mathlib.Nat.{le-suc-iff}
 use native.Mathlib.Omega.{arith}
-use borrow.Author.Tests.{eq-eqb, ne-eqb, eqb-true, leb-false, not-false}
-use lib.Dec.{eqb, leb}
+use borrow.Author.Tests.{eq-eqb, ne-eqb, leb-false, not-false}
+use lib.Dec.{eqb}
 use Rattle.graph.specs.Graph.{Graph, Within, Molecule, degree}
 use Rattle.graph.specs.Assembly.{Join, atomOf, written, Stands, Assembled, Placed}
 use Rattle.graph.specs.Climb.{sooner}
-use Rattle.block.specs.Read.{Read, refused, read, _then_, refuseIf, refuseFor}
+use Rattle.block.specs.Read.{refused, read, _then_, refuseIf, refuseFor}
 use Rattle.block.specs.Block.{limit, isOutside}
 use Rattle.block.specs.Chain.{then-read, if-read, for-read}
 use Rattle.block.specs.Faults.{neither, inside}
 use Rattle.assembly.specs.Book.{Book}
-use Rattle.assembly.specs.Placements.{mostPlacements, placementCount, placementAt, joinOf, joinOn, joinEnds, joinsOn, bondsOn, isFull, firstFault, parentFault, joinFault, graphOn, laterFault, fault, placedReply, assemblyReply}
+use Rattle.assembly.specs.Placements.{mostPlacements, placementCount, placementAt, joinOf, joinOn, joinEnds, bondsOn, isFull, parentFault, joinFault, graphOn, laterFault, fault, placedReply, assemblyReply}
 use Rattle.assembly.specs.Degrees.{joins-zero, joins-suc, joins-none, degree-is}
 use Rattle.assembly.specs.declared.Placement.{Placement}
 

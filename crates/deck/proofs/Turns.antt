@@ -1,5 +1,5 @@
 -- Steps of reading the blocks of a deck: what is left to do gives the answer. Assumes nothing.
-use Prim.Native.Nat.{ℕ, zero, suc, _+_, _*_, _-_, _<_, _≤_}
+use Prim.Native.Nat.{ℕ, suc, _+_, _-_, _<_, _≤_}
 use mathlib.Core.Bool.{Bool, true, false, _||_, cond}
 use mathlib.Core.List.{List, [], _∷_, _++_}
 use mathlib.Core.Path.{_≡_, refl, sym, _∙_, ap}
@@ -12,11 +12,11 @@ use lib.Seq.{length-take-le, take-suc-set, drop-set-lt, drop-drop}
 use Rattle.block.specs.Read.{Read, refused, read, refusal}
 use Rattle.block.specs.Block.{blockReply, saidBlock}
 use Rattle.block.specs.declared.Refusal.{Refusal}
-use Rattle.records.specs.Records.{blockKind, sheetKind, kindAt, endAt, kindReply, recordReply}
+use Rattle.records.specs.Records.{blockKind, kindAt, endAt, kindReply, recordReply}
 use Rattle.records.specs.declared.Kind.{Kind}
 use Rattle.assembly.specs.Book.{noBlock, used, bondBytes}
 use Rattle.assembly.specs.declared.BlockAt.{BlockAt}
-use Rattle.deck.specs.Deck.{mostBlocks, kindsAfter, sheetKinds, blockAt, moved, blockPlace, blockReplyAt, deckAt, blocksFrom}
+use Rattle.deck.specs.Deck.{mostBlocks, kindsAfter, blockAt, moved, blockPlace, blockReplyAt, deckAt, blocksFrom}
 use Rattle.deck.specs.Said.{tableOf, tabledDeck, movedReply, saidDeck}
 
 -- a kind that is named twice

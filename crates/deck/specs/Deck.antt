@@ -70,7 +70,7 @@ ifElse false f g = g tt
 abbrev pub deckAt : List ℕ → List BlockAt → ℕ → Deck
 deckAt d blocks at = record { blocks = blocks; assembly = at; placements = placementCount (payloadAt d at); sheet = endAt d at }
 
--- Blocks from a place on, after those of `done`, up to a record of the kind `last`. There is fuel for one turn more than blocks, so it lasts.
+-- Blocks from a place on, after those of `done`, up to a record of the kind `last`. There is fuel for one turn more than blocks, which lasts (`fuel-lasts`).
 unfoldable pub blocksFrom : ℕ → Kind → List ℕ → ℕ → List BlockAt → Read Deck
 blocksFrom zero last d at done = refused (refusal 14 at)
 blocksFrom (suc fuel) last d at done =

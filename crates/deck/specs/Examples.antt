@@ -7,7 +7,6 @@ use borrow.Author.Tests.{lt-ltb}
 use Rattle.graph.specs.Graph.{joins, anyJoins, bonded, anyAtom, reaches, firstFrom, distance, allAtoms, connected, degree, sum, sumPairs, evenOf, oddOf, isAt, total}
 use Rattle.graph.specs.Assembly.{shifted, joined, startAt, written}
 use Rattle.block.specs.Read.{Read, refused, read, refusal}
-use Rattle.block.specs.declared.Refusal.{Refusal}
 use Rattle.block.specs.Block.{mostAtoms, limit, mostBytes, bondsOf, bondFault, bondsReply, blockReply}
 use Rattle.block.specs.Index.{indicesOf}
 use Rattle.records.specs.Bytes.{little}
@@ -88,6 +87,10 @@ forms :
     ≡ ([] ∷ [] ∷ (11 ∷ 40 ∷ []) ∷ (11 ∷ 40 ∷ []) ∷ (11 ∷ 0 ∷ []) ∷ [])
 unfolding told document sheet record'
 forms = refl
+
+claims : claimedAt (document ++ sheet 12 198 96 102 14) 40 ≡ 12 ∷ 198 ∷ 96 ∷ 102 ∷ 14 ∷ []
+unfolding claimedAt fieldsAt little document sheet record'
+claims = refl
 
 -- a deck that is refused, with the number and the place
 record Case : Type 0 where

@@ -1,28 +1,28 @@
 -- A deck that composes, with a sheet behind it, is read in the form that is judged, and describes the same molecule. Assumes nothing.
-use Prim.Native.Nat.{ℕ, zero, suc, _+_, _*_, _-_, _<_, _≤_}
+use Prim.Native.Nat.{ℕ, zero, suc, _+_, _*_, _-_, _≤_}
 use mathlib.Core.Bool.{Bool, true, false, _||_, cond}
 use mathlib.Core.List.{List, [], _∷_, _++_}
 use mathlib.Core.Logic.{⊎-elim}
 use mathlib.Core.Path.{_≡_, refl, sym, _∙_, ap, ap₂}
 use native.Mathlib.Omega.{arith}
-use borrow.Author.Tests.{eq-eqb, ne-eqb, eqb-true, eqb-false, le-ltb, ltb-false}
-use lib.Dec.{eqb, leb, ltb}
+use borrow.Author.Tests.{eq-eqb, eqb-true, le-ltb, ltb-false}
+use lib.Dec.{eqb, leb}
 use lib.ListN.{length, length-append}
 use Rattle.graph.specs.Graph.{Graph}
 use Rattle.graph.specs.Assembly.{Join, written}
-use Rattle.block.specs.Read.{Read, refused, read, _then_, refuseIf}
+use Rattle.block.specs.Read.{read, _then_, refuseIf}
 use Rattle.block.specs.Block.{graphOf, blockReply}
 use Rattle.block.specs.Chain.{not-read, then-read, if-read}
-use Rattle.records.specs.Bytes.{little, le16, part}
+use Rattle.records.specs.Bytes.{le16}
 use Rattle.records.specs.Records.{blockKind, assemblyKind, sheetKind, lengthAt, kindAt, endAt, payloadAt, wanted, kindReply, lengthReply, recordReply}
 use Rattle.records.specs.Taken.{taken}
 use Rattle.records.specs.Longer.{Counted, little-same, little-behind, part-same, kind-same, end-same, payload-same, record-same}
 use Rattle.records.specs.declared.Kind.{Kind}
-use Rattle.assembly.specs.Book.{Book, noBlock, find, used, bondBytes, blockGraph, bookOf}
+use Rattle.assembly.specs.Book.{Book, find, used, bondBytes, bookOf}
 use Rattle.assembly.specs.Placements.{placementAt, joinOn, graphOn, assemblyReply}
 use Rattle.assembly.specs.declared.BlockAt.{BlockAt}
-use Rattle.deck.specs.Deck.{longestDeck, mostBlocks, kindsAfter, sheetKinds, Deck, deckAt, blockAt, moved, blockPlace, placementPlace, blockReplyAt, assemblyReplyAt, blocksFrom, blocksReply, endReply, sheetReply, deckReply}
-use Rattle.deck.specs.Kept.{Each, Standing, Kept, kept, chosen, fit, stands}
+use Rattle.deck.specs.Deck.{longestDeck, mostBlocks, kindsAfter, Deck, blockAt, moved, blockPlace, blockReplyAt, assemblyReplyAt, blocksFrom, blocksReply, endReply, sheetReply, deckReply}
+use Rattle.deck.specs.Kept.{Each, Standing, kept, chosen, fit, stands}
 use Rattle.deck.specs.Sound.{parts}
 use Rattle.deck.specs.Molecule.{placedIn, graphAt, joinAt, moleculeOf, widths, fieldsAt, claimedAt}
 use Rattle.deck.specs.declared.Form.the-variants.{Composed, Judged}

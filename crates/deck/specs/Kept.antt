@@ -3,7 +3,7 @@ use Prim.Native.Nat.{ℕ, zero, suc, _+_, _*_, _<_, _≤_}
 use mathlib.Core.Bool.{Bool, true, false, _||_}
 use mathlib.Core.List.{List, [], _∷_, _++_}
 use mathlib.Core.Logic.{_⊎_, inl, inr, ⊎-elim}
-use mathlib.Core.Path.{_≡_, refl, sym, _∙_, ap}
+use mathlib.Core.Path.{_≡_, refl, _∙_, ap}
 use native.Mathlib.Omega.{arith}
 use borrow.Author.Tests.{eqb-true, eqb-false, leb-false}
 use lib.Dec.{eqb, leb}
@@ -51,6 +51,15 @@ chosen false f g e = inr (refl, e)
 pub unmoved : (place : Refusal → ℕ) (x : Read (Unit {0})) → moved place x ≡ read tt → x ≡ read tt
 unmoved place (refused r) e = absurd (not-read e)
 unmoved place (read u) e = refl
+
+-- where the first step is the same, and what follows it where it is read
+then-same : {B : Type 0} (x : Read (Unit {0})) (f g : Unit {0} → Read B) → (x ≡ read tt → f tt ≡ g tt) → (x then f) ≡ (x then g)
+then-same (refused r) f g h = refl
+then-same (read u) f g h = h refl
+
+first-same : {A : Type 0} (t : Bool) (f g other : Unit {0} → A) → (t ≡ true → f tt ≡ g tt) → ifElse t f other ≡ ifElse t g other
+first-same true f g other h = h refl
+first-same false f g other h = refl
 
 -- the tests that a block record passed
 pub record Fit (d : List ℕ) (at : ℕ) (done : List BlockAt) : Type 0 where
@@ -111,3 +120,22 @@ module _ (last : Kind) (d : List ℕ) where
   pub kept : {k : Deck} → blocksReply last d ≡ read k → Kept last d k
   unfolding blocksReply Each
   kept e = keeps (suc mostBlocks) 0 [] tt (omega arith) e
+
+  -- the fuel lasts: more of it changes nothing
+  lasts : (fuel at : ℕ) (done : List BlockAt) → length done ≤ mostBlocks → mostBlocks < fuel + length done → blocksFrom (suc fuel) last d at done ≡ blocksFrom fuel last d at done
+  unfolding blocksFrom
+  lasts zero at done l h = absurd (omega arith)
+  lasts (suc fuel) at done l h =
+      then-same (recordReply (kindsAfter done last) d at) _ _
+      (λ p. first-same (eqb (kindAt d at) (blockKind .number)) _ _ _
+      (λ t. then-same (blockReplyAt d at done) _ _
+      (λ q. let r = fit d at done q .room in
+      let n : length (done ++ blockAt d at ∷ []) ≡ length done + 1 = simp length-append in
+      lasts fuel (endAt d at) (done ++ blockAt d at ∷ []) (omega arith) (omega arith))))
+
+  pub fuel-lasts : (more : ℕ) → blocksFrom (more + suc mostBlocks) last d 0 [] ≡ blocksReply last d
+  unfolding blocksReply
+  fuel-lasts zero = refl
+  fuel-lasts (suc more) =
+      let e : suc more + suc mostBlocks ≡ suc (more + suc mostBlocks) = omega arith in
+      ap (λ (n : ℕ). blocksFrom n last d 0 []) e ∙ lasts (more + suc mostBlocks) 0 [] (omega arith) (omega arith) ∙ fuel-lasts more

@@ -1,18 +1,17 @@
 -- The part that the lookup of a block hands back is empty exactly when the deck is refused in both forms or has no such block. Assumes nothing.
-use Prim.Native.Nat.{ℕ, zero, suc, _+_, _*_, _<_, _≤_}
-use mathlib.Core.Bool.{Bool, true, false, _&&_, not, cond}
+use Prim.Native.Nat.{ℕ, zero, suc, _+_, _*_, _<_}
+use mathlib.Core.Bool.{Bool, true, false, not, cond}
 use mathlib.Core.List.{List, [], _∷_}
 use mathlib.Core.Logic.{_↔_}
 use mathlib.Core.Path.{_≡_, refl, sym, _∙_, ap, subst}
 use native.Mathlib.Omega.{arith}
-use borrow.Author.Tests.{eq-eqb, ne-eqb, eqb-true, eqb-false, not-true}
+use borrow.Author.Tests.{ne-eqb, eqb-true, eqb-false, not-true}
 use lib.Dec.{eqb}
 use lib.ListN.{length, take, drop, getD, length-take, length-drop}
 use Rattle.graph.specs.Bonds.{both, both-true}
 use Rattle.graph.specs.Distance as distance
 use Rattle.block.specs.Read.{Read, refused, read}
 use Rattle.block.specs.Chain.{not-read}
-use Rattle.block.specs.declared.Refusal.{Refusal}
 use Rattle.records.specs.Bytes.{part}
 use Rattle.assembly.specs.Book.{noBlock, find, isNumbered, used}
 use Rattle.assembly.specs.declared.BlockAt.{BlockAt}

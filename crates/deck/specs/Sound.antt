@@ -1,27 +1,27 @@
 -- What a deck that is not refused keeps to, whichever its form. Assumes nothing.
-use Prim.Native.Nat.{ℕ, suc, _+_, _*_, _-_, _≤_, _<_}
-use mathlib.Core.Bool.{Bool, true, false, _&&_, not, cond}
+use Prim.Native.Nat.{ℕ, _-_, _≤_, _<_}
+use mathlib.Core.Bool.{Bool, true, false, not, cond}
 use mathlib.Core.List.{List, [], _∷_}
-use mathlib.Core.Path.{_≡_, refl, sym, _∙_, ap}
+use mathlib.Core.Path.{_≡_, sym, ap}
 use native.Mathlib.Omega.{arith}
 use borrow.Author.Tests.{eqb-true, eqb-false, ltb-false, not-true}
 use lib.Dec.{eqb, ltb}
 use lib.ListN.{length}
-use Rattle.graph.specs.Graph.{Graph, Within, Molecule, degree}
-use Rattle.graph.specs.Assembly.{Join, atomOf, Assembled, Placed}
+use Rattle.graph.specs.Graph.{Within, degree}
+use Rattle.graph.specs.Assembly.{atomOf, Assembled, Placed}
 use Rattle.graph.specs.Bonds.{both}
-use Rattle.block.specs.Read.{Read, refused, read, _then_, refuseIf}
-use Rattle.block.specs.Block.{mostAtoms, limit, bondsOf, graphOf, blockReply}
+use Rattle.block.specs.Read.{refused, read, _then_, refuseIf}
+use Rattle.block.specs.Block.{mostAtoms, limit}
 use Rattle.block.specs.Chain.{then-read, if-read}
 use Rattle.block.specs.Told as told
 use Rattle.records.specs.Records.{assemblyKind, payloadAt}
-use Rattle.assembly.specs.Book.{find, isNumbered, used, blockGraph, bookOf}
+use Rattle.assembly.specs.Book.{find, isNumbered, used, bookOf}
 use Rattle.assembly.specs.Placements.{mostPlacements, placementCount, placementAt, joinOn, graphOn, bondsOn, assemblyReply}
 use Rattle.assembly.specs.Degrees.{degree-is}
 use Rattle.assembly.specs.Sound as assembly
 use Rattle.assembly.specs.declared.BlockAt.{BlockAt}
-use Rattle.deck.specs.Deck.{longestDeck, mostBlocks, Deck, deckAt, placementPlace, blocksReply, assemblyReplyAt, sheetReply, deckReply}
-use Rattle.deck.specs.Kept.{Each, Standing, Kept, kept, unmoved}
+use Rattle.deck.specs.Deck.{longestDeck, mostBlocks, Deck, placementPlace, blocksReply, assemblyReplyAt, sheetReply, deckReply}
+use Rattle.deck.specs.Kept.{Each, Standing, kept, unmoved}
 use Rattle.deck.specs.Molecule.{placedIn, graphAt, joinAt, moleculeOf}
 use Rattle.deck.specs.declared.Form.{Form}
 

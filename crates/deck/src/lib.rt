@@ -6,7 +6,7 @@ ghost use lib.Dec.{eqb, leb};
 ghost use lib.ListN.{length, take};
 ghost use Rattle.block.specs.Block.{saidBlock};
 ghost use Rattle.records.specs.Bytes.{PartOf};
-ghost use Rattle.records.specs.Records.{blockKind, payloadAt, endAt};
+ghost use Rattle.records.specs.Records.{blockKind, payloadAt};
 ghost use Rattle.assembly.specs.Book.{used};
 ghost use Rattle.assembly.specs.Placements.{mostPlacements, placementAt};
 ghost use Rattle.deck.specs.Deck.{mostBlocks, longestDeck, blockAt, blockPlace, placementPlace, blockReplyAt, assemblyReplyAt, blocksReply, endReply, sheetReply, deckReply, payload, blockSpan};

@@ -7,7 +7,7 @@ use native.Mathlib.Omega.{arith}
 use lib.ListN.{length, take, drop, List·getD-eq-default, drop-of-length-le, length-drop}
 use lib.Seq.{take-all, take-nil}
 use denote.Ref.{RefT, ptr, now}
-use Rattle.records.specs.Bytes.{byteAt, little, le16, part, PartOf}
+use Rattle.records.specs.Bytes.{little, le16, part, PartOf}
 
 pub past : (k : ℕ) (d : List ℕ) (at : ℕ) → length d ≤ at → little k d at ≡ 0
 unfolding little

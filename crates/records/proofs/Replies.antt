@@ -1,10 +1,10 @@
 -- What a record is told, test by test. Assumes nothing.
-use Prim.Native.Nat.{ℕ, _+_, _<_, _≤_}
+use Prim.Native.Nat.{ℕ, _<_, _≤_}
 use mathlib.Core.List.{List, [], _∷_}
 use mathlib.Core.Path.{_≡_}
 use borrow.Author.Tests.{eq-eqb, ne-eqb, lt-ltb, le-ltb}
 use lib.ListN.{length}
-use Rattle.block.specs.Read.{Read, refused, read, refusal}
+use Rattle.block.specs.Read.{refused, read, refusal}
 use Rattle.records.specs.Records.{lengthAt, kindAt, endAt, wanted, kindReply, lengthReply, recordReply}
 use Rattle.records.specs.declared.Kind.{Kind}
 

@@ -1,5 +1,5 @@
 -- Bytes put behind a list change no record that lies within it. Assumes nothing.
-use Prim.Native.Nat.{ℕ, zero, suc, _+_, _*_, _<_, _≤_}
+use Prim.Native.Nat.{ℕ, zero, suc, _+_, _*_, _≤_}
 use mathlib.Core.Bool.{Bool, true, false, cond}
 use mathlib.Core.List.{List, [], _∷_, _++_}
 use mathlib.Core.Path.{_≡_, refl, sym, _∙_, ap, ap₂}
@@ -8,11 +8,11 @@ use borrow.Author.Tests.{eq-eqb, le-ltb}
 use lib.Dec.{eqb}
 use lib.ListN.{length, take, drop, getD, length-append, length-drop, List·getD-append}
 use lib.Seq.{take-append-le, drop-append-le, getD-append-add}
-use Rattle.block.specs.Read.{Read, refused, read, refusal}
+use Rattle.block.specs.Read.{Read, read}
 use Rattle.block.specs.Chain.{not-read}
-use Rattle.records.specs.Bytes.{byteAt, little, le16, part}
+use Rattle.records.specs.Bytes.{little, part}
 use Rattle.records.specs.Records.{lengthAt, kindAt, endAt, payloadAt, wanted, kindReply, lengthReply, recordReply}
-use Rattle.records.specs.Taken.{Taken, taken}
+use Rattle.records.specs.Taken.{taken}
 use Rattle.records.specs.declared.Kind.{Kind}
 
 -- each kind's count stands in the bytes that every payload of it has

@@ -1,6 +1,6 @@
 -- Records: payload length (2 bytes), kind (2 bytes), payload. The kinds of document 01, and refusals 11, 12 and 13 at the record's first byte.
 use Prim.Native.Nat.{ℕ, _+_, _*_}
-use mathlib.Core.Bool.{Bool, true, false, not, cond}
+use mathlib.Core.Bool.{not, cond}
 use mathlib.Core.List.{List, [], _∷_}
 use lib.Dec.{eqb, ltb}
 use lib.ListN.{length}

@@ -1,3 +1,4 @@
+-- `assembly::bonds_part` meets its contract. Assumes nothing.
 use Prim.Native.Nat.{_+_, _*_}
 use native.Mathlib.Omega.{arith}
 use Rattle.records.proofs.Numbers.{past-end}

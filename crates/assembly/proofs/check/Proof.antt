@@ -1,3 +1,4 @@
+-- `assembly::check` meets its contract. The loop's invariant: the reply for the placements that are left is the reply. Assumes nothing.
 use Prim.Native.Nat.{ℕ, suc, _+_, _-_, _≤_}
 use mathlib.Core.Path.{_≡_, sym, ap, ap₂, _∙_}
 use native.Mathlib.Numerals.{add-one}

@@ -1,3 +1,4 @@
+-- `assembly::degree_of` meets its contract. The loop's invariant: the total and the ends among the bytes that are left are all ends. Assumes nothing.
 use Prim.Native.Nat.{ℕ, _+_, _-_, _≤_}
 use mathlib.Core.Bool.{cond}
 use mathlib.Core.Path.{_≡_, ap, _∙_}

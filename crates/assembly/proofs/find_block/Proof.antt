@@ -1,3 +1,4 @@
+-- `assembly::find_block` meets its contract. The loop's invariant: what is found among the blocks that are left is what is found among all. Assumes nothing.
 use Prim.Native.Nat.{_-_, _<_, _≤_}
 use mathlib.Core.Path.{_≡_, refl, sym, _∙_}
 use native.Mathlib.Omega.{arith}

@@ -1,3 +1,4 @@
+-- `assembly::first_fault` meets its contract. Assumes nothing.
 use mathlib.Core.Path.{sym}
 use Rattle.assembly.proofs.Faults.{first-parent, first-site, first-own, first-fine}
 use Rattle.assembly.proofs.first_fault.Statement.{statement}

@@ -1,3 +1,4 @@
+-- `assembly::is_numbered` meets its contract. Assumes nothing.
 use borrow.Author.Tests.{eq-eqb, ne-eqb}
 use borrow.Author.Needs.{needs}
 use Rattle.assembly.proofs.is_numbered.Statement.{statement}

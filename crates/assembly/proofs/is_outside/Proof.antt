@@ -1,3 +1,4 @@
+-- `assembly::is_outside` meets its contract. Assumes nothing.
 use borrow.Author.Tests.{eq-eqb, ne-eqb}
 use Rattle.assembly.proofs.is_outside.Statement.{statement}
 use Rattle.assembly.proofs.is_outside.Tie as tie

@@ -1,3 +1,4 @@
+-- `assembly::parent_fault` meets its contract. Assumes nothing.
 use mathlib.Core.Path.{refl}
 use Rattle.assembly.specs.Placements.{parentFault}
 use Rattle.assembly.proofs.parent_fault.Statement.{statement}

@@ -1,3 +1,4 @@
+-- `assembly::placement_at` meets its contract. Assumes nothing.
 use Prim.Native.Nat.{_+_, _*_}
 use mathlib.Core.Path.{sym}
 use native.Mathlib.Omega.{arith}

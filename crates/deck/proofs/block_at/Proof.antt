@@ -1,3 +1,4 @@
+-- `deck::block_at` meets its contract. Assumes nothing.
 use borrow.Author.Needs.{needs}
 use Rattle.deck.proofs.block_at.Statement.{statement}
 use Rattle.deck.proofs.block_at.Tie as tie

@@ -1,3 +1,4 @@
+-- `deck::deck_at` meets its contract. Assumes nothing.
 use borrow.Author.Needs.{needs}
 use borrow.Author.Needs.{needs}
 use Rattle.deck.proofs.deck_at.Statement.{statement}

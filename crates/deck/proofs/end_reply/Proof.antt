@@ -1,3 +1,4 @@
+-- `deck::end_reply` meets its contract. Assumes nothing.
 use mathlib.Core.Path.{sym, ap}
 use Rattle.block.specs.Block.{saidBlock}
 use Rattle.deck.proofs.Parts.{bytes-follow, nothing-follows}

@@ -1,4 +1,4 @@
-use mathlib.Core.Bool.{_||_, true, false}
+-- `deck::is_unfit` meets its contract. Assumes nothing.
 use mathlib.Core.Path.{_≡_, sym, ap, _∙_}
 use native.Mathlib.Omega.{arith}
 use lib.ListN.{length, take}

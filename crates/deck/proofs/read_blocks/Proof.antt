@@ -1,3 +1,4 @@
+-- `deck::read_blocks` meets its contract. The loop's invariant: the answer from the next record on is the answer, and the places past `count` are empty. Assumes nothing.
 use Prim.Native.Nat.{ℕ, suc, _+_, _-_, _<_, _≤_}
 use mathlib.Core.Bool.{cond}
 use mathlib.Core.List.{List, [], _∷_}

@@ -1,3 +1,4 @@
+-- `records::le64_at` meets its contract. Assumes nothing.
 use mathlib.Core.Path.{sym}
 use native.Mathlib.Omega.{arith}
 use Rattle.records.proofs.Numbers.{past, eight}
