@@ -7,7 +7,7 @@ use native.Mathlib.Omega.{arith}
 use lib.ListN.{length, getD, set, length-set}
 use lib.Seq.{getD-set-other}
 use Rattle.compose.specs.declared.links.Link.{Link}
-use Rattle.compose.specs.Joints.{ends, link}
+use Rattle.compose.specs.Joints.{ends}
 use Rattle.compose.specs.Tables.{endAt, homeOf}
 use Rattle.compose.proofs.Stored.{stored-more}
 

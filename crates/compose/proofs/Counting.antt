@@ -1,20 +1,16 @@
 -- What is counted from an atom, in the numbers that the code holds: how it adds up, and how small it is. Assumes nothing.
-use Prim.Native.Nat.{ℕ, _+_, _*_, _-_, _%_, _≤_, _<_}
-use mathlib.Core.List.{List}
-use mathlib.Core.Path.{_≡_, refl, sym, _∙_, ap}
-use native.Mathlib.Numerals.{add-one}
-use native.Mathlib.Nat.{add-sub-cancel}
+use Prim.Native.Nat.{ℕ, _+_, _*_, _-_, _%_, _<_}
+use mathlib.Core.Path.{_≡_, refl, sym, _∙_}
 use native.Mathlib.Omega.{arith}
 use borrow.Author.Tests.{eq-eqb, ne-eqb}
-use lib.ListN.{getD}
-use Rattle.graph.specs.Graph.{Graph, Within, Molecule, sum, evenOf, oddOf, evenOne, oddOne, isAt, vertex}
+use Rattle.graph.specs.Graph.{sum, evenOf, oddOf, evenOne, oddOne, isAt}
 use Rattle.graph.specs.Sums.{sum-cong, sum-add}
 use Rattle.graph.specs.Rules.{Grown}
 use Rattle.graph.specs.Parts.{parts-of}
 use Rattle.graph.specs.Bounds.{Tame, tame-even, tame-odd, tame-even-one, tame-odd-one, tame-at}
 use Rattle.block.specs.declared.Vertex.{Vertex}
 use Rattle.block.specs.Sums.{vertexBy}
-use Rattle.compose.specs.Counted.{Counts, Adds, Below}
+use Rattle.compose.specs.Counted.{Counts, Below}
 
 -- an even distance, and an odd one
 pub record Even (d : ℕ) : Type 0 where

@@ -1,18 +1,18 @@
 -- The tables of the blocks, filled one after the other: once all are, the arrays are what composing asks. Assumes nothing.
-use Prim.Native.Nat.{ℕ, suc, _+_, _*_, _-_, _/_, _%_, _≤_, _<_, min}
+use Prim.Native.Nat.{ℕ, _+_, _*_, _-_, _/_, _%_, _≤_, _<_, min}
 use mathlib.Core.Bool.{Bool, true, false}
-use mathlib.Core.List.{List, []}
+use mathlib.Core.List.{List}
 use mathlib.Core.Logic.{⊎-elim}
 use mathlib.Core.Path.{_≡_, refl, sym, _∙_, ap, subst}
 use native.Mathlib.Nat.{eq-or-lt-of-le}
 use native.Mathlib.Omega.{arith}
 use borrow.Author.Tests.{eqb-true, eqb-false, eq-eqb, ne-eqb}
 use lib.Dec.{eqb}
-use lib.ListN.{length, getD, set, length-set}
+use lib.ListN.{length, set, length-set}
 use lib.Seq.{getD-set-same, getD-set-other}
 use Rattle.graph.specs.Graph.{Graph, Within, distance}
 use Rattle.graph.specs.Assembly.{Stands}
-use Rattle.block.specs.Block.{mostAtoms, graphOf}
+use Rattle.block.specs.Block.{mostAtoms}
 use Rattle.block.specs.Rows.{rowsOf}
 use Rattle.block.specs.Index.{indicesOf}
 use Rattle.block.specs.Sums.{pairEntry, indicesBy}
@@ -25,7 +25,7 @@ use Rattle.assembly.specs.Placements.{mostPlacements, placementAt}
 use Rattle.assembly.specs.declared.BlockAt.{BlockAt}
 use Rattle.compose.specs.declared.links.Link.{Link}
 use Rattle.compose.specs.declared.tables.End.{End}
-use Rattle.compose.specs.Joints.{link, joinsOf, entry, noIndices, numbersAt, Laid, Task}
+use Rattle.compose.specs.Joints.{link, joinsOf, entry, noIndices, numbersAt, Task}
 use Rattle.compose.specs.Tables.{endAt, homeOf, Ranged, Copied}
 use Rattle.compose.specs.Ready.{placedBlock, placedGraph, Ready}
 

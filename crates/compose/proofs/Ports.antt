@@ -1,12 +1,12 @@
 -- The atoms that placements are joined to, by the arrays: where they are, and how their distances climb. Assumes nothing.
-use Prim.Native.Nat.{ℕ, suc, _+_, _*_, _-_, _≤_, _<_}
+use Prim.Native.Nat.{ℕ, _+_, _*_, _-_, _≤_, _<_}
 use mathlib.Core.List.{List}
-use mathlib.Core.Path.{_≡_, sym, _∙_, ap}
+use mathlib.Core.Path.{_≡_, sym, _∙_}
 use native.Mathlib.Omega.{arith}
-use Rattle.graph.specs.Graph.{Graph, Within, distance}
+use Rattle.graph.specs.Graph.{Graph, Within}
 use Rattle.graph.specs.Assembly.{Placed, Stands, written}
 use Rattle.graph.specs.Distance.{distance-below, distance-sym}
-use Rattle.graph.specs.Climb.{apart, placed-within, written-molecule, apart-same, apart-later, apart-earlier}
+use Rattle.graph.specs.Climb.{placed-within, written-molecule, apart-same, apart-later, apart-earlier}
 use Rattle.graph.specs.Bounds.{atoms-most}
 use Rattle.block.specs.Block.{mostAtoms}
 use Rattle.assembly.specs.Placements.{mostPlacements}

@@ -1,14 +1,13 @@
 -- From a deck that is read to what composing is given, and back to the deck's molecule. Assumes nothing.
-use Prim.Native.Nat.{ℕ, zero, suc, _+_, _-_, _≤_, _<_}
-use mathlib.Core.List.{List, _++_}
+use Prim.Native.Nat.{ℕ, zero, suc, _-_, _≤_, _<_}
+use mathlib.Core.List.{List}
 use mathlib.Core.Path.{_≡_, refl, sym, _∙_, ap, ap₂, subst}
 use native.Mathlib.Omega.{arith}
 use lib.ListN.{length, take}
 use lib.Seq.{take-at}
 use Rattle.graph.specs.Graph.{Graph, Within}
-use Rattle.graph.specs.Assembly.{Join, joined, atomOf, written, Stands, Assembled}
+use Rattle.graph.specs.Assembly.{Join, joined, atomOf, written, Assembled}
 use Rattle.block.specs.Read.{Read, refused, read}
-use Rattle.block.specs.Chain.{not-read}
 use Rattle.block.specs.Index.{indicesOf, saidIndices}
 use Rattle.block.specs.declared.Refusal.{Refusal}
 use Rattle.block.specs.declared.Indices.{Indices}
@@ -24,7 +23,6 @@ use Rattle.deck.specs.Sound.{whole}
 use Rattle.deck.specs.Said.{tableOf, layoutOf, saidDeck}
 use Rattle.deck.specs.declared.Form.{Form}
 use Rattle.deck.specs.declared.Layout.{Layout}
-use Rattle.deck.specs.declared.DeckRead.{DeckRead}
 use Rattle.compose.specs.declared.links.Link.{Link}
 use Rattle.compose.specs.Fields.{fieldsReply}
 use Rattle.compose.specs.Links.{Linked}

@@ -1,7 +1,7 @@
 -- What is counted from the ends of a join, by the arrays: how it begins at the parent and grows with each placement after it. Assumes nothing.
 use Prim.Native.Nat.{ℕ, zero, suc, _+_, _*_, _-_, _^_, _≤_, _<_, min}
 use mathlib.Core.List.{List}
-use mathlib.Core.Path.{_≡_, sym, _∙_, ap, ap₂, subst}
+use mathlib.Core.Path.{_≡_, sym, ap, subst}
 use native.Mathlib.Nat.{mul-le-mul, zero-add}
 use native.Mathlib.Omega.{arith}
 use Rattle.graph.specs.Graph.{Graph, Within, Molecule, distance, isAt, vertex, countAt}
@@ -9,7 +9,7 @@ use Rattle.graph.specs.Assembly.{Placed, startAt, written}
 use Rattle.graph.specs.Sums.{sum-cong}
 use Rattle.graph.specs.Rules.{Grown}
 use Rattle.graph.specs.Parts.{count-at-0}
-use Rattle.graph.specs.Climb.{apart, seen, sooner, placed-within, placed-sooner, placed-later, written-molecule, grown-old, grown-new, apart-keeps}
+use Rattle.graph.specs.Climb.{apart, seen, sooner, placed-within, placed-sooner, written-molecule, grown-old, grown-new, apart-keeps}
 use Rattle.graph.specs.Bounds.{vertex-most}
 use Rattle.block.specs.declared.Indices.{Indices}
 use Rattle.block.specs.declared.Vertex.{Vertex}

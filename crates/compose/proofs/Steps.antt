@@ -1,10 +1,10 @@
 -- One placement more: the bond that joins it, the molecule that comes of it, and room for its numbers. Assumes nothing.
-use Prim.Native.Nat.{ℕ, zero, suc, _+_, _*_, _-_, _^_, _≤_, _<_}
+use Prim.Native.Nat.{ℕ, zero, suc, _*_, _-_, _^_, _≤_, _<_}
 use mathlib.Core.List.{List}
-use mathlib.Core.Path.{_≡_, refl, sym, _∙_, ap, subst}
+use mathlib.Core.Path.{_≡_, sym, _∙_, ap}
 use native.Mathlib.Nat.{mul-le-mul}
 use native.Mathlib.Omega.{arith}
-use Rattle.graph.specs.Graph.{Graph, Within, Molecule, itself, evenOf, oddOf, isAt, total}
+use Rattle.graph.specs.Graph.{Graph, Within, Molecule, total}
 use Rattle.graph.specs.Assembly.{Join, joined, written}
 use Rattle.graph.specs.Climb.{siteOf, sooner, placed-within, written-molecule}
 use Rattle.graph.specs.Bounds.{Tame, tame-itself, tame-even, tame-odd, tame-at, total-most}

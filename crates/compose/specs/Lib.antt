@@ -5,3 +5,4 @@ pub mod Links
 pub mod Joints
 pub mod Tables
 pub mod Ready
+pub mod Unique

@@ -6,9 +6,9 @@ use mathlib.Core.Path.{_≡_, refl, sym, _∙_, ap, ap₂, subst}
 use native.Mathlib.Nat.{le-suc-iff, le-of-eq, zero-add}
 use native.Mathlib.Omega.{arith}
 use Rattle.graph.specs.Graph.{Graph, Within, Molecule, distance, vertex}
-use Rattle.graph.specs.Assembly.{Join, joined, startAt, atomOf, written, Stands, Assembled, Placed}
+use Rattle.graph.specs.Assembly.{Join, joined, startAt, atomOf, written, Assembled, Placed}
 use Rattle.graph.specs.Distance.{distance-sym}
-use Rattle.graph.specs.Join.{joined-molecule, distance-first, distance-second, distance-cross, distance-back}
+use Rattle.graph.specs.Join.{joined-molecule, distance-first, distance-second, distance-cross}
 use Rattle.graph.specs.Rules.{Grown, grown-first, grown-second}
 
 -- the atom of the whole molecule that the placement at index k is joined to
@@ -100,11 +100,6 @@ module _ {blocks : ℕ → Graph} {joins : ℕ → Join} (m : ℕ) (a : Assemble
       → apart blocks joins (suc m) k i l j ≡ apart blocks joins m k i (joins (suc m) .parent) (joins (suc m) .site) + 1 + distance (blocks (suc m)) (joins (suc m) .own) j
   unfolding written
   apart-on {j = j} p f q = rw (behind j f) (distance-cross core block site own (placed-within blocks joins p) (here f q))
-
-  pub apart-back : {k i l j : ℕ} → k ≡ suc (suc m) → Placed blocks (suc m) k i → Placed blocks m l j
-      → apart blocks joins (suc m) k i l j ≡ distance (blocks (suc m)) i (joins (suc m) .own) + 1 + apart blocks joins m (joins (suc m) .parent) (joins (suc m) .site) l j
-  unfolding written
-  apart-back {i = i} e p q = rw (behind i e) (distance-back core block site own (here e p) (placed-within blocks joins q))
 
   -- what is counted, from an earlier atom and from one of its own
   pub grown-old : {k i : ℕ} → Placed blocks m k i

@@ -1,7 +1,7 @@
 -- From the fields that are composed to what the judge and the writer are told. Assumes nothing.
 use Prim.Native.Nat.{ℕ, zero, suc, _+_, _-_, _≤_, _<_}
-use mathlib.Core.List.{List, [], _∷_}
-use mathlib.Core.Path.{_≡_, refl, sym, _∙_, ap, ap₂}
+use mathlib.Core.List.{List, []}
+use mathlib.Core.Path.{_≡_, refl, sym, _∙_, ap}
 use native.Mathlib.Omega.{arith}
 use borrow.Author.Tests.{lt-ltb, le-ltb, ltb-false}
 use lib.ListN.{length}
@@ -21,7 +21,7 @@ use Rattle.deck.specs.declared.Form.the-variants.{Composed, Judged}
 use Rattle.sheets.specs.Sheets.{sheetBytes, firstWrong}
 use Rattle.sheets.specs.Back.{fields-said}
 use Rattle.compose.specs.Fields.{fieldsReply}
-use Rattle.molecule.specs.Molecule.{judgeReply, saidVerdict, writeReply, saidWritten}
+use Rattle.molecule.specs.Molecule.{judgeReply, saidVerdict, writeReply}
 use Rattle.molecule.specs.declared.Verdict.{Verdict}
 use Rattle.molecule.specs.declared.Verdict.the-variants as verdict
 

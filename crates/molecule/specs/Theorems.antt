@@ -1,14 +1,13 @@
 -- Demand 3: a sheet is accepted exactly when it is right, a written sheet is accepted, and each promise determines its reply and its bytes. Assumes nothing.
-use Prim.Native.Nat.{ℕ, zero, suc, _+_, _*_, _-_, _≤_, _<_}
+use Prim.Native.Nat.{ℕ, zero, suc, _+_, _-_, _≤_}
 use mathlib.Core.List.{List, _++_}
 use mathlib.Core.Logic.{_↔_}
 use mathlib.Core.Path.{_≡_, refl, sym, _∙_, ap}
 use native.Mathlib.Omega.{arith}
 use borrow.Author.Tests.{le-ltb, ltb-false}
 use lib.Dec.{ltb}
-use lib.ListN.{length, take, drop}
+use lib.ListN.{length, take}
 use lib.Seq.{take-at}
-use Rattle.graph.specs.Graph.{Graph, Molecule}
 use Rattle.graph.specs.Climb.{written-molecule}
 use Rattle.graph.specs.Bounds.{atoms-most}
 use Rattle.block.specs.Read.{Read, refused, read, refuseIf}
@@ -17,14 +16,13 @@ use Rattle.block.specs.Block.{mostAtoms}
 use Rattle.block.specs.Index.{indicesOf, saidIndices}
 use Rattle.block.specs.declared.Indices.{Indices}
 use Rattle.block.specs.declared.Measured.{Measured}
-use Rattle.assembly.specs.Placements.{mostPlacements}
 use Rattle.deck.specs.Deck.{longestDeck, Deck, deckReply}
 use Rattle.deck.specs.Molecule.{graphAt, joinAt, moleculeOf, fieldsOf, widths, sheetOf, claimedAt}
 use Rattle.deck.specs.Sound.{whole}
 use Rattle.deck.specs.Followed.{same-molecule}
 use Rattle.deck.specs.declared.Form.{Form}
 use Rattle.deck.specs.declared.Form.the-variants.{Composed, Judged}
-use Rattle.sheets.specs.Sheets.{sheetBytes, sheetRecord, sheetPut, firstWrong}
+use Rattle.sheets.specs.Sheets.{sheetBytes, sheetRecord, sheetPut}
 use Rattle.sheets.specs.Back.{Fit, length-sheet, sheet-taken, sheet-claimed, none-wrong, wrong-none}
 use Rattle.compose.specs.Fields.{fieldsReply}
 use Rattle.compose.proofs.Steps.{room}

@@ -3,7 +3,7 @@ use mathlib.Core.Path.{_≡_, sym, _∙_, ap}
 use borrow.Author.Needs.{needs}
 use Rattle.block.specs.Read.{read}
 use Rattle.deck.specs.Deck.{Deck, deckReply}
-use Rattle.deck.specs.Said.{layoutOf, saidDeck}
+use Rattle.deck.specs.Said.{layoutOf}
 use Rattle.deck.specs.declared.DeckRead.{DeckRead}
 use Rattle.compose.proofs.Reading.{told-refused, told-fine, fields-refused, fields-fine}
 use Rattle.compose.proofs.fields.Statement.{statement}

@@ -1,6 +1,5 @@
 -- `compose::filled` meets its contract. The loop's invariant: the blocks that are had first before index f are done. Assumes nothing.
-use Prim.Native.Nat.{ℕ, _-_, _≤_, _<_, min}
-use mathlib.Core.List.{List}
+use Prim.Native.Nat.{ℕ, _-_, _≤_, min}
 use mathlib.Core.Logic.{⊎-elim}
 use mathlib.Core.Path.{_≡_, _∙_, ap, subst}
 use borrow.Author.Needs.{needs}

@@ -4,10 +4,7 @@ use borrow.Author.Needs.{needs}
 use native.Mathlib.Omega.{arith}
 use Prim.Native.Nat.{ℕ, _-_}
 use lib.ListN.{length}
-use Rattle.block.specs.Read.{read}
-use Rattle.block.specs.Index.{indicesOf}
-use Rattle.deck.specs.Deck.{Deck, deckReply}
-use Rattle.deck.specs.Molecule.{claimedAt, saidFields, moleculeOf}
+use Rattle.deck.specs.Molecule.{claimedAt, saidFields}
 use Rattle.deck.specs.declared.Form.the-variants.{Judged}
 use Rattle.molecule.proofs.Judging.{fields-refused, fields-read, sheet-last, judge-refused, judge-read}
 use Rattle.molecule.proofs.judge.Statement.{statement}

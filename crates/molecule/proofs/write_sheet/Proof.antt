@@ -1,8 +1,6 @@
 -- `molecule::write_sheet` meets its contract. Assumes nothing.
-use mathlib.Core.Path.{_≡_, sym, _∙_, ap}
+use mathlib.Core.Path.{sym, _∙_, ap}
 use borrow.Author.Needs.{needs}
-use native.Mathlib.Omega.{arith}
-use Rattle.block.specs.Read.{Read, read}
 use Rattle.molecule.specs.Molecule.{saidWritten, sheetOut}
 use Rattle.molecule.proofs.Judging.{write-long, write-short, write-refused, write-read}
 use Rattle.molecule.proofs.write_sheet.Statement.{statement}

@@ -1,6 +1,6 @@
 -- `compose::counts::times` meets its contract: two factors below 2^25 have a product below 2^50. Assumes nothing.
 use Prim.Native.Nat.{_*_, _^_, _<_}
-use native.Mathlib.Nat.{lt-of-le-of-lt, mul-le-mul, le-of-lt, le-refl, mul-lt-mul-of-pos-right, mul-le-mul-left}
+use native.Mathlib.Nat.{lt-of-le-of-lt, le-of-lt, mul-lt-mul-of-pos-right, mul-le-mul-left}
 use native.Mathlib.Omega.{arith}
 use mathlib.Core.Path.{refl}
 use lib.Pow.{pow-pos}

@@ -1,8 +1,7 @@
 -- `compose::joints::apart` meets its contract. The loop's invariant: what was climbed and the distance that is left make the distance asked for.
 -- The measure is the sum of the two parents' numbers. Assumes nothing.
 use Prim.Native.Nat.{ℕ, _+_, _*_, _-_, _<_}
-use mathlib.Core.Path.{_≡_, refl, sym, _∙_, ap}
-use borrow.Author.Needs.{needs}
+use mathlib.Core.Path.{_≡_}
 use native.Mathlib.Omega.{arith}
 use Rattle.graph.specs.Graph.{Graph, Within}
 use Rattle.block.specs.Block.{mostAtoms}

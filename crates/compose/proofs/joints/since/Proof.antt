@@ -1,7 +1,7 @@
 -- `compose::joints::since` meets its contract. The loop's invariant: v counts from the parent's atom in the molecule of the first m placements.
 -- Assumes nothing.
-use Prim.Native.Nat.{ℕ, _-_, _≤_, _<_}
-use mathlib.Core.Path.{_≡_, sym, subst}
+use Prim.Native.Nat.{ℕ, _-_, _≤_}
+use mathlib.Core.Path.{_≡_, subst}
 use native.Mathlib.Omega.{arith}
 use Rattle.graph.specs.Graph.{Graph, Within}
 use Rattle.compose.specs.Counted.{Counts}

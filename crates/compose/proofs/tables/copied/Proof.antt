@@ -1,14 +1,14 @@
 -- `compose::tables::copied` meets its contract. The loop's invariant: the ends before e are copied, those of other blocks are kept. Assumes nothing.
-use Prim.Native.Nat.{ℕ, _+_, _*_, _-_, _/_, _≤_, _<_}
-use mathlib.Core.List.{List, []}
+use Prim.Native.Nat.{ℕ, _-_, _/_, _≤_}
+use mathlib.Core.List.{[]}
 use mathlib.Core.Logic.{⊎-elim}
-use mathlib.Core.Path.{_≡_, sym, _∙_, ap, subst}
+use mathlib.Core.Path.{_≡_, sym, _∙_, ap}
 use borrow.Author.Needs.{needs}
 use native.Mathlib.Omega.{arith}
 use lib.ListN.{getD}
 use Rattle.compose.specs.declared.tables.End.{End}
 use Rattle.compose.specs.Joints.{link}
-use Rattle.compose.specs.Tables.{endAt, homeOf, Ranged}
+use Rattle.compose.specs.Tables.{endAt, homeOf}
 use Rattle.compose.proofs.Copying.{Copying, copy-start, copy-one, copy-none}
 use Rattle.compose.proofs.tables.copied.Statement.{statement}
 use Rattle.compose.proofs.tables.copied.Tie as tie
