@@ -28,6 +28,9 @@ pub struct BlockAt {
     pub bonds: u16,
 }
 
+// The blocks of a book, as many as are counted, then empty places.
+pub type BlockTable = [BlockAt; BLOCKS];
+
 // A placement: the number of its block, the placement that it joins (from 1), that one's atom, and its own atom.
 pub struct Placement {
     pub block: u16,
@@ -37,7 +40,7 @@ pub struct Placement {
 }
 
 // Which of the first `count` blocks has a number; one of no atoms where none has.
-pub fn find_block(blocks: [BlockAt; BLOCKS], count: usize, number: usize) -> BlockAt
+pub fn find_block(blocks: BlockTable, count: usize, number: usize) -> BlockAt
     ensures { λ r. ⌜ r ≡ find (take count blocks) number ⌝ }
 {
     let none = BlockAt {
@@ -208,7 +211,7 @@ fn join_fault(d: &[u8], there: BlockAt, here: BlockAt, xs: &[u8], k: usize) -> u
 }
 
 // What is wrong with a later placement, at index k: 17, 18, 19, or 0.
-fn later_fault(d: &[u8], blocks: [BlockAt; BLOCKS], count: usize, xs: &[u8], k: usize) -> usize
+fn later_fault(d: &[u8], blocks: BlockTable, count: usize, xs: &[u8], k: usize) -> usize
     requires { ⌜ (1 ≤ k) × (k < mostPlacements) ⌝ }
     ensures { λ r. ⌜ r ≡ laterFault (bookOf (now (d .entry)) (take count blocks)) (placementAt (now (xs .entry))) k ⌝ }
 {
@@ -224,7 +227,7 @@ fn later_fault(d: &[u8], blocks: [BlockAt; BLOCKS], count: usize, xs: &[u8], k: 
 }
 
 // What is wrong with the placement at index k: 16, 17, 18, 19, or 0.
-fn fault_of(d: &[u8], blocks: [BlockAt; BLOCKS], count: usize, xs: &[u8], k: usize) -> usize
+fn fault_of(d: &[u8], blocks: BlockTable, count: usize, xs: &[u8], k: usize) -> usize
     requires { ⌜ k < mostPlacements ⌝ }
     ensures { λ r. ⌜ r ≡ fault (bookOf (now (d .entry)) (take count blocks)) (placementAt (now (xs .entry))) k ⌝ }
 {
@@ -240,7 +243,7 @@ fn fault_of(d: &[u8], blocks: [BlockAt; BLOCKS], count: usize, xs: &[u8], k: usi
 }
 
 // Refusals 15 to 19 of an assembly's payload, over the first `count` blocks, which stand in d.
-pub fn check(d: &[u8], blocks: [BlockAt; BLOCKS], count: usize, xs: &[u8]) -> Reply
+pub fn check(d: &[u8], blocks: BlockTable, count: usize, xs: &[u8]) -> Reply
     ensures { λ r. ⌜ r ≡ saidBlock (assemblyReply (bookOf (now (d .entry)) (take count blocks)) (now (xs .entry))) ⌝ }
 {
     let p = le16_at(xs, 0) as usize;
