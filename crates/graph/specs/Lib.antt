@@ -6,6 +6,7 @@ pub mod Bonds
 pub mod Walk
 pub mod Distance
 pub mod Search
+pub mod Sets
 pub mod Sums
 pub mod Connected
 pub mod Join

@@ -1,234 +1,208 @@
--- A search from atom i that meets the atoms one by one: what holds while it runs, and that its levels are the distances. Assumes nothing.
--- The search is seen through four functions, whatever holds them: the atom at each place of the order, the level of an atom, whether it is met, and how many are.
-use Prim.Native.Nat.{ℕ, zero, suc, _+_, _-_, _≤_, _<_}
-use mathlib.Core.Bool.{Bool, true, false, cond, false≢true}
-use mathlib.Core.Logic.{_⊎_, inl, inr, ⊎-elim, _≢_}
-use mathlib.Core.Path.{_≡_, refl, sym, ap, subst, subst⁻¹, subst₂, _∙_}
+-- A search from atom i, level by level: what holds while it runs, and that its levels are the distances. Assumes nothing.
+-- It is seen through five things, whatever holds them: which atoms are met; which of them wait, met at the deepest level with their neighbours not yet
+-- looked at; which atoms were seen next to those that waited; the level of an atom; and the deepest level.
+use Prim.Native.Nat.{ℕ, suc, _≤_, _<_}
+use mathlib.Core.Bool.{Bool, true, false, not, _&&_, _||_, cond, and-false, false≢true}
+use mathlib.Core.Logic.{_⊎_, inl, inr, ⊎-elim}
+use mathlib.Core.Path.{_≡_, refl, sym, ap, subst, subst⁻¹, _∙_}
 use native.Mathlib.Omega.{arith}
 use native.Mathlib.Decide.{ℕ-discrete, decLt}
-use lib.Dec.{eqb, ltb}
-use borrow.Author.Tests.{lt-ltb, le-ltb, eq-eqb, ne-eqb}
-use Rattle.graph.specs.Graph.{Graph, Within, Sound, bonded, Walk, firstFrom, distance}
+use lib.Dec.{eqb}
+use borrow.Author.Tests.{eq-eqb, ne-eqb, eqb-true}
+use Rattle.graph.specs.Graph.{Graph, Within, Sound, bonded, Walk, Shortest, distance}
 use Rattle.graph.specs.Graph.Walk.{stay, step}
 use Rattle.graph.specs.Walk.{far-end}
-use Rattle.graph.specs.Distance.{onto, first-is, search-found, search-missed}
+use Rattle.graph.specs.Bonds.{both, one-of, first-of, second-of}
+use Rattle.graph.specs.Distance.{shortest-below, search-found, search-missed}
 
 pub record State : Type 0 where
-  pub at : ℕ → ℕ
+  pub met : ℕ → Bool
+  pub waits : ℕ → Bool
+  pub near : ℕ → Bool
   pub level : ℕ → ℕ
-  pub known : ℕ → Bool
-  pub met : ℕ
-
--- different atoms are no more than there are
-few : (n m : ℕ) (f : ℕ → ℕ) → ((p : ℕ) → p < m → Within n (f p)) → ((p q : ℕ) → p < q → q < m → f p ≢ f q) → m ≤ n
-few n zero f atoms distinct = omega arith
-few n (suc d) f atoms distinct = omega (arith, onto n d place hits)
-  where
-    place : ℕ → ℕ
-    place v = firstFrom (suc d) 0 (λ p. eqb (f p) v)
-
-    hits : (k : ℕ) → k ≤ d → (v : ℕ) × Within n v × (place v ≡ k)
-    hits k l = (
-      f k,
-      atoms k (omega arith),
-      first-is (suc d) 0 (λ p. eqb (f p) (f k)) k
-          (record { passes = eq-eqb (f k) (f k) refl; before = λ p h. ne-eqb (f p) (f k) (distinct p k h (omega arith)) }) (omega arith) (omega arith),
-    )
+  pub depth : ℕ
 
 module _ (g : Graph) (i : ℕ) where
-  -- the atoms before place h of the order have all their neighbours met
-  pub record Seen (h : ℕ) (s : State) : Type 0 where
-    pub start : Within (g .atoms) i
+  abbrev Atom : ℕ → Type 0
+  Atom v = Within (g .atoms) v
+
+  pub record Seen (s : State) : Type 0 where
+    pub start : Atom i
+    pub origin : s .met i ≡ true
     pub zeroth : s .level i ≡ 0
-    pub origin : s .known i ≡ true
-    pub atoms : (p : ℕ) → p < s .met → Within (g .atoms) (s .at p)
-    pub seen : (p : ℕ) → p < s .met → s .known (s .at p) ≡ true
-    pub place : (v : ℕ) → Within (g .atoms) v → s .known v ≡ true → (p : ℕ) × (p < s .met) × (s .at p ≡ v)
-    pub distinct : (p q : ℕ) → p < q → q < s .met → s .at p ≢ s .at q
-    pub sorted : (p q : ℕ) → p ≤ q → q < s .met → s .level (s .at p) ≤ s .level (s .at q)
-    pub window : (p : ℕ) → p < s .met → h < s .met → s .level (s .at p) ≤ s .level (s .at h) + 1
-    pub low : (p : ℕ) → p < s .met → s .level (s .at p) ≤ p
-    pub walks : (p : ℕ) → p < s .met → Walk g i (s .at p) (s .level (s .at p))
-    pub done : (p v : ℕ) → p < h → p < s .met → bonded g (s .at p) v ≡ true → (s .known v ≡ true) × (s .level v ≤ s .level (s .at p) + 1)
+    pub walks : (v : ℕ) → Atom v → s .met v ≡ true → Walk g i v (s .level v)
+    pub deepest : (v : ℕ) → Atom v → s .met v ≡ true → s .level v ≤ s .depth
+    pub front : (v : ℕ) → Atom v → s .waits v ≡ true → (s .met v ≡ true) × (s .level v ≡ s .depth)
+    pub passed : (v w : ℕ) → s .met v ≡ true → s .waits v ≡ false → bonded g v w ≡ true
+        → ((s .met w ≡ true) × (s .level w ≤ suc (s .level v))) ⊎ ((s .near w ≡ true) × (s .level v ≡ s .depth))
+    pub ahead : (w : ℕ) → Atom w → s .near w ≡ true → Walk g i w (suc (s .depth))
 
-  -- t is s with the atom w met last, at level d
-  pub record Push (s t : State) (w d : ℕ) : Type 0 where
-    pub one-more : t .met ≡ s .met + 1
-    pub order : (p : ℕ) → p < s .met → t .at p ≡ s .at p
-    pub last : t .at (s .met) ≡ w
-    pub levels : (v : ℕ) → Within (g .atoms) v → v ≢ w → t .level v ≡ s .level v
-    pub at-level : t .level w ≡ d
-    pub known-more : (v : ℕ) → Within (g .atoms) v → s .known v ≡ true → t .known v ≡ true
-    pub known-new : t .known w ≡ true
-    pub known-only : (v : ℕ) → Within (g .atoms) v → t .known v ≡ true → (s .known v ≡ true) ⊎ (v ≡ w)
+  -- t is s after the neighbours of u were looked at
+  pub record Looks (s t : State) (u : ℕ) : Type 0 where
+    pub met : (v : ℕ) → Atom v → t .met v ≡ s .met v
+    pub waits : (v : ℕ) → Atom v → t .waits v ≡ (s .waits v && not (eqb v u))
+    pub near : (v : ℕ) → Atom v → t .near v ≡ (s .near v || bonded g u v)
+    pub level : (v : ℕ) → Atom v → t .level v ≡ s .level v
+    pub depth : t .depth ≡ s .depth
 
-  -- before the first turn only i is met
-  module _ (s : State) (a : Within (g .atoms) i) (m : s .met ≡ 1) (f : s .at 0 ≡ i) (z : s .level i ≡ 0) (k : s .known i ≡ true) (only : (v : ℕ) → Within (g .atoms) v → s .known v ≡ true → v ≡ i) where
-    here : (p : ℕ) → p < s .met → s .at p ≡ i
-    here p l = let q : p ≡ 0 = omega arith in ap (s .at) q ∙ f
+  -- t is s one level deeper: what was seen and not met is met now, and waits
+  pub record Deepens (s t : State) : Type 0 where
+    pub met : (v : ℕ) → Atom v → t .met v ≡ (s .met v || s .near v)
+    pub waits : (v : ℕ) → Atom v → t .waits v ≡ (s .near v && not (s .met v))
+    pub near : (v : ℕ) → Atom v → t .near v ≡ false
+    pub level : (v : ℕ) → Atom v → t .level v ≡ cond (t .waits v) (suc (s .depth)) (s .level v)
+    pub depth : t .depth ≡ suc (s .depth)
 
-    level-here : (p : ℕ) → p < s .met → s .level (s .at p) ≡ 0
-    level-here p l = ap (s .level) (here p l) ∙ z
-
-    pub begin : Seen 0 s
-    begin = record {
-      start = a;
-      zeroth = z;
-      origin = k;
-      atoms = λ p l. subst⁻¹ (λ (x : ℕ). Within (g .atoms) x) (here p l) a;
-      seen = λ p l. subst⁻¹ (λ (x : ℕ). s .known x ≡ true) (here p l) k;
-      place = λ v b e. (0, omega arith, f ∙ sym (only v b e));
-      distinct = λ p q l n. absurd (omega arith);
-      sorted = λ p q l n. omega (arith, level-here p (omega arith));
-      window = λ p l n. omega (arith, level-here p l);
-      low = λ p l. omega (arith, level-here p l);
-      walks = λ p l. subst₂ (λ (x y : ℕ). Walk g i x y) (sym (here p l)) (sym (level-here p l)) stay;
-      done = λ p v l n b. absurd (omega arith);
-    }
-
-  -- the atoms of the order are no more than there are
-  module _ (h : ℕ) (s : State) (S : Seen h s) where
-    pub bound : s .met ≤ g .atoms
-    bound = few (g .atoms) (s .met) (s .at) (S .atoms) (S .distinct)
-
-    module _ (w : ℕ) (a : Within (g .atoms) w) (new : s .known w ≡ false) where
-      pub other : (p : ℕ) → p < s .met → s .at p ≢ w
-      other p l e = false≢true (sym new ∙ subst (λ (x : ℕ). s .known x ≡ true) e (S .seen p l))
-
-      -- the order with w after it
-      then : ℕ → ℕ
-      then p = cond (ltb p (s .met)) (s .at p) w
-
-      then-old : (p : ℕ) → p < s .met → then p ≡ s .at p
-      unfolding then
-      then-old p l = rw (lt-ltb p (s .met) l)
-
-      then-new : (p : ℕ) → s .met ≤ p → then p ≡ w
-      unfolding then
-      then-new p l = rw (le-ltb p (s .met) l)
-
-      pub room : s .met < g .atoms
-      room = few (g .atoms) (suc (s .met)) then
-          (λ p l. elim (decLt p (s .met)) [
-            | yes b ↦ subst⁻¹ (λ (x : ℕ). Within (g .atoms) x) (then-old p b) (S .atoms p b)
-            | no b ↦ subst⁻¹ (λ (x : ℕ). Within (g .atoms) x) (then-new p (omega arith)) a
-          ])
-          (λ p q l m e. elim (decLt q (s .met)) [
-            | yes b ↦ S .distinct p q l b (sym (then-old p (omega arith)) ∙ e ∙ then-old q b)
-            | no b ↦ other p (omega arith) (sym (then-old p (omega arith)) ∙ e ∙ then-new q (omega arith))
-          ])
-
-  -- an atom is met
-  module _ (sound : Sound g) (h : ℕ) (s t : State) (w d : ℕ) (S : Seen h s) (P : Push s t w d) (more : h < s .met) (e : bonded g (s .at h) w ≡ true) (new : s .known w ≡ false) (next : d ≡ s .level (s .at h) + 1) where
-    w-atom : Within (g .atoms) w
-    w-atom = far-end sound (s .at h) w e
-
-    -- a place of the new order is an old one, or the last
-    view : (p : ℕ) → p < t .met → ((p < s .met) × (t .at p ≡ s .at p) × (t .level (t .at p) ≡ s .level (s .at p))) ⊎ ((p ≡ s .met) × (t .at p ≡ w) × (t .level (t .at p) ≡ d))
-    view p l = elim (decLt p (s .met)) [
-      | yes b ↦ inl (b, P .order p b, ap (t .level) (P .order p b) ∙ P .levels (s .at p) (S .atoms p b) (other h s S w w-atom new p b))
-      | no b ↦
-          let q : p ≡ s .met = omega (arith, P .one-more) in
-          let r : t .at p ≡ w = ap (t .at) q ∙ P .last in
-          inr (q, r, ap (t .level) r ∙ P .at-level)
-    ]
-
-    old : (p : ℕ) → p < s .met → (t .at p ≡ s .at p) × (t .level (t .at p) ≡ s .level (s .at p))
-    old p b = (P .order p b, ap (t .level) (P .order p b) ∙ P .levels (s .at p) (S .atoms p b) (other h s S w w-atom new p b))
-
-    not-w : (v : ℕ) → s .known v ≡ true → v ≢ w
-    not-w v k q = false≢true (sym new ∙ subst (λ (x : ℕ). s .known x ≡ true) q k)
-
-    pub pushed : Seen h t
-    pushed = record {
-      start = S .start;
-      zeroth = P .levels i (S .start) (not-w i (S .origin)) ∙ S .zeroth;
-      origin = P .known-more i (S .start) (S .origin);
-      atoms = λ p l. ⊎-elim (λ (b, a, c). subst⁻¹ (λ (x : ℕ). Within (g .atoms) x) a (S .atoms p b)) (λ (b, a, c). subst⁻¹ (λ (x : ℕ). Within (g .atoms) x) a w-atom) (view p l);
-      seen = λ p l. ⊎-elim (λ (b, a, c). subst⁻¹ (λ (x : ℕ). t .known x ≡ true) a (P .known-more (s .at p) (S .atoms p b) (S .seen p b))) (λ (b, a, c). subst⁻¹ (λ (x : ℕ). t .known x ≡ true) a (P .known-new)) (view p l);
-      place = λ v a k.
-          ⊎-elim
-          (λ r. let (p, l, q) = S .place v a r in (p, omega (arith, P .one-more), P .order p l ∙ q))
-          (λ r. (s .met, omega (arith, P .one-more), P .last ∙ sym r))
-          (P .known-only v a k);
-      distinct = λ p q l m r.
-          ⊎-elim
-          (λ (b, a, c). S .distinct p q l b (sym (P .order p (omega arith)) ∙ r ∙ a))
-          (λ (b, a, c). other h s S w w-atom new p (omega arith) (sym (P .order p (omega arith)) ∙ r ∙ a))
-          (view q m);
-      sorted = λ p q l m.
-          ⊎-elim
-          (λ (b, a, c). omega (arith, old p (omega arith) .1, S .sorted p q l b))
-          (λ (b, a, c). ⊎-elim (λ (x, y, z). omega (arith, S .window p x more)) (λ (x, y, z). omega arith) (view p (omega arith)))
-          (view q m);
-      window = λ p l m. ⊎-elim (λ (b, a, c). omega (arith, old h more .1, S .window p b more)) (λ (b, a, c). omega (arith, old h more .1)) (view p l);
-      low = λ p l. ⊎-elim (λ (b, a, c). omega (arith, S .low p b)) (λ (b, a, c). omega (arith, S .low h more)) (view p l);
-      walks = λ p l.
-          ⊎-elim
-          (λ (b, a, c). subst₂ (λ (x y : ℕ). Walk g i x y) (sym a) (sym c) (S .walks p b))
-          (λ (b, a, c). let r : suc (s .level (s .at h)) ≡ t .level (t .at p) = omega arith in subst₂ (λ (x y : ℕ). Walk g i x y) (sym a) r (step (S .walks h more) e))
-          (view p l);
-      done = λ p v l m b.
-          let (q, r) = old p (omega arith) in
-          let b′ : bonded g (s .at p) v ≡ true = subst (λ (x : ℕ). bonded g x v ≡ true) q b in
-          let (k, n) = S .done p v l (omega arith) b′ in
-          let a = far-end sound (s .at p) v b′ in
-          (P .known-more v a k, omega (arith, P .levels v a (not-w v k)));
-    }
-
-  -- all neighbours of the atom at place h are met
-  pub advance : (h : ℕ) (s : State) → Seen h s → h < s .met → ((v : ℕ) → bonded g (s .at h) v ≡ true → (s .known v ≡ true) × (s .level v ≤ s .level (s .at h) + 1)) → Seen (suc h) s
-  advance h s S more all = record {
-    start = S .start;
-    zeroth = S .zeroth;
-    origin = S .origin;
-    atoms = S .atoms;
-    seen = S .seen;
-    place = S .place;
-    distinct = S .distinct;
-    sorted = S .sorted;
-    window = λ p l m. omega (arith, S .window p l more, S .sorted h (suc h) (omega arith) m);
-    low = S .low;
-    walks = S .walks;
-    done = λ p v l m b. elim (ℕ-discrete p h) [
-      | yes q ↦ subst⁻¹ (λ (x : ℕ). (s .known v ≡ true) × (s .level v ≤ s .level (s .at x) + 1)) q (all v (subst (λ (x : ℕ). bonded g (s .at x) v ≡ true) q b))
-      | no q ↦ S .done p v (omega arith) m b
-    ];
+  -- before the first turn only i is met, and it waits
+  pub begin : (s : State) → Atom i → ((v : ℕ) → Atom v → s .met v ≡ eqb v i) → ((v : ℕ) → Atom v → s .waits v ≡ eqb v i) → ((v : ℕ) → Atom v → s .near v ≡ false)
+      → s .level i ≡ 0 → s .depth ≡ 0 → Sound g → Seen s
+  begin s a m w n z d sound = record {
+    start = a;
+    origin = m i a ∙ itself;
+    zeroth = z;
+    walks = λ v b k. subst⁻¹ (λ (x : ℕ). Walk g i x (s .level x)) (only v b k) (subst⁻¹ (λ (x : ℕ). Walk g i i x) z stay);
+    deepest = λ v b k. subst⁻¹ (λ (x : ℕ). s .level x ≤ s .depth) (only v b k) (omega arith);
+    front = λ v b k. let e = eqb-true v i (sym (w v b) ∙ k) in (m v b ∙ sym (w v b) ∙ k, ap (s .level) e ∙ z ∙ sym d);
+    passed = λ v x k l b.
+        let c = sound .ends v x b in
+        absurd (false≢true (sym l ∙ w v c ∙ sym (m v c) ∙ k));
+    ahead = λ v b k. absurd (false≢true (sym (n v b) ∙ k));
   }
-
-  -- When all atoms of the order are passed, the levels are the distances, and what is not met has no walk.
-  module _ (sound : Sound g) (h : ℕ) (s : State) (S : Seen h s) (over : s .met ≤ h) where
-    closed : (v w : ℕ) → bonded g v w ≡ true → s .known v ≡ true → (s .known w ≡ true) × (s .level w ≤ suc (s .level v))
-    closed v w b k =
-        let (p, l, q) = S .place v (sound .ends v w b) k in
-        let (m, n) = S .done p w (omega arith) l (subst⁻¹ (λ (x : ℕ). bonded g x w ≡ true) q b) in
-        (m, omega (arith, ap (s .level) q))
-
-    pub met-walk : (j : ℕ) → Within (g .atoms) j → s .known j ≡ true → Walk g i j (s .level j)
-    met-walk j a k = let (p, l, q) = S .place j a k in subst (λ (x : ℕ). Walk g i x (s .level x)) q (S .walks p l)
-
-    pub met-distance : (j : ℕ) → Within (g .atoms) j → s .known j ≡ true → distance g i j ≡ s .level j
-    met-distance j a k = search-found sound (S .start) (λ v. s .known v ≡ true) (s .level) (S .origin) (S .zeroth) closed (met-walk j a k)
-
-    pub unmet-walk : (j : ℕ) → s .known j ≡ false → (k : ℕ) → Walk g i j k → ⊥
-    unmet-walk j u k w =
-        search-missed sound (S .start) (λ v. s .known v ≡ true) (s .level) (S .origin) (S .zeroth) closed (λ m. false≢true (sym u ∙ m)) w
-
-  -- where all atoms are met, as many are met as there are
-  pub all-met : (h : ℕ) (s : State) (S : Seen h s) → ((j : ℕ) → Within (g .atoms) j → s .known j ≡ true) → g .atoms ≤ s .met
-  all-met h s S all = let a = S .start in omega (arith, onto (s .met) (g .atoms - 1) (λ p. s .at (p - 1) - 1) seats)
     where
-      seats : (k : ℕ) → k ≤ g .atoms - 1 → (p : ℕ) × Within (s .met) p × (s .at (p - 1) - 1 ≡ k)
-      seats k l =
-          let a = S .start in
-          let (p, m, e) = S .place (suc k) (omega arith) (all (suc k) (omega arith)) in
-          (suc p, omega arith, omega (arith, ap (s .at) (back p)))
-        where
-          back : (p : ℕ) → suc p - 1 ≡ p
-          back p = omega arith
+      itself : eqb i i ≡ true
+      itself = eq-eqb i i refl
 
-  -- the atom that is met last is the farthest
-  pub last-largest : (h : ℕ) (s : State) (S : Seen h s) (j : ℕ) → Within (g .atoms) j → s .known j ≡ true → s .level j ≤ s .level (s .at (s .met - 1))
-  last-largest h s S j a k =
-      let (p, l, q) = S .place j a k in
-      subst (λ (x : ℕ). s .level x ≤ s .level (s .at (s .met - 1))) q (S .sorted p (s .met - 1) (omega arith) (omega arith))
+      only : (v : ℕ) → Atom v → s .met v ≡ true → v ≡ i
+      only v b k = eqb-true v i (sym (m v b) ∙ k)
+
+  module _ (sound : Sound g) (s : State) (S : Seen s) where
+    -- the end of a walk no longer than the deepest level is met, at most as deep
+    pub within-reach : {v k : ℕ} → Walk g i v k → k ≤ s .depth → (s .met v ≡ true) × (s .level v ≤ k)
+    within-reach stay l = (S .origin, omega (arith, S .zeroth))
+    within-reach (step {v = v} {w = w} {k = k} p b) l = go (s .waits v) refl (within-reach p (omega arith))
+      where
+        go : (t : Bool) → s .waits v ≡ t → (s .met v ≡ true) × (s .level v ≤ k) → (s .met w ≡ true) × (s .level w ≤ suc k)
+        go true e (m, h) = absurd (omega (arith, S .front v (sound .ends v w b) e .1))
+        go false e (m, h) = ⊎-elim (λ (x, y). (x, omega arith)) (λ (x, y). absurd (omega arith)) (S .passed v w m e b)
+
+    module _ (v : ℕ) (a : Atom v) where
+      -- while an atom waits, the deepest level is its distance, and so below the atom count
+      pub depth-below : s .waits v ≡ true → s .depth < g .atoms
+      depth-below w = shortest-below sound (S .start) shortest
+        where
+          shortest : Shortest g i v (s .depth)
+          shortest =
+              let (m, e) = S .front v a w in
+              record {
+                walk = subst (λ (x : ℕ). Walk g i v x) e (S .walks v a m);
+                least = λ k p. elim (decLt k (s .depth)) [ yes h ↦ omega (arith, within-reach p (omega arith) .1) | no h ↦ omega arith ];
+              }
+
+    pub looked : (t : State) (u : ℕ) → Atom u → s .waits u ≡ true → Looks s t u → Seen t
+    looked t u a w L = record {
+      start = S .start;
+      origin = L .met i (S .start) ∙ S .origin;
+      zeroth = L .level i (S .start) ∙ S .zeroth;
+      walks = λ v b k. subst⁻¹ (λ (x : ℕ). Walk g i v x) (L .level v b) (S .walks v b (old v b k));
+      deepest = λ v b k. omega (arith, L .level v b, L .depth, S .deepest v b (old v b k));
+      front = λ v b k.
+          let (m, e) = S .front v b (both (s .waits v) (not (eqb v u)) (sym (L .waits v b) ∙ k) .0) in
+          (L .met v b ∙ m, L .level v b ∙ e ∙ sym (L .depth));
+      passed = λ v x k l b.
+          let c = sound .ends v x b in
+          let d = far-end sound v x b in
+          elim (ℕ-discrete v u) [
+            | yes e ↦ inr (L .near x d ∙ found x (subst (λ (y : ℕ). bonded g y x ≡ true) e b),
+                L .level v c ∙ ap (s .level) e ∙ S .front u a w .1 ∙ sym (L .depth))
+            | no ne ↦
+                ⊎-elim
+                (λ (m, h). inl (L .met x d ∙ m, omega (arith, L .level x d, L .level v c)))
+                (λ (m, h). inr (L .near x d ∙ kept x m, L .level v c ∙ h ∙ sym (L .depth)))
+                (S .passed v x (old v c k) (still v c ne l) b)
+          ];
+      ahead = λ x b k.
+          subst⁻¹ (λ (y : ℕ). Walk g i x (suc y)) (L .depth)
+          (⊎-elim (S .ahead x b)
+          (λ e. let (m, h) = S .front u a w in step (subst (λ (y : ℕ). Walk g i u y) h (S .walks u a m)) e)
+          (one-of (s .near x) (bonded g u x) (sym (L .near x b) ∙ k)));
+    }
+      where
+        old : (v : ℕ) → Atom v → t .met v ≡ true → s .met v ≡ true
+        old v b k = sym (L .met v b) ∙ k
+
+        still : (v : ℕ) → Atom v → (v ≡ u → ⊥) → t .waits v ≡ false → s .waits v ≡ false
+        still v b ne l = go (s .waits v) (sym (L .waits v b) ∙ l)
+          where
+            go : (x : Bool) → (x && not (eqb v u)) ≡ false → x ≡ false
+            go true e = rw (ne-eqb v u ne) at e
+            go false e = refl
+
+        found : (x : ℕ) → bonded g u x ≡ true → (s .near x || bonded g u x) ≡ true
+        found x e = second-of (s .near x) (bonded g u x) e
+
+        kept : (x : ℕ) → s .near x ≡ true → (s .near x || bonded g u x) ≡ true
+        kept x e = first-of (s .near x) (bonded g u x) e
+
+    -- no atom waits
+    module _ (quiet : (v : ℕ) → Atom v → s .waits v ≡ false) where
+      pub deepened : (t : State) → Deepens s t → Seen t
+      deepened t D = record {
+        start = S .start;
+        origin = D .met i (S .start) ∙ first-of (s .met i) (s .near i) (S .origin);
+        zeroth = kept i (S .start) (S .origin) .1 ∙ S .zeroth;
+        walks = λ v b k.
+            ⊎-elim (λ m. subst⁻¹ (λ (x : ℕ). Walk g i v x) (kept v b m .1) (S .walks v b m))
+            (λ (m, n). subst⁻¹ (λ (x : ℕ). Walk g i v x) (fresh v b m n .1) (S .ahead v b n)) (view v b k);
+        deepest = λ v b k.
+            ⊎-elim (λ m. omega (arith, kept v b m .1, S .deepest v b m, D .depth)) (λ (m, n). omega (arith, fresh v b m n .1, D .depth)) (view v b k);
+        front = λ v b k.
+            let (n, m) = both (s .near v) (not (s .met v)) (sym (D .waits v b) ∙ k) in
+            (D .met v b ∙ second-of (s .met v) (s .near v) n, D .level v b ∙ rw k (sym (D .depth)));
+        passed = λ v w k l b.
+            let c = sound .ends v w b in
+            let d = far-end sound v w b in
+            ⊎-elim
+            (λ m.
+            ⊎-elim
+            (λ (x, y). let (p, q) = kept w d x in inl (p, omega (arith, kept v c m .1)))
+            (λ (x, y). ⊎-elim (λ z. let (p, q) = kept w d z in inl (p, omega (arith, kept v c m .1, S .deepest w d z)))
+                (λ (z, n). let (p, q) = fresh w d z n in inl (p, omega (arith, kept v c m .1)))
+                (split w x))
+            (S .passed v w m (quiet v c) b))
+            (λ (m, n). absurd (false≢true (sym l ∙ fresh-waits v c m n)))
+            (view v c k);
+        ahead = λ w b k. absurd (false≢true (sym (D .near w b) ∙ k));
+      }
+        where
+          fresh-waits : (v : ℕ) → Atom v → s .met v ≡ false → s .near v ≡ true → t .waits v ≡ true
+          fresh-waits v b m n = D .waits v b ∙ rw (m, n)
+
+          -- what was met stays as it was
+          kept : (v : ℕ) → Atom v → s .met v ≡ true → (t .met v ≡ true) × (t .level v ≡ s .level v)
+          kept v b m = (D .met v b ∙ first-of (s .met v) (s .near v) m, D .level v b ∙ rw (D .waits v b, m, and-false (s .near v)))
+
+          -- what was seen and not met is met at the new level
+          fresh : (v : ℕ) → Atom v → s .met v ≡ false → s .near v ≡ true → (t .met v ≡ true) × (t .level v ≡ suc (s .depth))
+          fresh v b m n = (D .met v b ∙ second-of (s .met v) (s .near v) n, D .level v b ∙ rw (fresh-waits v b m n))
+
+          split : (v : ℕ) → s .near v ≡ true → (s .met v ≡ true) ⊎ ((s .met v ≡ false) × (s .near v ≡ true))
+          split v n = go (s .met v) refl
+            where
+              go : (x : Bool) → s .met v ≡ x → (x ≡ true) ⊎ ((x ≡ false) × (s .near v ≡ true))
+              go true e = inl refl
+              go false e = inr (refl, n)
+
+          view : (v : ℕ) → Atom v → t .met v ≡ true → (s .met v ≡ true) ⊎ ((s .met v ≡ false) × (s .near v ≡ true))
+          view v b k = ⊎-elim inl (split v) (one-of (s .met v) (s .near v) (sym (D .met v b) ∙ k))
+
+      -- Nothing is left to look at: the levels are the distances, and what is not met has no walk.
+      module _ (over : (v : ℕ) → Atom v → s .near v ≡ false) where
+        closed : (v w : ℕ) → bonded g v w ≡ true → s .met v ≡ true → (s .met w ≡ true) × (s .level w ≤ suc (s .level v))
+        closed v w b m =
+            ⊎-elim (λ r. r) (λ (n, e). absurd (false≢true (sym (over w (far-end sound v w b)) ∙ n))) (S .passed v w m (quiet v (sound .ends v w b)) b)
+
+        pub met-distance : (j : ℕ) → Atom j → s .met j ≡ true → distance g i j ≡ s .level j
+        met-distance j a m = search-found sound (S .start) (λ v. s .met v ≡ true) (s .level) (S .origin) (S .zeroth) closed (S .walks j a m)
+
+        pub unmet-walk : (j : ℕ) → s .met j ≡ false → (k : ℕ) → Walk g i j k → ⊥
+        unmet-walk j u k w = search-missed sound (S .start) (λ v. s .met v ≡ true) (s .level) (S .origin) (S .zeroth) closed (λ m. false≢true (sym u ∙ m)) w
