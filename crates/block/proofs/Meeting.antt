@@ -1,241 +1,223 @@
--- A search over neighbour lists: what holds while it runs, whatever array holds what. Assumes nothing.
-use Prim.Native.Nat.{ℕ, suc, _+_, _-_, _≤_, _<_}
-use mathlib.Core.Bool.{Bool, true, false, not, _||_, cond, false≢true}
-use mathlib.Core.List.{List, []}
-use mathlib.Core.Logic.{_⊎_, inl, inr, ⊎-elim, _≢_}
-use mathlib.Core.Path.{_≡_, refl, sym, subst, subst⁻¹, _∙_}
+-- A search whose sets of atoms are numbers: what holds while it runs, whatever array holds what. Assumes nothing.
+use Prim.Native.Nat.{ℕ, suc, _+_, _-_, _^_, _≤_, _<_}
+use mathlib.Core.Bool.{Bool, true, false, not, _&&_, _||_, cond, false≢true}
+use mathlib.Core.List.{List}
+use mathlib.Core.Logic.{_≢_}
+use mathlib.Core.Path.{_≡_, refl, sym, ap, subst, subst⁻¹, _∙_}
 use native.Mathlib.Omega.{arith}
 use native.Mathlib.Decide.{ℕ-discrete, decLt}
 use lib.Dec.{eqb, ltb}
+use lib.Bits.{bitAnd, bitOr, bitXor}
+use lib.Count.{trailingZeros}
 use lib.ListN.{length, getD, set, length-set, replicate}
+use lib.Pow.{pow-pos, pow-mono}
 use lib.Seq.{getD-set-same, getD-set-other, ext-getD}
-use borrow.Author.Tests.{ne-eqb, eq-eqb, eqb-true, lt-ltb, le-ltb}
+use borrow.Author.Tests.{eq-eqb, ne-eqb, lt-ltb, le-ltb}
 use Rattle.graph.specs.Graph.{Graph, Within, Sound, bonded, connected, distance, allAtoms}
-use Rattle.graph.specs.Bonds.{one-of, first-of, second-of}
-use Rattle.graph.specs.Connected.{all-out, all-missed, connected-from, unconnected, connected-molecule}
-use Rattle.graph.specs.Search.{State, Seen, Push, begin, bound, room, pushed, advance, met-walk, met-distance, unmet-walk, all-met}
-use Rattle.block.specs.Block.{mostAtoms, limit}
+use Rattle.graph.specs.Connected.{connected-from, unconnected, connected-molecule}
+use Rattle.graph.specs.Sets.{has, alone, firsts, has-and, has-or, has-xor, has-none, has-alone, has-firsts, beyond, lowest, taken-one, taken-some}
+use Rattle.graph.specs.Search.{State, Seen, Looks, Deepens, begin, depth-below, looked, deepened, met-distance, unmet-walk}
+use Rattle.block.specs.Block.{mostAtoms}
 use Rattle.block.specs.Rows.{table, rowOf}
-use Rattle.block.specs.Near.{counted, neighbour, Lists}
+use Rattle.block.specs.Near.{around, Lists}
 use Rattle.block.specs.Found.{Searched}
-use Rattle.block.specs.declared.Near.{Near}
-use Rattle.block.proofs.Reading.{zeros}
 use Rattle.block.specs.Tables.{length-table, getD-table}
+use Rattle.block.proofs.Reading.{zeros}
 
--- the search from i whose row of distances, order of atoms and count of those met are given: an atom is met if it is i or its distance is not 0
-abbrev pub view : ℕ → List ℕ → List ℕ → ℕ → State
-view i row order met = record {
-  at = λ p. getD order p 0;
-  level = λ v. getD row (v - 1) 0;
-  known = λ v. eqb v i || not (eqb (getD row (v - 1) 0) 0);
-  met = met;
+-- the search whose row of distances, sets of atoms not met, waiting and seen, and deepest level are given
+abbrev pub view : List ℕ → ℕ → ℕ → ℕ → ℕ → State
+view row rest level next d = record {
+  met = λ v. not (has rest v);
+  waits = has level;
+  near = has next;
+  level = λ v. cond (has level v) d (getD row (v - 1) 0);
+  depth = d;
 }
 
-pub sound : {g : Graph} {t : Near} → Lists g t → Sound g
+pub sound : {g : Graph} {near : List ℕ} → Lists g near → Sound g
 sound D = record { ends = λ v w e. D .ends v w e .0 }
 
--- the numbers that a turn works with are small
-pub record Small (t : Near) (s : State) (h : ℕ) : Type 0 where
-  pub atom : Within mostAtoms (s .at h)
-  pub place : h < mostAtoms
-  pub listed : counted t (s .at h) ≤ limit
-  pub level : s .level (s .at h) < mostAtoms
+-- the lowest atom of a set
+abbrev pub first : ℕ → ℕ
+first m = trailingZeros mostAtoms m
 
-module _ (g : Graph) (t : Near) (i : ℕ) where
-  -- the atoms before place h of the order have all their neighbours met, the atom there its first k
-  pub record Running (row order : List ℕ) (met h k : ℕ) : Type 0 where
-    pub sizes : (length row ≡ mostAtoms) × (length order ≡ mostAtoms)
-    pub beyond : (p : ℕ) → g .atoms ≤ p → getD row p 0 ≡ 0
-    pub seen : Seen g i h (view i row order met)
-    pub few : k ≤ limit
-    pub first : (j : ℕ) → j < k → let s = view i row order met in let w = neighbour t (s .at h) j in
-        Within (g .atoms) w × (s .known w ≡ true) × (s .level w ≤ s .level (s .at h) + 1)
+module _ (g : Graph) (near : List ℕ) (i : ℕ) where
+  pub record Running (row : List ℕ) (rest level next d : ℕ) : Type 0 where
+    pub size : length row ≡ mostAtoms
+    pub behind : (p : ℕ) → g .atoms ≤ p → getD row p 0 ≡ 0
+    pub fits : rest + level < 2 ^ g .atoms
+    pub seen : Seen g i (view row rest level next d)
 
-  fresh-known : (v : ℕ) → view i (replicate mostAtoms 0) [] 1 .known v ≡ true → v ≡ i
-  fresh-known v k =
-      ⊎-elim (eqb-true v i)
-      (λ e. absurd (false≢true (rw (zeros mostAtoms (v - 1)) at e)))
-      (one-of (eqb v i) (not (eqb (getD (replicate mostAtoms 0) (v - 1) 0) 0)) k)
+  module _ (D : Lists g near) where
+    fits-word : {m : ℕ} → m < 2 ^ g .atoms → m < 2 ^ mostAtoms
+    fits-word l = omega (arith, grow)
+      where
+        grow : 2 ^ g .atoms ≤ 2 ^ mostAtoms
+        grow = pow-mono (D .small)
 
-  pub run-start : Within (g .atoms) i → Running (replicate mostAtoms 0) (set (replicate mostAtoms 0) 0 i) 1 0 0
-  run-start a = record {
-    sizes = (refl, refl);
-    beyond = λ p l. zeros mostAtoms p;
-    seen = begin g i (view i (replicate mostAtoms 0) (set (replicate mostAtoms 0) 0 i) 1) a refl refl (zeros mostAtoms (i - 1))
-        (first-of (eqb i i) (not (eqb (getD (replicate mostAtoms 0) (i - 1) 0) 0)) (eq-eqb i i refl)) (λ v b k. fresh-known v k);
-    few = omega arith;
-    first = λ j l. absurd (omega arith);
-  }
+    pub run-start : Within (g .atoms) i → Running (replicate mostAtoms 0) (bitXor (firsts (g .atoms)) (alone i)) (alone i) 0 0
+    run-start a = record {
+      size = refl;
+      behind = λ p l. zeros mostAtoms p;
+      fits = omega (arith, taken-one (firsts (g .atoms)) i (has-firsts (g .atoms) i a), pow-pos (g .atoms));
+      seen = begin g i (view (replicate mostAtoms 0) (bitXor (firsts (g .atoms)) (alone i)) (alone i) 0 0) a
+          (λ v b. ap not (has-xor (firsts (g .atoms)) (alone i) v) ∙ rw (has-firsts (g .atoms) v b, has-alone i v (a .low) (b .low)) (only (eqb v i)))
+          (λ v b. has-alone i v (a .low) (b .low)) (λ v b. has-none v) (start-level (has (alone i) i)) refl (sound D);
+    }
+      where
+        only : (t : Bool) → not ((true && not t) || (not true && t)) ≡ t
+        only true = refl
+        only false = refl
 
-  module _ (D : Lists g t) (row order : List ℕ) (met h k : ℕ) (R : Running row order met h k) where
-    abbrev s : State
-    s = view i row order met
+        start-level : (t : Bool) → _≡_ {A = ℕ} (cond t 0 (getD (replicate mostAtoms 0) (i - 1) 0)) 0
+        start-level true = refl
+        start-level false = zeros mostAtoms (i - 1)
 
-    abbrev u : ℕ
-    u = s .at h
+    module _ (row : List ℕ) (rest level next d : ℕ) (R : Running row rest level next d) where
+      -- some atom waits: the lowest of them is looked at
+      module _ (some : level ≢ 0) where
+        abbrev p : ℕ
+        p = first level
 
-    module _ (more : h < met) where
-      pub run-small : Small t s h
-      run-small =
-          let a = R .seen .atoms h more in
-          let l = R .seen .low h more in
-          let b = bound g i h s (R .seen) in
-          let m = D .small in
-          record { atom = omega arith; place = omega arith; listed = D .few u; level = omega arith }
+        abbrev u : ℕ
+        u = suc p
 
-      -- the atom at place h has met its neighbours
-      pub run-passed : counted t u ≤ k → Running row order met (suc h) 0
-      run-passed last = record {
-        sizes = R .sizes;
-        beyond = R .beyond;
-        seen = advance g i h s (R .seen) more
-            (λ v e.
-            let (j, l, q) = D .every u v e in
-            let (a, x, y) = R .first j (omega arith) in
-            subst (λ (w : ℕ). (s .known w ≡ true) × (s .level w ≤ s .level u + 1)) q (x, y));
-        few = omega arith;
-        first = λ j l. absurd (omega arith);
+        low : (p < mostAtoms) × (has level u ≡ true)
+        low = lowest mostAtoms level (omega arith) (fits-word (omega (arith, R .fits)))
+
+        pub small : p < mostAtoms
+        small = low .0
+
+        u-atom : Within (g .atoms) u
+        u-atom = elim (decLt (g .atoms) u) [
+          | yes h ↦ absurd (false≢true (sym (beyond (g .atoms) level u (omega (arith, R .fits)) h) ∙ low .1))
+          | no h ↦ omega arith
+        ]
+
+        pub shallow : d < mostAtoms
+        shallow = omega (arith, depth-below g i (sound D) (view row rest level next d) (R .seen) u u-atom (low .1), D .small)
+
+        is-alone : 2 ^ p ≡ alone u
+        is-alone = let q : p ≡ suc p - 1 = omega arith in ap (λ (x : ℕ). 2 ^ x) q
+
+        pub less : bitXor level (2 ^ p) + 2 ^ p ≡ level
+        less = rw is-alone (taken-one level u (low .1))
+
+        waits-then : (v : ℕ) → Within (g .atoms) v → has (bitXor level (2 ^ p)) v ≡ (has level v && not (eqb v u))
+        waits-then v b = rw is-alone (has-xor level (alone u) v ∙ rw (has-alone u v (omega arith) (b .low)) (elim (ℕ-discrete v u) [
+          | yes e ↦ rw (eq-eqb v u e, e, low .1) refl
+          | no ne ↦ rw (ne-eqb v u ne) (plain (has level v))
+        ]))
+          where
+            plain : (t : Bool) → ((t && not false) || (not t && false)) ≡ (t && not false)
+            plain true = refl
+            plain false = refl
+
+        near-then : (v : ℕ) → Within (g .atoms) v → has (bitOr next (getD near p 0)) v ≡ (has next v || bonded g u v)
+        near-then v b =
+            let q : suc p - 1 ≡ p = omega arith in
+            has-or next (getD near p 0) v
+            ∙ ap (λ (t : Bool). has next v || t) (ap (λ (x : ℕ). has (getD near x 0) v) (sym q) ∙ D .drawn u v u-atom b)
+
+        level-then : (v : ℕ) → Within (g .atoms) v → cond (has (bitXor level (2 ^ p)) v) d (getD (set row p d) (v - 1) 0) ≡ cond (has level v) d (getD row (v - 1) 0)
+        level-then v b = elim (ℕ-discrete v u) [
+          | yes e ↦
+              let q : v - 1 ≡ p = omega arith in
+              rw (waits-then v b, eq-eqb v u e, e, low .1) (subst⁻¹ (λ (x : ℕ). getD (set row p d) x 0 ≡ d) (omega arith) (getD-set-same row p d 0 (omega (arith, R .size, small))))
+          | no ne ↦
+              rw (waits-then v b, ne-eqb v u ne, mathlib.Core.Bool.and-true (has level v))
+              (ap (cond (has level v) d) (getD-set-other row p (v - 1) d 0 (omega arith)))
+        ]
+
+        pub run-looked : Running (set row p d) rest (bitXor level (2 ^ p)) (bitOr next (getD near p 0)) d
+        run-looked = record {
+          size = length-set row p d ∙ R .size;
+          behind = λ q l. getD-set-other row p q d 0 (omega (arith, u-atom)) ∙ R .behind q l;
+          fits = omega (arith, R .fits, less);
+          seen = looked g i (sound D) (view row rest level next d) (R .seen) (view (set row p d) rest (bitXor level (2 ^ p)) (bitOr next (getD near p 0)) d) u u-atom (low .1)
+              (record { met = λ v b. refl; waits = waits-then; near = near-then; level = level-then; depth = refl });
+        }
+
+    -- no atom waits: one level deeper
+    module _ (row : List ℕ) (rest level next d : ℕ) (R : Running row rest level next d) (none : level ≡ 0) where
+      quiet : (v : ℕ) → Within (g .atoms) v → has level v ≡ false
+      quiet v b = ap (λ (x : ℕ). has x v) none ∙ has-none v
+
+      pub kept : bitXor rest (bitAnd next rest) + bitAnd next rest ≡ rest
+      kept = taken-some rest next
+
+      pub run-deeper : Running row (bitXor rest (bitAnd next rest)) (bitAnd next rest) 0 (d + 1)
+      run-deeper = record {
+        size = R .size;
+        behind = R .behind;
+        fits = omega (arith, R .fits, kept);
+        seen = deepened g i (sound D) (view row rest level next d) (R .seen) quiet (view row (bitXor rest (bitAnd next rest)) (bitAnd next rest) 0 (d + 1))
+            (record {
+              met = λ v b. ap not (has-xor rest (bitAnd next rest) v) ∙ rw (has-and next rest v) (met-then (has rest v) (has next v));
+              waits = λ v b. has-and next rest v ∙ ap (λ (t : Bool). has next v && t) (sym (not-not (has rest v)));
+              near = λ v b. has-none v;
+              level = λ v b. rw (quiet v b, native.Mathlib.Numerals.add-one d) refl;
+              depth = native.Mathlib.Numerals.add-one d;
+            });
       }
-
-      -- its next neighbour
-      module _ (left : k < counted t u) where
-        abbrev w : ℕ
-        w = neighbour t u k
-
-        is-bond : bonded g u w ≡ true
-        is-bond = D .each u k left
-
-        w-atom : Within (g .atoms) w
-        w-atom = D .ends u w is-bond .1
-
-        pub next-small : Within mostAtoms w
-        next-small = let a = w-atom in let m = D .small in omega arith
-
-        one-more : suc k ≤ limit
-        one-more = omega (arith, D .few u)
-
-        -- was met before
-        pub run-known : s .known w ≡ true → Running row order met h (suc k)
-        run-known old =
-            let (p, l, q) = R .seen .place w w-atom old in
-            let m : s .level w ≤ s .level u + 1 = subst (λ (x : ℕ). s .level x ≤ s .level u + 1) q (R .seen .window p l more) in
-            record {
-              sizes = R .sizes;
-              beyond = R .beyond;
-              seen = R .seen;
-              few = one-more;
-              first = λ j l. elim (ℕ-discrete j k) [
-                | yes e ↦ subst⁻¹ (λ (x : ℕ). let v = neighbour t u x in Within (g .atoms) v × (s .known v ≡ true) × (s .level v ≤ s .level u + 1)) e (w-atom, old, m)
-                | no ne ↦ R .first j (omega arith)
-              ];
-            }
-
-        -- is met now
-        module _ (new : s .known w ≡ false) where
-          pub next-room : met < mostAtoms
-          next-room = let m = D .small in omega (arith, room g i h s (R .seen) w w-atom new)
-
-          abbrev d : ℕ
-          d = s .level u + 1
-
-          abbrev s′ : State
-          s′ = view i (set row (w - 1) d) (set order met w) (met + 1)
-
-          level-w : s′ .level w ≡ d
-          level-w = let a = next-small in getD-set-same row (w - 1) d 0 (omega (arith, R .sizes .0))
-
-          level-other : (v : ℕ) → 1 ≤ v → v ≢ w → s′ .level v ≡ s .level v
-          level-other v l ne = let a = w-atom in getD-set-other row (w - 1) (v - 1) d 0 (omega arith)
-
-          known-other : (v : ℕ) → 1 ≤ v → v ≢ w → s′ .known v ≡ s .known v
-          known-other v l ne = rw (level-other v l ne)
-
-          not-w : (v : ℕ) → s .known v ≡ true → v ≢ w
-          not-w v k e = false≢true (sym new ∙ subst (λ (x : ℕ). s .known x ≡ true) e k)
-
-          pushes : Push g i s s′ w d
-          pushes = record {
-            one-more = refl;
-            order = λ p l. getD-set-other order met p w 0 (omega arith);
-            last = getD-set-same order met w 0 (omega (arith, R .sizes .1, next-room));
-            levels = λ v b ne. level-other v (b .low) ne;
-            at-level = level-w;
-            known-more = λ v b k. known-other v (b .low) (not-w v k) ∙ k;
-            known-new = second-of (eqb w i) (not (eqb (s′ .level w) 0)) (rw (level-w, ne-eqb d 0 (omega arith)));
-            known-only = λ v b k. elim (ℕ-discrete v w) [ yes e ↦ inr e | no ne ↦ inl (sym (known-other v (b .low) ne) ∙ k) ];
-          }
-
-          at-h : s′ .at h ≡ u
-          at-h = pushes .order h more
-
-          level-u : s′ .level u ≡ s .level u
-          level-u = level-other u (R .seen .atoms h more .low) (not-w u (R .seen .seen h more))
-
-          -- the first k neighbours and w, seen after w is met
-          first-new : (j : ℕ) → j < suc k → let v = neighbour t u j in Within (g .atoms) v × (s′ .known v ≡ true) × (s′ .level v ≤ s′ .level u + 1)
-          first-new j l = elim (ℕ-discrete j k) [
-            | yes e ↦ subst⁻¹ (λ (x : ℕ). let v = neighbour t u x in Within (g .atoms) v × (s′ .known v ≡ true) × (s′ .level v ≤ s′ .level u + 1)) e
-                (w-atom, pushes .known-new, omega (arith, level-w, level-u))
-            | no ne ↦
-                let (a, x, y) = R .first j (omega arith) in
-                (a, pushes .known-more _ a x, omega (arith, level-other (neighbour t u j) (a .low) (not-w (neighbour t u j) x), level-u))
-          ]
-
-          pub run-new : Running (set row (w - 1) d) (set order met w) (met + 1) h (suc k)
-          run-new = record {
-            sizes = (length-set row _ d ∙ R .sizes .0, length-set order _ w ∙ R .sizes .1);
-            beyond = λ p l. let a = w-atom in getD-set-other row (w - 1) p d 0 (omega arith) ∙ R .beyond p l;
-            seen = pushed g i (sound D) h s s′ w d (R .seen) pushes more is-bond new refl;
-            few = one-more;
-            first = subst⁻¹ (λ (x : ℕ). (j : ℕ) → j < suc k → let v = neighbour t x j in Within (g .atoms) v × (s′ .known v ≡ true) × (s′ .level v ≤ s′ .level x + 1)) at-h first-new;
-          }
-
-    -- the order is passed to its end
-    module _ (over : met ≤ h) where
-      whole : met ≡ g .atoms → (j : ℕ) → Within (g .atoms) j → s .known j ≡ true
-      whole e j a = go (s .known j) refl
         where
-          go : (b : Bool) → s .known j ≡ b → b ≡ true
-          go true q = refl
-          go false q = absurd (omega (arith, room g i h s (R .seen) j a q))
+          not-not : (t : Bool) → not (not t) ≡ t
+          not-not true = refl
+          not-not false = refl
 
-      met-whole : met ≡ g .atoms → connected g ≡ true
-      met-whole e = connected-from (sound D) i (λ j a. (s .level j, met-walk g i (sound D) h s (R .seen) over j a (whole e j a)))
+          met-then : (r n : Bool) → not ((r && not (n && r)) || (not r && (n && r))) ≡ (not r || n)
+          met-then true true = refl
+          met-then true false = refl
+          met-then false true = refl
+          met-then false false = refl
 
-      met-apart : met ≢ g .atoms → connected g ≡ false
-      met-apart ne = go (allAtoms (g .atoms) (s .known)) refl
-        where
-          go : (b : Bool) → allAtoms (g .atoms) (s .known) ≡ b → connected g ≡ false
-          go true e =
-              let l = all-met g i h s (R .seen) (all-out (g .atoms) (s .known) e) in
-              let m = bound g i h s (R .seen) in
-              absurd (ne (omega arith))
-          go false e =
-              let (j, a, q) = all-missed (g .atoms) (s .known) e in
-              unconnected (sound D) i j (R .seen .start) a (unmet-walk g i (sound D) h s (R .seen) over j q)
+      -- nothing is left to look at
+      module _ (ended : next ≡ 0) where
+        abbrev s : State
+        s = view row rest level next d
 
-      -- in a connected graph the row holds the distances
-      met-row : connected g ≡ true → (j : ℕ) → Within (g .atoms) j → s .level j ≡ distance g i j
-      met-row c j a = go (s .known j) refl
-        where
-          go : (b : Bool) → s .known j ≡ b → s .level j ≡ distance g i j
-          go true e = sym (met-distance g i (sound D) h s (R .seen) over j a e)
-          go false e = let (k, p) = connected-molecule (sound D) c .linked i j (R .seen .start) a in absurd (unmet-walk g i (sound D) h s (R .seen) over j e k p)
+        over : (v : ℕ) → Within (g .atoms) v → has next v ≡ false
+        over v b = ap (λ (x : ℕ). has x v) ended ∙ has-none v
 
-      abbrev entry : ℕ → ℕ
-      entry j = cond (ltb j (g .atoms)) (distance g i (suc j)) 0
+        left-out : (j : ℕ) → has rest j ≡ true → (k : ℕ) → Rattle.graph.specs.Graph.Walk g i j k → ⊥
+        left-out j h = unmet-walk g i (sound D) s (R .seen) quiet over j (ap not h)
 
-      row-is : connected g ≡ true → row ≡ rowOf g i
-      unfolding rowOf
-      row-is c =
-          ext-getD 0 row (table mostAtoms entry) (R .sizes .0 ∙ sym (length-table mostAtoms entry))
-          (λ j l. let k : j < mostAtoms = omega (arith, R .sizes .0) in at j (decLt j (g .atoms)) ∙ sym (getD-table mostAtoms entry j 0 k))
-        where
-          at : (j : ℕ) → Dec (j < g .atoms) → getD row j 0 ≡ entry j
-          at j (yes h) =
-              let e : suc j - 1 ≡ j = omega arith in
-              rw (lt-ltb j (g .atoms) h) (subst (λ (x : ℕ). getD row x 0 ≡ distance g i (suc j)) e (met-row c (suc j) (omega arith)))
-          at j (no h) = rw (le-ltb j (g .atoms) (omega arith)) (R .beyond j (omega arith))
+        whole : rest ≡ 0 → connected g ≡ true
+        whole e = connected-from (sound D) i (λ j a. (s .level j, R .seen .walks j a (ap (λ (x : ℕ). not (has x j)) e ∙ ap not (has-none j))))
 
-      pub run-end : Searched g i (record { row = row; met = met })
-      run-end = record { whole = met-whole; apart = met-apart; row = row-is }
+        apart : rest ≢ 0 → connected g ≡ false
+        apart ne =
+            let (l, h) = lowest mostAtoms rest (omega arith) (fits-word (omega (arith, R .fits))) in
+            unconnected (sound D) i (suc (first rest)) (R .seen .start) (inside h) (left-out (suc (first rest)) h)
+          where
+            inside : has rest (suc (first rest)) ≡ true → Within (g .atoms) (suc (first rest))
+            inside h = elim (decLt (g .atoms) (suc (first rest))) [
+              | yes l ↦ absurd (false≢true (sym (beyond (g .atoms) rest (suc (first rest)) (omega (arith, R .fits)) l) ∙ h))
+              | no l ↦ omega arith
+            ]
+
+        -- in a connected graph the row holds the distances
+        entry-is : connected g ≡ true → (j : ℕ) → Within (g .atoms) j → getD row (j - 1) 0 ≡ distance g i j
+        entry-is c j a = go (has rest j) refl
+          where
+            go : (t : Bool) → has rest j ≡ t → getD row (j - 1) 0 ≡ distance g i j
+            go true e = let (k, w) = connected-molecule (sound D) c .linked i j (R .seen .start) a in absurd (left-out j e k w)
+            go false e = sym (met-distance g i (sound D) s (R .seen) quiet over j a (ap not e) ∙ rw (quiet j a) refl)
+
+        abbrev entry : ℕ → ℕ
+        entry j = cond (ltb j (g .atoms)) (distance g i (suc j)) 0
+
+        row-is : connected g ≡ true → row ≡ rowOf g i
+        unfolding rowOf
+        row-is c =
+            ext-getD 0 row (table mostAtoms entry) (R .size ∙ sym (length-table mostAtoms entry))
+            (λ j l. let k : j < mostAtoms = omega (arith, R .size) in at j (decLt j (g .atoms)) ∙ sym (getD-table mostAtoms entry j 0 k))
+          where
+            at : (j : ℕ) → Dec (j < g .atoms) → getD row j 0 ≡ entry j
+            at j (yes h) =
+                let e : suc j - 1 ≡ j = omega arith in
+                rw (lt-ltb j (g .atoms) h) (subst (λ (x : ℕ). getD row x 0 ≡ distance g i (suc j)) e (entry-is c (suc j) (omega arith)))
+            at j (no h) = rw (le-ltb j (g .atoms) (omega arith)) (R .behind j (omega arith))
+
+        pub run-end : Searched g i (record { row = row; rest = rest })
+        run-end = record { whole = whole; apart = apart; row = row-is }

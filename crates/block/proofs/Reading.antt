@@ -1,5 +1,5 @@
 -- The bonds are read one by one: what holds after k of them. Assumes nothing.
-use Prim.Native.Nat.{ℕ, zero, suc, _+_, _*_, _≤_, _<_}
+use Prim.Native.Nat.{ℕ, zero, suc, _+_, _-_, _*_, _≤_, _<_}
 use mathlib.Core.Bool.{Bool, true, false}
 use mathlib.Core.List.{List, [], _∷_}
 use mathlib.Core.Logic.{_⊎_, inl, inr, ⊎-elim, _≢_}
@@ -9,14 +9,14 @@ use native.Mathlib.Decide.{decLt}
 use native.Mathlib.Numerals.{add-one}
 use lib.ListN.{length, getD, drop, replicate, getD-replicate, length-drop, length-replicate, List·getD-eq-default}
 use lib.Seq.{drop-cons}
-use Rattle.graph.specs.Graph.{Bond, bond, anyJoins, bonded, degree}
+use Rattle.graph.specs.Graph.{Bond, bond, Within, anyJoins, bonded, degree}
+use Rattle.graph.specs.Sets.{has, has-none}
 use Rattle.graph.specs.Bonds.{any-out, any-head, any-tail, any-none}
 use Rattle.block.specs.Read.{refused, read, _then_, refuseFor, refusal}
 use Rattle.block.specs.Block.{limit, mostAtoms, bondsOf, graphOf, bondFault, bondsReply}
-use Rattle.block.specs.Near.{counted, near, putting, Draws, Holds, Lists}
-use Rattle.block.specs.declared.Near.{Near}
+use Rattle.block.specs.Near.{counted, putting, counting, Draws, Holds, Lists}
 use Rattle.block.specs.Faults.{Faultless, faultless}
-use Rattle.block.proofs.Listing.{put-holds, room-one, room-two}
+use Rattle.block.proofs.Listing.{same-test, put-holds, room-one, room-two}
 
 -- the bond at place k from 0, and the first k bonds, the last of them first
 abbrev pub bondAt : List ℕ → ℕ → Bond
@@ -55,8 +55,8 @@ rest-none : (xs : List ℕ) (k : ℕ) → length xs < 2 * k + 2 → rest xs k �
 rest-none xs k l = short (drop (2 * k) xs) (rw length-drop (omega arith))
 
 -- what holds after k bonds that have no fault
-pub record Reads (n : ℕ) (xs : List ℕ) (k : ℕ) (t : Near) : Type 0 where
-  pub holds : Holds n (before xs k) t
+pub record Reads (n : ℕ) (xs : List ℕ) (k : ℕ) (near count : List ℕ) : Type 0 where
+  pub holds : Holds n (before xs k) near count
   pub answer : bondsReply n [] (bondsOf xs) ≡ bondsReply n (before xs k) (rest xs k)
   pub parts : (u v : ℕ) → anyJoins (bondsOf xs) u v ≡ true → (anyJoins (before xs k) u v ≡ true) ⊎ (anyJoins (rest xs k) u v ≡ true)
   pub passed : (u v : ℕ) → anyJoins (before xs k) u v ≡ true → anyJoins (bondsOf xs) u v ≡ true
@@ -66,22 +66,21 @@ pub record Reads (n : ℕ) (xs : List ℕ) (k : ℕ) (t : Near) : Type 0 where
 pub zeros : (m p : ℕ) → _≡_ {A = ℕ} (getD (replicate m 0) p 0) 0
 zeros m p = elim (decLt p m) [ yes h ↦ getD-replicate m p 0 0 h | no h ↦ List·getD-eq-default (replicate m 0) 0 {n = p} (omega (arith, length-replicate {A = ℕ} m 0)) ]
 
-abbrev pub blank : Near
-blank = near (replicate (suc mostAtoms) 0) (replicate (limit * suc mostAtoms) 0)
+abbrev pub blank : List ℕ
+blank = replicate mostAtoms 0
 
-pub reads-start : (n : ℕ) (xs : List ℕ) → n ≤ mostAtoms → Reads n xs 0 blank
-unfolding before degree
+pub reads-start : (n : ℕ) (xs : List ℕ) → n ≤ mostAtoms → Reads n xs 0 blank blank
+unfolding before degree anyJoins
 reads-start n xs s = record {
   holds = record {
     draws = record {
       small = s;
-      sizes = (refl, refl);
+      size = refl;
       ends = λ u w e. absurd (any-none u w e);
-      few = λ u. omega (arith, zeros (suc mostAtoms) u);
-      each = λ u k l. absurd (omega (arith, zeros (suc mostAtoms) u));
-      every = λ u w e. absurd (any-none u w e);
+      drawn = λ u w a b. ap (λ (x : ℕ). has x w) (zeros mostAtoms (u - 1)) ∙ has-none w;
     };
-    degrees = zeros (suc mostAtoms);
+    places = refl;
+    degrees = λ u w. zeros mostAtoms (u - 1);
   };
   answer = refl;
   parts = λ u v e. inr e;
@@ -89,7 +88,7 @@ reads-start n xs s = record {
   coming = λ u v e. e;
 }
 
-module _ (n : ℕ) (xs : List ℕ) (k : ℕ) (t : Near) (A : Reads n xs k t) (more : 2 * k + 1 < length xs) where
+module _ (n : ℕ) (xs : List ℕ) (k : ℕ) (near count : List ℕ) (A : Reads n xs k near count) (more : 2 * k + 1 < length xs) where
   abbrev a : ℕ
   a = getD xs (2 * k) 0
 
@@ -111,16 +110,16 @@ module _ (n : ℕ) (xs : List ℕ) (k : ℕ) (t : Near) (A : Reads n xs k t) (mo
     free : Faultless n bs a b
     free = faultless n bs (bondAt xs k) e
 
-    pub put-first : (a ≤ mostAtoms) × (counted t a < limit)
-    put-first = (omega (arith, A .holds .draws .small, free .one), room-one n bs t (A .holds) a b free)
+    pub put-first : Within mostAtoms a × (counted count a < limit)
+    put-first = (omega (arith, A .holds .draws .small, free .one), room-one n bs near count (A .holds) a b free)
 
-    pub put-second : (b ≤ mostAtoms) × (counted (putting t a b) b < limit)
-    put-second = (omega (arith, A .holds .draws .small, free .two), room-two n bs t (A .holds) a b free)
+    pub put-second : Within mostAtoms b × (counted (counting count a) b < limit)
+    put-second = (omega (arith, A .holds .draws .small, free .two), room-two n bs near count (A .holds) a b free)
 
-    pub reads-next : Reads n xs (suc k) (putting (putting t a b) b a)
+    pub reads-next : Reads n xs (suc k) (putting (putting near a b) b a) (counting (counting count a) b)
     unfolding before
     reads-next = record {
-      holds = put-holds n bs t (A .holds) a b free;
+      holds = put-holds n bs near count (A .holds) a b free;
       answer = step ∙ rw e;
       parts = λ u v j.
           ⊎-elim (λ x. inl (any-tail (bondAt xs k) bs u v x))
@@ -133,20 +132,15 @@ module _ (n : ℕ) (xs : List ℕ) (k : ℕ) (t : Near) (A : Reads n xs k t) (mo
     }
 
 -- after the last bond
-module _ (n : ℕ) (xs : List ℕ) (k : ℕ) (t : Near) (A : Reads n xs k t) (last : length xs < 2 * k + 2) where
+module _ (n : ℕ) (xs : List ℕ) (k : ℕ) (near count : List ℕ) (A : Reads n xs k near count) (last : length xs < 2 * k + 2) where
   pub reads-fine : bondsReply n [] (bondsOf xs) ≡ read tt
   unfolding bondsReply
   reads-fine = A .answer ∙ rw (rest-none xs k last) refl
-
-  same-test : (p q : Bool) → (p ≡ true → q ≡ true) → (q ≡ true → p ≡ true) → p ≡ q
-  same-test true q f g = sym (f refl)
-  same-test false true f g = g refl
-  same-test false false f g = refl
 
   whole : (u v : ℕ) → anyJoins (before xs k) u v ≡ anyJoins (bondsOf xs) u v
   whole u v = same-test (anyJoins (before xs k) u v) (anyJoins (bondsOf xs) u v) (A .passed u v)
       (λ j. ⊎-elim (λ x. x) (λ x. absurd (any-none u v (rw (rest-none xs k last) at x))) (A .parts u v j))
 
-  pub reads-drawn : Lists (graphOf n xs) t
+  pub reads-drawn : Lists (graphOf n xs) near
   unfolding bonded
-  reads-drawn = subst (λ (R : ℕ → ℕ → Bool). Draws n R t) (fun-ext (λ u. fun-ext (λ v. whole u v))) (A .holds .draws)
+  reads-drawn = subst (λ (R : ℕ → ℕ → Bool). Draws n R near) (fun-ext (λ u. fun-ext (λ v. whole u v))) (A .holds .draws)

@@ -10,19 +10,19 @@ use Rattle.block.specs.Rows.{rowOf, rowReply, saidRow}
 use Rattle.block.specs.Near.{Lists}
 use Rattle.block.specs.declared.Reply.{Reply}
 use Rattle.block.specs.declared.Reply.the-variants.{Fine, Refused}
-use Rattle.block.specs.declared.Near.{Near}
 use Rattle.block.specs.declared.Found.{Found}
 use Rattle.block.specs.declared.View.{View}
 
--- a search from atom i over the lists of a graph
-pub record Task (g : Graph) (t : Near) (i : ℕ) : Type 0 where
-  pub lists : Lists g t
+-- a search from atom i over the neighbours of the n atoms of a graph
+pub record Task (g : Graph) (near : List ℕ) (n i : ℕ) : Type 0 where
+  pub lists : Lists g near
+  pub size : n ≡ g .atoms
   pub start : Within (g .atoms) i
 
--- it meets all atoms exactly where the graph is connected, and then its row is that of the distances
+-- it leaves no atom exactly where the graph is connected, and then its row is that of the distances
 pub record Searched (g : Graph) (i : ℕ) (r : Found) : Type 0 where
-  pub whole : r .met ≡ g .atoms → connected g ≡ true
-  pub apart : r .met ≢ g .atoms → connected g ≡ false
+  pub whole : r .rest ≡ 0 → connected g ≡ true
+  pub apart : r .rest ≢ 0 → connected g ≡ false
   pub row : connected g ≡ true → r .row ≡ rowOf g i
 
 -- whether a row was read

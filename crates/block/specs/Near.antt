@@ -1,24 +1,16 @@
--- The neighbours of each atom as the digits of a number, and what they say of a graph.
-use Prim.Native.Nat.{ℕ, suc, _+_, _-_, _/_, _%_, _^_, _≤_, _<_}
+-- The neighbours of each atom as a set in one number, and what they say of a graph.
+use Prim.Native.Nat.{ℕ, _+_, _-_, _≤_}
 use mathlib.Core.Bool.{Bool, true}
 use mathlib.Core.List.{List, []}
 use mathlib.Core.Path.{_≡_}
-use lib.Dec.{eqb}
 use lib.Bits.{bitOr}
 use lib.ListN.{length, getD, set}
 use Rattle.graph.specs.Graph.{Graph, Bond, Within, anyJoins, bonded, degree}
+use Rattle.graph.specs.Sets.{has, alone}
 use Rattle.block.specs.Read.{read}
-use Rattle.block.specs.Block.{limit, mostAtoms, bondsOf, graphOf, bondsReply, blockReply, saidBlock}
+use Rattle.block.specs.Block.{mostAtoms, bondsOf, graphOf, bondsReply, blockReply, saidBlock}
 use Rattle.block.specs.declared.Built.{Built}
 use Rattle.block.specs.declared.Reply.the-variants.{Fine}
-
--- whether atom v is in the set m: its binary digit at v - 1 is 1
-unfoldable pub has : ℕ → ℕ → Bool
-has m v = eqb (m / 2 ^ (v - 1) % 2) 1
-
--- the set of v alone
-abbrev pub alone : ℕ → ℕ
-alone v = 2 ^ (v - 1)
 
 -- the neighbours of atom u, and how many bonds it has
 abbrev pub around : List ℕ → ℕ → ℕ

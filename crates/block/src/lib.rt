@@ -78,26 +78,19 @@ pub struct Pairs {
     pub at: [u16; ATOMS],
 }
 
-// Neighbour lists. Atom u has count[u] neighbours, which stand in order from LIMIT * u on; atom 0 is none.
-const SEATS: usize = ATOMS + 1;
-
-const PLACES: usize = SEATS * LIMIT;
-
-struct Near {
-    pub count: [u8; SEATS],
-    pub list: [u8; PLACES],
-}
+// The neighbours of each atom: those of atom u are a set, at u - 1; atom v is in it where its binary digit at v - 1 is 1.
+type Neighbours = [u64; ATOMS];
 
 // What reading the bonds gives.
 struct Built {
     pub reply: Reply,
-    pub near: Near,
+    pub near: Neighbours,
 }
 
-// A search from one atom: the distances found, and how many atoms were met.
+// A search from one atom: the distances found, and the set of the atoms that were not met.
 struct Found {
     pub row: DistanceRow,
-    pub met: usize,
+    pub rest: u64,
 }
 
 // The row of one atom, or why there is none.
@@ -123,14 +116,11 @@ fn refused(number: usize) -> Built
 {
     Built {
         reply: Reply::Refused(Refusal { number, place: 0 }),
-        near: Near {
-            count: [0u8; SEATS],
-            list: [0u8; PLACES],
-        },
+        near: [0u64; ATOMS],
     }
 }
 
-// The reply to a block and, where it is fine, its neighbour lists.
+// The reply to a block and, where it is fine, the neighbours.
 fn admit(n: usize, bonds: &[u8]) -> Built
     ensures { λ r. ⌜ Admitting n (now (bonds .entry)) r ⌝ }
 {
@@ -149,7 +139,7 @@ fn admit(n: usize, bonds: &[u8]) -> Built
         return built;
     };
     let near = built.near;
-    if search::connected(near, n) {
+    if search::connected(&near, n) {
         built
     } else {
         refused(7)
@@ -175,7 +165,7 @@ pub fn rows(n: usize, bonds: &[u8]) -> DistanceMatrix
         return [[0u8; ATOMS]; ATOMS];
     };
     let near = admitted.near;
-    search::from_all(near, n)
+    search::from_all(&near, n)
 }
 
 // The row of atom i, or why there is none: the block's refusal, or 18 where it has no such atom.
@@ -200,9 +190,7 @@ fn look(n: usize, bonds: &[u8], i: usize) -> View
         };
     }
     let near = admitted.near;
-    let count = near.count;
-    let list = near.list;
-    let found = search::from_atom(&count, &list, i as u8);
+    let found = search::from_atom(&near, n, i);
     let row = found.row;
     View { reply, row }
 }
@@ -216,8 +204,8 @@ pub fn row(n: usize, bonds: &[u8], i: usize) -> DistanceRow
 }
 
 // The indices of the first n atoms, at most ATOMS, by rows of their distances: the pair i < j is read in the row of j.
-pub fn sums(rows: DistanceMatrix, n: usize) -> Indices
-    ensures { λ r. ⌜ r ≡ indicesBy (min n mostAtoms) (pairEntry rows) ⌝ }
+pub fn sums(rows: &DistanceMatrix, n: usize) -> Indices
+    ensures { λ r. ⌜ r ≡ indicesBy (min n mostAtoms) (pairEntry (now (rows .entry))) ⌝ }
 {
     let m = totals::within(n);
     let mut even: u64 = 0;
@@ -225,8 +213,7 @@ pub fn sums(rows: DistanceMatrix, n: usize) -> Indices
     let mut threes: u64 = 0;
     let mut j = 0;
     while j < m {
-        let row = rows[j];
-        let t = totals::along(row, j);
+        let t = totals::along(&rows[j], j);
         even += t.even;
         odd += t.odd;
         threes += t.threes;
@@ -242,8 +229,8 @@ pub fn sums(rows: DistanceMatrix, n: usize) -> Indices
 }
 
 // The vertex sum of an atom and what goes with it, by the row of its distances to the first n atoms, at most ATOMS.
-pub fn around_row(row: DistanceRow, n: usize) -> Vertex
-    ensures { λ r. ⌜ r ≡ vertexBy (min n mostAtoms) (entry row) ⌝ }
+pub fn around_row(row: &DistanceRow, n: usize) -> Vertex
+    ensures { λ r. ⌜ r ≡ vertexBy (min n mostAtoms) (entry (now (row .entry))) ⌝ }
 {
     let m = totals::within(n);
     let t = totals::along(row, m);
@@ -268,8 +255,8 @@ pub fn measure(n: usize, bonds: &[u8]) -> Measured
         Reply::Refused(refusal) => Measured::Refused(refusal),
         Reply::Fine => {
             let near = admitted.near;
-            let rows = search::from_all(near, n);
-            let indices = sums(rows, n);
+            let rows = search::from_all(&near, n);
+            let indices = sums(&rows, n);
             Measured::Of(indices)
         }
     }
@@ -307,7 +294,7 @@ pub fn vertex_sums(n: usize, bonds: &[u8], a: usize) -> Around
         Reply::Refused(refusal) => Around::Refused(refusal),
         Reply::Fine => {
             let row = seen.row;
-            let vertex = around_row(row, n);
+            let vertex = around_row(&row, n);
             Around::Of(vertex)
         }
     }
@@ -326,7 +313,7 @@ pub fn pair_counts(n: usize, bonds: &[u8]) -> Pairs
         };
     };
     let near = admitted.near;
-    let rows = search::from_all(near, n);
-    let at = totals::count_pairs(rows, n);
+    let rows = search::from_all(&near, n);
+    let at = totals::count_pairs(&rows, n);
     Pairs { reply, at }
 }

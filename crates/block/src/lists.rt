@@ -1,34 +1,16 @@
-// Neighbour lists: the bonds of a block are read one by one.
+// The bonds of a block are read one by one: their faults, and the neighbours of each atom.
+use super::ATOMS;
 use super::Built;
 use super::LIMIT;
-use super::Near;
-use super::PLACES;
+use super::Neighbours;
 use super::Refusal;
 use super::Reply;
-use super::SEATS;
 ghost use mathlib.Core.Path.{_≡_};
-ghost use mathlib.Core.Bool.{Bool};
 ghost use mathlib.Core.List.{List};
-ghost use Prim.Native.Nat.{ℕ, _≤_};
+ghost use Prim.Native.Nat.{_≤_};
 ghost use Rattle.graph.specs.Graph.{Bond, bond};
-ghost use Rattle.block.specs.Block.{limit, mostAtoms, isOutside, bondFault};
-ghost use Rattle.block.specs.Near.{counted, near, Draws, Holds, Reading};
-
-// Whether b is in the list of a.
-fn listed(count: &[u8; SEATS], list: &[u8; PLACES], a: usize, b: u8) -> bool
-    requires { ⌜ (a ≤ mostAtoms) × (counted (near (now count) (now list)) a ≤ limit) ⌝ }
-    ensures { λ r. ⌜ ((n : ℕ) (R : ℕ → ℕ → Bool) → Draws n R (near (now (count .entry)) (now (list .entry))) → r ≡ R a b) ⌝ }
-{
-    let d = count[a] as usize;
-    let mut k = 0;
-    while k < d {
-        if list[LIMIT * a + k] == b {
-            return true;
-        }
-        k += 1;
-    }
-    false
-}
+ghost use Rattle.block.specs.Block.{mostAtoms, isOutside, bondFault};
+ghost use Rattle.block.specs.Near.{Holds, Reading};
 
 // Whether v is none of the atoms 1 to n.
 pub(crate) fn outside(n: usize, v: usize) -> bool
@@ -37,10 +19,10 @@ pub(crate) fn outside(n: usize, v: usize) -> bool
     v == 0 || v > n
 }
 
-// The refusal number of the bond a-b after those that are listed, or 0.
-fn fault(n: usize, count: &[u8; SEATS], list: &[u8; PLACES], a: u8, b: u8) -> usize
-    requires { ⌜ (n ≤ mostAtoms) × ((u : ℕ) → counted (near (now count) (now list)) u ≤ limit) ⌝ }
-    ensures { λ r. ⌜ ((bs : List Bond) → Holds n bs (near (now (count .entry)) (now (list .entry))) → r ≡ bondFault n bs (bond a b)) ⌝ }
+// The refusal number of the bond a-b after those that were read, or 0.
+fn fault(n: usize, near: &Neighbours, count: &[u8; ATOMS], a: u8, b: u8) -> usize
+    requires { ⌜ n ≤ mostAtoms ⌝ }
+    ensures { λ r. ⌜ ((bs : List Bond) → Holds n bs (now (near .entry)) (now (count .entry)) → r ≡ bondFault n bs (bond a b)) ⌝ }
 {
     let u = a as usize;
     let v = b as usize;
@@ -53,52 +35,50 @@ fn fault(n: usize, count: &[u8; SEATS], list: &[u8; PLACES], a: u8, b: u8) -> us
     if u == v {
         return 4;
     }
-    if listed(count, list, u, b) {
+    if (near[u - 1] >> (v - 1)) % 2 == 1 {
         return 5;
     }
-    if count[u] as usize >= LIMIT {
+    if count[u - 1] >= LIMIT as u8 {
         return 6;
     }
-    if count[v] as usize >= LIMIT {
+    if count[v - 1] >= LIMIT as u8 {
         return 6;
     }
     0
 }
 
-// The refusals 3 to 6 of the bonds, and their neighbour lists.
+// The refusals 3 to 6 of the bonds, and the neighbours.
 pub(crate) fn build(n: usize, bonds: &[u8]) -> Built
     requires { ⌜ n ≤ mostAtoms ⌝ }
     ensures { λ r. ⌜ Reading n (now (bonds .entry)) r ⌝ }
 {
-    let mut count = [0u8; SEATS];
-    let mut list = [0u8; PLACES];
+    let mut near = [0u64; ATOMS];
+    let mut count = [0u8; ATOMS];
     let m = bonds.len() / 2;
     let mut k = 0;
     while k < m {
         let a = bonds[2 * k];
         let b = bonds[2 * k + 1];
-        let number = fault(n, &count, &list, a, b);
+        let number = fault(n, &near, &count, a, b);
         if number != 0 {
             return Built {
                 reply: Reply::Refused(Refusal {
                     number,
                     place: k + 1,
                 }),
-                near: Near { count, list },
+                near,
             };
         }
-        let u = a as usize;
-        let p = count[u];
-        list[LIMIT * u + p as usize] = b;
-        count[u] = p + 1;
-        let v = b as usize;
-        let q = count[v];
-        list[LIMIT * v + q as usize] = a;
-        count[v] = q + 1;
+        let u = a as usize - 1;
+        let v = b as usize - 1;
+        near[u] = near[u] | (1u64 << v);
+        count[u] = count[u] + 1;
+        near[v] = near[v] | (1u64 << u);
+        count[v] = count[v] + 1;
         k += 1;
     }
     Built {
         reply: Reply::Fine,
-        near: Near { count, list },
+        near,
     }
 }

@@ -1,73 +1,69 @@
-// Distances by breadth-first search over neighbour lists.
+// Distances by search, level by level: a set of atoms is one number.
 use super::ATOMS;
 use super::DistanceMatrix;
 use super::Found;
-use super::LIMIT;
-use super::Near;
-use super::PLACES;
-use super::SEATS;
+use super::Neighbours;
 ghost use mathlib.Core.Path.{_≡_};
 ghost use mathlib.Core.List.{List};
 ghost use Prim.Native.Nat.{ℕ};
-ghost use Rattle.graph.specs.Graph.{Graph, connected as isConnected};
-ghost use Rattle.block.specs.Block.{graphOf};
+ghost use Rattle.graph.specs.Graph.{Graph, Within, connected as isConnected};
+ghost use Rattle.graph.specs.Sets.{firsts};
+ghost use Rattle.block.specs.Block.{mostAtoms, graphOf};
 ghost use Rattle.block.specs.Rows.{rowsOf};
-ghost use Rattle.block.specs.Near.{near, Ready};
+ghost use Rattle.block.specs.Near.{Ready};
 ghost use Rattle.block.specs.Found.{Task, Searched};
 
-// The search from atom i: u is the atom at place h of the order in which atoms are met, and k of its neighbours are passed.
-pub(crate) fn from_atom(count: &[u8; SEATS], list: &[u8; PLACES], i: u8) -> Found
-    requires { ⌜ ((g : Graph) × Task g (near (now count) (now list)) i) ⌝ }
-    ensures { λ r. ⌜ ((g : Graph) → Task g (near (now (count .entry)) (now (list .entry))) i → Searched g i r) ⌝ }
+// The set of the atoms 1 to n.
+fn all(n: usize) -> u64
+    requires { ⌜ Within mostAtoms n ⌝ }
+    ensures { λ r. ⌜ r ≡ firsts n ⌝ }
+{
+    u64::MAX >> (ATOMS - n)
+}
+
+// The search from atom i. The atoms of level wait until their neighbours were looked at, which go into next; rest is not met yet.
+pub(crate) fn from_atom(near: &Neighbours, n: usize, i: usize) -> Found
+    requires { ⌜ ((g : Graph) × Task g (now near) n i) ⌝ }
+    ensures { λ r. ⌜ ((g : Graph) → Task g (now (near .entry)) n i → Searched g i r) ⌝ }
 {
     let mut row = [0u8; ATOMS];
-    let mut order = [0u8; ATOMS];
-    order[0] = i;
-    let mut met = 1;
-    let mut h = 0;
-    let mut k = 0;
-    while h < met {
-        let u = order[h] as usize;
-        if k < count[u] as usize {
-            let w = list[LIMIT * u + k];
-            let at = w as usize - 1;
-            k += 1;
-            if w != i && row[at] == 0 {
-                let next = row[u - 1] + 1;
-                row[at] = next;
-                order[met] = w;
-                met += 1;
-            }
-        } else {
-            h += 1;
-            k = 0;
+    let mut level = 1u64 << (i - 1);
+    let mut rest = all(n) ^ level;
+    let mut next = 0u64;
+    let mut d = 0u8;
+    while level != 0 {
+        let a = u64::trailing_zeros(level) as usize;
+        level = level ^ (1u64 << a);
+        row[a] = d;
+        next = next | near[a];
+        if level == 0 {
+            level = next & rest;
+            rest = rest ^ level;
+            next = 0;
+            d += 1;
         }
     }
-    Found { row, met }
+    Found { row, rest }
 }
 
 // Whether every pair of n atoms has a path.
-pub(crate) fn connected(near: Near, n: usize) -> bool
-    requires { ⌜ ((xs : List ℕ) × Task (graphOf n xs) near 1) ⌝ }
-    ensures { λ r. ⌜ ((xs : List ℕ) → Task (graphOf n xs) near 1 → r ≡ isConnected (graphOf n xs)) ⌝ }
+pub(crate) fn connected(near: &Neighbours, n: usize) -> bool
+    requires { ⌜ ((xs : List ℕ) × Task (graphOf n xs) (now near) n 1) ⌝ }
+    ensures { λ r. ⌜ ((xs : List ℕ) → Task (graphOf n xs) (now (near .entry)) n 1 → r ≡ isConnected (graphOf n xs)) ⌝ }
 {
-    let count = near.count;
-    let list = near.list;
-    let found = from_atom(&count, &list, 1);
-    found.met == n
+    let found = from_atom(near, n, 1);
+    found.rest == 0
 }
 
 // The rows of a block of n atoms, filled one by one.
-pub(crate) fn from_all(near: Near, n: usize) -> DistanceMatrix
-    requires { ⌜ ((xs : List ℕ) × Ready n xs near) ⌝ }
-    ensures { λ r. ⌜ ((xs : List ℕ) → Ready n xs near → r ≡ rowsOf n xs) ⌝ }
+pub(crate) fn from_all(near: &Neighbours, n: usize) -> DistanceMatrix
+    requires { ⌜ ((xs : List ℕ) × Ready n xs (now near)) ⌝ }
+    ensures { λ r. ⌜ ((xs : List ℕ) → Ready n xs (now (near .entry)) → r ≡ rowsOf n xs) ⌝ }
 {
-    let count = near.count;
-    let list = near.list;
     let mut all = [[0u8; ATOMS]; ATOMS];
     let mut i = 0;
     while i < n {
-        let found = from_atom(&count, &list, i as u8 + 1);
+        let found = from_atom(near, n, i + 1);
         let row = found.row;
         all[i] = row;
         i += 1;

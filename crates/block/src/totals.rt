@@ -17,9 +17,9 @@ pub(crate) fn wide(x: u8) -> u64
 }
 
 // The first k entries of a row.
-pub(crate) fn along(row: DistanceRow, k: usize) -> Tally
+pub(crate) fn along(row: &DistanceRow, k: usize) -> Tally
     requires { ⌜ k ≤ mostAtoms ⌝ }
-    ensures { λ r. ⌜ Tallied row k r ⌝ }
+    ensures { λ r. ⌜ Tallied (now (row .entry)) k r ⌝ }
 {
     let mut even: u64 = 0;
     let mut odd: u64 = 0;
@@ -62,9 +62,9 @@ pub(crate) fn within(n: usize) -> usize
 }
 
 // How often each number stands among the first k entries of a row, added to counts.
-fn count_row(at: [u16; ATOMS], row: DistanceRow, k: usize) -> [u16; ATOMS]
+fn count_row(at: [u16; ATOMS], row: &DistanceRow, k: usize) -> [u16; ATOMS]
     requires { ⌜ (k ≤ mostAtoms) × Counts (mostAtoms * mostAtoms) at ⌝ }
-    ensures { λ r. ⌜ Counted at row k r ⌝ }
+    ensures { λ r. ⌜ Counted at (now (row .entry)) k r ⌝ }
 {
     let mut counts = at;
     let mut j = 0;
@@ -79,15 +79,14 @@ fn count_row(at: [u16; ATOMS], row: DistanceRow, k: usize) -> [u16; ATOMS]
 }
 
 // How many pairs of the first n atoms, at most ATOMS, lie at each distance.
-pub(crate) fn count_pairs(rows: DistanceMatrix, n: usize) -> [u16; ATOMS]
-    ensures { λ r. ⌜ r ≡ countsBy (min n mostAtoms) (pairEntry rows) ⌝ }
+pub(crate) fn count_pairs(rows: &DistanceMatrix, n: usize) -> [u16; ATOMS]
+    ensures { λ r. ⌜ r ≡ countsBy (min n mostAtoms) (pairEntry (now (rows .entry))) ⌝ }
 {
     let m = within(n);
     let mut at = [0u16; ATOMS];
     let mut j = 0;
     while j < m {
-        let row = rows[j];
-        let next = count_row(at, row, j);
+        let next = count_row(at, &rows[j], j);
         at = next;
         j += 1;
     }

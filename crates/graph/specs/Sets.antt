@@ -8,7 +8,7 @@ use native.Mathlib.Decide.{ℕ-discrete, decLt}
 use native.Mathlib.Nat.{div-eq-of-lt, mod-lt, pow-suc}
 use lib.Dec.{eqb, ltb}
 use lib.Arith.{bin-ind, digits-div, digits-mod}
-use lib.Pow.{pow-pos, pow-add, pow-lt, pow-mono, high, split, shr-shr, ones-split}
+use lib.Pow.{pow-pos, pow-add, pow-lt, pow-mono, high, split, shl-exact, shr-shr, ones-split}
 use lib.Bits.{bitAnd, bitOr, bitXor, differ, and-step, or-step, xor-step, and-shr, or-shr, xor-shr, xor-add-and, and-block, and-mask, and-zero-r}
 use lib.Count.{trailingZeros, under}
 use borrow.Author.Tests.{eq-eqb, ne-eqb, lt-ltb, le-ltb}
@@ -88,6 +88,15 @@ has-xor a b v =
     let y = b / 2 ^ (v - 1) in
     let d = differ-digit (digit a v) (digit b v) in
     same (digit (bitXor a b) v) d (ap (λ (z : ℕ). z % 2) (xor-shr a b (v - 1) ∙ xor-step x y) ∙ last (bitXor (x / 2) (y / 2)) (differ (x % 2) (y % 2)) d)
+
+-- as a test of the digit tells
+pub has-yes : (m v : ℕ) → m / 2 ^ (v - 1) % 2 ≡ 1 → has m v ≡ true
+unfolding has
+has-yes m v e = eq-eqb (m / 2 ^ (v - 1) % 2) 1 e
+
+pub has-not : (m v : ℕ) → m / 2 ^ (v - 1) % 2 ≢ 1 → has m v ≡ false
+unfolding has
+has-not m v ne = ne-eqb (m / 2 ^ (v - 1) % 2) 1 ne
 
 pub has-none : (v : ℕ) → has 0 v ≡ false
 has-none v = same (digit 0 v) off (ap (λ (z : ℕ). z % 2) (div-eq-of-lt (pow-pos (v - 1))))
@@ -200,3 +209,12 @@ taken-some =
     back off on = refl
     back on off = refl
     back on on = refl
+
+-- In a word of w digits: 1 shifted to p, and all digits shifted down until n are left.
+pub shifted : (w p : ℕ) → p < w → 1 * 2 ^ p % 2 ^ w ≡ 2 ^ p
+shifted w p l = shl-exact 1 p w (omega arith) (omega arith) ∙ omega arith
+
+pub shifted-down : (w n : ℕ) → n ≤ w → (2 ^ w - 1) / 2 ^ (w - n) ≡ firsts n
+shifted-down w n l =
+    let e : w ≡ n + (w - n) = omega arith in
+    ap (λ (x : ℕ). (2 ^ x - 1) / 2 ^ (w - n)) e ∙ ap (λ (x : ℕ). x / 2 ^ (w - n)) (ones-split n (w - n)) ∙ high (2 ^ n - 1) (w - n) (omega (arith, pow-pos (w - n)))

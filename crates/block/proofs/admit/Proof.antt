@@ -1,7 +1,7 @@
 use Prim.Native.Nat.{_%_}
 use mathlib.Core.Bool.{true, false}
 use mathlib.Core.List.{[]}
-use mathlib.Core.Path.{_≡_, sym, _∙_}
+use mathlib.Core.Path.{_≡_, refl, sym, _∙_}
 use lib.Dec.{eqb, ltb}
 use lib.ListN.{length}
 use native.Mathlib.Omega.{arith}
@@ -66,28 +66,28 @@ returns-4 c =
 fine : (c : tie.After-enum-told) → let s = c .before .before .before .before .before .before .before .before .args in Fine ≡ saidBlock (bondsReply (s .n) [] (bondsOf (s .bonds .now)))
 fine c = sym (c .enum-told .given .1) ∙ c .before .before .build .ensures .replied
 
-task : (c : tie.After-enum-told) → let s = c .before .before .before .before .before .before .before .before .args in Task (graphOf (s .n) (s .bonds .now)) (c .before .before .build .result .near) 1
+task : (c : tie.After-enum-told) → let s = c .before .before .before .before .before .before .before .before .args in Task (graphOf (s .n) (s .bonds .now)) (c .before .before .build .result .near) (s .n) 1
 task c =
     let d = c .before .before .before in
     let w : Within mostAtoms (d .before .before .before .before .before .args .n) = inside mostAtoms _ (sized (d .before .before)) in
-    record { lists = c .before .before .build .ensures .drawn (c .enum-told .given .1); start = omega arith }
+    record { lists = c .before .before .build .ensures .drawn (c .enum-told .given .1); size = refl; start = omega arith }
 
 connected-requires : tie.Need-connected-requires
-connected-requires c κs = (c .before .before .before .before .before .before .before .before .before .args .bonds .now, task (c .before))
+connected-requires c κs = (c .before .before .before .before .before .before .before .before .before .before .args .bonds .now, task (c .before .before))
 
 refused-requires-4 : tie.Need-refused-requires-4
 refused-requires-4 c κs = search needs
 
 returns-5 : tie.Need-returns-5
 returns-5 c =
-    let t = c .before .before .before in
+    let t = c .before .before .before .before in
     let d = t .before .before .before in
     let r = reply-fine _ _ (sized (d .before .before)) (paired (d .before)) (few d) (fine t) (sym (c .before .connected .ensures _ (task t)) ∙ c .if4 .taken) in
     record { replied = t .enum-told .given .1 ∙ r; ready = λ e. record { fine = said-fine _ r; lists = task t .lists } }
 
 returns-6 : tie.Need-returns-6
 returns-6 c =
-    let t = c .before .before .before .before in
+    let t = c .before .before .before .before .before in
     let d = t .before .before .before in
     admit-refused _ _ _ _ (c .refused4 .ensures)
     (reply-apart _ _ (sized (d .before .before)) (paired (d .before)) (few d) (fine t) (sym (c .before .before .connected .ensures _ (task t)) ∙ c .before .if4 .left))

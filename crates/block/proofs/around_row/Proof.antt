@@ -16,7 +16,7 @@ add-t5 : tie.Need-add-t5
 add-t5 c = search needs
 
 returns : tie.Need-returns
-returns c = vertex-total _ _ _ (c .before .along .ensures) ∙ ap (λ (m : ℕ). vertexBy m (entry (c .before .before .before .args .row))) (c .before .before .within .ensures)
+returns c = vertex-total _ _ _ (c .before .along .ensures) ∙ ap (λ (m : ℕ). vertexBy m (entry (c .before .before .before .args .row .now))) (c .before .before .within .ensures)
 
 pub around-row-spec : {M : Type 1} → statement M
 around-row-spec = tie.close (tie.spec within-requires along-requires add-t5 returns)

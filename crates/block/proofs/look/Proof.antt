@@ -1,5 +1,4 @@
 use mathlib.Core.Path.{refl, sym, _∙_}
-use native.Mathlib.Omega.{arith}
 use borrow.Author.Needs.{needs}
 use Rattle.graph.specs.Graph.{Within}
 use Rattle.block.specs.Block.{graphOf}
@@ -39,18 +38,15 @@ returns-2 c = view-outside _ _ (ready (c .before .before) .fine) _ _ (sym (c .be
 atom : (c : tie.Else1) → let s = c .before .before .before .before .before .before .args in Within (s .n) (s .i)
 atom c = inside _ _ (sym (c .before .outside .ensures) ∙ c .if1 .left)
 
-task : (c : tie.Else1) → let s = c .before .before .before .before .before .before .args in Task (graphOf (s .n) (s .bonds .now)) (c .before .before .before .before .admit .result .near) (s .i)
-task c = record { lists = ready (c .before .before) .lists; start = atom c }
-
-cast-from-atom : tie.Need-cast-from-atom
-cast-from-atom c = let d = c .before .before .before .before .before in omega (arith, atom d, task d .lists .small)
+task : (c : tie.Else1) → let s = c .before .before .before .before .before .before .args in Task (graphOf (s .n) (s .bonds .now)) (c .before .before .before .before .admit .result .near) (s .n) (s .i)
+task c = record { lists = ready (c .before .before) .lists; size = refl; start = atom c }
 
 from-atom-requires : tie.Need-from-atom-requires
-from-atom-requires c κs = (_, task (c .before .before .before .before .before))
+from-atom-requires c κs = (_, task (c .before .before))
 
 returns-3 : tie.Need-returns-3
 returns-3 c =
-    let d = c .before .before .before .before .before .before .before in
+    let d = c .before .before .before .before in
     let f = ready (d .before .before) .fine in
     view-row _ _ f _ _ (atom d) (d .before .before .enum-told .given .1) (c .before .from-atom .ensures _ (task d) .row (passed _ _ f .whole))
 
@@ -64,6 +60,5 @@ look-spec =
     returns
     outside-requires
     returns-2
-    cast-from-atom
     from-atom-requires
     returns-3)

@@ -18,10 +18,10 @@ returns : tie.Need-returns
 returns c = refused-rows _ _ _ (said-refused _ _ (sym (c .enum-told2 .given .1) ∙ c .before .before .admit .ensures .replied))
 
 from-all-requires : tie.Need-from-all-requires
-from-all-requires c κs = (c .before .before .before .before .before .args .bonds .now, c .before .before .before .admit .ensures .ready (c .before .enum-told .given .1))
+from-all-requires c κs = (c .before .before .before .before .before .before .args .bonds .now, c .before .before .before .before .admit .ensures .ready (c .before .before .enum-told .given .1))
 
 returns-2 : tie.Need-returns-2
-returns-2 c = c .from-all .ensures _ (c .before .before .before .before .admit .ensures .ready (c .before .before .enum-told .given .1))
+returns-2 c = c .from-all .ensures _ (c .before .before .before .before .before .admit .ensures .ready (c .before .before .before .enum-told .given .1))
 
 pub rows-spec : {M : Type 1} → statement M
 rows-spec = tie.close (tie.spec admit-requires enum-told enum-told-2 returns from-all-requires returns-2)

@@ -9,10 +9,10 @@ use Rattle.block.proofs.sums.Statement.{statement}
 use Rattle.block.proofs.sums.Tie as tie
 
 abbrev Inv-loop : tie.InvT-loop
-Inv-loop n rows m even₀ odd₀ threes₀ j₀ even odd threes j = (j ≤ m) × (m ≤ mostAtoms) × Summed rows j even odd threes
+Inv-loop rows n m even₀ odd₀ threes₀ j₀ even odd threes j = (j ≤ m) × (m ≤ mostAtoms) × Summed rows j even odd threes
 
 abbrev μ-loop : tie.MeasureT-loop
-μ-loop n rows m even₀ odd₀ threes₀ j₀ even odd threes j = m - j
+μ-loop rows n m even₀ odd₀ threes₀ j₀ even odd threes j = m - j
 
 within-requires : tie.Need-within-requires Inv-loop μ-loop
 within-requires c κs = search needs
@@ -20,11 +20,11 @@ within-requires c κs = search needs
 loop-holds : tie.Need-loop-holds Inv-loop μ-loop
 loop-holds c = (omega arith, omega arith, sums-none _)
 
-mul-row : tie.Need-mul-row Inv-loop μ-loop
-mul-row c = omega arith
+mul-along : tie.Need-mul-along Inv-loop μ-loop
+mul-along c = omega arith
 
-array-copy-out-row : tie.Need-array-copy-out-row Inv-loop μ-loop
-array-copy-out-row c = omega arith
+index-1-along : tie.Need-index-1-along Inv-loop μ-loop
+index-1-along c = omega arith
 
 along-requires : tie.Need-along-requires Inv-loop μ-loop
 along-requires c κs = omega arith
@@ -49,15 +49,15 @@ loop-again c =
     let l = c .before .before .before .before .before .before .loop in
     (omega arith, l .inv .1, sums-more _ (l .j) _ _ _ (l .inv .2) _ (c .before .before .before .along .ensures) (omega arith))
 
-add-t17 : tie.Need-add-t17 Inv-loop μ-loop
-add-t17 c = omega arith
+add-t15 : tie.Need-add-t15 Inv-loop μ-loop
+add-t15 c = omega arith
 
 returns : tie.Need-returns Inv-loop μ-loop
 returns c =
     let l = c .before .loop in
     let w = c .before .before .within in
     let e : l .j ≡ w .result = omega arith in
-    sums-end _ _ _ _ _ (rw e at (l .inv .2)) ∙ ap (λ (m : ℕ). indicesBy m (pairEntry (c .before .before .before .args .t1))) (w .ensures)
+    sums-end _ _ _ _ _ (rw e at (l .inv .2)) ∙ ap (λ (m : ℕ). indicesBy m (pairEntry (c .before .before .before .args .rows .now))) (w .ensures)
 
 pub sums-spec : {M : Type 1} → statement M
 sums-spec =
@@ -67,8 +67,8 @@ sums-spec =
     μ-loop
     within-requires
     loop-holds
-    mul-row
-    array-copy-out-row
+    mul-along
+    index-1-along
     along-requires
     add-even
     add-odd
@@ -76,5 +76,5 @@ sums-spec =
     add-j
     loop-less
     loop-again
-    add-t17
+    add-t15
     returns)

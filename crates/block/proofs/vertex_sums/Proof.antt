@@ -19,7 +19,7 @@ returns : tie.Need-returns
 returns c = vertex-refused _ _ _ _ (c .before .before .before .look .ensures) _ (c .before .reply .given .1)
 
 returns-2 : tie.Need-returns-2
-returns-2 c = vertex-fine _ _ _ _ (c .before .before .before .before .look .ensures) (c .before .before .enum-told .given .1) _ (c .around-row .ensures)
+returns-2 c = vertex-fine _ _ _ _ (c .before .before .before .before .before .look .ensures) (c .before .before .before .enum-told .given .1) _ (c .around-row .ensures)
 
 pub vertex-sums-spec : {M : Type 1} → statement M
 vertex-sums-spec =

@@ -11,7 +11,7 @@ from-atom-requires c κs = search needs
 returns : tie.Need-returns
 returns c xs T =
     let S = c .before .from-atom .ensures _ T in
-    elim (ℕ-discrete (c .before .from-atom .result .met) (c .before .before .before .before .before .before .args .n)) [
+    elim (ℕ-discrete (c .before .from-atom .result .rest) 0) [
       | yes e ↦ rw (eq-eqb _ _ e) (sym (S .whole e))
       | no ne ↦ rw (ne-eqb _ _ ne) (sym (S .apart ne))
     ]

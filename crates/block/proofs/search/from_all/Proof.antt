@@ -1,34 +1,31 @@
 use Prim.Native.Nat.{ℕ, _≤_, _-_}
 use mathlib.Core.List.{List}
-use mathlib.Core.Path.{_≡_}
+use mathlib.Core.Path.{_≡_, refl}
 use native.Mathlib.Numerals.{add-one}
 use native.Mathlib.Omega.{arith}
 use Rattle.block.specs.Block.{graphOf, mostAtoms}
-use Rattle.block.specs.Near.{near, Ready}
+use Rattle.block.specs.Near.{Ready}
 use Rattle.block.specs.Told.{passed}
 use Rattle.block.proofs.Filling.{Filled, fill-start, fill-next, fill-end}
 use Rattle.block.proofs.search.from_all.Statement.{statement}
 use Rattle.block.proofs.search.from_all.Tie as tie
 
 abbrev Inv-loop : tie.InvT-loop
-Inv-loop n count list all₀ i₀ all i = (i ≤ n) × (n ≤ mostAtoms) × ((xs : List ℕ) → Ready n xs (near count list) → Filled n xs all i)
+Inv-loop near n all₀ i₀ all i = (i ≤ n) × (n ≤ mostAtoms) × ((xs : List ℕ) → Ready n xs near → Filled n xs all i)
 
 abbrev μ-loop : tie.MeasureT-loop
-μ-loop n count list all₀ i₀ all i = n - i
+μ-loop near n all₀ i₀ all i = n - i
 
 loop-holds : tie.Need-loop-holds Inv-loop μ-loop
-loop-holds c = (omega arith, c .before .before .pre .1 .lists .small, λ xs R. fill-start _ xs)
-
-cast-from-atom : tie.Need-cast-from-atom Inv-loop μ-loop
-cast-from-atom c = omega arith
+loop-holds c = (omega arith, c .pre .1 .lists .small, λ xs R. fill-start _ xs)
 
 add-from-atom : tie.Need-add-from-atom Inv-loop μ-loop
 add-from-atom c = omega arith
 
 from-atom-requires : tie.Need-from-atom-requires Inv-loop μ-loop
 from-atom-requires c κs =
-    let s = c .before .before .before .before .before .before in
-    (graphOf (s .args .n) (s .pre .0), record { lists = s .pre .1 .lists; start = omega arith })
+    let s = c .before .before in
+    (graphOf (s .args .n) (s .pre .0), record { lists = s .pre .1 .lists; size = refl; start = omega arith })
 
 mul-all : tie.Need-mul-all Inv-loop μ-loop
 mul-all c = omega arith
@@ -44,17 +41,17 @@ loop-less c = omega arith
 
 loop-again : tie.Need-loop-again Inv-loop μ-loop
 loop-again c =
-    let l = c .before .before .before .before .before .loop in (
+    let l = c .before .before .before .loop in (
       omega arith,
       l .inv .1,
       λ xs R.
-          let S = c .before .from-atom .ensures _ (record { lists = R .lists; start = omega arith }) in
+          let S = c .before .from-atom .ensures _ (record { lists = R .lists; size = refl; start = omega arith }) in
           rw (add-one (l .i)) (fill-next _ xs _ (l .i) _ (omega arith) (l .inv .2 xs R) (rw (add-one (l .i)) at (S .row (passed _ xs (R .fine) .whole)))),
     )
 
 returns : tie.Need-returns Inv-loop μ-loop
 returns c xs R =
-    let e : c .before .loop .i ≡ c .before .before .before .before .args .n = omega arith in
+    let e : c .before .loop .i ≡ c .before .before .args .n = omega arith in
     fill-end _ xs (R .fine) _ (rw e at (c .before .loop .inv .2 xs R))
 
 pub from-all-spec : {M : Type 1} → statement M
@@ -64,7 +61,6 @@ from-all-spec =
     Inv-loop
     μ-loop
     loop-holds
-    cast-from-atom
     add-from-atom
     from-atom-requires
     mul-all

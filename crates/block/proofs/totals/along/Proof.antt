@@ -9,17 +9,17 @@ use Rattle.block.proofs.totals.along.Statement.{statement}
 use Rattle.block.proofs.totals.along.Tie as tie
 
 abbrev Inv-loop : tie.InvT-loop
-Inv-loop k row even₀ odd₀ evens₀ odds₀ ones₀ twos₀ threes₀ j₀ even odd evens odds ones twos threes j =
+Inv-loop row k even₀ odd₀ evens₀ odds₀ ones₀ twos₀ threes₀ j₀ even odd evens odds ones twos threes j =
     (j ≤ k) × Tallied row j (record { even = even; odd = odd; evens = evens; odds = odds; ones = ones; twos = twos; threes = threes })
 
 abbrev μ-loop : tie.MeasureT-loop
-μ-loop k row even₀ odd₀ evens₀ odds₀ ones₀ twos₀ threes₀ j₀ even odd evens odds ones twos threes j = k - j
+μ-loop row k even₀ odd₀ evens₀ odds₀ ones₀ twos₀ threes₀ j₀ even odd evens odds ones twos threes j = k - j
 
 loop-holds : tie.Need-loop-holds Inv-loop μ-loop
 loop-holds c = (omega arith, tally-none _)
 
-array-read-wide : tie.Need-array-read-wide Inv-loop μ-loop
-array-read-wide c = omega arith
+element-copy-out-wide : tie.Need-element-copy-out-wide Inv-loop μ-loop
+element-copy-out-wide c = omega arith
 
 wide-requires : tie.Need-wide-requires Inv-loop μ-loop
 wide-requires c κs = search needs
@@ -28,19 +28,19 @@ cast-ones : tie.Need-cast-ones Inv-loop μ-loop
 cast-ones c = omega arith
 
 add-ones : tie.Need-add-ones Inv-loop μ-loop
-add-ones c = let B = c .before .before .loop .inv .1 .low in omega (arith, bit-low (eqb (c .wide .result) 1))
+add-ones c = let B = c .before .before .before .loop .inv .1 .low in omega (arith, bit-low (eqb (c .wide .result) 1))
 
 cast-twos : tie.Need-cast-twos Inv-loop μ-loop
 cast-twos c = omega arith
 
 add-twos : tie.Need-add-twos Inv-loop μ-loop
-add-twos c = let B = c .before .before .loop .inv .1 .low in omega (arith, bit-low (eqb (c .wide .result) 2))
+add-twos c = let B = c .before .before .before .loop .inv .1 .low in omega (arith, bit-low (eqb (c .wide .result) 2))
 
 cast-threes : tie.Need-cast-threes Inv-loop μ-loop
 cast-threes c = omega arith
 
 add-threes : tie.Need-add-threes Inv-loop μ-loop
-add-threes c = let B = c .before .before .loop .inv .1 .low in omega (arith, bit-low (eqb (c .wide .result) 3))
+add-threes c = let B = c .before .before .before .loop .inv .1 .low in omega (arith, bit-low (eqb (c .wide .result) 3))
 
 add-j : tie.Need-add-j Inv-loop μ-loop
 add-j c = omega arith
@@ -56,7 +56,7 @@ loop-less c = omega arith
 
 loop-again : tie.Need-loop-again Inv-loop μ-loop
 loop-again c =
-    let l = c .before .before .before .loop in
+    let l = c .before .before .before .before .loop in
     (omega arith, tally-even _ (l .j) _ (l .inv .1) (c .before .wide .result) (c .before .wide .ensures .0) (c .before .wide .ensures .1) (c .if1 .taken))
 
 add-odd : tie.Need-add-odd Inv-loop μ-loop
@@ -70,7 +70,7 @@ loop-less-2 c = omega arith
 
 loop-again-2 : tie.Need-loop-again-2 Inv-loop μ-loop
 loop-again-2 c =
-    let l = c .before .before .before .loop in
+    let l = c .before .before .before .before .loop in
     (omega arith, tally-odd _ (l .j) _ (l .inv .1) (c .before .wide .result) (c .before .wide .ensures .0) (c .before .wide .ensures .1) (c .if1 .left))
 
 returns : tie.Need-returns Inv-loop μ-loop
@@ -85,7 +85,7 @@ along-spec =
     Inv-loop
     μ-loop
     loop-holds
-    array-read-wide
+    element-copy-out-wide
     wide-requires
     cast-ones
     add-ones

@@ -9,10 +9,10 @@ use Rattle.block.proofs.totals.count_pairs.Statement.{statement}
 use Rattle.block.proofs.totals.count_pairs.Tie as tie
 
 abbrev Inv-loop : tie.InvT-loop
-Inv-loop n rows m at₀ j₀ at j = (j ≤ m) × (m ≤ mostAtoms) × PairsCounted rows j at
+Inv-loop rows n m at₀ j₀ at j = (j ≤ m) × (m ≤ mostAtoms) × PairsCounted rows j at
 
 abbrev μ-loop : tie.MeasureT-loop
-μ-loop n rows m at₀ j₀ at j = m - j
+μ-loop rows n m at₀ j₀ at j = m - j
 
 within-requires : tie.Need-within-requires Inv-loop μ-loop
 within-requires c κs = search needs
@@ -20,11 +20,11 @@ within-requires c κs = search needs
 loop-holds : tie.Need-loop-holds Inv-loop μ-loop
 loop-holds c = (omega arith, omega arith, pairs-none _)
 
-mul-row : tie.Need-mul-row Inv-loop μ-loop
-mul-row c = omega arith
+mul-count-row : tie.Need-mul-count-row Inv-loop μ-loop
+mul-count-row c = omega arith
 
-array-copy-out-row : tie.Need-array-copy-out-row Inv-loop μ-loop
-array-copy-out-row c = omega arith
+index-1-count-row : tie.Need-index-1-count-row Inv-loop μ-loop
+index-1-count-row c = omega arith
 
 count-row-requires : tie.Need-count-row-requires Inv-loop μ-loop
 count-row-requires c κs = (omega arith, pairs-counts _ _ _ (c .before .before .loop .inv .2) (omega arith))
@@ -45,7 +45,7 @@ returns c =
     let l = c .before .loop in
     let w = c .before .before .within in
     let e : l .j ≡ w .result = omega arith in
-    pairs-end _ _ _ (rw e at (l .inv .2)) ∙ ap (λ (m : ℕ). countsBy m (pairEntry (c .before .before .before .args .t1))) (w .ensures)
+    pairs-end _ _ _ (rw e at (l .inv .2)) ∙ ap (λ (m : ℕ). countsBy m (pairEntry (c .before .before .before .args .rows .now))) (w .ensures)
 
 pub count-pairs-spec : {M : Type 1} → statement M
 count-pairs-spec =
@@ -55,8 +55,8 @@ count-pairs-spec =
     μ-loop
     within-requires
     loop-holds
-    mul-row
-    array-copy-out-row
+    mul-count-row
+    index-1-count-row
     count-row-requires
     add-j
     loop-less

@@ -8,16 +8,16 @@ use Rattle.block.proofs.totals.count_row.Statement.{statement}
 use Rattle.block.proofs.totals.count_row.Tie as tie
 
 abbrev Inv-loop : tie.InvT-loop
-Inv-loop k row counts₀ j₀ counts j = (j ≤ k) × Counted counts₀ row j counts
+Inv-loop row k counts₀ j₀ counts j = (j ≤ k) × Counted counts₀ row j counts
 
 abbrev μ-loop : tie.MeasureT-loop
-μ-loop k row counts₀ j₀ counts j = k - j
+μ-loop row k counts₀ j₀ counts j = k - j
 
 loop-holds : tie.Need-loop-holds Inv-loop μ-loop
 loop-holds c = (omega arith, count-none _ _ _ (c .pre .1))
 
-array-read-wide : tie.Need-array-read-wide Inv-loop μ-loop
-array-read-wide c = omega arith
+element-copy-out-wide : tie.Need-element-copy-out-wide Inv-loop μ-loop
+element-copy-out-wide c = omega arith
 
 wide-requires : tie.Need-wide-requires Inv-loop μ-loop
 wide-requires c κs = search needs
@@ -33,8 +33,8 @@ array-read-counts c = omega arith
 
 add-counts : tie.Need-add-counts Inv-loop μ-loop
 add-counts c =
-    let s = c .before .before .before .before in
-    omega (arith, count-low _ _ _ _ (c .before .before .before .loop .inv .1) _ (c .before .wide .result) (s .pre .1) (c .if1 .taken))
+    let s = c .before .before .before .before .before in
+    omega (arith, count-low _ _ _ _ (c .before .before .before .before .loop .inv .1) _ (c .before .wide .result) (s .pre .1) (c .if1 .taken))
 
 mul-counts-2 : tie.Need-mul-counts-2 Inv-loop μ-loop
 mul-counts-2 c = omega arith
@@ -46,13 +46,13 @@ loop-less : tie.Need-loop-less Inv-loop μ-loop
 loop-less c = omega arith
 
 loop-again : tie.Need-loop-again Inv-loop μ-loop
-loop-again c = (omega arith, count-in _ _ _ _ (c .before .before .before .loop .inv .1) _ (c .before .wide .ensures .0) (c .if1 .taken))
+loop-again c = (omega arith, count-in _ _ _ _ (c .before .before .before .before .loop .inv .1) _ (c .before .wide .ensures .0) (c .if1 .taken))
 
 loop-less-2 : tie.Need-loop-less-2 Inv-loop μ-loop
 loop-less-2 c = omega arith
 
 loop-again-2 : tie.Need-loop-again-2 Inv-loop μ-loop
-loop-again-2 c = (omega arith, count-out _ _ _ _ (c .before .before .before .loop .inv .1) _ (c .before .wide .ensures .0) (c .if1 .left))
+loop-again-2 c = (omega arith, count-out _ _ _ _ (c .before .before .before .before .loop .inv .1) _ (c .before .wide .ensures .0) (c .if1 .left))
 
 returns : tie.Need-returns Inv-loop μ-loop
 returns c =
@@ -66,7 +66,7 @@ count-row-spec =
     Inv-loop
     μ-loop
     loop-holds
-    array-read-wide
+    element-copy-out-wide
     wide-requires
     add-j
     mul-counts

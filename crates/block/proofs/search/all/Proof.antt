@@ -1,0 +1,17 @@
+use borrow.Author.Needs.{needs}
+use Rattle.graph.specs.Sets.{shifted-down}
+use Rattle.block.specs.Block.{mostAtoms}
+use Rattle.block.proofs.search.all.Statement.{statement}
+use Rattle.block.proofs.search.all.Tie as tie
+
+sub-result : tie.Need-sub-result
+sub-result c = search needs
+
+shr-result : tie.Need-shr-result
+shr-result c = search needs
+
+returns : tie.Need-returns
+returns c = shifted-down mostAtoms _ (c .pre .high)
+
+pub all-spec : {M : Type 1} → statement M
+all-spec = tie.close (tie.spec sub-result shr-result returns)
