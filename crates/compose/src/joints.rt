@@ -76,8 +76,7 @@ fn end_counts(
     ensures { λ r. ⌜ r ≡ vertexBy (min (numbersAt numbers block .atoms) mostAtoms) (entry (now (rows .entry)) end) ⌝ }
 {
     let all = numbers[block];
-    let row = rows[end];
-    around_row(row, all.atoms as usize)
+    around_row(&rows[end], all.atoms as usize)
 }
 
 // What is counted from the parent's atom of the placement at index k, in the molecule up to the parent.

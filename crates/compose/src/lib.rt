@@ -83,7 +83,7 @@ fn filled(
         if q.block == f {
             let b = block_of(xs, blocks, count, f);
             let table = table_of(d, b);
-            numbers[f] = sums(table, b.atoms as usize);
+            numbers[f] = sums(&table, b.atoms as usize);
             let next = copied(&table, links, placements, f, ends);
             ends = next;
         }

@@ -44,13 +44,13 @@ sums-requires : tie.Need-sums-requires Inv-loop μ-loop
 sums-requires c κs = search needs
 
 mul-numbers : tie.Need-mul-numbers Inv-loop μ-loop
-mul-numbers c = omega (arith, c .before .before .before .before .before .before .before .before .before .before .before .pre .few, c .before .before .before .before .before .before .before .loop-test .taken)
+mul-numbers c = omega (arith, c .before .before .before .before .before .before .before .before .before .before .before .before .pre .few, c .before .before .before .before .before .before .before .before .loop-test .taken)
 
 array-set-from-numbers : tie.Need-array-set-from-numbers Inv-loop μ-loop
-array-set-from-numbers c = omega (arith, c .before .before .before .before .before .before .before .before .before .before .before .pre .few, c .before .before .before .before .before .before .before .loop-test .taken)
+array-set-from-numbers c = omega (arith, c .before .before .before .before .before .before .before .before .before .before .before .before .pre .few, c .before .before .before .before .before .before .before .before .loop-test .taken)
 
 copied-requires : tie.Need-copied-requires Inv-loop μ-loop
-copied-requires c κs = ranged (c .before .before .before .before .before .before .before .before .before .before .before .before .pre)
+copied-requires c κs = ranged (c .before .before .before .before .before .before .before .before .before .before .before .before .before .pre)
 
 add-f : tie.Need-add-f Inv-loop μ-loop
 add-f c = omega arith
@@ -65,9 +65,9 @@ loop-again c =
     let l = c .before .before .before .loop-test .taken in (
       omega arith,
       λ r. ⊎-elim
-          (λ w. rw (w .7, w .8)
+          (λ w. rw (w .8, w .9)
           (fill-one r l (s .loop .inv .1 r) (w .2 .ensures ∙ ap (λ (x : BlockAt). rowsOf (x .atoms) (bondBytes (a .d .now) x)) (w .1 .ensures))
-          (w .4 .ensures ∙ ap (λ (x : BlockAt). indicesBy (min (x .atoms) mostAtoms) (pairEntry (w .2 .result))) (w .1 .ensures)) (w .6 .ensures)))
+          (w .5 .ensures ∙ ap (λ (x : BlockAt). indicesBy (min (x .atoms) mostAtoms) (pairEntry (w .2 .result))) (w .1 .ensures)) (w .7 .ensures)))
           (λ w. rw (w .1, w .2) (fill-none r l (s .loop .inv .1 r) (w .0 .left)))
           (c .if1 .came),
     )
