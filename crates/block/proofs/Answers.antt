@@ -2,7 +2,7 @@
 use Prim.Native.Nat.{ℕ, min}
 use mathlib.Core.Bool.{Bool, true, false}
 use mathlib.Core.List.{List}
-use mathlib.Core.Path.{_≡_, refl, sym, _∙_}
+use mathlib.Core.Path.{_≡_, refl, sym, ap, _∙_}
 use Rattle.graph.specs.Graph.{distance}
 use Rattle.block.specs.Read.{Read, refused, read, _then_, refuseIf, refusal}
 use Rattle.block.specs.Chain.{not-read}
@@ -10,7 +10,6 @@ use Rattle.block.specs.Block.{mostAtoms, isOutside, graphOf, blockReply}
 use Rattle.block.specs.Rows.{rowOf, rowsOf, rowReply, saidRow}
 use Rattle.block.specs.Index.{indicesReply, saidIndices, vertexOf, vertexReply, saidVertex, distanceReply, saidDistance, pairsOf, pairsReply, saidPairs}
 use Rattle.block.specs.Sums.{entry, pairEntry, indicesBy, countsBy, vertexBy}
-use Rattle.block.specs.Found.{saidRead, Viewing}
 use Rattle.block.specs.Faults.{inside}
 use Rattle.block.specs.Told.{entry-at}
 use Rattle.block.specs.Measures.{all-atoms, indices-are, counts-are, vertex-is}
@@ -22,15 +21,15 @@ use Rattle.block.specs.declared.Vertex.{Vertex}
 use Rattle.block.specs.declared.Around.the-variants as around
 use Rattle.block.specs.declared.Apart.the-variants as apart
 use Rattle.block.specs.declared.Pairs.{Pairs}
-use Rattle.block.specs.declared.View.{View}
+use Rattle.block.specs.declared.OneRow.{OneRow}
 use Rattle.block.proofs.Filling.{emptyRow, no-row}
 use Rattle.block.proofs.Replies.{not-fine}
 
-said-out : (m : Read (List ℕ)) (r : Refusal) → reply.Refused r ≡ saidRead m → m ≡ refused r
+said-out : (m : Read (List ℕ)) (r : Refusal) → reply.Refused r ≡ saidRow m .reply → m ≡ refused r
 said-out (refused s) r e = cc
 said-out (read row) r e = absurd (not-fine e)
 
-said-in : (m : Read (List ℕ)) → reply.Fine ≡ saidRead m → m ≡ read (saidRow m)
+said-in : (m : Read (List ℕ)) → reply.Fine ≡ saidRow m .reply → m ≡ read (saidRow m .row)
 said-in (refused s) e = absurd (not-fine (sym e))
 said-in (read row) e = refl
 
@@ -67,10 +66,13 @@ module _ (n : ℕ) (xs : List ℕ) where
       let b : p .at ≡ pairsOf (graphOf n xs) = rw (a, q, all-atoms n xs e) (counts-are n xs e) in
       rw e (λ i. record { reply = f i; at = b i })
 
-  module _ (i : ℕ) (v : View) (W : Viewing n xs i v) where
+  module _ (i : ℕ) (v : OneRow) (W : v ≡ saidRow (rowReply n xs i)) where
+    replied : v .reply ≡ saidRow (rowReply n xs i) .reply
+    replied = ap (λ (x : OneRow). x .reply) W
+
     module _ (r : Refusal) (e : v .reply ≡ reply.Refused r) where
       out : rowReply n xs i ≡ refused r
-      out = said-out (rowReply n xs i) r (sym e ∙ W .replied)
+      out = said-out (rowReply n xs i) r (sym e ∙ replied)
 
       pub vertex-refused : around.Refused r ≡ saidVertex (vertexReply n xs i)
       unfolding vertexReply rowReply
@@ -90,8 +92,8 @@ module _ (n : ℕ) (xs : List ℕ) where
       pub seen : Seen
       unfolding rowReply
       seen =
-          let (f, o, s) = asked-in (blockReply n xs) (isOutside n i) (rowOf (graphOf n xs) i) (saidRow (rowReply n xs i)) (said-in (rowReply n xs i) (sym e ∙ W .replied)) in
-          record { fine = f; inner = o; row-is = W .shown ∙ s }
+          let (f, o, s) = asked-in (blockReply n xs) (isOutside n i) (rowOf (graphOf n xs) i) (saidRow (rowReply n xs i) .row) (said-in (rowReply n xs i) (sym e ∙ replied)) in
+          record { fine = f; inner = o; row-is = ap (λ (x : OneRow). x .row) W ∙ s }
 
       pub vertex-fine : (x : Vertex) → x ≡ vertexBy (min n mostAtoms) (entry (v .row)) → around.Of x ≡ saidVertex (vertexReply n xs i)
       unfolding vertexReply

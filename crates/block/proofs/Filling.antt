@@ -14,10 +14,9 @@ use Rattle.block.specs.Block.{mostAtoms, isOutside, graphOf, blockReply}
 use Rattle.block.specs.Rows.{table, rowOf, noRow, saidRow, rowReply, rowsOf}
 use Rattle.block.specs.Tables.{length-table, getD-table}
 use Rattle.block.specs.Told.{row-read}
-use Rattle.block.specs.Found.{Viewing}
 use Rattle.block.specs.declared.Refusal.{Refusal}
 use Rattle.block.specs.declared.Reply.the-variants.{Fine, Refused}
-use Rattle.block.specs.declared.View.{View}
+use Rattle.block.specs.declared.OneRow.{OneRow}
 
 -- the first i rows are filled
 pub record Filled (n : ℕ) (xs : List ℕ) (all : List (List ℕ)) (i : ℕ) : Type 0 where
@@ -54,7 +53,7 @@ module _ (n : ℕ) (xs : List ℕ) where
   }
 
   module _ (fine : blockReply n xs ≡ read tt) where
-    no-atom : (k : ℕ) → n ≤ k → saidRow (rowReply n xs (suc k)) ≡ noRow
+    no-atom : (k : ℕ) → n ≤ k → saidRow (rowReply n xs (suc k)) .row ≡ noRow
     unfolding rowReply
     no-atom k l = rw (fine, ne-eqb (suc k) 0 (omega arith), lt-ltb n (suc k) (omega arith))
 
@@ -65,9 +64,9 @@ module _ (n : ℕ) (xs : List ℕ) where
         (λ i l. let m : i < mostAtoms = omega (arith, F .size) in at i m (decLt i n) ∙ sym (getD-table mostAtoms rowAt i [] m))
       where
         rowAt : ℕ → List ℕ
-        rowAt i = saidRow (rowReply n xs (suc i))
+        rowAt i = saidRow (rowReply n xs (suc i)) .row
 
-        at : (i : ℕ) → i < mostAtoms → Dec (i < n) → getD all i [] ≡ saidRow (rowReply n xs (suc i))
+        at : (i : ℕ) → i < mostAtoms → Dec (i < n) → getD all i [] ≡ saidRow (rowReply n xs (suc i)) .row
         at i l (yes h) = rw (row-read n xs fine {a = suc i} (omega arith)) (F .done i h)
         at i l (no h) = F .rest i (omega arith) l ∙ sym (no-atom i (omega arith))
 
@@ -75,14 +74,15 @@ module _ (n : ℕ) (xs : List ℕ) where
   unfolding rowsOf rowReply table noRow
   refused-rows r e = rw e
 
-  pub view-refused : (i : ℕ) (v : View) (r : Refusal) → blockReply n xs ≡ refused r → v .reply ≡ Refused r → v .row ≡ emptyRow → Viewing n xs i v
-  unfolding rowReply
-  view-refused i v r b p q = record { replied = rw b p; shown = rw b (q ∙ no-row) }
-
-  module _ (fine : blockReply n xs ≡ read tt) (i : ℕ) (v : View) where
-    pub view-outside : isOutside n i ≡ true → v .reply ≡ Refused (refusal 18 0) → v .row ≡ emptyRow → Viewing n xs i v
+  module _ (i : ℕ) (v : OneRow) where
+    pub row-refused : (r : Refusal) → blockReply n xs ≡ refused r → v .reply ≡ Refused r → v .row ≡ emptyRow → v ≡ saidRow (rowReply n xs i)
     unfolding rowReply
-    view-outside o p q = record { replied = rw (fine, o) p; shown = rw (fine, o) (q ∙ no-row) }
+    row-refused r b p q = rw b (λ j. record { reply = p j; row = (q ∙ no-row) j })
 
-    pub view-row : Within n i → v .reply ≡ Fine → v .row ≡ rowOf (graphOf n xs) i → Viewing n xs i v
-    view-row w p q = record { replied = rw (row-read n xs fine w) p; shown = rw (row-read n xs fine w) q }
+    module _ (fine : blockReply n xs ≡ read tt) where
+      pub row-outside : isOutside n i ≡ true → v .reply ≡ Refused (refusal 18 0) → v .row ≡ emptyRow → v ≡ saidRow (rowReply n xs i)
+      unfolding rowReply
+      row-outside o p q = rw (fine, o) (λ j. record { reply = p j; row = (q ∙ no-row) j })
+
+      pub row-fine : Within n i → v .reply ≡ Fine → v .row ≡ rowOf (graphOf n xs) i → v ≡ saidRow (rowReply n xs i)
+      row-fine w p q = rw (row-read n xs fine w) (λ j. record { reply = p j; row = q j })

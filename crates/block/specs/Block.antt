@@ -1,6 +1,6 @@
 -- A block: what its bytes say, and its refusals 1 to 7 in document 01's order. A place is the bond's number from 1, or 0.
-use Prim.Native.Nat.{ℕ, zero, suc, _+_, _*_, _%_}
-use mathlib.Core.Bool.{Bool, true, false, _||_, not, cond}
+use Prim.Native.Nat.{ℕ, suc, _*_, _%_}
+use mathlib.Core.Bool.{Bool, _||_, not, cond}
 use mathlib.Core.List.{List, [], _∷_}
 use lib.Dec.{eqb, leb, ltb}
 use lib.ListN.{length}

@@ -1,11 +1,13 @@
 -- The distances of a block: 64 rows of 64, 0 beyond its atoms and where it is refused.
 use Prim.Native.Nat.{ℕ, zero, suc}
-use mathlib.Core.Bool.{Bool, true, false, cond}
+use mathlib.Core.Bool.{cond}
 use mathlib.Core.List.{List, [], _∷_}
 use lib.Dec.{ltb}
 use Rattle.graph.specs.Graph.{Graph, distance}
 use Rattle.block.specs.Read.{Read, refused, read, _then_, refuseIf}
 use Rattle.block.specs.Block.{mostAtoms, graphOf, isOutside, blockReply}
+use Rattle.block.specs.declared.OneRow.{OneRow}
+use Rattle.block.specs.declared.Reply.the-variants.{Fine, Refused}
 
 -- f 0 to f (n - 1)
 unfoldable pub table : {A : Type 0} → ℕ → (ℕ → A) → List A
@@ -19,14 +21,14 @@ rowOf g i = table mostAtoms (λ j. cond (ltb j (g .atoms)) (distance g i (suc j)
 unfoldable pub noRow : List ℕ
 noRow = table mostAtoms (λ j. 0)
 
-abbrev pub saidRow : Read (List ℕ) → List ℕ
-saidRow (refused r) = noRow
-saidRow (read row) = row
-
--- the row of one atom
+-- the row of one atom: 18 at place 0 where there is none
 unfoldable pub rowReply : ℕ → List ℕ → ℕ → Read (List ℕ)
 rowReply n xs i = blockReply n xs then λ _. refuseIf (isOutside n i) 18 0 then λ _. read (rowOf (graphOf n xs) i)
 
+abbrev pub saidRow : Read (List ℕ) → OneRow
+saidRow (refused r) = record { reply = Refused r; row = noRow }
+saidRow (read row) = record { reply = Fine; row = row }
+
 -- the row of atom i at place i - 1
 unfoldable pub rowsOf : ℕ → List ℕ → List (List ℕ)
-rowsOf n xs = table mostAtoms (λ i. saidRow (rowReply n xs (suc i)))
+rowsOf n xs = table mostAtoms (λ i. saidRow (rowReply n xs (suc i)) .row)

@@ -154,7 +154,7 @@ module _ (n : ℕ) (xs : List ℕ) (fine : blockReply n xs ≡ read tt) where
   unfolding rowsOf
   row-at {a} w =
       let k : suc (a - 1) ≡ a = omega arith in
-      getD-table mostAtoms (λ i. saidRow (rowReply n xs (suc i))) (a - 1) [] (omega (arith, few-atoms))
+      getD-table mostAtoms (λ i. saidRow (rowReply n xs (suc i)) .row) (a - 1) [] (omega (arith, few-atoms))
       ∙ rw (k, row-read w)
 
   pub entry-at : (a : ℕ) {b : ℕ} → Within n b → getD (rowOf (graphOf n xs) a) (b - 1) 0 ≡ distance (graphOf n xs) a b

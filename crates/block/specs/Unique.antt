@@ -7,6 +7,7 @@ use Rattle.block.specs.Rows.{rowsOf, rowReply, saidRow}
 use Rattle.block.specs.Index.{indicesReply, saidIndices, vertexReply, saidVertex, distanceReply, saidDistance, pairsReply, saidPairs}
 use Rattle.block.specs.Sums.{entry, pairEntry, indicesBy, vertexBy}
 use Rattle.block.specs.declared.Reply.{Reply}
+use Rattle.block.specs.declared.OneRow.{OneRow}
 use Rattle.block.specs.declared.Indices.{Indices}
 use Rattle.block.specs.declared.Measured.{Measured}
 use Rattle.block.specs.declared.Vertex.{Vertex}
@@ -24,7 +25,7 @@ module _ (n : ℕ) (xs : List ℕ) where
   pub unique-rows : (r s : List (List ℕ)) → r ≡ rowsOf n xs → s ≡ rowsOf n xs → r ≡ s
   unique-rows r s = unique
 
-  pub unique-row : (i : ℕ) (r s : List ℕ) → r ≡ saidRow (rowReply n xs i) → s ≡ saidRow (rowReply n xs i) → r ≡ s
+  pub unique-row : (i : ℕ) (r s : OneRow) → r ≡ saidRow (rowReply n xs i) → s ≡ saidRow (rowReply n xs i) → r ≡ s
   unique-row i r s = unique
 
   pub unique-measure : (r s : Measured) → r ≡ saidIndices (indicesReply n xs) → s ≡ saidIndices (indicesReply n xs) → r ≡ s

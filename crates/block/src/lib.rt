@@ -7,7 +7,6 @@ ghost use Rattle.block.specs.Rows.{rowsOf, rowReply, saidRow};
 ghost use Rattle.block.specs.Index.{indicesReply, saidIndices, vertexReply, saidVertex, distanceReply, saidDistance, pairsReply, saidPairs};
 ghost use Rattle.block.specs.Sums.{entry, pairEntry, indicesBy, vertexBy};
 ghost use Rattle.block.specs.Near.{Admitting};
-ghost use Rattle.block.specs.Found.{Viewing};
 
 mod lists;
 mod search;
@@ -35,6 +34,12 @@ pub struct Refusal {
 pub enum Reply {
     Fine,
     Refused(Refusal),
+}
+
+// The distances from one atom, that to atom j at j - 1; all 0 where the reply is a refusal.
+pub struct OneRow {
+    pub reply: Reply,
+    pub row: DistanceRow,
 }
 
 // The atom count, W, its even and odd parts and the polarity.
@@ -91,12 +96,6 @@ struct Built {
 struct Found {
     pub row: DistanceRow,
     pub rest: u64,
-}
-
-// The row of one atom, or why there is none.
-struct View {
-    pub reply: Reply,
-    pub row: DistanceRow,
 }
 
 // What some distances add up to: the even ones and the odd ones, how many there are of each, and how many are 1, 2 and 3.
@@ -168,20 +167,20 @@ pub fn rows(n: usize, bonds: &[u8]) -> DistanceMatrix
     search::from_all(&near, n)
 }
 
-// The row of atom i, or why there is none: the block's refusal, or 18 where it has no such atom.
-fn look(n: usize, bonds: &[u8], i: usize) -> View
-    ensures { λ r. ⌜ Viewing n (now (bonds .entry)) i r ⌝ }
+// The distances from atom i of a block, or its refusal; 18 at place 0 where there is no such atom.
+pub fn row(n: usize, bonds: &[u8], i: usize) -> OneRow
+    ensures { λ r. ⌜ r ≡ saidRow (rowReply n (now (bonds .entry)) i) ⌝ }
 {
     let admitted = admit(n, bonds);
     let reply = admitted.reply;
     let Reply::Fine = reply else {
-        return View {
+        return OneRow {
             reply,
             row: [0u8; ATOMS],
         };
     };
     if lists::outside(n, i) {
-        return View {
+        return OneRow {
             reply: Reply::Refused(Refusal {
                 number: 18,
                 place: 0,
@@ -192,15 +191,7 @@ fn look(n: usize, bonds: &[u8], i: usize) -> View
     let near = admitted.near;
     let found = search::from_atom(&near, n, i);
     let row = found.row;
-    View { reply, row }
-}
-
-// The distances from atom i, that to atom j at j - 1: all 0 where the block is refused or has no such atom.
-pub fn row(n: usize, bonds: &[u8], i: usize) -> DistanceRow
-    ensures { λ r. ⌜ r ≡ saidRow (rowReply n (now (bonds .entry)) i) ⌝ }
-{
-    let view = look(n, bonds, i);
-    view.row
+    OneRow { reply, row }
 }
 
 // The indices of the first n atoms, at most ATOMS, by rows of their distances: the pair i < j is read in the row of j.
@@ -266,7 +257,7 @@ pub fn measure(n: usize, bonds: &[u8]) -> Measured
 pub fn distance(n: usize, bonds: &[u8], i: usize, j: usize) -> Apart
     ensures { λ r. ⌜ r ≡ saidDistance (distanceReply n (now (bonds .entry)) i j) ⌝ }
 {
-    let seen = look(n, bonds, i);
+    let seen = row(n, bonds, i);
     let reply = seen.reply;
     match reply {
         Reply::Refused(refusal) => Apart::Refused(refusal),
@@ -288,7 +279,7 @@ pub fn distance(n: usize, bonds: &[u8], i: usize, j: usize) -> Apart
 pub fn vertex_sums(n: usize, bonds: &[u8], a: usize) -> Around
     ensures { λ r. ⌜ r ≡ saidVertex (vertexReply n (now (bonds .entry)) a) ⌝ }
 {
-    let seen = look(n, bonds, a);
+    let seen = row(n, bonds, a);
     let reply = seen.reply;
     match reply {
         Reply::Refused(refusal) => Around::Refused(refusal),

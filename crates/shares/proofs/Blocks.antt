@@ -1,20 +1,17 @@
 -- What a block that is not refused brings to the work. Assumes nothing.
-use Prim.Native.Nat.{ℕ, suc, _≤_, _<_}
-use mathlib.Core.Bool.{Bool, cond}
+use Prim.Native.Nat.{ℕ, suc, _-_, _≤_, _<_}
 use mathlib.Core.List.{List, []}
-use mathlib.Core.Path.{_≡_, _∙_, ap}
+use mathlib.Core.Path.{_≡_, _∙_, ap, subst₂}
 use native.Mathlib.Omega.{arith}
-use borrow.Author.Tests.{lt-ltb}
-use lib.Dec.{eqb, ltb}
+use lib.Dec.{eqb}
 use lib.ListN.{getD}
 use Rattle.graph.specs.Graph.{distance}
 use Rattle.paths.specs.Paths.{denominator}
 use Rattle.paths.specs.Notions.{Plain}
 use Rattle.block.specs.Read.{read}
 use Rattle.block.specs.Block.{mostAtoms, bondsOf, graphOf, blockReply}
-use Rattle.block.specs.Rows.{rowOf, rowReply, saidRow, rowsOf}
-use Rattle.block.specs.Tables.{getD-table}
-use Rattle.block.specs.Told.{few-atoms, molecule, each-bond, row-read}
+use Rattle.block.specs.Rows.{rowsOf}
+use Rattle.block.specs.Told.{few-atoms, molecule, each-bond, distance-at}
 use Rattle.shares.specs.Reply.{most}
 use Rattle.shares.specs.Work.{listOf, beside, Shows, Listed, Given, Whole}
 use Rattle.shares.proofs.Rows.{of-places}
@@ -29,14 +26,14 @@ module _ (n : ℕ) (xs : List ℕ) (fine : blockReply n xs ≡ read tt) where
 
   -- the row of each atom shows its distances
   pub far : (i : ℕ) → i < n → Shows n (distance (graphOf n xs) (suc i)) (listOf (rowsOf n xs) i)
-  unfolding rowsOf rowOf
   far i l = record {
     shows = λ j h.
-        ap (λ (row : List ℕ). getD row j 0)
-        (getD-table mostAtoms (λ k. saidRow (rowReply n xs (suc k))) i [] (omega (arith, few)) ∙ ap saidRow (row-read n xs fine (record { low = omega arith; high = l })))
-        ∙ getD-table mostAtoms (λ k. cond (ltb k n) (distance (graphOf n xs) (suc i) (suc k)) 0) j 0 (omega (arith, few))
-        ∙ ap (λ (t : Bool). cond t (distance (graphOf n xs) (suc i) (suc j)) 0) (lt-ltb j n h);
+        subst₂ (λ (x y : ℕ). getD (getD (rowsOf n xs) x []) y 0 ≡ distance (graphOf n xs) (suc i) (suc j)) (before i) (before j)
+        (distance-at n xs fine {a = suc i} {b = suc j} (omega arith) (omega arith));
   }
+    where
+      before : (k : ℕ) → suc k - 1 ≡ k
+      before k = omega arith
 
   pub given : (near rows : List (List ℕ)) → rows ≡ rowsOf n xs
       → ((i : ℕ) → i < n → (d : ℕ → ℕ) → Shows n d (listOf rows i) → Listed n (λ w. eqb (d w) 1) (listOf near (suc i))) → Given n (bondsOf xs) near rows

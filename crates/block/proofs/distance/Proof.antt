@@ -10,8 +10,8 @@ use Rattle.block.proofs.Answers.{seen, distance-refused, distance-outsi
 use Rattle.block.proofs.distance.Statement.{statement}
 use Rattle.block.proofs.distance.Tie as tie
 
-look-requires : tie.Need-look-requires
-look-requires c κs = search needs
+row-requires : tie.Need-row-requires
+row-requires c κs = search needs
 
 enum-known-reply : tie.Need-enum-known-reply
 enum-known-reply c = search needs
@@ -23,7 +23,7 @@ outside-requires : tie.Need-outside-requires
 outside-requires c κs = search needs
 
 returns : tie.Need-returns
-returns c = distance-outside _ _ _ _ (c .before .before .before .before .look .ensures) (c .before .before .enum-told .given .1) _ (sym (c .before .outside .ensures) ∙ c .if1 .taken)
+returns c = distance-outside _ _ _ _ (c .before .before .before .before .row .ensures) (c .before .before .enum-told .given .1) _ (sym (c .before .outside .ensures) ∙ c .if1 .taken)
 
 -- j is an atom of the block, whose atoms are few
 inner : (c : tie.Else1) → let s = c .before .before .before .before .before .before .args in isOutside (s .n) (s .j) ≡ false
@@ -31,7 +31,7 @@ inner c = sym (c .before .outside .ensures) ∙ c .if1 .left
 
 small : (c : tie.Else1) → let s = c .before .before .before .before .before .before .args in Within (s .n) (s .j) × Within mostAtoms (s .n)
 small c =
-    let S = seen _ _ _ _ (c .before .before .before .before .look .ensures) (c .before .before .enum-told .given .1) in
+    let S = seen _ _ _ _ (c .before .before .before .before .row .ensures) (c .before .before .enum-told .given .1) in
     (inside _ _ (inner c), few-atoms _ _ (S .fine))
 
 sub-wide : tie.Need-sub-wide
@@ -44,18 +44,18 @@ wide-requires : tie.Need-wide-requires
 wide-requires c κs = search needs
 
 returns-2 : tie.Need-returns-2
-returns-2 c = distance-refused _ _ _ _ (c .before .before .before .look .ensures) _ (c .before .reply .given .1) _
+returns-2 c = distance-refused _ _ _ _ (c .before .before .before .row .ensures) _ (c .before .reply .given .1) _
 
 returns-3 : tie.Need-returns-3
 returns-3 c =
     let d = c .before .before in
-    distance-fine _ _ _ _ (d .before .before .before .before .look .ensures) (d .before .before .enum-told .given .1) _ (inner d) _ (c .wide .ensures .0)
+    distance-fine _ _ _ _ (d .before .before .before .before .row .ensures) (d .before .before .enum-told .given .1) _ (inner d) _ (c .wide .ensures .0)
 
 pub distance-spec : {M : Type 1} → statement M
 distance-spec =
     tie.close
     (tie.spec
-    look-requires
+    row-requires
     enum-known-reply
     enum-told
     outside-requires

@@ -3,8 +3,8 @@ use Rattle.block.proofs.Answers.{vertex-refused, vertex-fine}
 use Rattle.block.proofs.vertex_sums.Statement.{statement}
 use Rattle.block.proofs.vertex_sums.Tie as tie
 
-look-requires : tie.Need-look-requires
-look-requires c κs = search needs
+row-requires : tie.Need-row-requires
+row-requires c κs = search needs
 
 enum-known-reply : tie.Need-enum-known-reply
 enum-known-reply c = search needs
@@ -16,11 +16,11 @@ around-row-requires : tie.Need-around-row-requires
 around-row-requires c κs = search needs
 
 returns : tie.Need-returns
-returns c = vertex-refused _ _ _ _ (c .before .before .before .look .ensures) _ (c .before .reply .given .1)
+returns c = vertex-refused _ _ _ _ (c .before .before .before .row .ensures) _ (c .before .reply .given .1)
 
 returns-2 : tie.Need-returns-2
-returns-2 c = vertex-fine _ _ _ _ (c .before .before .before .before .before .look .ensures) (c .before .before .before .enum-told .given .1) _ (c .around-row .ensures)
+returns-2 c = vertex-fine _ _ _ _ (c .before .before .before .before .before .row .ensures) (c .before .before .before .enum-told .given .1) _ (c .around-row .ensures)
 
 pub vertex-sums-spec : {M : Type 1} → statement M
 vertex-sums-spec =
-    tie.close (tie.spec look-requires enum-known-reply enum-told around-row-requires returns returns-2)
+    tie.close (tie.spec row-requires enum-known-reply enum-told around-row-requires returns returns-2)

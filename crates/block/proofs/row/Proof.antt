@@ -6,10 +6,10 @@ use Rattle.block.specs.Near.{Ready}
 use Rattle.block.specs.Found.{Task}
 use Rattle.block.specs.Faults.{inside}
 use Rattle.block.specs.Told.{passed}
-use Rattle.block.proofs.Filling.{view-refused, view-outside, view-row}
+use Rattle.block.proofs.Filling.{row-refused, row-outside, row-fine}
 use Rattle.block.proofs.Replies.{said-refused}
-use Rattle.block.proofs.look.Statement.{statement}
-use Rattle.block.proofs.look.Tie as tie
+use Rattle.block.proofs.row.Statement.{statement}
+use Rattle.block.proofs.row.Tie as tie
 
 admit-requires : tie.Need-admit-requires
 admit-requires c κs = search needs
@@ -23,7 +23,7 @@ enum-told-2 c = search needs
 returns : tie.Need-returns
 returns c =
     let e = c .enum-told2 .given .1 in
-    view-refused _ _ _ _ _ (said-refused _ _ (sym e ∙ c .before .before .admit .ensures .replied)) e refl
+    row-refused _ _ _ _ _ (said-refused _ _ (sym e ∙ c .before .before .admit .ensures .replied)) e refl
 
 outside-requires : tie.Need-outside-requires
 outside-requires c κs = search needs
@@ -33,7 +33,7 @@ ready : (c : tie.After-enum-told) → let s = c .before .before .before .before 
 ready c = c .before .before .admit .ensures .ready (c .enum-told .given .1)
 
 returns-2 : tie.Need-returns-2
-returns-2 c = view-outside _ _ (ready (c .before .before) .fine) _ _ (sym (c .before .outside .ensures) ∙ c .if1 .taken) refl refl
+returns-2 c = row-outside _ _ _ _ (ready (c .before .before) .fine) (sym (c .before .outside .ensures) ∙ c .if1 .taken) refl refl
 
 atom : (c : tie.Else1) → let s = c .before .before .before .before .before .before .args in Within (s .n) (s .i)
 atom c = inside _ _ (sym (c .before .outside .ensures) ∙ c .if1 .left)
@@ -48,10 +48,10 @@ returns-3 : tie.Need-returns-3
 returns-3 c =
     let d = c .before .before .before .before in
     let f = ready (d .before .before) .fine in
-    view-row _ _ f _ _ (atom d) (d .before .before .enum-told .given .1) (c .before .from-atom .ensures _ (task d) .row (passed _ _ f .whole))
+    row-fine _ _ _ _ f (atom d) (d .before .before .enum-told .given .1) (c .before .from-atom .ensures _ (task d) .row (passed _ _ f .whole))
 
-pub look-spec : {M : Type 1} → statement M
-look-spec =
+pub row-spec : {M : Type 1} → statement M
+row-spec =
     tie.close
     (tie.spec
     admit-requires
