@@ -19,6 +19,7 @@ use Rattle.block.specs.declared.Around.{Around}
 use Rattle.block.specs.declared.Around.the-variants as around
 use Rattle.block.specs.declared.Apart.{Apart}
 use Rattle.block.specs.declared.Apart.the-variants as apart
+use Rattle.molecule.specs.declared.Verdict.{Verdict}
 use Rattle.molecule.specs.declared.Written.{Written}
 use Rattle.molecule.specs.declared.Written.the-variants as written
 use Rattle.molecule.specs.Molecule.{saidWritten}
@@ -26,7 +27,7 @@ use Rattle.poly.specs.Poly.{saidPolynomial}
 use Rattle.poly.specs.declared.Values.{Values}
 use Rattle.poly.specs.declared.Answer.{Answer}
 use Rattle.poly.specs.declared.Answer.the-variants as answer
-use Rattle.tteuyomal.specs.Convention.{code, coded, over, Lent}
+use Rattle.tteuyomal.specs.Convention.{code, coded, verdictCode, over, Lent}
 
 -- what a reply of the code says, as a refusal or a value
 abbrev pub toldBlock : Reply → Read (Unit {0})
@@ -97,6 +98,9 @@ lent-once p q = (p .replied ∙ sym (q .replied), p .lent ∙ sym (q .lent))
 -- a reply that is one number
 pub coded-once : {A : Type 0} (R : Read A) {x y : ℕ} → x ≡ coded R → y ≡ coded R → x ≡ y
 coded-once R p q = p ∙ sym q
+
+pub verdict-once : (v : Verdict) {x y : ℕ} → x ≡ verdictCode v → y ≡ verdictCode v → x ≡ y
+verdict-once v p q = p ∙ sym q
 
 -- two entries put one after the other
 pub both-put : {A : Type 0} (x y : A) (old : List A) → 2 ≤ length old → set (set old 0 x) 1 y ≡ over (x ∷ y ∷ []) old

@@ -4,11 +4,13 @@ ghost use Prim.Native.Nat.{_+_, _*_, _%_, _≤_};
 ghost use lib.ListN.{length};
 ghost use Rattle.block.specs.Read.{read};
 ghost use Rattle.block.specs.Block.{blockReply};
+ghost use Rattle.deck.specs.Molecule.{fieldsOf};
 ghost use Rattle.molecule.specs.Molecule.{judgeReply, saidVerdict, writeReply, sheetOut};
 ghost use Rattle.tteuyomal.specs.Convention.{places, code, coded, verdictCode, over, Lent};
 ghost use Rattle.tteuyomal.specs.Replies.{indicesList, composedList, placedList, vertexList, valuesList, polynomialList, unlentReply, Contributed};
 use block::Apart;
 use block::Around;
+use block::Indices;
 use block::Measured;
 use block::Refusal;
 use block::Reply;
@@ -50,6 +52,14 @@ fn give(out: &mut [u64], numbers: &[u64]) -> u64
     0
 }
 
+// The same with the five fields.
+fn give_fields(out: &mut [u64], x: Indices) -> u64
+    ensures { λ r. ⌜ Lent (read (fieldsOf x)) (now (out .entry)) r (now (out .exit)) ⌝ }
+{
+    let numbers = [x.atoms, x.w, x.even, x.odd, x.polarity];
+    give(out, &numbers)
+}
+
 #[no_mangle]
 pub extern "C" fn tteuyomal_check_block(atoms: usize, bonds: &[u8]) -> u64
     ensures { λ r. ⌜ r ≡ coded (blockReply atoms (now (bonds .entry))) ⌝ }
@@ -68,10 +78,7 @@ pub extern "C" fn tteuyomal_indices(atoms: usize, bonds: &[u8], fields: &mut [u6
     let answer = block::measure(atoms, bonds);
     match answer {
         Measured::Refused(r) => code_of(r),
-        Measured::Of(x) => {
-            let numbers = [x.atoms, x.w, x.even, x.odd, x.polarity];
-            give(fields, &numbers)
-        }
+        Measured::Of(x) => give_fields(fields, x),
     }
 }
 
@@ -188,10 +195,7 @@ pub extern "C" fn tteuyomal_compose(deck: &[u8], fields: &mut [u64]) -> u64
     let answer = molecule::compose(deck);
     match answer {
         Measured::Refused(r) => code_of(r),
-        Measured::Of(x) => {
-            let numbers = [x.atoms, x.w, x.even, x.odd, x.polarity];
-            give(fields, &numbers)
-        }
+        Measured::Of(x) => give_fields(fields, x),
     }
 }
 

@@ -1,12 +1,12 @@
 -- `tteuyomal::tteuyomal_compose` meets its contract.
+use mathlib.Core.Path.{sym, _∙_, ap}
+use denote.Ref.{now}
+use borrow.Author.Needs.{needs}
+use Rattle.block.specs.Read.{Read, read, _then_}
 use Rattle.block.specs.declared.Indices.{Indices}
 use Rattle.deck.specs.Molecule.{fieldsOf}
 use Rattle.deck.specs.declared.Form.the-variants.{Composed}
 use Rattle.compose.specs.Fields.{fieldsReply}
-use mathlib.Core.Path.{_≡_, sym, _∙_, ap}
-use denote.Ref.{now}
-use borrow.Author.Needs.{needs}
-use Rattle.block.specs.Read.{Read, read, _then_}
 use Rattle.tteuyomal.proofs.Laws.{toldIndices, indices-told, lent-refused, lent-read}
 use Rattle.tteuyomal.proofs.tteuyomal_compose.Statement.{statement}
 use Rattle.tteuyomal.proofs.tteuyomal_compose.Tie as tie
@@ -23,11 +23,8 @@ code-of-requires c κs = search needs
 enum-known-answer-2 : tie.Need-enum-known-answer-2
 enum-known-answer-2 c = search needs
 
-slice-aggregate-give : tie.Need-slice-aggregate-give
-slice-aggregate-give c = search needs
-
-give-requires : tie.Need-give-requires
-give-requires c κs = search needs
+give-fields-requires : tie.Need-give-fields-requires
+give-fields-requires c κs = search needs
 
 returns : tie.Need-returns
 returns c =
@@ -41,15 +38,14 @@ same-length : tie.Need-same-length
 same-length c = search needs
 
 returns-2 : tie.Need-returns-2
-unfolding fieldsOf
 returns-2 c =
     let g = c .before .before in
-    let a = g .before .before .before .before in
+    let a = g .before .before .before in
     let m = a .before .before in
     let s = m .before .before .before in
-    lent-read _ (now (s .args .fields)) (g .give .result) _
+    lent-read _ (now (s .args .fields)) (g .give-fields .result) _
     (ap (λ (R : Read Indices). R then λ x. read (fieldsOf x)) (sym (indices-told _ (fieldsReply Composed (now (s .args .deck))) (m .compose .ensures)) ∙ ap toldIndices (a .answer2 .given .1)))
-    (g .give .ensures)
+    (g .give-fields .ensures)
 
 pub tteuyomal-compose-spec : {M : Type 1} → statement M
 tteuyomal-compose-spec =
@@ -59,8 +55,7 @@ tteuyomal-compose-spec =
     enum-known-answer
     code-of-requires
     enum-known-answer-2
-    slice-aggregate-give
-    give-requires
+    give-fields-requires
     returns
     same-length
     returns-2)

@@ -1,11 +1,11 @@
 -- `tteuyomal::tteuyomal_indices` meets its contract.
-use mathlib.Core.Path.{_≡_, sym, _∙_, ap}
+use mathlib.Core.Path.{sym, _∙_, ap}
 use denote.Ref.{now}
 use borrow.Author.Needs.{needs}
 use Rattle.block.specs.Read.{Read, read, _then_}
-use Rattle.block.specs.Index.{indicesReply}
 use Rattle.block.specs.declared.Indices.{Indices}
 use Rattle.deck.specs.Molecule.{fieldsOf}
+use Rattle.block.specs.Index.{indicesReply}
 use Rattle.tteuyomal.proofs.Laws.{toldIndices, indices-told, lent-refused, lent-read}
 use Rattle.tteuyomal.proofs.tteuyomal_indices.Statement.{statement}
 use Rattle.tteuyomal.proofs.tteuyomal_indices.Tie as tie
@@ -22,11 +22,8 @@ code-of-requires c κs = search needs
 enum-known-answer-2 : tie.Need-enum-known-answer-2
 enum-known-answer-2 c = search needs
 
-slice-aggregate-give : tie.Need-slice-aggregate-give
-slice-aggregate-give c = search needs
-
-give-requires : tie.Need-give-requires
-give-requires c κs = search needs
+give-fields-requires : tie.Need-give-fields-requires
+give-fields-requires c κs = search needs
 
 returns : tie.Need-returns
 returns c =
@@ -40,15 +37,14 @@ same-length : tie.Need-same-length
 same-length c = search needs
 
 returns-2 : tie.Need-returns-2
-unfolding fieldsOf
 returns-2 c =
     let g = c .before .before in
-    let a = g .before .before .before .before in
+    let a = g .before .before .before in
     let m = a .before .before in
     let s = m .before .before .before in
-    lent-read _ (now (s .args .fields)) (g .give .result) _
+    lent-read _ (now (s .args .fields)) (g .give-fields .result) _
     (ap (λ (R : Read Indices). R then λ x. read (fieldsOf x)) (sym (indices-told _ (indicesReply (s .args .atoms) (now (s .args .bonds))) (m .measure .ensures)) ∙ ap toldIndices (a .answer2 .given .1)))
-    (g .give .ensures)
+    (g .give-fields .ensures)
 
 pub tteuyomal-indices-spec : {M : Type 1} → statement M
 tteuyomal-indices-spec =
@@ -58,8 +54,7 @@ tteuyomal-indices-spec =
     enum-known-answer
     code-of-requires
     enum-known-answer-2
-    slice-aggregate-give
-    give-requires
+    give-fields-requires
     returns
     same-length
     returns-2)

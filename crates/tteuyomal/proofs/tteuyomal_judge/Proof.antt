@@ -1,5 +1,5 @@
 -- `tteuyomal::tteuyomal_judge` meets its contract.
-use mathlib.Core.Path.{_≡_, sym, _∙_, ap}
+use mathlib.Core.Path.{sym, _∙_, ap}
 use borrow.Author.Needs.{needs}
 use Rattle.tteuyomal.specs.Convention.{verdictCode}
 use Rattle.tteuyomal.proofs.tteuyomal_judge.Statement.{statement}

@@ -1,5 +1,5 @@
 -- `tteuyomal::tteuyomal_polynomial` meets its contract.
-use mathlib.Core.Path.{_≡_, sym, _∙_, ap}
+use mathlib.Core.Path.{sym, _∙_, ap}
 use denote.Ref.{now}
 use borrow.Author.Needs.{needs}
 use Rattle.block.specs.Read.{Read, read, _then_}
