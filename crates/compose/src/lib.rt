@@ -1,6 +1,7 @@
 // Composing: the five fields of the molecule that a deck describes, by the building-block rules.
 mod counts;
 mod joints;
+mod kept;
 mod links;
 mod summary;
 mod tables;
@@ -20,19 +21,19 @@ use block::sums;
 use deck::Form;
 use deck::Layout;
 use deck::read_deck;
+use kept::number_row;
 use links::ENDS;
-use links::Link;
+use links::FIRST;
+use links::Links;
 use links::links_of;
 use records::payload_at;
 use summary::composed;
-use tables::copied;
+use tables::copy_ends;
 ghost use mathlib.Core.Path.{_≡_};
 ghost use Prim.Native.Nat.{_-_};
 ghost use Rattle.graph.specs.Assembly.{written};
-ghost use Rattle.block.specs.Rows.{rowsOf};
 ghost use Rattle.block.specs.Read.{read};
 ghost use Rattle.block.specs.Index.{indicesOf, saidIndices};
-ghost use Rattle.assembly.specs.Book.{bondBytes};
 ghost use Rattle.deck.specs.Deck.{Deck, deckReply};
 ghost use Rattle.deck.specs.Molecule.{moleculeOf};
 ghost use Rattle.deck.specs.Said.{layoutOf};
@@ -49,13 +50,6 @@ fn block_of(xs: &[u8], blocks: [BlockAt; BLOCKS], count: usize, f: usize) -> Blo
     find_block(blocks, count, q.block as usize)
 }
 
-// The distances of a block.
-fn table_of(d: &[u8], b: BlockAt) -> [[u8; ATOMS]; ATOMS]
-    ensures { λ r. ⌜ r ≡ rowsOf (b .atoms) (bondBytes (now (d .entry)) b) ⌝ }
-{
-    rows(b.atoms as usize, bonds_part(d, b))
-}
-
 // The five numbers of the molecule: each placed block's table is filled once, its numbers and the rows that joins need are kept.
 fn filled(
     d: &[u8],
@@ -63,33 +57,24 @@ fn filled(
     blocks: [BlockAt; BLOCKS],
     count: usize,
     placements: usize,
-    links: [Link; PLACEMENTS],
+    links: &Links,
 ) -> Indices
-    requires { ⌜ Ready (now d) (now xs) blocks count placements links ⌝ }
-    ensures { λ r. ⌜ r ≡ indicesOf (written (placedGraph (now (d .entry)) (now (xs .entry)) blocks count) (joinsOf links) (placements - 1)) ⌝ }
+    requires { ⌜ Ready (now d) (now xs) blocks count placements (now links) ⌝ }
+    ensures { λ r. ⌜ r ≡ indicesOf (written (placedGraph (now (d .entry)) (now (xs .entry)) blocks count) (joinsOf (now (links .entry))) (placements - 1)) ⌝ }
 {
-    let none = Indices {
-        atoms: 0,
-        w: 0,
-        even: 0,
-        odd: 0,
-        polarity: 0,
-    };
-    let mut numbers = [none; PLACEMENTS];
+    let mut numbers = [[0u64; 5]; PLACEMENTS];
     let mut ends = [[0u8; ATOMS]; ENDS];
     let mut f: usize = 0;
     while f < placements {
-        let q = links[f];
-        if q.block == f {
+        if links[f][FIRST] == f {
             let b = block_of(xs, blocks, count, f);
-            let table = table_of(d, b);
-            numbers[f] = sums(table, b.atoms as usize);
-            let next = copied(&table, links, placements, f, ends);
-            ends = next;
+            let table = rows(b.atoms as usize, bonds_part(d, b));
+            numbers[f] = number_row(sums(table, b.atoms as usize));
+            copy_ends(&table, links, placements, f, &mut ends);
         }
         f += 1;
     }
-    composed(links, &ends, numbers, placements)
+    composed(links, &ends, &numbers, placements)
 }
 
 // The five numbers of the molecule that a layout of the deck describes.
@@ -101,7 +86,7 @@ fn laid_out(d: &[u8], layout: Layout) -> Indices
     let placements = layout.placements;
     let xs = payload_at(d, layout.assembly);
     let links = links_of(xs, placements);
-    filled(d, xs, blocks, layout.count, placements, links)
+    filled(d, xs, blocks, layout.count, placements, &links)
 }
 
 // The five fields of a deck in a form: atom count, W, even part, odd part and polarity of its molecule; or the deck's refusal.

@@ -4,12 +4,13 @@ use mathlib.Core.Logic.{⊎-elim}
 use mathlib.Core.Path.{_≡_, _∙_, ap, subst}
 use borrow.Author.Needs.{needs}
 use native.Mathlib.Omega.{arith}
+use lib.ListN.{length}
 use Rattle.block.specs.Block.{mostAtoms}
 use Rattle.block.specs.Rows.{rowsOf}
 use Rattle.block.specs.Sums.{pairEntry, indicesBy}
 use Rattle.assembly.specs.Book.{bondBytes}
 use Rattle.assembly.specs.declared.BlockAt.{BlockAt}
-use Rattle.compose.specs.Joints.{Task}
+use Rattle.compose.specs.Joints.{ends, Task}
 use Rattle.compose.specs.Ready.{placedGraph, Ready}
 use Rattle.compose.proofs.Filling.{Filled, ranged, fill-start, fill-one, fill-none, fill-end}
 use Rattle.compose.proofs.filled.Statement.{statement}
@@ -23,19 +24,28 @@ abbrev μ-loop : tie.MeasureT-loop
 μ-loop d xs blocks count placements links numbers₀ ends₀ f₀ numbers ends f = placements - f
 
 loop-holds : tie.Need-loop-holds Inv-loop μ-loop
-loop-holds c = (omega arith, λ r. fill-start r (search needs))
+loop-holds c = (omega arith, λ r. fill-start r (search needs) (search needs))
 
-mul-q : tie.Need-mul-q Inv-loop μ-loop
-mul-q c = omega (arith, c .before .before .before .before .pre .few)
+mul-if1 : tie.Need-mul-if1 Inv-loop μ-loop
+mul-if1 c = omega (arith, c .before .before .before .before .pre .few)
 
-array-copy-out-q : tie.Need-array-copy-out-q Inv-loop μ-loop
-array-copy-out-q c = omega (arith, c .before .before .before .before .pre .few)
+index-1-if1 : tie.Need-index-1-if1 Inv-loop μ-loop
+index-1-if1 c = omega (arith, c .before .before .before .before .pre .few)
+
+index-2-if1 : tie.Need-index-2-if1 Inv-loop μ-loop
+index-2-if1 c = omega arith
 
 block-of-requires : tie.Need-block-of-requires Inv-loop μ-loop
 block-of-requires c κs = search needs
 
-table-of-requires : tie.Need-table-of-requires Inv-loop μ-loop
-table-of-requires c κs = search needs
+cast-rows : tie.Need-cast-rows Inv-loop μ-loop
+cast-rows c = search needs
+
+bonds-part-requires : tie.Need-bonds-part-requires Inv-loop μ-loop
+bonds-part-requires c κs = search needs
+
+rows-requires : tie.Need-rows-requires Inv-loop μ-loop
+rows-requires c κs = search needs
 
 cast-sums : tie.Need-cast-sums Inv-loop μ-loop
 cast-sums c = search needs
@@ -43,14 +53,24 @@ cast-sums c = search needs
 sums-requires : tie.Need-sums-requires Inv-loop μ-loop
 sums-requires c κs = search needs
 
+number-row-requires : tie.Need-number-row-requires Inv-loop μ-loop
+number-row-requires c κs = search needs
+
+-- the rows of all ends are there
+tall : (c : tie.After-ends Inv-loop μ-loop) → length (c .before .before .before .before .before .before .before .before .before .before .before .before .loop .ends) ≡ ends
+tall c = let s = c .before .before .before .before .before .before .before .before .before .before .before .before in s .loop .inv .1 (s .before .before .before .pre) .tall
+
 mul-numbers : tie.Need-mul-numbers Inv-loop μ-loop
-mul-numbers c = omega (arith, c .before .before .before .before .before .before .before .before .before .before .before .pre .few, c .before .before .before .before .before .before .before .loop-test .taken)
+mul-numbers c = let s = c .before .before .before .before .before .before .before .before .before in omega (arith, s .before .before .before .before .pre .few, s .loop-test .taken)
 
 array-set-from-numbers : tie.Need-array-set-from-numbers Inv-loop μ-loop
-array-set-from-numbers c = omega (arith, c .before .before .before .before .before .before .before .before .before .before .before .pre .few, c .before .before .before .before .before .before .before .loop-test .taken)
+array-set-from-numbers c = let s = c .before .before .before .before .before .before .before .before .before in omega (arith, s .before .before .before .before .pre .few, s .loop-test .taken)
 
-copied-requires : tie.Need-copied-requires Inv-loop μ-loop
-copied-requires c κs = ranged (c .before .before .before .before .before .before .before .before .before .before .before .before .pre)
+slice-aggregate-copy-ends : tie.Need-slice-aggregate-copy-ends Inv-loop μ-loop
+slice-aggregate-copy-ends c = omega (arith, tall c)
+
+copy-ends-requires : tie.Need-copy-ends-requires Inv-loop μ-loop
+copy-ends-requires c κs = (ranged (c .before .before .before .before .before .before .before .before .before .before .before .before .before .before .before .pre), tall c)
 
 add-f : tie.Need-add-f Inv-loop μ-loop
 add-f c = omega arith
@@ -60,30 +80,30 @@ loop-less c = omega arith
 
 loop-again : tie.Need-loop-again Inv-loop μ-loop
 loop-again c =
-    let s = c .before .before .before .before in
+    let s = c .before .before .before in
     let a = s .before .before .before .args in
-    let l = c .before .before .before .loop-test .taken in (
+    let l = c .before .before .loop-test .taken in (
       omega arith,
       λ r. ⊎-elim
-          (λ w. rw (w .7, w .8)
-          (fill-one r l (s .loop .inv .1 r) (w .2 .ensures ∙ ap (λ (x : BlockAt). rowsOf (x .atoms) (bondBytes (a .d .now) x)) (w .1 .ensures))
-          (w .4 .ensures ∙ ap (λ (x : BlockAt). indicesBy (min (x .atoms) mostAtoms) (pairEntry (w .2 .result))) (w .1 .ensures)) (w .6 .ensures)))
+          (λ w. rw (w .12, w .13)
+          (fill-one r l (s .loop .inv .1 r) _ (w .4 .ensures ∙ ap (rowsOf (w .1 .result .atoms)) (w .3 .ensures .bytes) ∙ ap (λ (x : BlockAt). rowsOf (x .atoms) (bondBytes (a .d .now) x)) (w .1 .ensures))
+          (w .7 .ensures ∙ w .6 .ensures ∙ ap (λ (x : BlockAt). indicesBy (min (x .atoms) mostAtoms) (pairEntry (w .4 .result))) (w .1 .ensures)) (w .10 .ensures)))
           (λ w. rw (w .1, w .2) (fill-none r l (s .loop .inv .1 r) (w .0 .left)))
           (c .if1 .came),
     )
 
 -- once all blocks are done
-task : (c : tie.After-loop Inv-loop μ-loop) → let a = c .before .before .before .before .args in Task (placedGraph (a .d .now) (a .xs .now) (a .blocks) (a .count)) (a .placements - 1) (a .t6) (c .before .loop .ends) (c .before .loop .numbers)
+task : (c : tie.After-loop Inv-loop μ-loop) → let a = c .before .before .before .before .args in Task (placedGraph (a .d .now) (a .xs .now) (a .blocks) (a .count)) (a .placements - 1) (a .links .now) (c .before .loop .ends) (c .before .loop .numbers)
 task c =
     let r = c .before .before .before .before .pre in
     let e : c .before .loop .f ≡ c .before .before .before .before .args .placements = omega arith in
     fill-end r (subst (λ (f : ℕ). Filled r f (c .before .loop .ends) (c .before .loop .numbers)) e (c .before .loop .inv .1 r))
 
 composed-requires : tie.Need-composed-requires Inv-loop μ-loop
-composed-requires c κs = (_, task (c .before))
+composed-requires c κs = (_, task (c .before .before))
 
 returns : tie.Need-returns Inv-loop μ-loop
-returns c = c .composed .ensures _ (task (c .before .before))
+returns c = c .composed .ensures _ (task (c .before .before .before))
 
 pub filled-spec : {M : Type 1} → statement M
 filled-spec =
@@ -92,15 +112,20 @@ filled-spec =
     Inv-loop
     μ-loop
     loop-holds
-    mul-q
-    array-copy-out-q
+    mul-if1
+    index-1-if1
+    index-2-if1
     block-of-requires
-    table-of-requires
+    cast-rows
+    bonds-part-requires
+    rows-requires
     cast-sums
     sums-requires
+    number-row-requires
     mul-numbers
     array-set-from-numbers
-    copied-requires
+    slice-aggregate-copy-ends
+    copy-ends-requires
     add-f
     loop-less
     loop-again

@@ -1,12 +1,13 @@
 -- `compose::links::links_of` meets its contract. The loop's invariant: the links before index k say their placements. Assumes nothing.
 use Prim.Native.Nat.{ℕ, _-_, _≤_, _<_}
+use mathlib.Core.List.{[]}
 use mathlib.Core.Path.{_≡_, _∙_}
 use borrow.Author.Needs.{needs}
 use native.Mathlib.Omega.{arith}
 use lib.ListN.{length, length-set}
 use Rattle.assembly.specs.Placements.{mostPlacements, placementAt}
 use Rattle.compose.specs.Links.{Linked}
-use Rattle.compose.specs.Joints.{noLink, link}
+use Rattle.compose.specs.Joints.{linkOf, link}
 use Rattle.compose.proofs.Stored.{stored-more}
 use Rattle.compose.proofs.links.links_of.Statement.{statement}
 use Rattle.compose.proofs.links.links_of.Tie as tie
@@ -41,7 +42,7 @@ loop-again c =
     let s = c .before .before in (
       omega arith,
       length-set (s .loop .links) (s .loop .k) (c .link-of .result) ∙ s .loop .inv .1,
-      stored-more (Linked (placementAt (s .before .before .args .xs .now))) noLink (s .loop .links) (s .loop .k) (c .link-of .result) (omega (arith, s .loop .inv .1)) (s .loop .inv .2) (c .link-of .ensures),
+      stored-more (λ m l. Linked (placementAt (s .before .before .args .xs .now)) m (linkOf l)) [] (s .loop .links) (s .loop .k) (c .link-of .result) (omega (arith, s .loop .inv .1)) (s .loop .inv .2) (c .link-of .ensures),
     )
 
 returns : tie.Need-returns Inv-loop μ-loop
