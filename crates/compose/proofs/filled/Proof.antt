@@ -1,17 +1,20 @@
 -- `compose::filled` meets its contract. The loop's invariant: the blocks that are had first before index f are done. Assumes nothing.
-use Prim.Native.Nat.{ℕ, _-_, _≤_, min}
+use Prim.Native.Nat.{ℕ, _-_, _≤_, _<_, min}
 use mathlib.Core.Logic.{⊎-elim}
 use mathlib.Core.Path.{_≡_, _∙_, ap, subst}
 use borrow.Author.Needs.{needs}
 use native.Mathlib.Omega.{arith}
 use lib.ListN.{length}
+use lib.Dec.{lit<}
 use Rattle.block.specs.Block.{mostAtoms}
 use Rattle.block.specs.Rows.{rowsOf}
 use Rattle.block.specs.Sums.{pairEntry, indicesBy}
 use Rattle.assembly.specs.Book.{bondBytes}
+use Rattle.assembly.specs.Placements.{mostPlacements}
 use Rattle.assembly.specs.declared.BlockAt.{BlockAt}
 use Rattle.compose.specs.Joints.{ends, Task}
 use Rattle.compose.specs.Ready.{placedGraph, Ready}
+use Rattle.compose.proofs.Stored.{row-at}
 use Rattle.compose.proofs.Filling.{Filled, ranged, fill-start, fill-one, fill-none, fill-end}
 use Rattle.compose.proofs.filled.Statement.{statement}
 use Rattle.compose.proofs.filled.Tie as tie
@@ -26,14 +29,17 @@ abbrev μ-loop : tie.MeasureT-loop
 loop-holds : tie.Need-loop-holds Inv-loop μ-loop
 loop-holds c = (omega arith, λ r. fill-start r (search needs) (search needs))
 
+small : (c : tie.In-loop Inv-loop μ-loop) → c .before .loop .f < mostPlacements
+small c = omega (arith, c .before .before .before .before .pre .few)
+
 mul-if1 : tie.Need-mul-if1 Inv-loop μ-loop
-mul-if1 c = omega (arith, c .before .before .before .before .pre .few)
+mul-if1 c = row-at (small c)
 
 index-1-if1 : tie.Need-index-1-if1 Inv-loop μ-loop
-index-1-if1 c = omega (arith, c .before .before .before .before .pre .few)
+index-1-if1 c = small c
 
 index-2-if1 : tie.Need-index-2-if1 Inv-loop μ-loop
-index-2-if1 c = omega arith
+index-2-if1 c = lit< tt
 
 block-of-requires : tie.Need-block-of-requires Inv-loop μ-loop
 block-of-requires c κs = search needs
@@ -61,10 +67,10 @@ tall : (c : tie.After-ends Inv-loop μ-loop) → length (c .before .before .befo
 tall c = let s = c .before .before .before .before .before .before .before .before .before .before .before .before in s .loop .inv .1 (s .before .before .before .pre) .tall
 
 mul-numbers : tie.Need-mul-numbers Inv-loop μ-loop
-mul-numbers c = let s = c .before .before .before .before .before .before .before .before .before in omega (arith, s .before .before .before .before .pre .few, s .loop-test .taken)
+mul-numbers c = omega (arith, small (c .before .before .before .before .before .before .before .before .before))
 
 array-set-from-numbers : tie.Need-array-set-from-numbers Inv-loop μ-loop
-array-set-from-numbers c = let s = c .before .before .before .before .before .before .before .before .before in omega (arith, s .before .before .before .before .pre .few, s .loop-test .taken)
+array-set-from-numbers c = small (c .before .before .before .before .before .before .before .before .before)
 
 slice-aggregate-copy-ends : tie.Need-slice-aggregate-copy-ends Inv-loop μ-loop
 slice-aggregate-copy-ends c = omega (arith, tall c)

@@ -3,10 +3,12 @@
 use Prim.Native.Nat.{ℕ, _+_, _*_, _-_, _<_}
 use mathlib.Core.Path.{_≡_}
 use native.Mathlib.Omega.{arith}
+use lib.Dec.{lit<}
 use Rattle.graph.specs.Graph.{Graph, Within}
 use Rattle.block.specs.Block.{mostAtoms}
 use Rattle.assembly.specs.Placements.{mostPlacements}
 use Rattle.compose.specs.Joints.{link, between, Laid}
+use Rattle.compose.proofs.Stored.{row-at}
 use Rattle.compose.proofs.Ports.{site-small, parent-earlier, parent-small, above, between-below, between-same, between-later, between-earlier}
 use Rattle.compose.proofs.joints.apart.Statement.{statement}
 use Rattle.compose.proofs.joints.apart.Tie as tie
@@ -30,27 +32,33 @@ module _ (c : tie.At-loop Inv-loop μ-loop) where
   second : Within (c .before .pre .1) (c .loop .v)
   second = let p = c .before .pre in c .loop .inv (p .0) (p .1) (p .2) (p .3) (p .4) .1
 
+  first-small : c .loop .u < mostPlacements
+  first-small = omega (arith, first, c .before .pre .2 .few)
+
+  second-small : c .loop .v < mostPlacements
+  second-small = omega (arith, second, c .before .pre .2 .few)
+
   -- no sum wraps
   left : c .loop .d + between (c .before .pre .0) (c .before .args .links .now) (c .before .pre .1) (c .loop .u) (c .loop .v) < mostAtoms * mostPlacements
   left = let p = c .before .pre in omega (arith, c .loop .inv (p .0) (p .1) (p .2) (p .3) (p .4) .2, between-below (p .2) (p .3) (p .4))
 
 mul-p : tie.Need-mul-p Inv-loop μ-loop
-mul-p c = omega (arith, first c, c .before .pre .2 .few)
+mul-p c = row-at (first-small c)
 
 index-1-p : tie.Need-index-1-p Inv-loop μ-loop
-index-1-p c = omega (arith, first c, c .before .pre .2 .few)
+index-1-p c = first-small c
 
 index-2-p : tie.Need-index-2-p Inv-loop μ-loop
-index-2-p c = omega arith
+index-2-p c = lit< tt
 
 mul-q : tie.Need-mul-q Inv-loop μ-loop
-mul-q c = omega (arith, second (c .before), c .before .before .pre .2 .few)
+mul-q c = row-at (second-small (c .before))
 
 index-1-q : tie.Need-index-1-q Inv-loop μ-loop
-index-1-q c = omega (arith, second (c .before), c .before .before .pre .2 .few)
+index-1-q c = second-small (c .before)
 
 index-2-q : tie.Need-index-2-q Inv-loop μ-loop
-index-2-q c = omega arith
+index-2-q c = lit< tt
 
 -- both have one parent
 mul-at : tie.Need-mul-at Inv-loop μ-loop
@@ -60,13 +68,13 @@ add-at : tie.Need-add-at Inv-loop μ-loop
 add-at c = let s = c .before .before .before in omega (arith, first s, s .before .pre .2 .few)
 
 mul-at-2 : tie.Need-mul-at-2 Inv-loop μ-loop
-mul-at-2 c = let s = c .before .before .before in omega (arith, second s, s .before .pre .2 .few)
+mul-at-2 c = row-at (second-small (c .before .before .before))
 
 index-1-at : tie.Need-index-1-at Inv-loop μ-loop
-index-1-at c = let s = c .before .before .before in omega (arith, second s, s .before .pre .2 .few)
+index-1-at c = second-small (c .before .before .before)
 
 index-2-at : tie.Need-index-2-at Inv-loop μ-loop
-index-2-at c = omega arith
+index-2-at c = lit< tt
 
 at-requires : tie.Need-at-requires Inv-loop μ-loop
 at-requires c κs =
@@ -89,13 +97,13 @@ later c w x h = let l = c .before .pre .2 in above l x (omega (arith, h, parent-
 
 -- the second one's is later
 mul-climbed : tie.Need-mul-climbed Inv-loop μ-loop
-mul-climbed c = let s = c .before .before .before .before in omega (arith, second s, s .before .pre .2 .few)
+mul-climbed c = row-at (second-small (c .before .before .before .before))
 
 index-1-climbed : tie.Need-index-1-climbed Inv-loop μ-loop
-index-1-climbed c = let s = c .before .before .before .before in omega (arith, second s, s .before .pre .2 .few)
+index-1-climbed c = second-small (c .before .before .before .before)
 
 index-2-climbed : tie.Need-index-2-climbed Inv-loop μ-loop
-index-2-climbed c = omega arith
+index-2-climbed c = lit< tt
 
 climbed-requires : tie.Need-climbed-requires Inv-loop μ-loop
 climbed-requires c κs = let s = c .before .before .before .before .before in (parent-small (s .before .pre .2) (second s), site-small (s .before .pre .2) (second s))
@@ -123,13 +131,13 @@ first-later : (c : tie.Else2 Inv-loop μ-loop) → let s = c .before .before .be
 first-later c = omega (arith, c .if2 .left, c .before .if1 .left)
 
 mul-climbed-2 : tie.Need-mul-climbed-2 Inv-loop μ-loop
-mul-climbed-2 c = let s = c .before .before .before .before in omega (arith, first s, s .before .pre .2 .few)
+mul-climbed-2 c = row-at (first-small (c .before .before .before .before))
 
 index-1-climbed-2 : tie.Need-index-1-climbed-2 Inv-loop μ-loop
-index-1-climbed-2 c = let s = c .before .before .before .before in omega (arith, first s, s .before .pre .2 .few)
+index-1-climbed-2 c = first-small (c .before .before .before .before)
 
 index-2-climbed-2 : tie.Need-index-2-climbed-2 Inv-loop μ-loop
-index-2-climbed-2 c = omega arith
+index-2-climbed-2 c = lit< tt
 
 climbed-requires-2 : tie.Need-climbed-requires-2 Inv-loop μ-loop
 climbed-requires-2 c κs = let s = c .before .before .before .before .before in (parent-small (s .before .pre .2) (first s), site-small (s .before .pre .2) (first s))

@@ -1,73 +1,83 @@
 -- `compose::joints::begun` meets its contract. Assumes nothing.
-use Prim.Native.Nat.{ℕ, _-_}
+use Prim.Native.Nat.{ℕ, _-_, _<_}
 use mathlib.Core.Path.{_≡_, sym, subst}
-use borrow.Author.Needs.{needs}
 use native.Mathlib.Omega.{arith}
+use lib.Dec.{lit<}
 use Rattle.graph.specs.Graph.{Graph}
 use Rattle.block.specs.declared.Vertex.{Vertex}
+use Rattle.assembly.specs.Placements.{mostPlacements}
 use Rattle.compose.specs.Counted.{Counts}
 use Rattle.compose.specs.Joints.{link, sightAt, Turn}
 use Rattle.compose.proofs.Ports.{parent-earlier, site-small}
+use Rattle.compose.proofs.Stored.{row-at}
 use Rattle.compose.proofs.Seeing.{parent-index, up, up-earlier, up-joint, site-counts, sight-below, sight-self, site-below, sight-first, sight-begun}
 use Rattle.compose.proofs.joints.begun.Statement.{statement}
 use Rattle.compose.proofs.joints.begun.Tie as tie
 
+-- the placement and its parent
+module _ (c : tie.Start) where
+  small : c .args .k < mostPlacements
+  small = let t = c .pre .3 in omega (arith, t .index, t .laid .few)
+
+  above-small : link (c .args .links .now) (c .args .k) .parent - 1 < mostPlacements
+  above-small = let t = c .pre .3 in omega (arith, parent-index t, t .laid .few)
+
 mul-above : tie.Need-mul-above
-mul-above c = let t = c .pre .3 in omega (arith, t .index, t .laid .few)
+mul-above c = row-at (small c)
 
 index-1-above : tie.Need-index-1-above
-index-1-above c = let t = c .pre .3 in omega (arith, t .index, t .laid .few)
+index-1-above c = small c
 
 index-2-above : tie.Need-index-2-above
-index-2-above c = omega arith
+index-2-above c = lit< tt
 
 sub-above : tie.Need-sub-above
 sub-above c = let t = c .before .pre .3 in parent-earlier (t .laid) (t .index) .low
 
 mul-end-counts : tie.Need-mul-end-counts
-mul-end-counts c = let t = c .before .pre .3 in omega (arith, t .index, t .laid .few)
+mul-end-counts c = omega (arith, small (c .before))
 
 add-end-counts : tie.Need-add-end-counts
-add-end-counts c = let t = c .before .pre .3 in omega (arith, t .index, t .laid .few)
+add-end-counts c = omega (arith, small (c .before))
 
 mul-end-counts-2 : tie.Need-mul-end-counts-2
-mul-end-counts-2 c = let t = c .before .pre .3 in omega (arith, parent-index t, t .laid .few)
+mul-end-counts-2 c = row-at (above-small (c .before))
 
 index-1-end-counts : tie.Need-index-1-end-counts
-index-1-end-counts c = let t = c .before .pre .3 in omega (arith, parent-index t, t .laid .few)
+index-1-end-counts c = above-small (c .before)
 
 index-2-end-counts : tie.Need-index-2-end-counts
-index-2-end-counts c = omega arith
+index-2-end-counts c = lit< tt
 
 end-counts-requires : tie.Need-end-counts-requires
 end-counts-requires c κs =
     let s = c .before .before in
     let t = s .pre .3 in
-    (omega (arith, t .index, t .laid .few), s .pre .2 .listed _ (parent-index t))
+    (omega (arith, small s), s .pre .2 .listed _ (parent-index t))
 
 returns : tie.Need-returns
 returns c blocks last a t = sight-first (t .laid) (t .index) (c .if1 .taken) (site-counts a (t .index) (c .before .end-counts .ensures))
 
 mul-at : tie.Need-mul-at
-mul-at c = let s = c .before .before .before .before in omega (arith, parent-index (s .pre .3), s .pre .3 .laid .few)
+mul-at c = omega (arith, above-small (c .before .before .before .before))
 
 mul-at-2 : tie.Need-mul-at-2
-mul-at-2 c = let t = c .before .before .before .before .pre .3 in omega (arith, t .index, t .laid .few)
+mul-at-2 c = row-at (small (c .before .before .before .before))
 
 index-1-at : tie.Need-index-1-at
-index-1-at c = let t = c .before .before .before .before .pre .3 in omega (arith, t .index, t .laid .few)
+index-1-at c = small (c .before .before .before .before)
 
 index-2-at : tie.Need-index-2-at
-index-2-at c = omega arith
+index-2-at c = lit< tt
 
 at-requires : tie.Need-at-requires
 at-requires c κs =
     let s = c .before .before .before .before .before in
     let t = s .pre .3 in
-    (omega (arith, parent-index t, t .laid .few), site-small (t .laid) (t .index))
+    (omega (arith, above-small s), site-small (t .laid) (t .index))
 
 counts-at-requires : tie.Need-counts-at-requires
-counts-at-requires c κs = let t = c .before .before .before .before .before .before .pre .3 in omega (arith, parent-index t, t .laid .few)
+counts-at-requires c κs = above-small (c .before .before .before .before .before .before)
 
 -- what is counted at the parent's own join
 core : {blocks : ℕ → Graph} {last : ℕ} (c : tie.After-counts-at) → let s = c .before .before .before .before .before .before .before in let a = s .args in

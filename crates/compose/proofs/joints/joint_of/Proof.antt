@@ -1,21 +1,28 @@
 -- `compose::joints::joint_of` meets its contract. Assumes nothing.
 use borrow.Author.Needs.{needs}
 use native.Mathlib.Omega.{arith}
+use Prim.Native.Nat.{_<_}
+use lib.Dec.{lit<}
+use Rattle.assembly.specs.Placements.{mostPlacements}
+use Rattle.compose.proofs.Stored.{row-at}
 use Rattle.compose.proofs.Seeing.{own-counts}
 use Rattle.compose.proofs.joints.joint_of.Statement.{statement}
 use Rattle.compose.proofs.joints.joint_of.Tie as tie
 
+small : (c : tie.Start) → c .args .k < mostPlacements
+small c = let p = c .pre in omega (arith, p .3 .index, p .2 .laid .few)
+
 mul-end-counts : tie.Need-mul-end-counts
-mul-end-counts c = search needs
+mul-end-counts c = omega (arith, small c)
 
 mul-end-counts-2 : tie.Need-mul-end-counts-2
-mul-end-counts-2 c = search needs
+mul-end-counts-2 c = row-at (small c)
 
 index-1-end-counts : tie.Need-index-1-end-counts
-index-1-end-counts c = let p = c .pre in omega (arith, p .3 .index, p .2 .laid .few)
+index-1-end-counts c = small c
 
 index-2-end-counts : tie.Need-index-2-end-counts
-index-2-end-counts c = omega arith
+index-2-end-counts c = lit< tt
 
 end-counts-requires : tie.Need-end-counts-requires
 end-counts-requires c κs =

@@ -1,13 +1,16 @@
 -- `compose::joints::since` meets its contract. The loop's invariant: v counts from the parent's atom in the molecule of the first m placements.
 -- Assumes nothing.
-use Prim.Native.Nat.{ℕ, _-_, _≤_}
+use Prim.Native.Nat.{ℕ, _-_, _≤_, _<_}
 use mathlib.Core.Path.{_≡_, sym, subst}
 use native.Mathlib.Omega.{arith}
+use lib.Dec.{lit<}
 use Rattle.graph.specs.Graph.{Graph, Within, vertex}
 use Rattle.block.specs.declared.Vertex.{Vertex}
+use Rattle.assembly.specs.Placements.{mostPlacements}
 use Rattle.compose.specs.Counted.{Counts}
 use Rattle.compose.specs.Joints.{link, sightAt, Turn}
 use Rattle.compose.proofs.Ports.{parent-earlier, between-below}
+use Rattle.compose.proofs.Stored.{row-at}
 use Rattle.compose.proofs.Seeing.{sight-below, own-below, own-self, sight-grown}
 use Rattle.compose.proofs.joints.since.Statement.{statement}
 use Rattle.compose.proofs.joints.since.Tie as tie
@@ -20,14 +23,17 @@ Inv-loop links rows cores owns k v₀ m₀ v m =
 abbrev μ-loop : tie.MeasureT-loop
 μ-loop links rows cores owns k v₀ m₀ v m = k - m
 
+small : (c : tie.Start Inv-loop μ-loop) → c .args .k < mostPlacements
+small c = let t = c .pre .2 in omega (arith, t .index, t .laid .few)
+
 mul-m : tie.Need-mul-m Inv-loop μ-loop
-mul-m c = let t = c .pre .2 in omega (arith, t .index, t .laid .few)
+mul-m c = row-at (small c)
 
 index-1-m : tie.Need-index-1-m Inv-loop μ-loop
-index-1-m c = let t = c .pre .2 in omega (arith, t .index, t .laid .few)
+index-1-m c = small c
 
 index-2-m : tie.Need-index-2-m Inv-loop μ-loop
-index-2-m c = omega arith
+index-2-m c = lit< tt
 
 loop-holds : tie.Need-loop-holds Inv-loop μ-loop
 loop-holds c = let t = c .before .pre .2 in (omega arith, parent-earlier (t .laid) (t .index) .high, λ blocks last t b. b)

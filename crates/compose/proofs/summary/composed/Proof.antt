@@ -6,6 +6,7 @@ use mathlib.Core.Path.{_≡_, sym, _∙_, ap, subst}
 use borrow.Author.Needs.{needs}
 use native.Mathlib.Omega.{arith}
 use lib.ListN.{length, length-set}
+use lib.Dec.{lit<}
 use Rattle.graph.specs.Graph.{Graph, Within, vertex}
 use Rattle.graph.specs.Assembly.{written}
 use Rattle.block.specs.Index.{indicesOf}
@@ -16,7 +17,7 @@ use Rattle.compose.specs.Joints.{link, joinsOf, sightAt, countsOf, count
 use Rattle.compose.proofs.Ports.{stands}
 use Rattle.compose.proofs.Seeing.{sight-below, own-below}
 use Rattle.compose.proofs.Steps.{room-before, room-block, bridge, joined-next, first-numbers}
-use Rattle.compose.proofs.Stored.{stored-more}
+use Rattle.compose.proofs.Stored.{row-at, stored-more}
 use Rattle.compose.proofs.summary.composed.Statement.{statement}
 use Rattle.compose.proofs.summary.composed.Tie as tie
 
@@ -31,10 +32,10 @@ abbrev μ-loop : tie.MeasureT-loop
 μ-loop links rows numbers count s₀ cores₀ owns₀ k₀ s cores owns k = count - k
 
 index-1-numbers-at : tie.Need-index-1-numbers-at Inv-loop μ-loop
-index-1-numbers-at c = omega arith
+index-1-numbers-at c = lit< tt
 
 index-2-numbers-at : tie.Need-index-2-numbers-at Inv-loop μ-loop
-index-2-numbers-at c = omega arith
+index-2-numbers-at c = lit< tt
 
 numbers-at-requires : tie.Need-numbers-at-requires Inv-loop μ-loop
 numbers-at-requires c κs = c .before .pre .1 .listed 0 (omega arith)
@@ -47,6 +48,9 @@ module _ (c : tie.In-loop Inv-loop μ-loop) where
   index : Within (c .before .before .before .before .args .count - 1) (c .before .loop .k)
   index = omega (arith, c .before .loop .inv .0, c .loop-test .taken)
 
+  small : c .before .loop .k < mostPlacements
+  small = omega (arith, index, c .before .before .before .before .pre .1 .laid .few)
+
   turn : {blocks : ℕ → Graph} → let a = c .before .before .before .before .args in Task blocks (a .count - 1) (a .links .now) (a .rows .now) (a .numbers .now)
       → Turn blocks (a .count - 1) (a .links .now) (a .rows .now) (c .before .loop .cores) (c .before .loop .owns) (c .before .loop .k)
   turn t =
@@ -57,13 +61,13 @@ joint-of-requires : tie.Need-joint-of-requires Inv-loop μ-loop
 joint-of-requires c κs = let s = c .before .before in let p = s .before .before .before .before .pre in (p .0, _, p .1, turn s (p .1))
 
 mul-numbers-at : tie.Need-mul-numbers-at Inv-loop μ-loop
-mul-numbers-at c = let s = c .before .before .before in omega (arith, index s, s .before .before .before .before .pre .1 .laid .few)
+mul-numbers-at c = row-at (small (c .before .before .before))
 
 index-1-numbers-at-2 : tie.Need-index-1-numbers-at-2 Inv-loop μ-loop
-index-1-numbers-at-2 c = let s = c .before .before .before in omega (arith, index s, s .before .before .before .before .pre .1 .laid .few)
+index-1-numbers-at-2 c = small (c .before .before .before)
 
 index-2-numbers-at-2 : tie.Need-index-2-numbers-at-2 Inv-loop μ-loop
-index-2-numbers-at-2 c = omega arith
+index-2-numbers-at-2 c = lit< tt
 
 numbers-at-requires-2 : tie.Need-numbers-at-requires-2 Inv-loop μ-loop
 numbers-at-requires-2 c κs = let s = c .before .before .before .before in s .before .before .before .before .pre .1 .listed _ (index s .high)
@@ -83,19 +87,19 @@ count-row-requires : tie.Need-count-row-requires Inv-loop μ-loop
 count-row-requires c κs = search needs
 
 mul-cores : tie.Need-mul-cores Inv-loop μ-loop
-mul-cores c = let s = c .before .before .before .before .before .before .before in omega (arith, index s, s .before .before .before .before .pre .1 .laid .few)
+mul-cores c = omega (arith, small (c .before .before .before .before .before .before .before))
 
 array-set-from-cores : tie.Need-array-set-from-cores Inv-loop μ-loop
-array-set-from-cores c = let s = c .before .before .before .before .before .before .before in omega (arith, index s, s .before .before .before .before .pre .1 .laid .few)
+array-set-from-cores c = small (c .before .before .before .before .before .before .before)
 
 count-row-requires-2 : tie.Need-count-row-requires-2 Inv-loop μ-loop
 count-row-requires-2 c κs = search needs
 
 mul-owns : tie.Need-mul-owns Inv-loop μ-loop
-mul-owns c = let s = c .before .before .before .before .before .before .before .before in omega (arith, index s, s .before .before .before .before .pre .1 .laid .few)
+mul-owns c = omega (arith, small (c .before .before .before .before .before .before .before .before))
 
 array-set-from-owns : tie.Need-array-set-from-owns Inv-loop μ-loop
-array-set-from-owns c = let s = c .before .before .before .before .before .before .before .before in omega (arith, index s, s .before .before .before .before .pre .1 .laid .few)
+array-set-from-owns c = small (c .before .before .before .before .before .before .before .before)
 
 add-k : tie.Need-add-k Inv-loop μ-loop
 add-k c = let s = c .before .before .before .before .before .before .before .before in omega (arith, s .loop-test .taken)

@@ -1,14 +1,17 @@
 -- `compose::tables::copy_ends` meets its contract. The loop's invariant: the ends before e are copied, those of other blocks are kept. Assumes nothing.
-use Prim.Native.Nat.{ℕ, _-_, _/_, _≤_}
+use Prim.Native.Nat.{ℕ, _-_, _/_, _≤_, _<_}
 use mathlib.Core.List.{[]}
 use mathlib.Core.Logic.{⊎-elim}
 use mathlib.Core.Path.{_≡_, sym, _∙_, ap}
 use borrow.Author.Needs.{needs}
 use native.Mathlib.Omega.{arith}
 use lib.ListN.{getD}
+use lib.Dec.{lit<}
+use Rattle.assembly.specs.Placements.{mostPlacements}
 use Rattle.compose.specs.declared.tables.End.{End}
 use Rattle.compose.specs.Joints.{link}
 use Rattle.compose.specs.Tables.{endAt, homeOf}
+use Rattle.compose.proofs.Stored.{row-at}
 use Rattle.compose.proofs.Copying.{Copying, copy-start, copy-one, copy-none}
 use Rattle.compose.proofs.tables.copy_ends.Statement.{statement}
 use Rattle.compose.proofs.tables.copy_ends.Tie as tie
@@ -41,14 +44,17 @@ module _ (c : tie.After-end-of Inv-loop μ-loop) where
   atom : c .end-of .result .atom ≡ endAt (c .before .before .before .args .links .now) (c .before .before .loop .e) .atom
   atom = ap (λ (x : End). x .atom) (c .end-of .ensures)
 
+home-small : (c : tie.After-end-of Inv-loop μ-loop) → c .end-of .result .home < mostPlacements
+home-small c = let s = c .before .before in omega (arith, home c, s .before .pre .0 .home (s .loop .e) (s .loop .inv .0) (c .before .loop-test .taken))
+
 mul-if1 : tie.Need-mul-if1 Inv-loop μ-loop
-mul-if1 c = let s = c .before .before in omega (arith, home c, s .before .pre .0 .home (s .loop .e) (s .loop .inv .0) (c .before .loop-test .taken))
+mul-if1 c = row-at (home-small c)
 
 index-1-if1 : tie.Need-index-1-if1 Inv-loop μ-loop
-index-1-if1 c = let s = c .before .before in omega (arith, home c, s .before .pre .0 .home (s .loop .e) (s .loop .inv .0) (c .before .loop-test .taken))
+index-1-if1 c = home-small c
 
 index-2-if1 : tie.Need-index-2-if1 Inv-loop μ-loop
-index-2-if1 c = omega arith
+index-2-if1 c = lit< tt
 
 -- its atom is one of a block
 atom-small : (c : tie.After-struct-known Inv-loop μ-loop) → (1 ≤ c .before .before .before .end-of .result .atom) × (c .before .before .before .end-of .result .atom ≤ 64)

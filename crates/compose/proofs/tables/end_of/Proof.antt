@@ -1,6 +1,7 @@
 -- `compose::tables::end_of` meets its contract. Assumes nothing.
 use borrow.Author.Needs.{needs}
 use borrow.Author.Tests.{eq-eqb, ne-eqb}
+use lib.Dec.{lit<}
 use Rattle.compose.specs.Tables.{endAt}
 use Rattle.compose.proofs.tables.end_of.Statement.{statement}
 use Rattle.compose.proofs.tables.end_of.Tie as tie
@@ -12,7 +13,7 @@ index-1-t12 : tie.Need-index-1-t12
 index-1-t12 c = search needs
 
 index-2-t12 : tie.Need-index-2-t12
-index-2-t12 c = search needs
+index-2-t12 c = lit< tt
 
 mul-t13 : tie.Need-mul-t13
 mul-t13 c = search needs
@@ -21,7 +22,7 @@ index-1-t18 : tie.Need-index-1-t18
 index-1-t18 c = search needs
 
 index-2-t18 : tie.Need-index-2-t18
-index-2-t18 c = search needs
+index-2-t18 c = lit< tt
 
 sub-t19 : tie.Need-sub-t19
 sub-t19 c = search needs
@@ -33,7 +34,7 @@ index-1-t25 : tie.Need-index-1-t25
 index-1-t25 c = search needs
 
 index-2-t25 : tie.Need-index-2-t25
-index-2-t25 c = search needs
+index-2-t25 c = lit< tt
 
 returns : tie.Need-returns
 unfolding endAt
