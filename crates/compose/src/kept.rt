@@ -27,12 +27,13 @@ pub(crate) fn numbers_at(rows: &NumberRows, k: usize) -> Indices
     requires { ⌜ k < mostPlacements ⌝ }
     ensures { λ r. ⌜ r ≡ numbersAt (now (rows .entry)) k ⌝ }
 {
+    let row = rows[k];
     Indices {
-        atoms: rows[k][0],
-        w: rows[k][1],
-        even: rows[k][2],
-        odd: rows[k][3],
-        polarity: rows[k][4],
+        atoms: row[0],
+        w: row[1],
+        even: row[2],
+        odd: row[3],
+        polarity: row[4],
     }
 }
 
@@ -46,13 +47,14 @@ pub(crate) fn counts_at(rows: &CountRows, k: usize) -> Vertex
     requires { ⌜ k < mostPlacements ⌝ }
     ensures { λ r. ⌜ r ≡ countsAt (now (rows .entry)) k ⌝ }
 {
+    let row = rows[k];
     Vertex {
-        sum: rows[k][0],
-        even: rows[k][1],
-        odd: rows[k][2],
-        evens: rows[k][3],
-        odds: rows[k][4],
-        ones: rows[k][5],
-        twos: rows[k][6],
+        sum: row[0],
+        even: row[1],
+        odd: row[2],
+        evens: row[3],
+        odds: row[4],
+        ones: row[5],
+        twos: row[6],
     }
 }
