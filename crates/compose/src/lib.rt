@@ -25,7 +25,7 @@ use kept::number_row;
 use links::ENDS;
 use links::FIRST;
 use links::Links;
-use links::links_of;
+use links::fill_links;
 use records::payload_at;
 use summary::composed;
 use tables::copy_ends;
@@ -85,7 +85,8 @@ fn laid_out(d: &[u8], layout: Layout) -> Indices
     let blocks = layout.blocks;
     let placements = layout.placements;
     let xs = payload_at(d, layout.assembly);
-    let links = links_of(xs, placements);
+    let mut links = [[0usize; 4]; PLACEMENTS];
+    fill_links(xs, placements, &mut links);
     filled(d, xs, blocks, layout.count, placements, &links)
 }
 

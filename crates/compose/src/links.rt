@@ -3,6 +3,7 @@ use assembly::PLACEMENTS;
 use assembly::placement_at;
 ghost use mathlib.Core.Path.{_≡_};
 ghost use Prim.Native.Nat.{ℕ, _≤_, _<_};
+ghost use lib.ListN.{length};
 ghost use Rattle.assembly.specs.Placements.{mostPlacements, placementAt};
 ghost use Rattle.compose.specs.Joints.{linkOf, link};
 ghost use Rattle.compose.specs.Links.{First, Linked};
@@ -53,16 +54,14 @@ fn link_of(xs: &[u8], k: usize) -> Link
     ]
 }
 
-// The first `count` placements of an assembly's payload.
-pub(crate) fn links_of(xs: &[u8], count: usize) -> Links
-    requires { ⌜ count ≤ mostPlacements ⌝ }
-    ensures { λ r. ⌜ ((k : ℕ) → k < count → Linked (placementAt (now (xs .entry))) k (link r k)) ⌝ }
+// Stores the first `count` placements of an assembly's payload.
+pub(crate) fn fill_links(xs: &[u8], count: usize, links: &mut [Link])
+    requires { ⌜ (count ≤ mostPlacements) × (length (now links) ≡ mostPlacements) ⌝ }
+    ensures { λ _. ⌜ ((k : ℕ) → k < count → Linked (placementAt (now (xs .entry))) k (link (now (links .exit)) k)) ⌝ }
 {
-    let mut links = [[0usize; 4]; PLACEMENTS];
     let mut k: usize = 0;
     while k < count {
         links[k] = link_of(xs, k);
         k += 1;
     }
-    links
 }
