@@ -21,6 +21,7 @@ use block::sums;
 use deck::Form;
 use deck::Layout;
 use deck::read_deck;
+use kept::NumberRow;
 use kept::number_row;
 use links::ENDS;
 use links::FIRST;
@@ -30,16 +31,22 @@ use records::payload_at;
 use summary::composed;
 use tables::copy_ends;
 ghost use mathlib.Core.Path.{_≡_};
-ghost use Prim.Native.Nat.{_-_};
+ghost use Prim.Native.Nat.{_-_, min};
+ghost use lib.ListN.{length};
 ghost use Rattle.graph.specs.Assembly.{written};
 ghost use Rattle.block.specs.Read.{read};
+ghost use Rattle.block.specs.Block.{mostAtoms};
+ghost use Rattle.block.specs.Rows.{rowsOf};
 ghost use Rattle.block.specs.Index.{indicesOf, saidIndices};
+ghost use Rattle.block.specs.Sums.{pairEntry, indicesBy};
+ghost use Rattle.assembly.specs.Book.{bondBytes};
 ghost use Rattle.deck.specs.Deck.{Deck, deckReply};
 ghost use Rattle.deck.specs.Molecule.{moleculeOf};
 ghost use Rattle.deck.specs.Said.{layoutOf};
 ghost use Rattle.deck.specs.declared.Form.{Form};
 ghost use Rattle.compose.specs.Fields.{fieldsReply};
-ghost use Rattle.compose.specs.Joints.{joinsOf};
+ghost use Rattle.compose.specs.Joints.{ends, numbersOf, joinsOf};
+ghost use Rattle.compose.specs.Tables.{Ranged, Copied};
 ghost use Rattle.compose.specs.Ready.{placedBlock, placedGraph, Ready};
 
 // The block of the placement at index f.
@@ -48,6 +55,25 @@ fn block_of(xs: &[u8], blocks: [BlockAt; BLOCKS], count: usize, f: usize) -> Blo
 {
     let q = placement_at(xs, f);
     find_block(blocks, count, q.block as usize)
+}
+
+// The five numbers of the block that the placement at index f has first. Stores the rows of the ends that are in it.
+fn measured(
+    d: &[u8],
+    b: BlockAt,
+    links: &Links,
+    placements: usize,
+    f: usize,
+    out: &mut [[u8; ATOMS]],
+) -> NumberRow
+    requires { ⌜ Ranged (now links) placements × (length (now out) ≡ ends) ⌝ }
+    ensures numbers { λ r. ⌜ numbersOf r ≡ indicesBy (min (b .atoms) mostAtoms) (pairEntry (rowsOf (b .atoms) (bondBytes (now (d .entry)) b))) ⌝ }
+    ensures rows { λ _. ⌜ Copied (now (links .entry)) placements f (rowsOf (b .atoms) (bondBytes (now (d .entry)) b)) (now (out .entry)) (now (out .exit)) ⌝ }
+{
+    let n = b.atoms as usize;
+    let table = rows(n, bonds_part(d, b));
+    copy_ends(&table, links, placements, f, out);
+    number_row(sums(table, n))
 }
 
 // The five numbers of the molecule: each placed block's table is filled once, its numbers and the rows that joins need are kept.
@@ -68,9 +94,7 @@ fn filled(
     while f < placements {
         if links[f][FIRST] == f {
             let b = block_of(xs, blocks, count, f);
-            let table = rows(b.atoms as usize, bonds_part(d, b));
-            numbers[f] = number_row(sums(table, b.atoms as usize));
-            copy_ends(&table, links, placements, f, &mut ends);
+            numbers[f] = measured(d, b, links, placements, f, &mut ends);
         }
         f += 1;
     }

@@ -44,39 +44,21 @@ index-2-if1 c = lit< tt
 block-of-requires : tie.Need-block-of-requires Inv-loop μ-loop
 block-of-requires c κs = search needs
 
-cast-rows : tie.Need-cast-rows Inv-loop μ-loop
-cast-rows c = search needs
-
-bonds-part-requires : tie.Need-bonds-part-requires Inv-loop μ-loop
-bonds-part-requires c κs = search needs
-
-rows-requires : tie.Need-rows-requires Inv-loop μ-loop
-rows-requires c κs = search needs
-
-cast-sums : tie.Need-cast-sums Inv-loop μ-loop
-cast-sums c = search needs
-
-sums-requires : tie.Need-sums-requires Inv-loop μ-loop
-sums-requires c κs = search needs
-
-number-row-requires : tie.Need-number-row-requires Inv-loop μ-loop
-number-row-requires c κs = search needs
-
 -- the rows of all ends are there
-tall : (c : tie.After-ends Inv-loop μ-loop) → length (c .before .before .before .before .before .before .before .before .before .before .before .before .loop .ends) ≡ ends
-tall c = let s = c .before .before .before .before .before .before .before .before .before .before .before .before in s .loop .inv .1 (s .before .before .before .pre) .tall
+tall : (c : tie.After-ends Inv-loop μ-loop) → length (c .before .before .before .before .before .loop .ends) ≡ ends
+tall c = let s = c .before .before .before .before .before in s .loop .inv .1 (s .before .before .before .pre) .tall
+
+slice-aggregate-measured : tie.Need-slice-aggregate-measured Inv-loop μ-loop
+slice-aggregate-measured c = omega (arith, tall c)
+
+measured-requires : tie.Need-measured-requires Inv-loop μ-loop
+measured-requires c κs = (ranged (c .before .before .before .before .before .before .before .before .pre), tall c)
 
 mul-numbers : tie.Need-mul-numbers Inv-loop μ-loop
-mul-numbers c = omega (arith, small (c .before .before .before .before .before .before .before .before .before))
+mul-numbers c = omega (arith, small (c .before .before .before .before .before .before))
 
 array-set-from-numbers : tie.Need-array-set-from-numbers Inv-loop μ-loop
-array-set-from-numbers c = small (c .before .before .before .before .before .before .before .before .before)
-
-slice-aggregate-copy-ends : tie.Need-slice-aggregate-copy-ends Inv-loop μ-loop
-slice-aggregate-copy-ends c = omega (arith, tall c)
-
-copy-ends-requires : tie.Need-copy-ends-requires Inv-loop μ-loop
-copy-ends-requires c κs = (ranged (c .before .before .before .before .before .before .before .before .before .before .before .before .before .before .before .pre), tall c)
+array-set-from-numbers c = small (c .before .before .before .before .before .before)
 
 add-f : tie.Need-add-f Inv-loop μ-loop
 add-f c = omega arith
@@ -91,9 +73,9 @@ loop-again c =
     let l = c .before .before .loop-test .taken in (
       omega arith,
       λ r. ⊎-elim
-          (λ w. rw (w .12, w .13)
-          (fill-one r l (s .loop .inv .1 r) _ (w .4 .ensures ∙ ap (rowsOf (w .1 .result .atoms)) (w .3 .ensures .bytes) ∙ ap (λ (x : BlockAt). rowsOf (x .atoms) (bondBytes (a .d .now) x)) (w .1 .ensures))
-          (w .7 .ensures ∙ w .6 .ensures ∙ ap (λ (x : BlockAt). indicesBy (min (x .atoms) mostAtoms) (pairEntry (w .4 .result))) (w .1 .ensures)) (w .10 .ensures)))
+          (λ w. rw (w .5, w .6)
+          (fill-one r l (s .loop .inv .1 r) _ (ap (λ (x : BlockAt). rowsOf (x .atoms) (bondBytes (a .d .now) x)) (w .1 .ensures))
+          (w .3 .ensures .0 ∙ ap (λ (x : BlockAt). indicesBy (min (x .atoms) mostAtoms) (pairEntry (rowsOf (w .1 .result .atoms) (bondBytes (a .d .now) (w .1 .result))))) (w .1 .ensures)) (w .3 .ensures .1)))
           (λ w. rw (w .1, w .2) (fill-none r l (s .loop .inv .1 r) (w .0 .left)))
           (c .if1 .came),
     )
@@ -122,16 +104,10 @@ filled-spec =
     index-1-if1
     index-2-if1
     block-of-requires
-    cast-rows
-    bonds-part-requires
-    rows-requires
-    cast-sums
-    sums-requires
-    number-row-requires
+    slice-aggregate-measured
+    measured-requires
     mul-numbers
     array-set-from-numbers
-    slice-aggregate-copy-ends
-    copy-ends-requires
     add-f
     loop-less
     loop-again
