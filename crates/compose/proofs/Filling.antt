@@ -100,8 +100,8 @@ module _ {d xs : List ℕ} {bs : List BlockAt} {count placements : ℕ} {ls : Li
         before i m h = ⊎-elim (λ q. absurd (n (first-first i f m q))) (λ q. q) (eq-or-lt-of-le {n = link ls i .block} {m = f} (omega arith))
 
     -- one is: its table gives the numbers, and the rows of the ends that are in it
-    module _ {rs' table : List (List ℕ)} (x : List ℕ) (t : table ≡ rowsOf (placedBlock xs bs count f .atoms) (bondBytes d (placedBlock xs bs count f)))
-        (q : numbersOf x ≡ indicesBy (min (placedBlock xs bs count f .atoms) mostAtoms) (pairEntry table)) (c : Copied ls placements f table rs rs') where
+    module _ {rs' : List (List ℕ)} {y : BlockAt} (x : List ℕ) (t : y ≡ placedBlock xs bs count f)
+        (q : numbersOf x ≡ indicesBy (min (y .atoms) mostAtoms) (pairEntry (rowsOf (y .atoms) (bondBytes d y)))) (c : Copied ls placements f (rowsOf (y .atoms) (bondBytes d y)) rs rs') where
       numbers-here : numbersOf x ≡ indicesOf (graphs f)
       numbers-here = q ∙ rw (t, all-atoms _ _ (r .fine f l)) (indices-are _ _ (r .fine f l))
 

@@ -1,17 +1,12 @@
 -- `compose::filled` meets its contract. The loop's invariant: the blocks that are had first before index f are done. Assumes nothing.
-use Prim.Native.Nat.{ℕ, _-_, _≤_, _<_, min}
+use Prim.Native.Nat.{ℕ, _-_, _≤_, _<_}
 use mathlib.Core.Logic.{⊎-elim}
-use mathlib.Core.Path.{_≡_, _∙_, ap, subst}
+use mathlib.Core.Path.{_≡_, subst}
 use borrow.Author.Needs.{needs}
 use native.Mathlib.Omega.{arith}
 use lib.ListN.{length}
 use lib.Dec.{lit<}
-use Rattle.block.specs.Block.{mostAtoms}
-use Rattle.block.specs.Rows.{rowsOf}
-use Rattle.block.specs.Sums.{pairEntry, indicesBy}
-use Rattle.assembly.specs.Book.{bondBytes}
 use Rattle.assembly.specs.Placements.{mostPlacements}
-use Rattle.assembly.specs.declared.BlockAt.{BlockAt}
 use Rattle.compose.specs.Joints.{ends, Task}
 use Rattle.compose.specs.Ready.{placedGraph, Ready}
 use Rattle.compose.proofs.Stored.{row-at}
@@ -69,13 +64,10 @@ loop-less c = omega arith
 loop-again : tie.Need-loop-again Inv-loop μ-loop
 loop-again c =
     let s = c .before .before .before in
-    let a = s .before .before .before .args in
     let l = c .before .before .loop-test .taken in (
       omega arith,
       λ r. ⊎-elim
-          (λ w. rw (w .5, w .6)
-          (fill-one r l (s .loop .inv .1 r) _ (ap (λ (x : BlockAt). rowsOf (x .atoms) (bondBytes (a .d .now) x)) (w .1 .ensures))
-          (w .3 .ensures .0 ∙ ap (λ (x : BlockAt). indicesBy (min (x .atoms) mostAtoms) (pairEntry (rowsOf (w .1 .result .atoms) (bondBytes (a .d .now) (w .1 .result))))) (w .1 .ensures)) (w .3 .ensures .1)))
+          (λ w. rw (w .5, w .6) (fill-one r l (s .loop .inv .1 r) _ (w .1 .ensures) (w .3 .ensures .0) (w .3 .ensures .1)))
           (λ w. rw (w .1, w .2) (fill-none r l (s .loop .inv .1 r) (w .0 .left)))
           (c .if1 .came),
     )
