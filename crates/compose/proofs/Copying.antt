@@ -6,18 +6,17 @@ use borrow.Author.Count.{below-more}
 use native.Mathlib.Omega.{arith}
 use lib.ListN.{length, getD, set, length-set}
 use lib.Seq.{getD-set-other}
-use Rattle.compose.specs.declared.links.Link.{Link}
 use Rattle.compose.specs.Joints.{ends}
 use Rattle.compose.specs.Tables.{endAt, homeOf}
 use Rattle.compose.proofs.Stored.{stored-more}
 
 -- the ends before e are copied, those of other blocks are kept
-pub record Copying (ls : List Link) (f : ℕ) (table old : List (List ℕ)) (e : ℕ) (rows : List (List ℕ)) : Type 0 where
+pub record Copying (ls : List (List ℕ)) (f : ℕ) (table old : List (List ℕ)) (e : ℕ) (rows : List (List ℕ)) : Type 0 where
   pub long : length rows ≡ ends
   pub taken : (i : ℕ) → i < e → 2 ≤ i → homeOf ls i ≡ f → getD rows i [] ≡ getD table (endAt ls i .atom - 1) []
   pub kept : (i : ℕ) → (homeOf ls i ≡ f → ⊥) → getD rows i [] ≡ getD old i []
 
-module _ {ls : List Link} {f : ℕ} {table old : List (List ℕ)} where
+module _ {ls : List (List ℕ)} {f : ℕ} {table old : List (List ℕ)} where
   pub copy-start : length old ≡ ends → Copying ls f table old 2 old
   copy-start n = record { long = n; taken = λ i l h. absurd (omega arith); kept = λ i h. refl }
 

@@ -1,7 +1,7 @@
 -- The tables of the blocks, filled one after the other: once all are, the arrays are what composing asks. Assumes nothing.
 use Prim.Native.Nat.{ℕ, _+_, _*_, _-_, _/_, _%_, _≤_, _<_, min}
 use mathlib.Core.Bool.{Bool, true, false}
-use mathlib.Core.List.{List}
+use mathlib.Core.List.{List, []}
 use mathlib.Core.Logic.{⊎-elim}
 use mathlib.Core.Path.{_≡_, refl, sym, _∙_, ap, subst}
 use native.Mathlib.Nat.{eq-or-lt-of-le}
@@ -19,26 +19,24 @@ use Rattle.block.specs.Sums.{pairEntry, indicesBy}
 use Rattle.block.specs.Told.{distance-at}
 use Rattle.block.specs.Told as told
 use Rattle.block.specs.Measures.{indices-are, all-atoms}
-use Rattle.block.specs.declared.Indices.{Indices}
 use Rattle.assembly.specs.Book.{bondBytes, blockGraph}
 use Rattle.assembly.specs.Placements.{mostPlacements, placementAt}
 use Rattle.assembly.specs.declared.BlockAt.{BlockAt}
-use Rattle.compose.specs.declared.links.Link.{Link}
 use Rattle.compose.specs.declared.tables.End.{End}
-use Rattle.compose.specs.Joints.{link, joinsOf, entry, noIndices, numbersAt, Task}
+use Rattle.compose.specs.Joints.{ends, link, joinsOf, entry, numbersOf, numbersAt, Task}
 use Rattle.compose.specs.Tables.{endAt, homeOf, Ranged, Copied}
 use Rattle.compose.specs.Ready.{placedBlock, placedGraph, Ready}
 
 -- an end is a placement's own atom, or its parent's atom
-end-own : (ls : List Link) (e : ℕ) → e % 2 ≡ 0 → endAt ls e ≡ record { home = e / 2; atom = link ls (e / 2) .own }
+end-own : (ls : List (List ℕ)) (e : ℕ) → e % 2 ≡ 0 → endAt ls e ≡ record { home = e / 2; atom = link ls (e / 2) .own }
 unfolding endAt
 end-own ls e p = rw (eq-eqb (e % 2) 0 p)
 
-end-site : (ls : List Link) (e : ℕ) → (e % 2 ≡ 0 → ⊥) → endAt ls e ≡ record { home = link ls (e / 2) .parent - 1; atom = link ls (e / 2) .site }
+end-site : (ls : List (List ℕ)) (e : ℕ) → (e % 2 ≡ 0 → ⊥) → endAt ls e ≡ record { home = link ls (e / 2) .parent - 1; atom = link ls (e / 2) .site }
 unfolding endAt
 end-site ls e p = rw (ne-eqb (e % 2) 0 p)
 
-module _ {d xs : List ℕ} {bs : List BlockAt} {count placements : ℕ} {ls : List Link} (r : Ready d xs bs count placements ls) where
+module _ {d xs : List ℕ} {bs : List BlockAt} {count placements : ℕ} {ls : List (List ℕ)} (r : Ready d xs bs count placements ls) where
   abbrev graphs : ℕ → Graph
   graphs = placedGraph d xs bs count
 
@@ -78,20 +76,22 @@ module _ {d xs : List ℕ} {bs : List BlockAt} {count placements : ℕ} {ls : Li
       (eq-or-lt-of-le {n = link ls f .block} {m = f} (b .early))
 
   -- the blocks that are had first before index f are done
-  pub record Filled (f : ℕ) (rs : List (List ℕ)) (ns : List Indices) : Type 0 where
+  pub record Filled (f : ℕ) (rs ns : List (List ℕ)) : Type 0 where
     pub long : length ns ≡ mostPlacements
+    pub tall : length rs ≡ ends
     pub numbers : (i : ℕ) → i < placements → link ls i .block < f → numbersAt ns (link ls i .block) ≡ indicesOf (graphs i)
     pub rows : (e : ℕ) → 2 ≤ e → e < 2 * placements → homeOf ls e < f → (j : ℕ) → Within (graphs (endAt ls e .home) .atoms) j
         → entry rs e j ≡ distance (graphs (endAt ls e .home)) (endAt ls e .atom) j
 
-  pub fill-start : {rs : List (List ℕ)} {ns : List Indices} → length ns ≡ mostPlacements → Filled 0 rs ns
-  fill-start n = record { long = n; numbers = λ i l h. absurd (omega arith); rows = λ e h l q. absurd (omega arith) }
+  pub fill-start : {rs ns : List (List ℕ)} → length ns ≡ mostPlacements → length rs ≡ ends → Filled 0 rs ns
+  fill-start n m = record { long = n; tall = m; numbers = λ i l h. absurd (omega arith); rows = λ e h l q. absurd (omega arith) }
 
-  module _ {f : ℕ} {rs : List (List ℕ)} {ns : List Indices} (l : f < placements) (s : Filled f rs ns) where
+  module _ {f : ℕ} {rs ns : List (List ℕ)} (l : f < placements) (s : Filled f rs ns) where
     -- no block is had first at f
     pub fill-none : (link ls f .block ≡ f → ⊥) → Filled (f + 1) rs ns
     fill-none n = record {
       long = s .long;
+      tall = s .tall;
       numbers = λ i m h. s .numbers i m (before i m h);
       rows = λ e g m h. s .rows e g m (before (endAt ls e .home) (inside e g m .home) h);
     }
@@ -100,9 +100,9 @@ module _ {d xs : List ℕ} {bs : List BlockAt} {count placements : ℕ} {ls : Li
         before i m h = ⊎-elim (λ q. absurd (n (first-first i f m q))) (λ q. q) (eq-or-lt-of-le {n = link ls i .block} {m = f} (omega arith))
 
     -- one is: its table gives the numbers, and the rows of the ends that are in it
-    module _ {rs' table : List (List ℕ)} {x : Indices} (t : table ≡ rowsOf (placedBlock xs bs count f .atoms) (bondBytes d (placedBlock xs bs count f)))
-        (q : x ≡ indicesBy (min (placedBlock xs bs count f .atoms) mostAtoms) (pairEntry table)) (c : Copied ls placements f table rs rs') where
-      numbers-here : x ≡ indicesOf (graphs f)
+    module _ {rs' : List (List ℕ)} {y : BlockAt} (x : List ℕ) (t : y ≡ placedBlock xs bs count f)
+        (q : numbersOf x ≡ indicesBy (min (y .atoms) mostAtoms) (pairEntry (rowsOf (y .atoms) (bondBytes d y)))) (c : Copied ls placements f (rowsOf (y .atoms) (bondBytes d y)) rs rs') where
+      numbers-here : numbersOf x ≡ indicesOf (graphs f)
       numbers-here = q ∙ rw (t, all-atoms _ _ (r .fine f l)) (indices-are _ _ (r .fine f l))
 
       row-here : (e : ℕ) → 2 ≤ e → e < 2 * placements → homeOf ls e ≡ f → (j : ℕ) → Within (graphs (endAt ls e .home) .atoms) j
@@ -114,9 +114,10 @@ module _ {d xs : List ℕ} {bs : List BlockAt} {count placements : ℕ} {ls : Li
       pub fill-one : Filled (f + 1) rs' (set ns f x)
       fill-one = record {
         long = length-set ns f x ∙ s .long;
+        tall = c .same ∙ s .tall;
         numbers = λ i m h. ⊎-elim
-            (λ p. ap (numbersAt (set ns f x)) p ∙ getD-set-same ns f x noIndices (omega (arith, s .long, r .few)) ∙ numbers-here ∙ ap (λ (b : BlockAt). indicesOf (blockGraph d b)) (sym (same-block i f m p)))
-            (λ p. getD-set-other ns f (link ls i .block) x noIndices (λ k. omega arith) ∙ s .numbers i m p)
+            (λ p. ap (numbersAt (set ns f x)) p ∙ ap numbersOf (getD-set-same ns f x [] (omega (arith, s .long, r .few))) ∙ numbers-here ∙ ap (λ (b : BlockAt). indicesOf (blockGraph d b)) (sym (same-block i f m p)))
+            (λ p. ap numbersOf (getD-set-other ns f (link ls i .block) x [] (λ k. omega arith)) ∙ s .numbers i m p)
             (eq-or-lt-of-le {n = link ls i .block} {m = f} (omega arith));
         rows = λ e g m h j w. ⊎-elim
             (λ p. row-here e g m p j w)
@@ -125,14 +126,14 @@ module _ {d xs : List ℕ} {bs : List BlockAt} {count placements : ℕ} {ls : Li
       }
 
   -- all are done: the row of an end, whatever it is
-  row-of : {rs : List (List ℕ)} {ns : List Indices} (e : ℕ) {x : End} → endAt ls e ≡ x → Filled placements rs ns → 2 ≤ e → e < 2 * placements → (j : ℕ) → Within (graphs (x .home) .atoms) j
+  row-of : {rs ns : List (List ℕ)} (e : ℕ) {x : End} → endAt ls e ≡ x → Filled placements rs ns → 2 ≤ e → e < 2 * placements → (j : ℕ) → Within (graphs (x .home) .atoms) j
       → entry rs e j ≡ distance (graphs (x .home)) (x .atom) j
   row-of {rs} e p s h l j =
       let i = inside e h l .home in
       subst (λ (x : End). Within (graphs (x .home) .atoms) j → entry rs e j ≡ distance (graphs (x .home)) (x .atom) j) p
       (s .rows e h l (omega (arith, r .linked (endAt ls e .home) i .block .early)) j)
 
-  pub fill-end : {rs : List (List ℕ)} {ns : List Indices} → Filled placements rs ns → Task graphs (placements - 1) ls rs ns
+  pub fill-end : {rs ns : List (List ℕ)} → Filled placements rs ns → Task graphs (placements - 1) ls rs ns
   fill-end {rs} {ns} s = record {
     laid = record {
       few = omega (arith, r .few);

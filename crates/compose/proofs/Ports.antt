@@ -10,10 +10,9 @@ use Rattle.graph.specs.Climb.{placed-within, written-molecule, apart-same, apar
 use Rattle.graph.specs.Bounds.{atoms-most}
 use Rattle.block.specs.Block.{mostAtoms}
 use Rattle.assembly.specs.Placements.{mostPlacements}
-use Rattle.compose.specs.declared.links.Link.{Link}
 use Rattle.compose.specs.Joints.{link, joinsOf, entry, between, Laid}
 
-module _ {blocks : ℕ → Graph} {last : ℕ} {ls : List Link} {rs : List (List ℕ)} (l : Laid blocks last ls rs) where
+module _ {blocks : ℕ → Graph} {last : ℕ} {ls rs : List (List ℕ)} (l : Laid blocks last ls rs) where
   -- in the whole molecule numbers stay small
   pub few-atoms : (m : ℕ) → m ≤ last → written blocks (joinsOf ls) m .atoms ≤ mostAtoms * mostPlacements
   few-atoms m h = omega (arith, atoms-most mostAtoms blocks (joinsOf ls) m (λ k q. l .small k (omega arith)), l .few)

@@ -23,7 +23,6 @@ use Rattle.deck.specs.Sound.{whole}
 use Rattle.deck.specs.Said.{tableOf, layoutOf, saidDeck}
 use Rattle.deck.specs.declared.Form.{Form}
 use Rattle.deck.specs.declared.Layout.{Layout}
-use Rattle.compose.specs.declared.links.Link.{Link}
 use Rattle.compose.specs.Fields.{fieldsReply}
 use Rattle.compose.specs.Links.{Linked}
 use Rattle.compose.specs.Joints.{link, joinsOf}
@@ -69,12 +68,12 @@ module _ (blocks : ℕ → Graph) {joins joins' : ℕ → Join} where
   }
 
 -- the links say the joins
-linked-join : (xs : List ℕ) (ls : List Link) (i : ℕ) → Linked (placementAt xs) i (link ls i) → joinOf (placementAt xs i) ≡ joinsOf ls i
+linked-join : (xs : List ℕ) (ls : List (List ℕ)) (i : ℕ) → Linked (placementAt xs) i (link ls i) → joinOf (placementAt xs i) ≡ joinsOf ls i
 unfolding joinOf
 linked-join xs ls i l = rw (l .parent, l .site, l .own)
 
 -- a deck that is read, with the links of its placements
-module _ (form : Form) (d : List ℕ) (k : Deck) (e : deckReply form d ≡ read k) (ls : List Link)
+module _ (form : Form) (d : List ℕ) (k : Deck) (e : deckReply form d ≡ read k) (ls : List (List ℕ))
     (l : (i : ℕ) → i < k .placements → Linked (placementAt (payloadAt d (k .assembly))) i (link ls i)) where
   table-is : take (length (k .blocks)) (tableOf (k .blocks)) ≡ k .blocks
   table-is = take-at (k .blocks) _ _ refl
@@ -109,7 +108,7 @@ module _ (form : Form) (d : List ℕ) (k : Deck) (e : deckReply form d ≡ read 
   pub few-placements : layout .placements ≤ mostPlacements
   few-placements = rw q (whole form d k e .count .high)
 
-  module _ (xs : List ℕ) (p : xs ≡ payloadAt d (layout .assembly)) (ls : List Link) (l : (i : ℕ) → i < layout .placements → Linked (placementAt xs) i (link ls i)) where
+  module _ (xs : List ℕ) (p : xs ≡ payloadAt d (layout .assembly)) (ls : List (List ℕ)) (l : (i : ℕ) → i < layout .placements → Linked (placementAt xs) i (link ls i)) where
     payload-is : xs ≡ payloadAt d (k .assembly)
     payload-is = p ∙ ap (λ (x : Layout). payloadAt d (x .assembly)) q
 

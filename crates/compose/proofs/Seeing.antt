@@ -11,13 +11,10 @@ use Rattle.graph.specs.Rules.{Grown}
 use Rattle.graph.specs.Parts.{count-at-0}
 use Rattle.graph.specs.Climb.{apart, seen, sooner, placed-within, placed-sooner, written-molecule, grown-old, grown-new, apart-keeps}
 use Rattle.graph.specs.Bounds.{vertex-most}
-use Rattle.block.specs.declared.Indices.{Indices}
 use Rattle.block.specs.declared.Vertex.{Vertex}
 use Rattle.block.specs.Block.{mostAtoms}
 use Rattle.block.specs.Sums.{vertexBy}
 use Rattle.assembly.specs.Placements.{mostPlacements}
-use Rattle.compose.specs.declared.links.Link.{Link}
-use Rattle.compose.specs.declared.joints.Joint.{Joint}
 use Rattle.compose.specs.Counted.{Counts, Below}
 use Rattle.compose.specs.Joints.{link, joinsOf, entry, between, numbersAt, jointAt, sightAt, Laid, Task, Jointed, Turn}
 use Rattle.compose.proofs.Counting.{counts-eq, counts-by, below}
@@ -34,7 +31,7 @@ rowed {v} {n} g a d e small h q =
 vertex-below : {v : Vertex} {g : Graph} {a : ℕ} → Molecule g → g .atoms ≤ mostAtoms * mostPlacements → Within (g .atoms) a → Counts v (vertex g a) → Below (2 ^ 24) v
 vertex-below m few w c = below (2 ^ 24) c (λ f t. omega (arith, vertex-most m t w, mul-le-mul few few))
 
-module _ {blocks : ℕ → Graph} {last : ℕ} {ls : List Link} {rs : List (List ℕ)} {ns : List Indices} (t : Task blocks last ls rs ns) where
+module _ {blocks : ℕ → Graph} {last : ℕ} {ls rs ns : List (List ℕ)} (t : Task blocks last ls rs ns) where
   -- the table has the block's atom count
   size : (k : ℕ) → k ≤ last → numbersAt ns (link ls k .block) .atoms ≡ blocks k .atoms
   size k h = measures (t .measured k h) .atoms
@@ -49,7 +46,7 @@ module _ {blocks : ℕ → Graph} {last : ℕ} {ls : List Link} {rs : List (List
       let h : link ls k .parent - 1 ≤ last = omega (arith, stands (t .laid) w .parent) in
       rowed (blocks (link ls k .parent - 1)) (link ls k .site) (entry rs (2 * k + 1)) (size (link ls k .parent - 1) h) (t .laid .small (link ls k .parent - 1) h) (λ j v. t .laid .site k j w v)
 
-module _ {blocks : ℕ → Graph} {last : ℕ} {ls : List Link} {rs : List (List ℕ)} (l : Laid blocks last ls rs) where
+module _ {blocks : ℕ → Graph} {last : ℕ} {ls rs : List (List ℕ)} (l : Laid blocks last ls rs) where
   -- with the placement at an index a that is not 0: an atom of its block, and an atom that was there
   here : (a : ℕ) {k i : ℕ} → Within last a → k ≡ suc a → Placed blocks a k i
       → Grown (seen blocks (joinsOf ls) a k i) (vertex (blocks a) i) (sightAt blocks ls a a) (distance (blocks a) (link ls a .own) i)
@@ -112,7 +109,7 @@ module _ {blocks : ℕ → Graph} {last : ℕ} {ls : List Link} {rs : List (List
         (there m u s)
 
 -- At the turn of the placement at index k: its parent, which is joined itself where it is not the first.
-module _ {blocks : ℕ → Graph} {last : ℕ} {ls : List Link} {rs : List (List ℕ)} {js : List Joint} {k : ℕ} (t : Turn blocks last ls rs js k) where
+module _ {blocks : ℕ → Graph} {last : ℕ} {ls rs cores owns : List (List ℕ)} {k : ℕ} (t : Turn blocks last ls rs cores owns k) where
   pub parent-index : link ls k .parent - 1 ≤ last
   parent-index = omega (arith, stands (t .laid) (t .index) .parent, t .index)
 
@@ -123,5 +120,5 @@ module _ {blocks : ℕ → Graph} {last : ℕ} {ls : List Link} {rs : List (List
     pub up-earlier : link ls (link ls k .parent - 1) .parent ≤ link ls k .parent - 1
     up-earlier = stands (t .laid) up .parent .high
 
-    pub up-joint : Jointed blocks ls (jointAt js (link ls k .parent - 1)) (link ls k .parent - 1)
+    pub up-joint : Jointed blocks ls (jointAt cores owns (link ls k .parent - 1)) (link ls k .parent - 1)
     up-joint = t .known (link ls k .parent - 1) (omega (arith, stands (t .laid) (t .index) .parent)) (up .low)

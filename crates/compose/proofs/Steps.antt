@@ -12,7 +12,6 @@ use Rattle.block.specs.declared.Indices.{Indices}
 use Rattle.block.specs.Block.{mostAtoms}
 use Rattle.block.specs.Index.{indicesOf}
 use Rattle.assembly.specs.Placements.{mostPlacements}
-use Rattle.compose.specs.declared.links.Link.{Link}
 use Rattle.compose.specs.Counted.{Room, Bridge}
 use Rattle.compose.specs.Joints.{link, joinsOf, numbersAt, Laid, Task}
 use Rattle.compose.proofs.Joining.{measures}
@@ -39,7 +38,7 @@ unfolding written
 written-next blocks joins zero h = absurd (omega arith)
 written-next blocks joins (suc m) h = let e : m ≡ suc m - 1 = omega arith in ap (λ (n : ℕ). joined (written blocks joins n) (blocks (suc m)) (siteOf blocks joins (suc m)) (joins (suc m) .own)) e
 
-module _ {blocks : ℕ → Graph} {last : ℕ} {ls : List Link} {rs : List (List ℕ)} (l : Laid blocks last ls rs) where
+module _ {blocks : ℕ → Graph} {last : ℕ} {ls rs : List (List ℕ)} (l : Laid blocks last ls rs) where
   pub room-before : {s : Indices} (m : ℕ) → m ≤ last → s ≡ indicesOf (written blocks (joinsOf ls) m) → Room s
   room-before m h = room (written-molecule m (sooner m h (l .assembled))) (few-atoms l m h)
 
@@ -59,7 +58,7 @@ module _ {blocks : ℕ → Graph} {last : ℕ} {ls : List Link} {rs : List (List
     pub joined-next : {s : Indices} → s ≡ indicesOf (joined (written blocks (joinsOf ls) (k - 1)) (blocks k) (siteOf blocks (joinsOf ls) k) (link ls k .own)) → s ≡ indicesOf (written blocks (joinsOf ls) k)
     joined-next e = e ∙ ap indicesOf (sym (written-next blocks (joinsOf ls) k (w .low)))
 
-pub first-numbers : {blocks : ℕ → Graph} {last : ℕ} {ls : List Link} {rs : List (List ℕ)} {ns : List Indices} → Task blocks last ls rs ns
+pub first-numbers : {blocks : ℕ → Graph} {last : ℕ} {ls rs ns : List (List ℕ)} → Task blocks last ls rs ns
     → numbersAt ns (link ls 0 .block) ≡ indicesOf (written blocks (joinsOf ls) 0)
 unfolding written
 first-numbers t = t .measured 0 (omega arith)

@@ -12,20 +12,20 @@ use Rattle.block.specs.Index.{indicesOf}
 use Rattle.block.specs.declared.Indices.{Indices}
 use Rattle.block.specs.declared.Vertex.{Vertex}
 use Rattle.compose.specs.Counted.{Counts}
-use Rattle.compose.specs.declared.links.Link.{Link}
+use Rattle.compose.specs.Links.{Link}
 use Rattle.compose.specs.declared.joints.Joint.{Joint}
 
 abbrev pub ends : ℕ
 ends = 2 * mostPlacements
 
 -- the link at an index, and the join that it says
-abbrev pub noLink : Link
-noLink = record { block = 0; parent = 0; site = 0; own = 0 }
+abbrev pub linkOf : List ℕ → Link
+linkOf l = record { block = getD l 0 0; parent = getD l 1 0; site = getD l 2 0; own = getD l 3 0 }
 
-abbrev pub link : List Link → ℕ → Link
-link ls k = getD ls k noLink
+abbrev pub link : List (List ℕ) → ℕ → Link
+link ls k = linkOf (getD ls k [])
 
-abbrev pub joinsOf : List Link → ℕ → Join
+abbrev pub joinsOf : List (List ℕ) → ℕ → Join
 joinsOf ls k = record { parent = link ls k .parent; site = link ls k .site; own = link ls k .own }
 
 -- the distance of an atom in the row of an end
@@ -33,31 +33,31 @@ abbrev pub entry : List (List ℕ) → ℕ → ℕ → ℕ
 entry rs e j = getD (getD rs e []) (j - 1) 0
 
 -- the distance of the atoms that the placements at the indices x and y are joined to
-abbrev pub between : (ℕ → Graph) → List Link → ℕ → ℕ → ℕ → ℕ
+abbrev pub between : (ℕ → Graph) → List (List ℕ) → ℕ → ℕ → ℕ → ℕ
 between blocks ls last x y = apart blocks (joinsOf ls) last (link ls x .parent) (link ls x .site) (link ls y .parent) (link ls y .site)
 
 -- what is counted from the atom that the placement at index k is joined to, in the molecule of the first m placements
-abbrev pub sightAt : (ℕ → Graph) → List Link → ℕ → ℕ → (ℕ → ℕ) → ℕ
+abbrev pub sightAt : (ℕ → Graph) → List (List ℕ) → ℕ → ℕ → (ℕ → ℕ) → ℕ
 sightAt blocks ls m k = seen blocks (joinsOf ls) (m - 1) (link ls k .parent) (link ls k .site)
 
 -- the five numbers of the block of a placement that has it first, and what is counted at the join of the placement at an index
-abbrev pub noIndices : Indices
-noIndices = record { atoms = 0; w = 0; even = 0; odd = 0; polarity = 0 }
+abbrev pub numbersOf : List ℕ → Indices
+numbersOf l = record { atoms = getD l 0 0; w = getD l 1 0; even = getD l 2 0; odd = getD l 3 0; polarity = getD l 4 0 }
 
-abbrev pub numbersAt : List Indices → ℕ → Indices
-numbersAt ns b = getD ns b noIndices
+abbrev pub numbersAt : List (List ℕ) → ℕ → Indices
+numbersAt ns b = numbersOf (getD ns b [])
 
-abbrev pub noVertex : Vertex
-noVertex = record { sum = 0; even = 0; odd = 0; evens = 0; odds = 0; ones = 0; twos = 0 }
+abbrev pub countsOf : List ℕ → Vertex
+countsOf l = record { sum = getD l 0 0; even = getD l 1 0; odd = getD l 2 0; evens = getD l 3 0; odds = getD l 4 0; ones = getD l 5 0; twos = getD l 6 0 }
 
-abbrev pub noJoint : Joint
-noJoint = record { core = noVertex; own = noVertex }
+abbrev pub countsAt : List (List ℕ) → ℕ → Vertex
+countsAt vs k = countsOf (getD vs k [])
 
-abbrev pub jointAt : List Joint → ℕ → Joint
-jointAt js k = getD js k noJoint
+abbrev pub jointAt : List (List ℕ) → List (List ℕ) → ℕ → Joint
+jointAt cores owns k = record { core = countsAt cores k; own = countsAt owns k }
 
 -- The links are an assembly of the blocks. At 2 k and 2 k + 1 stand the rows of the own atom of the placement at index k and of its parent's atom.
-pub record Laid (blocks : ℕ → Graph) (last : ℕ) (ls : List Link) (rs : List (List ℕ)) : Type 0 where
+pub record Laid (blocks : ℕ → Graph) (last : ℕ) (ls rs : List (List ℕ)) : Type 0 where
   pub few : last < mostPlacements
   pub assembled : Assembled blocks (joinsOf ls) last
   pub small : (k : ℕ) → k ≤ last → blocks k .atoms ≤ mostAtoms
@@ -65,18 +65,18 @@ pub record Laid (blocks : ℕ → Graph) (last : ℕ) (ls : List Link) (rs : Lis
   pub site : (k j : ℕ) → Within last k → Within (blocks (link ls k .parent - 1) .atoms) j → entry rs (2 * k + 1) j ≡ distance (blocks (link ls k .parent - 1)) (link ls k .site) j
 
 -- and the five numbers of each block stand at the first placement that has it
-pub record Task (blocks : ℕ → Graph) (last : ℕ) (ls : List Link) (rs : List (List ℕ)) (ns : List Indices) : Type 0 where
+pub record Task (blocks : ℕ → Graph) (last : ℕ) (ls rs : List (List ℕ)) (ns : List (List ℕ)) : Type 0 where
   pub laid : Laid blocks last ls rs
   pub listed : (k : ℕ) → k ≤ last → link ls k .block < mostPlacements
   pub measured : (k : ℕ) → k ≤ last → numbersAt ns (link ls k .block) ≡ indicesOf (blocks k)
 
 -- a joint has what is counted at the join of the placement at index k
-pub record Jointed (blocks : ℕ → Graph) (ls : List Link) (j : Joint) (k : ℕ) : Type 0 where
+pub record Jointed (blocks : ℕ → Graph) (ls : List (List ℕ)) (j : Joint) (k : ℕ) : Type 0 where
   pub core : Counts (j .core) (sightAt blocks ls k k)
   pub own : Counts (j .own) (vertex (blocks k) (link ls k .own))
 
 -- the placement at index k is next, and the joints before are known
-pub record Turn (blocks : ℕ → Graph) (last : ℕ) (ls : List Link) (rs : List (List ℕ)) (js : List Joint) (k : ℕ) : Type 0 where
+pub record Turn (blocks : ℕ → Graph) (last : ℕ) (ls rs : List (List ℕ)) (cores owns : List (List ℕ)) (k : ℕ) : Type 0 where
   pub laid : Laid blocks last ls rs
   pub index : Within last k
-  pub known : (m : ℕ) → m < k → 1 ≤ m → Jointed blocks ls (jointAt js m) m
+  pub known : (m : ℕ) → m < k → 1 ≤ m → Jointed blocks ls (jointAt cores owns m) m

@@ -2,7 +2,13 @@
 use Prim.Native.Nat.{ℕ, _≤_, _<_}
 use mathlib.Core.Path.{_≡_}
 use Rattle.assembly.specs.declared.Placement.{Placement}
-use Rattle.compose.specs.declared.links.Link.{Link}
+
+-- a placement: the index of the first one that has its block, its parent's number, the parent's atom and its own atom
+pub record Link : Type 0 where
+  pub block : ℕ
+  pub parent : ℕ
+  pub site : ℕ
+  pub own : ℕ
 
 -- r is the index of the first placement that has the block of the one at index k
 pub record First (placed : ℕ → Placement) (k r : ℕ) : Type 0 where

@@ -4,31 +4,31 @@ use mathlib.Core.Bool.{cond}
 use mathlib.Core.List.{List, []}
 use mathlib.Core.Path.{_≡_}
 use lib.Dec.{eqb}
-use lib.ListN.{getD}
+use lib.ListN.{length, getD}
 use Rattle.graph.specs.Graph.{Within}
 use Rattle.block.specs.Block.{mostAtoms}
 use Rattle.assembly.specs.Placements.{mostPlacements}
-use Rattle.compose.specs.declared.links.Link.{Link}
 use Rattle.compose.specs.declared.tables.End.{End}
 use Rattle.compose.specs.Joints.{link}
 
 -- the own atom of the placement at index k at 2 k, its parent's atom at 2 k + 1
-unfoldable pub endAt : List Link → ℕ → End
+unfoldable pub endAt : List (List ℕ) → ℕ → End
 endAt ls e =
     cond (eqb (e % 2) 0) (record { home = e / 2; atom = link ls (e / 2) .own }) (record { home = link ls (e / 2) .parent - 1; atom = link ls (e / 2) .site })
 
 -- the first placement that has the block of an end
-abbrev pub homeOf : List Link → ℕ → ℕ
+abbrev pub homeOf : List (List ℕ) → ℕ → ℕ
 homeOf ls e = link ls (endAt ls e .home) .block
 
 -- the ends of all joins are atoms of placed blocks
-pub record Ranged (ls : List Link) (count : ℕ) : Type 0 where
+pub record Ranged (ls : List (List ℕ)) (count : ℕ) : Type 0 where
   pub few : count ≤ mostPlacements
   pub parent : (k : ℕ) → 1 ≤ k → k < count → 1 ≤ link ls k .parent
   pub home : (e : ℕ) → 2 ≤ e → e < 2 * count → endAt ls e .home < mostPlacements
   pub atom : (e : ℕ) → 2 ≤ e → e < 2 * count → Within mostAtoms (endAt ls e .atom)
 
 -- the ends in the block that the placement at index f has first have their rows from its table, the others keep them
-pub record Copied (ls : List Link) (count f : ℕ) (table old new : List (List ℕ)) : Type 0 where
+pub record Copied (ls : List (List ℕ)) (count f : ℕ) (table old new : List (List ℕ)) : Type 0 where
+  pub same : length new ≡ length old
   pub taken : (e : ℕ) → 2 ≤ e → e < 2 * count → homeOf ls e ≡ f → getD new e [] ≡ getD table (endAt ls e .atom - 1) []
   pub kept : (e : ℕ) → (homeOf ls e ≡ f → ⊥) → getD new e [] ≡ getD old e []

@@ -1,11 +1,15 @@
 // The joins of an assembly: how far their atoms are apart, and what is counted from both ends of each.
 use super::counts::grown;
 use super::counts::wide;
+use super::kept::CountRows;
+use super::kept::NumberRows;
+use super::kept::counts_at;
 use super::links::ENDS;
-use super::links::Link;
-use assembly::PLACEMENTS;
+use super::links::FIRST;
+use super::links::Links;
+use super::links::PARENT;
+use super::links::SITE;
 use block::ATOMS;
-use block::Indices;
 use block::Vertex;
 use block::around_row;
 ghost use mathlib.Core.Path.{_≡_};
@@ -33,93 +37,88 @@ fn at(rows: &[[u8; ATOMS]; ENDS], end: usize, atom: usize) -> u64
 }
 
 // From the atom that a placement is joined to, through its parent, to the atom that the parent is joined to.
-fn climbed(rows: &[[u8; ATOMS]; ENDS], q: Link) -> u64
-    requires { ⌜ Within mostPlacements (q .parent) × Within mostAtoms (q .site) ⌝ }
-    ensures { λ r. ⌜ (r ≡ entry (now (rows .entry)) (2 * (q .parent - 1)) (q .site) + 1) × (r < 257) ⌝ }
+fn climbed(rows: &[[u8; ATOMS]; ENDS], parent: usize, site: usize) -> u64
+    requires { ⌜ Within mostPlacements parent × Within mostAtoms site ⌝ }
+    ensures { λ r. ⌜ (r ≡ entry (now (rows .entry)) (2 * (parent - 1)) site + 1) × (r < 257) ⌝ }
 {
-    let above = q.parent - 1;
-    at(rows, 2 * above, q.site) + 1
+    let above = parent - 1;
+    at(rows, 2 * above, site) + 1
 }
 
 // The distance of the atoms that the placements at the indices x and y are joined to: it climbs from the later of their parents.
-fn apart(links: [Link; PLACEMENTS], rows: &[[u8; ATOMS]; ENDS], x: usize, y: usize) -> u64
-    requires { ⌜ ((blocks : ℕ → Graph) × (last : ℕ) × Laid blocks last links (now rows) × Within last x × Within last y) ⌝ }
-    ensures { λ r. ⌜ ((blocks : ℕ → Graph) (last : ℕ) → Laid blocks last links (now (rows .entry)) → Within last x → Within last y → r ≡ between blocks links last x y) ⌝ }
+fn apart(links: &Links, rows: &[[u8; ATOMS]; ENDS], x: usize, y: usize) -> u64
+    requires { ⌜ ((blocks : ℕ → Graph) × (last : ℕ) × Laid blocks last (now links) (now rows) × Within last x × Within last y) ⌝ }
+    ensures { λ r. ⌜ ((blocks : ℕ → Graph) (last : ℕ) → Laid blocks last (now (links .entry)) (now (rows .entry)) → Within last x → Within last y → r ≡ between blocks (now (links .entry)) last x y) ⌝ }
 {
     let mut u = x;
     let mut v = y;
     let mut d: u64 = 0;
     loop {
-        let p = links[u];
-        let q = links[v];
-        if p.parent == q.parent {
-            return d + at(rows, 2 * u + 1, q.site);
+        let p = links[u][PARENT];
+        let q = links[v][PARENT];
+        if p == q {
+            return d + at(rows, 2 * u + 1, links[v][SITE]);
         }
-        if p.parent < q.parent {
-            d = d + climbed(rows, q);
-            v = q.parent - 1;
+        if p < q {
+            d = d + climbed(rows, q, links[v][SITE]);
+            v = q - 1;
         } else {
-            d = d + climbed(rows, p);
-            u = p.parent - 1;
+            d = d + climbed(rows, p, links[u][SITE]);
+            u = p - 1;
         }
     }
 }
 
 // What is counted from an end of a join, in its block.
-fn end_counts(
-    rows: &[[u8; ATOMS]; ENDS],
-    end: usize,
-    numbers: [Indices; PLACEMENTS],
-    block: usize,
-) -> Vertex
+fn end_counts(rows: &[[u8; ATOMS]; ENDS], end: usize, numbers: &NumberRows, block: usize) -> Vertex
     requires { ⌜ (end < ends) × (block < mostPlacements) ⌝ }
-    ensures { λ r. ⌜ r ≡ vertexBy (min (numbersAt numbers block .atoms) mostAtoms) (entry (now (rows .entry)) end) ⌝ }
+    ensures { λ r. ⌜ r ≡ vertexBy (min (numbersAt (now (numbers .entry)) block .atoms) mostAtoms) (entry (now (rows .entry)) end) ⌝ }
 {
-    let all = numbers[block];
-    around_row(&rows[end], all.atoms as usize)
+    around_row(&rows[end], numbers[block][0] as usize)
 }
 
 // What is counted from the parent's atom of the placement at index k, in the molecule up to the parent.
 fn begun(
-    links: [Link; PLACEMENTS],
+    links: &Links,
     rows: &[[u8; ATOMS]; ENDS],
-    numbers: [Indices; PLACEMENTS],
-    joints: [Joint; PLACEMENTS],
+    numbers: &NumberRows,
+    cores: &CountRows,
+    owns: &CountRows,
     k: usize,
 ) -> Vertex
-    requires { ⌜ ((blocks : ℕ → Graph) × (last : ℕ) × Task blocks last links (now rows) numbers × Turn blocks last links (now rows) joints k) ⌝ }
-    ensures { λ r. ⌜ ((blocks : ℕ → Graph) (last : ℕ) → Task blocks last links (now (rows .entry)) numbers → Turn blocks last links (now (rows .entry)) joints k
-        → Counts r (sightAt blocks links (link links k .parent) k)) ⌝ }
+    requires { ⌜ ((blocks : ℕ → Graph) × (last : ℕ) × Task blocks last (now links) (now rows) (now numbers) × Turn blocks last (now links) (now rows) (now cores) (now owns) k) ⌝ }
+    ensures { λ r. ⌜ ((blocks : ℕ → Graph) (last : ℕ) → Task blocks last (now (links .entry)) (now (rows .entry)) (now (numbers .entry)) → Turn blocks last (now (links .entry)) (now (rows .entry)) (now (cores .entry)) (now (owns .entry)) k
+        → Counts r (sightAt blocks (now (links .entry)) (link (now (links .entry)) k .parent) k)) ⌝ }
 {
-    let q = links[k];
-    let above = q.parent - 1;
-    let p = links[above];
-    let v = end_counts(rows, 2 * k + 1, numbers, p.block);
+    let above = links[k][PARENT] - 1;
+    let v = end_counts(rows, 2 * k + 1, numbers, links[above][FIRST]);
     if above == 0 {
         return v;
     }
-    let j = joints[above];
-    grown(v, at(rows, 2 * above, q.site), j.core)
+    grown(
+        v,
+        at(rows, 2 * above, links[k][SITE]),
+        counts_at(cores, above),
+    )
 }
 
 // And in the molecule up to the placement before: each placement since the parent adds what is counted from its own atom.
 fn since(
-    links: [Link; PLACEMENTS],
+    links: &Links,
     rows: &[[u8; ATOMS]; ENDS],
-    joints: [Joint; PLACEMENTS],
+    cores: &CountRows,
+    owns: &CountRows,
     k: usize,
     begun: Vertex,
 ) -> Vertex
-    requires { ⌜ ((blocks : ℕ → Graph) × (last : ℕ) × Turn blocks last links (now rows) joints k × Counts begun (sightAt blocks links (link links k .parent) k)) ⌝ }
-    ensures { λ r. ⌜ ((blocks : ℕ → Graph) (last : ℕ) → Turn blocks last links (now (rows .entry)) joints k
-        → Counts begun (sightAt blocks links (link links k .parent) k) → Counts r (sightAt blocks links k k)) ⌝ }
+    requires { ⌜ ((blocks : ℕ → Graph) × (last : ℕ) × Turn blocks last (now links) (now rows) (now cores) (now owns) k × Counts begun (sightAt blocks (now links) (link (now links) k .parent) k)) ⌝ }
+    ensures { λ r. ⌜ ((blocks : ℕ → Graph) (last : ℕ) → Turn blocks last (now (links .entry)) (now (rows .entry)) (now (cores .entry)) (now (owns .entry)) k
+        → Counts begun (sightAt blocks (now (links .entry)) (link (now (links .entry)) k .parent) k) → Counts r (sightAt blocks (now (links .entry)) k k)) ⌝ }
 {
-    let q = links[k];
     let mut v = begun;
-    let mut m = q.parent;
+    let mut m = links[k][PARENT];
     while m < k {
-        let j = joints[m];
-        v = grown(v, apart(links, rows, m, k), j.own);
+        v = grown(v, apart(links, rows, m, k), counts_at(owns, m));
         m += 1;
     }
     v
@@ -127,24 +126,25 @@ fn since(
 
 // What is counted from both ends of the join of the placement at index k.
 pub(crate) fn joint_of(
-    links: [Link; PLACEMENTS],
+    links: &Links,
     rows: &[[u8; ATOMS]; ENDS],
-    numbers: [Indices; PLACEMENTS],
-    joints: [Joint; PLACEMENTS],
+    numbers: &NumberRows,
+    cores: &CountRows,
+    owns: &CountRows,
     k: usize,
 ) -> Joint
-    requires { ⌜ ((blocks : ℕ → Graph) × (last : ℕ) × Task blocks last links (now rows) numbers × Turn blocks last links (now rows) joints k) ⌝ }
-    ensures { λ r. ⌜ ((blocks : ℕ → Graph) (last : ℕ) → Task blocks last links (now (rows .entry)) numbers → Turn blocks last links (now (rows .entry)) joints k
-        → Jointed blocks links r k) ⌝ }
+    requires { ⌜ ((blocks : ℕ → Graph) × (last : ℕ) × Task blocks last (now links) (now rows) (now numbers) × Turn blocks last (now links) (now rows) (now cores) (now owns) k) ⌝ }
+    ensures { λ r. ⌜ ((blocks : ℕ → Graph) (last : ℕ) → Task blocks last (now (links .entry)) (now (rows .entry)) (now (numbers .entry)) → Turn blocks last (now (links .entry)) (now (rows .entry)) (now (cores .entry)) (now (owns .entry)) k
+        → Jointed blocks (now (links .entry)) r k) ⌝ }
 {
-    let q = links[k];
-    let own = end_counts(rows, 2 * k, numbers, q.block);
+    let own = end_counts(rows, 2 * k, numbers, links[k][FIRST]);
     let core = since(
         links,
         rows,
-        joints,
+        cores,
+        owns,
         k,
-        begun(links, rows, numbers, joints, k),
+        begun(links, rows, numbers, cores, owns, k),
     );
     Joint { core, own }
 }

@@ -1,6 +1,7 @@
 // Composing: the five fields of the molecule that a deck describes, by the building-block rules.
 mod counts;
 mod joints;
+mod kept;
 mod links;
 mod summary;
 mod tables;
@@ -20,25 +21,32 @@ use block::sums;
 use deck::Form;
 use deck::Layout;
 use deck::read_deck;
+use kept::NumberRow;
+use kept::number_row;
 use links::ENDS;
-use links::Link;
-use links::links_of;
+use links::FIRST;
+use links::Links;
+use links::fill_links;
 use records::payload_at;
 use summary::composed;
-use tables::copied;
+use tables::copy_ends;
 ghost use mathlib.Core.Path.{_≡_};
-ghost use Prim.Native.Nat.{_-_};
+ghost use Prim.Native.Nat.{_-_, min};
+ghost use lib.ListN.{length};
 ghost use Rattle.graph.specs.Assembly.{written};
-ghost use Rattle.block.specs.Rows.{rowsOf};
 ghost use Rattle.block.specs.Read.{read};
+ghost use Rattle.block.specs.Block.{mostAtoms};
+ghost use Rattle.block.specs.Rows.{rowsOf};
 ghost use Rattle.block.specs.Index.{indicesOf, saidIndices};
+ghost use Rattle.block.specs.Sums.{pairEntry, indicesBy};
 ghost use Rattle.assembly.specs.Book.{bondBytes};
 ghost use Rattle.deck.specs.Deck.{Deck, deckReply};
 ghost use Rattle.deck.specs.Molecule.{moleculeOf};
 ghost use Rattle.deck.specs.Said.{layoutOf};
 ghost use Rattle.deck.specs.declared.Form.{Form};
 ghost use Rattle.compose.specs.Fields.{fieldsReply};
-ghost use Rattle.compose.specs.Joints.{joinsOf};
+ghost use Rattle.compose.specs.Joints.{ends, numbersOf, joinsOf};
+ghost use Rattle.compose.specs.Tables.{Ranged, Copied};
 ghost use Rattle.compose.specs.Ready.{placedBlock, placedGraph, Ready};
 
 // The block of the placement at index f.
@@ -49,11 +57,23 @@ fn block_of(xs: &[u8], blocks: [BlockAt; BLOCKS], count: usize, f: usize) -> Blo
     find_block(blocks, count, q.block as usize)
 }
 
-// The distances of a block.
-fn table_of(d: &[u8], b: BlockAt) -> [[u8; ATOMS]; ATOMS]
-    ensures { λ r. ⌜ r ≡ rowsOf (b .atoms) (bondBytes (now (d .entry)) b) ⌝ }
+// The five numbers of the block that the placement at index f has first. Stores the rows of the ends that are in it.
+fn measured(
+    d: &[u8],
+    b: BlockAt,
+    links: &Links,
+    placements: usize,
+    f: usize,
+    out: &mut [[u8; ATOMS]],
+) -> NumberRow
+    requires { ⌜ Ranged (now links) placements × (length (now out) ≡ ends) ⌝ }
+    ensures numbers { λ r. ⌜ numbersOf r ≡ indicesBy (min (b .atoms) mostAtoms) (pairEntry (rowsOf (b .atoms) (bondBytes (now (d .entry)) b))) ⌝ }
+    ensures rows { λ _. ⌜ Copied (now (links .entry)) placements f (rowsOf (b .atoms) (bondBytes (now (d .entry)) b)) (now (out .entry)) (now (out .exit)) ⌝ }
 {
-    rows(b.atoms as usize, bonds_part(d, b))
+    let n = b.atoms as usize;
+    let table = rows(n, bonds_part(d, b));
+    copy_ends(&table, links, placements, f, out);
+    number_row(sums(&table, n))
 }
 
 // The five numbers of the molecule: each placed block's table is filled once, its numbers and the rows that joins need are kept.
@@ -63,33 +83,22 @@ fn filled(
     blocks: [BlockAt; BLOCKS],
     count: usize,
     placements: usize,
-    links: [Link; PLACEMENTS],
+    links: &Links,
 ) -> Indices
-    requires { ⌜ Ready (now d) (now xs) blocks count placements links ⌝ }
-    ensures { λ r. ⌜ r ≡ indicesOf (written (placedGraph (now (d .entry)) (now (xs .entry)) blocks count) (joinsOf links) (placements - 1)) ⌝ }
+    requires { ⌜ Ready (now d) (now xs) blocks count placements (now links) ⌝ }
+    ensures { λ r. ⌜ r ≡ indicesOf (written (placedGraph (now (d .entry)) (now (xs .entry)) blocks count) (joinsOf (now (links .entry))) (placements - 1)) ⌝ }
 {
-    let none = Indices {
-        atoms: 0,
-        w: 0,
-        even: 0,
-        odd: 0,
-        polarity: 0,
-    };
-    let mut numbers = [none; PLACEMENTS];
+    let mut numbers = [[0u64; 5]; PLACEMENTS];
     let mut ends = [[0u8; ATOMS]; ENDS];
     let mut f: usize = 0;
     while f < placements {
-        let q = links[f];
-        if q.block == f {
+        if links[f][FIRST] == f {
             let b = block_of(xs, blocks, count, f);
-            let table = table_of(d, b);
-            numbers[f] = sums(&table, b.atoms as usize);
-            let next = copied(&table, links, placements, f, ends);
-            ends = next;
+            numbers[f] = measured(d, b, links, placements, f, &mut ends);
         }
         f += 1;
     }
-    composed(links, &ends, numbers, placements)
+    composed(links, &ends, &numbers, placements)
 }
 
 // The five numbers of the molecule that a layout of the deck describes.
@@ -100,8 +109,9 @@ fn laid_out(d: &[u8], layout: Layout) -> Indices
     let blocks = layout.blocks;
     let placements = layout.placements;
     let xs = payload_at(d, layout.assembly);
-    let links = links_of(xs, placements);
-    filled(d, xs, blocks, layout.count, placements, links)
+    let mut links = [[0usize; 4]; PLACEMENTS];
+    fill_links(xs, placements, &mut links);
+    filled(d, xs, blocks, layout.count, placements, &links)
 }
 
 // The five fields of a deck in a form: atom count, W, even part, odd part and polarity of its molecule; or the deck's refusal.

@@ -3,20 +3,27 @@ use assembly::PLACEMENTS;
 use assembly::placement_at;
 ghost use mathlib.Core.Path.{_≡_};
 ghost use Prim.Native.Nat.{ℕ, _≤_, _<_};
+ghost use lib.ListN.{length};
 ghost use Rattle.assembly.specs.Placements.{mostPlacements, placementAt};
-ghost use Rattle.compose.specs.Joints.{link};
+ghost use Rattle.compose.specs.Joints.{linkOf, link};
 ghost use Rattle.compose.specs.Links.{First, Linked};
 
 // Both ends of each join.
 pub(crate) const ENDS: usize = 2 * PLACEMENTS;
 
-// A placement: the index of the first one that has its block, its parent's number, the parent's atom and its own atom.
-pub(crate) struct Link {
-    pub(crate) block: usize,
-    pub(crate) parent: usize,
-    pub(crate) site: usize,
-    pub(crate) own: usize,
-}
+// A placement: the index of the first one that has its block, its parent's number, the parent's atom and its own atom. Rows of numbers,
+// since an array of structs is not lent.
+pub(crate) const FIRST: usize = 0;
+
+pub(crate) const PARENT: usize = 1;
+
+pub(crate) const SITE: usize = 2;
+
+pub(crate) const OWN: usize = 3;
+
+pub(crate) type Link = [usize; 4];
+
+pub(crate) type Links = [Link; PLACEMENTS];
 
 // The first placement that has the block of the placement at index k.
 fn first_of(xs: &[u8], k: usize) -> usize
@@ -36,33 +43,25 @@ fn first_of(xs: &[u8], k: usize) -> usize
 }
 
 fn link_of(xs: &[u8], k: usize) -> Link
-    ensures { λ r. ⌜ Linked (placementAt (now (xs .entry))) k r ⌝ }
+    ensures { λ r. ⌜ Linked (placementAt (now (xs .entry))) k (linkOf r) ⌝ }
 {
     let q = placement_at(xs, k);
-    Link {
-        block: first_of(xs, k),
-        parent: q.parent as usize,
-        site: q.site as usize,
-        own: q.own as usize,
-    }
+    [
+        first_of(xs, k),
+        q.parent as usize,
+        q.site as usize,
+        q.own as usize,
+    ]
 }
 
-// The first `count` placements of an assembly's payload.
-pub(crate) fn links_of(xs: &[u8], count: usize) -> [Link; PLACEMENTS]
-    requires { ⌜ count ≤ mostPlacements ⌝ }
-    ensures { λ r. ⌜ ((k : ℕ) → k < count → Linked (placementAt (now (xs .entry))) k (link r k)) ⌝ }
+// Stores the first `count` placements of an assembly's payload.
+pub(crate) fn fill_links(xs: &[u8], count: usize, links: &mut [Link])
+    requires { ⌜ (count ≤ mostPlacements) × (length (now links) ≡ mostPlacements) ⌝ }
+    ensures { λ _. ⌜ ((k : ℕ) → k < count → Linked (placementAt (now (xs .entry))) k (link (now (links .exit)) k)) ⌝ }
 {
-    let none = Link {
-        block: 0,
-        parent: 0,
-        site: 0,
-        own: 0,
-    };
-    let mut links = [none; PLACEMENTS];
     let mut k: usize = 0;
     while k < count {
         links[k] = link_of(xs, k);
         k += 1;
     }
-    links
 }

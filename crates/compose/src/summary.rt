@@ -1,9 +1,12 @@
 // The running summary: the five numbers of the molecule as far as it is built, and how they grow with one placement more.
 use super::counts::times;
-use super::joints::Joint;
 use super::joints::joint_of;
+use super::kept::NumberRows;
+use super::kept::count_row;
+use super::kept::numbers_at;
 use super::links::ENDS;
-use super::links::Link;
+use super::links::FIRST;
+use super::links::Links;
 use assembly::PLACEMENTS;
 use block::ATOMS;
 use block::Indices;
@@ -99,45 +102,27 @@ impl Summary {
     }
 }
 
-// Nothing is counted yet at any join.
-fn no_joints() -> [Joint; PLACEMENTS] {
-    let none = Vertex {
-        sum: 0,
-        even: 0,
-        odd: 0,
-        evens: 0,
-        odds: 0,
-        ones: 0,
-        twos: 0,
-    };
-    let j = Joint {
-        core: none,
-        own: none,
-    };
-    [j; PLACEMENTS]
-}
-
 // The five numbers of the molecule: the first placement's block, and one join after the other.
 pub(crate) fn composed(
-    links: [Link; PLACEMENTS],
+    links: &Links,
     rows: &[[u8; ATOMS]; ENDS],
-    numbers: [Indices; PLACEMENTS],
+    numbers: &NumberRows,
     count: usize,
 ) -> Indices
-    requires { ⌜ ((blocks : ℕ → Graph) × Task blocks (count - 1) links (now rows) numbers) ⌝ }
-    ensures { λ r. ⌜ ((blocks : ℕ → Graph) → Task blocks (count - 1) links (now (rows .entry)) numbers → r ≡ indicesOf (written blocks (joinsOf links) (count - 1))) ⌝ }
+    requires { ⌜ ((blocks : ℕ → Graph) × Task blocks (count - 1) (now links) (now rows) (now numbers)) ⌝ }
+    ensures { λ r. ⌜ ((blocks : ℕ → Graph) → Task blocks (count - 1) (now (links .entry)) (now (rows .entry)) (now (numbers .entry)) → r ≡ indicesOf (written blocks (joinsOf (now (links .entry))) (count - 1))) ⌝ }
 {
-    let first = links[0];
-    let b = first.block;
-    let mut s = Summary { fields: numbers[b] };
-    let mut joints = no_joints();
+    let mut s = Summary {
+        fields: numbers_at(numbers, links[0][FIRST]),
+    };
+    let mut cores = [[0u64; 7]; PLACEMENTS];
+    let mut owns = [[0u64; 7]; PLACEMENTS];
     let mut k: usize = 1;
     while k < count {
-        let j = joint_of(links, rows, numbers, joints, k);
-        let q = links[k];
-        let b = q.block;
-        s = s.joined(numbers[b], j.core, j.own);
-        joints[k] = j;
+        let j = joint_of(links, rows, numbers, &cores, &owns, k);
+        s = s.joined(numbers_at(numbers, links[k][FIRST]), j.core, j.own);
+        cores[k] = count_row(j.core);
+        owns[k] = count_row(j.own);
         k += 1;
     }
     s.fields

@@ -1,18 +1,28 @@
 -- `compose::joints::joint_of` meets its contract. Assumes nothing.
 use borrow.Author.Needs.{needs}
 use native.Mathlib.Omega.{arith}
+use Prim.Native.Nat.{_<_}
+use lib.Dec.{lit<}
+use Rattle.assembly.specs.Placements.{mostPlacements}
+use Rattle.compose.proofs.Stored.{row-at}
 use Rattle.compose.proofs.Seeing.{own-counts}
 use Rattle.compose.proofs.joints.joint_of.Statement.{statement}
 use Rattle.compose.proofs.joints.joint_of.Tie as tie
 
-mul-q : tie.Need-mul-q
-mul-q c = search needs
-
-array-copy-out-q : tie.Need-array-copy-out-q
-array-copy-out-q c = search needs
+small : (c : tie.Start) → c .args .k < mostPlacements
+small c = let p = c .pre in omega (arith, p .3 .index, p .2 .laid .few)
 
 mul-end-counts : tie.Need-mul-end-counts
-mul-end-counts c = search needs
+mul-end-counts c = omega (arith, small c)
+
+mul-end-counts-2 : tie.Need-mul-end-counts-2
+mul-end-counts-2 c = row-at (small c)
+
+index-1-end-counts : tie.Need-index-1-end-counts
+index-1-end-counts c = small c
+
+index-2-end-counts : tie.Need-index-2-end-counts
+index-2-end-counts c = lit< tt
 
 end-counts-requires : tie.Need-end-counts-requires
 end-counts-requires c κs =
@@ -33,4 +43,4 @@ returns c blocks last a t = record {
 }
 
 pub joint-of-spec : {M : Type 1} → statement M
-joint-of-spec = tie.close (tie.spec mul-q array-copy-out-q mul-end-counts end-counts-requires begun-requires since-requires returns)
+joint-of-spec = tie.close (tie.spec mul-end-counts mul-end-counts-2 index-1-end-counts index-2-end-counts end-counts-requires begun-requires since-requires returns)
