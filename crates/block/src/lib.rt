@@ -137,8 +137,7 @@ fn admit(n: usize, bonds: &[u8]) -> Built
     let Reply::Fine = reply else {
         return built;
     };
-    let near = built.near;
-    if search::connected(&near, n) {
+    if search::connected(&built.near, n) {
         built
     } else {
         refused(7)
@@ -163,8 +162,7 @@ pub fn rows(n: usize, bonds: &[u8]) -> DistanceMatrix
     let Reply::Fine = reply else {
         return [[0u8; ATOMS]; ATOMS];
     };
-    let near = admitted.near;
-    search::from_all(&near, n)
+    search::from_all(&admitted.near, n)
 }
 
 // The distances from atom i of a block, or its refusal; 18 at place 0 where there is no such atom.
@@ -188,8 +186,7 @@ pub fn row(n: usize, bonds: &[u8], i: usize) -> OneRow
             row: [0u8; ATOMS],
         };
     }
-    let near = admitted.near;
-    let found = search::from_atom(&near, n, i);
+    let found = search::from_atom(&admitted.near, n, i);
     let row = found.row;
     OneRow { reply, row }
 }
@@ -245,8 +242,7 @@ pub fn measure(n: usize, bonds: &[u8]) -> Measured
     match reply {
         Reply::Refused(refusal) => Measured::Refused(refusal),
         Reply::Fine => {
-            let near = admitted.near;
-            let rows = search::from_all(&near, n);
+            let rows = search::from_all(&admitted.near, n);
             let indices = sums(&rows, n);
             Measured::Of(indices)
         }
@@ -303,8 +299,7 @@ pub fn pair_counts(n: usize, bonds: &[u8]) -> Pairs
             at: [0u16; ATOMS],
         };
     };
-    let near = admitted.near;
-    let rows = search::from_all(&near, n);
+    let rows = search::from_all(&admitted.near, n);
     let at = totals::count_pairs(&rows, n);
     Pairs { reply, at }
 }
