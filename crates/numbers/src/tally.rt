@@ -18,8 +18,8 @@ impl Tally {
         Tally { right: 0, wrong: 0 }
     }
 
-    // One comparison more: of what, and which of its numbers.
-    pub fn count(self, name: &[u8], which: &[u8], ok: bool) -> Tally {
+    // One comparison more: of what, and the line that asks.
+    pub fn count(self, name: &[u8], line: &[u8], ok: bool) -> Tally {
         if ok {
             return Tally {
                 right: more(self.right),
@@ -29,7 +29,7 @@ impl Tally {
         io::write_all(STDOUT_FILENO, b"wrong: ");
         io::write_all(STDOUT_FILENO, name);
         io::write_all(STDOUT_FILENO, b": ");
-        io::write_all(STDOUT_FILENO, which);
+        io::write_all(STDOUT_FILENO, line);
         io::write_all(STDOUT_FILENO, b"\n");
         Tally {
             right: self.right,
