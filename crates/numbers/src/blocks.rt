@@ -2,6 +2,7 @@
 use crate::row::Row;
 use crate::row::STAYS;
 use crate::told;
+use block::Reply;
 use poly::Answer;
 use shares::Shares;
 
@@ -10,7 +11,10 @@ const FAR: usize = 255;
 
 fn checked(n: usize, bonds: &[u8], row: Row) -> bool {
     let reply = block::check(n, bonds);
-    told::of_reply(reply).is(row, 0)
+    match reply {
+        Reply::Refused(r) => told::refusal(r).is(row, 0),
+        Reply::Fine => told::nothing().is(row, 0),
+    }
 }
 
 fn measured(n: usize, bonds: &[u8], row: Row) -> bool {
@@ -21,11 +25,6 @@ fn measured(n: usize, bonds: &[u8], row: Row) -> bool {
 fn around(n: usize, bonds: &[u8], row: Row) -> bool {
     let reply = block::vertex_sums(n, bonds, row.first(0, FAR));
     told::of_around(reply).is(row, 1)
-}
-
-fn summed(n: usize, bonds: &[u8], row: Row) -> bool {
-    let reply = block::vertex_sums(n, bonds, row.first(0, FAR));
-    told::of_sum(reply).is(row, 1)
 }
 
 fn apart(n: usize, bonds: &[u8], row: Row) -> bool {
@@ -68,6 +67,16 @@ fn fraction(row: Row, i: usize, j: usize) -> f64 {
     float(row, i) / float(row, j)
 }
 
+// Where the polynomials are asked for: at a fraction, at minus that, or at what is next above 1.
+fn x_of(letter: u8, row: Row) -> f64 {
+    let x = fraction(row, 0, 1);
+    match letter {
+        b'm' => -x,
+        b'n' => x + NEXT,
+        _ => x,
+    }
+}
+
 fn valued(n: usize, bonds: &[u8], x: f64, row: Row) -> bool {
     let reply = poly::polynomial(n, bonds, x);
     match reply {
@@ -84,13 +93,10 @@ pub fn right(letter: u8, n: usize, bonds: &[u8], row: Row) -> bool {
         b'c' => checked(n, bonds, row),
         b'i' => measured(n, bonds, row),
         b'v' => around(n, bonds, row),
-        b's' => summed(n, bonds, row),
         b'a' => apart(n, bonds, row),
         b'd' => denominator(n, bonds, row),
         b'e' => entries(n, bonds, row),
-        b'p' => valued(n, bonds, fraction(row, 0, 1), row),
-        b'm' => valued(n, bonds, -fraction(row, 0, 1), row),
-        b'n' => valued(n, bonds, fraction(row, 0, 1) + NEXT, row),
+        b'p' | b'm' | b'n' => valued(n, bonds, x_of(letter, row), row),
         _ => false,
     }
 }

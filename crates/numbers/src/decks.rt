@@ -1,8 +1,7 @@
 // What is asked of a deck: its reply is compared with the numbers of a line.
-use crate::row;
-use crate::row::MOST;
 use crate::row::Row;
 use crate::told;
+use molecule::Verdict;
 use molecule::Written;
 
 // Numbers of placements and atoms are handed on up to here.
@@ -11,17 +10,19 @@ const FAR: usize = 255;
 // What stands in a lent buffer before it is written to.
 const STAYS: u8 = 7;
 
-// The bytes of a sheet's record.
-const SHEET: usize = 40;
-
 fn composed(deck: &[u8], row: Row) -> bool {
     let reply = molecule::compose(deck);
     told::of_measured(reply).is(row, 0)
 }
 
+// The first field that differs, 0 for none.
 fn judged(deck: &[u8], row: Row) -> bool {
     let reply = molecule::judge(deck);
-    told::of_verdict(reply).is(row, 0)
+    match reply {
+        Verdict::Refused(r) => told::refusal(r).is(row, 0),
+        Verdict::Accepted => told::one(0).is(row, 0),
+        Verdict::Differs(field) => told::one(field as u64).is(row, 0),
+    }
 }
 
 // Placement and atom of each of the two ends.
@@ -53,7 +54,10 @@ fn sheet_in(deck: &[u8], out: &mut [u8], row: Row) -> Written {
 fn written(deck: &[u8], row: Row) -> bool {
     let mut out = [STAYS; 64];
     let reply = sheet_in(deck, &mut out, row);
-    told::of_written(reply).is(row, 1)
+    match reply {
+        Written::Refused(r) => told::refusal(r).is(row, 1),
+        Written::Sheet => told::nothing().is(row, 1),
+    }
 }
 
 // What then stands in the buffer.
@@ -63,26 +67,8 @@ fn bytes(deck: &[u8], row: Row) -> bool {
     told::bytes_are(&out, row)
 }
 
-fn put_behind(deck: &[u8], all: &mut [u8]) {
-    let n = deck.len();
-    if n < all.len() {
-        molecule::write_sheet(deck, &mut all[n..]);
-    }
-}
-
-// The verdict on the deck with the sheet behind it that is written for it.
-fn behind(deck: &[u8], given: Row, row: Row) -> bool {
-    let n = deck.len();
-    if MOST < n {
-        return false;
-    }
-    let mut all = row::bytes_of(given);
-    put_behind(deck, &mut all);
-    judged(records::part(&all, 0, n + SHEET), row)
-}
-
-// Whether the reply to a question, which is known by its first letter, is that of its line. The deck's bytes stand in `given` too.
-pub fn right(letter: u8, deck: &[u8], given: Row, row: Row) -> bool {
+// Whether the reply to a question, which is known by its first letter, is that of its line.
+pub fn right(letter: u8, deck: &[u8], row: Row) -> bool {
     match letter {
         b'c' => composed(deck, row),
         b'j' => judged(deck, row),
@@ -90,7 +76,6 @@ pub fn right(letter: u8, deck: &[u8], given: Row, row: Row) -> bool {
         b'f' => found(deck, row),
         b'w' => written(deck, row),
         b'b' => bytes(deck, row),
-        b's' => behind(deck, given, row),
         _ => false,
     }
 }

@@ -24,7 +24,7 @@ impl Table {
     fn asked(self, text: &[u8], line: &[u8], letter: u8, row: Row) -> Table {
         let subject = self.subject;
         let ok = subject.right(letter, row);
-        let name = records::part(text, subject.from, subject.words);
+        let name = records::part(text, subject.from, subject.len);
         let tally = self.tally;
         Table {
             tally: tally.count(name, line, ok),
@@ -35,22 +35,22 @@ impl Table {
     // A line that starts with a capital says what is asked about; any other asks.
     fn after_line(self, text: &[u8], line: &[u8], at: usize) -> Table {
         let letter = records::byte_at(line, 0);
-        let words = row::find(line, 0, b':');
-        let row = row::row_of(line, words, letter);
+        let row = row::row_of(line, letter);
         match letter {
             b'B' | b'D' | b'W' | b'F' => {
                 let subject = self.subject;
                 let tally = self.tally;
                 Table {
                     tally,
-                    subject: subject.next(letter, row, at, words),
+                    subject: subject.next(letter, row, at, line.len()),
                 }
             }
-            b'#' | 0 => self,
+            b'#' | b'\n' => self,
             _ => self.asked(text, line, letter, row),
         }
     }
 
+    // The line from one place to another, its line feed included.
     fn after(self, text: &[u8], at: usize, end: usize) -> Table
         requires { ⌜ at ≤ end ⌝ }
     {
@@ -65,10 +65,10 @@ fn read_table(text: &[u8]) -> Tally {
     };
     let mut at = 0;
     while at < text.len() {
-        let end = row::find(text, at, b'\n');
+        let end = row::line_end(text, at);
         let next = table.after(text, at, end);
         table = next;
-        at = end + 1;
+        at = end;
     }
     table.tally
 }

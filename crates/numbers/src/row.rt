@@ -1,5 +1,5 @@
 // A line of the table: words, a colon, and numbers.
-ghost use Prim.Native.Nat.{_≤_};
+ghost use Prim.Native.Nat.{_<_, _≤_};
 ghost use lib.ListN.{length};
 
 // The most numbers that a line keeps.
@@ -86,7 +86,11 @@ impl Row {
         next
     }
 
+    // A colon starts the numbers anew: those in the words do not count.
     fn with_byte(self, byte: u8, hex: bool) -> Row {
+        if byte == b':' {
+            return Row::none();
+        }
         let value = digit(byte);
         if value < 10 || hex && value < 16 {
             self.with_digit(value, hex)
@@ -149,18 +153,18 @@ pub fn bytes_of(row: Row) -> [u8; ROOM] {
     bytes
 }
 
-// Where a byte stands first from a place on, or the text's length.
-pub fn find(text: &[u8], from: usize, mark: u8) -> usize
-    requires { ⌜ from ≤ length (now text) ⌝ }
-    ensures { λ r. ⌜ from ≤ r ⌝ }
-    ensures { λ r. ⌜ r ≤ length (now (text .entry)) ⌝ }
+// The place behind the line that starts at a place: behind its line feed, or the end of the text.
+pub fn line_end(text: &[u8], from: usize) -> usize
+    requires { ⌜ from < length (now text) ⌝ }
+    ensures { λ r. ⌜ from < r ⌝ }
 {
     let mut at = from;
     while at < text.len() {
-        if text[at] == mark {
+        let byte = text[at];
+        at += 1;
+        if byte == b'\n' {
             return at;
         }
-        at += 1;
     }
     at
 }
@@ -173,11 +177,11 @@ fn is_hex(letter: u8) -> bool {
     }
 }
 
-// The numbers behind a place of a line that starts with a letter.
-pub fn row_of(line: &[u8], from: usize, letter: u8) -> Row {
+// The numbers of a line that starts with a letter.
+pub fn row_of(line: &[u8], letter: u8) -> Row {
     let hex = is_hex(letter);
     let mut row = Row::none();
-    let mut at = from;
+    let mut at = 0;
     while at < line.len() {
         let next = row.with_byte(line[at], hex);
         row = next;

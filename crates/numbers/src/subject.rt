@@ -5,13 +5,13 @@ use crate::row;
 use crate::row::ROOM;
 use crate::row::Row;
 
-// As its own line gives it, as later lines change it, and where the words stand that name it.
+// As its own line gives it, as later lines change it, and where its line stands.
 pub struct Subject {
     pub deck: bool,
     pub given: Row,
     pub changed: Row,
     pub from: usize,
-    pub words: usize,
+    pub len: usize,
 }
 
 // One or two bytes changed: place and value of each.
@@ -41,12 +41,12 @@ impl Subject {
             given: Row::none(),
             changed: Row::none(),
             from: 0,
-            words: 0,
+            len: 0,
         }
     }
 
-    // After a line that starts with a capital, whose words stand at a place.
-    pub fn next(self, letter: u8, row: Row, from: usize, words: usize) -> Subject {
+    // After a line that starts with a capital, which stands at a place.
+    pub fn next(self, letter: u8, row: Row, from: usize, len: usize) -> Subject {
         let given = self.given;
         let changed = self.changed;
         match letter {
@@ -55,21 +55,21 @@ impl Subject {
                 given,
                 changed: with_bytes(given, row),
                 from,
-                words,
+                len,
             },
             b'F' => Subject {
                 deck: self.deck,
                 given,
                 changed: first_bytes(changed, row),
                 from,
-                words,
+                len,
             },
             _ => Subject {
                 deck: letter == b'D',
                 given: row,
                 changed: row,
                 from,
-                words,
+                len,
             },
         }
     }
@@ -79,8 +79,7 @@ impl Subject {
         let changed = self.changed;
         let bytes = row::bytes_of(changed);
         if self.deck {
-            let deck = records::part(&bytes, 0, changed.count);
-            return decks::right(letter, deck, changed, row);
+            return decks::right(letter, records::part(&bytes, 0, changed.count), row);
         }
         block_right(letter, &bytes, changed.left(1), row)
     }

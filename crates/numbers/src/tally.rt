@@ -1,4 +1,4 @@
-// How many comparisons came out right. What is wrong is printed by its name.
+// How many comparisons came out right. What is wrong is printed with its name.
 use libc::STDOUT_FILENO;
 
 pub struct Tally {
@@ -18,7 +18,7 @@ impl Tally {
         Tally { right: 0, wrong: 0 }
     }
 
-    // One comparison more: of what, and the line that asks.
+    // One comparison more: the line that says of what, and the line that asks.
     pub fn count(self, name: &[u8], line: &[u8], ok: bool) -> Tally {
         if ok {
             return Tally {
@@ -28,9 +28,7 @@ impl Tally {
         }
         io::write_all(STDOUT_FILENO, b"wrong: ");
         io::write_all(STDOUT_FILENO, name);
-        io::write_all(STDOUT_FILENO, b": ");
         io::write_all(STDOUT_FILENO, line);
-        io::write_all(STDOUT_FILENO, b"\n");
         Tally {
             right: self.right,
             wrong: more(self.wrong),

@@ -5,9 +5,6 @@ use block::Apart;
 use block::Around;
 use block::Measured;
 use block::Refusal;
-use block::Reply;
-use molecule::Verdict;
-use molecule::Written;
 use shares::Shares;
 
 // A refusal's number and place, or so many values; behind them the entries that stay.
@@ -34,7 +31,7 @@ pub fn refusal(r: Refusal) -> Told {
     }
 }
 
-fn one(x: u64) -> Told {
+pub fn one(x: u64) -> Told {
     Told {
         refused: false,
         count: 1,
@@ -42,18 +39,11 @@ fn one(x: u64) -> Told {
     }
 }
 
-fn nothing() -> Told {
+pub fn nothing() -> Told {
     Told {
         refused: false,
         count: 0,
         values: [STAYS; 8],
-    }
-}
-
-pub fn of_reply(reply: Reply) -> Told {
-    match reply {
-        Reply::Fine => nothing(),
-        Reply::Refused(r) => refusal(r),
     }
 }
 
@@ -79,14 +69,6 @@ pub fn of_around(a: Around) -> Told {
     }
 }
 
-// The vertex sum alone.
-pub fn of_sum(a: Around) -> Told {
-    match a {
-        Around::Refused(r) => refusal(r),
-        Around::Of(x) => one(x.sum),
-    }
-}
-
 pub fn of_apart(a: Apart) -> Told {
     match a {
         Apart::Refused(r) => refusal(r),
@@ -98,22 +80,6 @@ pub fn of_shares(s: Shares) -> Told {
     match s {
         Shares::Refused(r) => refusal(r),
         Shares::Denominator(d) => one(d),
-    }
-}
-
-pub fn of_written(w: Written) -> Told {
-    match w {
-        Written::Refused(r) => refusal(r),
-        Written::Sheet => nothing(),
-    }
-}
-
-// The first wrong field, 0 for none.
-pub fn of_verdict(v: Verdict) -> Told {
-    match v {
-        Verdict::Refused(r) => refusal(r),
-        Verdict::Accepted => one(0),
-        Verdict::Differs(k) => one(k as u64),
     }
 }
 

@@ -7,10 +7,10 @@ use Rattle.numbers.proofs.row.row_of.Statement.{statement}
 use Rattle.numbers.proofs.row.row_of.Tie as tie
 
 abbrev Inv-loop : tie.InvT-loop
-Inv-loop line from letter hex row₀ at₀ row at = length line ≡ length line
+Inv-loop line letter hex row₀ at₀ row at = length line ≡ length line
 
 abbrev μ-loop : tie.MeasureT-loop
-μ-loop line from letter hex row₀ at₀ row at = length line - at
+μ-loop line letter hex row₀ at₀ row at = length line - at
 
 is-hex-requires : tie.Need-is-hex-requires Inv-loop μ-loop
 is-hex-requires c κs = search needs
