@@ -1,13 +1,11 @@
 // What is asked of a block: its reply is compared with the numbers of a line.
+use crate::row::FAR;
 use crate::row::Row;
 use crate::row::STAYS;
 use crate::told;
 use block::Reply;
 use poly::Answer;
 use shares::Shares;
-
-// Atom numbers are handed on up to here.
-const FAR: usize = 255;
 
 fn checked(n: usize, bonds: &[u8], row: Row) -> bool {
     let reply = block::check(n, bonds);

@@ -1,14 +1,13 @@
 // What is asked of a deck: its reply is compared with the numbers of a line.
+use crate::row;
+use crate::row::FAR;
 use crate::row::Row;
 use crate::told;
 use molecule::Verdict;
 use molecule::Written;
 
-// Numbers of placements and atoms are handed on up to here.
-const FAR: usize = 255;
-
 // What stands in a lent buffer before it is written to.
-const STAYS: u8 = 7;
+const STAYS: u8 = row::STAYS as u8;
 
 fn composed(deck: &[u8], row: Row) -> bool {
     let reply = molecule::compose(deck);

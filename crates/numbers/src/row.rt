@@ -11,10 +11,14 @@ pub const ROOM: usize = 32769;
 // What stands in a lent buffer before it is written to, and behind the numbers of a line.
 pub const STAYS: u64 = 7;
 
+// Numbers of bytes, entries, atoms and placements are handed on up to here.
+pub const FAR: usize = 255;
+
 // A number from here on takes no more digits.
 const LONG: u64 = 1000000000000000;
 
-// The numbers behind a line's colon, and whether the word "refused" stands among them. While open, the last is still being read.
+// The numbers behind a line's colon, and whether the word "refused" stands among them, which is told by its r. While open, the last number
+// is still being read.
 pub struct Row {
     pub refused: bool,
     pub open: bool,

@@ -30,10 +30,6 @@ fn first_bytes(changed: Row, row: Row) -> Row {
     next
 }
 
-fn wide(byte: u8) -> usize {
-    byte as usize
-}
-
 impl Subject {
     pub fn none() -> Subject {
         Subject {
@@ -87,6 +83,6 @@ impl Subject {
 
 // Of a block: the first byte is how many atoms it has.
 fn block_right(letter: u8, bytes: &[u8], len: usize, row: Row) -> bool {
-    let n = wide(records::byte_at(bytes, 0));
+    let n = records::byte_at(bytes, 0) as usize;
     blocks::right(letter, n, records::part(bytes, 1, len), row)
 }
