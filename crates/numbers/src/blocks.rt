@@ -1,4 +1,6 @@
 // What is asked of a block: its reply is compared with the numbers of a line.
+ghost use Prim.Native.Nat.{_≤_};
+ghost use lib.ListN.{length};
 use crate::row::FAR;
 use crate::row::Row;
 use crate::row::STAYS;
@@ -30,27 +32,22 @@ fn apart(n: usize, bonds: &[u8], row: Row) -> bool {
     told::of_apart(reply).is(row, 2)
 }
 
-// As many entries are lent as the line says.
-fn contributed(n: usize, bonds: &[u8], out: &mut [u64], row: Row) -> Shares {
-    let lent = row.first(0, FAR);
-    if lent < out.len() {
-        return shares::contributions(n, bonds, &mut out[..lent]);
+// The first entries of a buffer are lent.
+fn contributed(n: usize, bonds: &[u8], out: &mut [u64], lent: usize) -> Shares
+    requires { ⌜ lent ≤ length (now out) ⌝ }
+{
+    shares::contributions(n, bonds, &mut out[..lent])
+}
+
+// D or a refusal, or what stands in the buffer after that.
+fn shared(letter: u8, n: usize, bonds: &[u8], row: Row) -> bool {
+    let mut out = [STAYS; 128];
+    let lent = row.first(0, 128);
+    let reply = contributed(n, bonds, &mut out, lent);
+    if letter == b'e' {
+        return told::entries_are(&out, row, 1);
     }
-    shares::contributions(n, bonds, out)
-}
-
-// D, or a refusal.
-fn denominator(n: usize, bonds: &[u8], row: Row) -> bool {
-    let mut out = [STAYS; 128];
-    let reply = contributed(n, bonds, &mut out, row);
     told::of_shares(reply).is(row, 1)
-}
-
-// What then stands in the buffer.
-fn entries(n: usize, bonds: &[u8], row: Row) -> bool {
-    let mut out = [STAYS; 128];
-    contributed(n, bonds, &mut out, row);
-    told::entries_are(&out, row, 1)
 }
 
 // What the least f64 above 1 has more.
@@ -92,8 +89,7 @@ pub fn right(letter: u8, n: usize, bonds: &[u8], row: Row) -> bool {
         b'i' => measured(n, bonds, row),
         b'v' => around(n, bonds, row),
         b'a' => apart(n, bonds, row),
-        b'd' => denominator(n, bonds, row),
-        b'e' => entries(n, bonds, row),
+        b'd' | b'e' => shared(letter, n, bonds, row),
         b'p' | b'm' | b'n' => valued(n, bonds, x_of(letter, row), row),
         _ => false,
     }

@@ -1,4 +1,6 @@
 // What is asked of a deck: its reply is compared with the numbers of a line.
+ghost use Prim.Native.Nat.{_≤_};
+ghost use lib.ListN.{length};
 use crate::row;
 use crate::row::FAR;
 use crate::row::Row;
@@ -40,30 +42,25 @@ fn found(deck: &[u8], row: Row) -> bool {
     row.left(1) == part.len() && told::bytes_are(part, row)
 }
 
-// As many bytes are lent as the line says.
-fn sheet_in(deck: &[u8], out: &mut [u8], row: Row) -> Written {
-    let lent = row.first(0, FAR);
-    if lent < out.len() {
-        return molecule::write_sheet(deck, &mut out[..lent]);
-    }
-    molecule::write_sheet(deck, out)
+// The first bytes of a buffer are lent.
+fn sheet_in(deck: &[u8], out: &mut [u8], lent: usize) -> Written
+    requires { ⌜ lent ≤ length (now out) ⌝ }
+{
+    molecule::write_sheet(deck, &mut out[..lent])
 }
 
-// A sheet, or a refusal.
-fn written(deck: &[u8], row: Row) -> bool {
+// A sheet or a refusal, or what stands in the buffer after that.
+fn written(letter: u8, deck: &[u8], row: Row) -> bool {
     let mut out = [STAYS; 64];
-    let reply = sheet_in(deck, &mut out, row);
+    let lent = row.first(0, 64);
+    let reply = sheet_in(deck, &mut out, lent);
+    if letter == b'b' {
+        return told::bytes_are(&out, row);
+    }
     match reply {
         Written::Refused(r) => told::refusal(r).is(row, 1),
         Written::Sheet => told::nothing().is(row, 1),
     }
-}
-
-// What then stands in the buffer.
-fn bytes(deck: &[u8], row: Row) -> bool {
-    let mut out = [STAYS; 64];
-    sheet_in(deck, &mut out, row);
-    told::bytes_are(&out, row)
 }
 
 // Whether the reply to a question, which is known by its first letter, is that of its line.
@@ -73,8 +70,7 @@ pub fn right(letter: u8, deck: &[u8], row: Row) -> bool {
         b'j' => judged(deck, row),
         b'a' => apart(deck, row),
         b'f' => found(deck, row),
-        b'w' => written(deck, row),
-        b'b' => bytes(deck, row),
+        b'w' | b'b' => written(letter, deck, row),
         _ => false,
     }
 }

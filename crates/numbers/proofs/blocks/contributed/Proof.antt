@@ -5,9 +5,6 @@ use borrow.Author.Needs.{needs}
 use Rattle.numbers.proofs.blocks.contributed.Statement.{statement}
 use Rattle.numbers.proofs.blocks.contributed.Tie as tie
 
-first-requires : tie.Need-first-requires
-first-requires c κs = search needs
-
 slice-relend-prefix-contributions : tie.Need-slice-relend-prefix-contributions
 slice-relend-prefix-contributions c = search needs
 
@@ -23,25 +20,12 @@ same-length c = search needs
 returns : tie.Need-returns
 returns c = search needs
 
-contributions-requires-2 : tie.Need-contributions-requires-2
-contributions-requires-2 c κs = search needs
-
-same-length-2 : tie.Need-same-length-2
-same-length-2 c = search needs
-
-returns-2 : tie.Need-returns-2
-returns-2 c = search needs
-
 pub contributed-spec : {M : Type 1} → statement M
 contributed-spec =
     tie.close
     (tie.spec
-    first-requires
     slice-relend-prefix-contributions
     slice-aggregate-contributions
     contributions-requires
     same-length
-    returns
-    contributions-requires-2
-    same-length-2
-    returns-2)
+    returns)

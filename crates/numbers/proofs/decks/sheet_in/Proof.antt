@@ -5,9 +5,6 @@ use borrow.Author.Needs.{needs}
 use Rattle.numbers.proofs.decks.sheet_in.Statement.{statement}
 use Rattle.numbers.proofs.decks.sheet_in.Tie as tie
 
-first-requires : tie.Need-first-requires
-first-requires c κs = search needs
-
 slice-relend-prefix-write-sheet : tie.Need-slice-relend-prefix-write-sheet
 slice-relend-prefix-write-sheet c = search needs
 
@@ -23,25 +20,12 @@ same-length c = search needs
 returns : tie.Need-returns
 returns c = search needs
 
-write-sheet-requires-2 : tie.Need-write-sheet-requires-2
-write-sheet-requires-2 c κs = search needs
-
-same-length-2 : tie.Need-same-length-2
-same-length-2 c = search needs
-
-returns-2 : tie.Need-returns-2
-returns-2 c = search needs
-
 pub sheet-in-spec : {M : Type 1} → statement M
 sheet-in-spec =
     tie.close
     (tie.spec
-    first-requires
     slice-relend-prefix-write-sheet
     slice-aggregate-write-sheet
     write-sheet-requires
     same-length
-    returns
-    write-sheet-requires-2
-    same-length-2
-    returns-2)
+    returns)
