@@ -19,11 +19,14 @@ fn composed(deck: &[u8], row: Row) -> bool {
 // The first field that differs, 0 for none.
 fn judged(deck: &[u8], row: Row) -> bool {
     let reply = molecule::judge(deck);
-    match reply {
-        Verdict::Refused(r) => told::refusal(r).is(row, 0),
-        Verdict::Accepted => told::one(0).is(row, 0),
-        Verdict::Differs(field) => told::one(field as u64).is(row, 0),
-    }
+    let field = match reply {
+        Verdict::Refused(r) => {
+            return told::refusal(r).is(row, 0);
+        }
+        Verdict::Accepted => 0,
+        Verdict::Differs(k) => k,
+    };
+    told::one(field as u64).is(row, 0)
 }
 
 // Placement and atom of each of the two ends.

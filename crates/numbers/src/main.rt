@@ -1,6 +1,5 @@
 // Puts the documents' numbers, a table on standard input, to the public functions: prints the lines that are wrong, and how many were right.
 ghost use Prim.Native.Nat.{_≤_};
-ghost use lib.ListN.{length};
 
 mod blocks;
 mod decks;
