@@ -7,6 +7,7 @@ use crate::row::STAYS;
 use crate::told;
 use block::Reply;
 use poly::Answer;
+use poly::Values;
 use shares::Shares;
 
 fn checked(n: usize, bonds: &[u8], row: Row) -> bool {
@@ -72,13 +73,19 @@ fn x_of(letter: u8, row: Row) -> f64 {
     }
 }
 
-fn valued(n: usize, bonds: &[u8], x: f64, row: Row) -> bool {
+// The even and the odd value are the second fraction of the line and the third.
+fn values_are(v: Values, row: Row) -> bool {
+    let even = fraction(row, 2, 3);
+    let odd = fraction(row, 4, 5);
+    v.even == even && v.odd == odd && row.left(2) == 4
+}
+
+fn valued(letter: u8, n: usize, bonds: &[u8], row: Row) -> bool {
+    let x = x_of(letter, row);
     let reply = poly::polynomial(n, bonds, x);
     match reply {
         Answer::Refused(r) => told::refusal(r).is(row, 2),
-        Answer::Values(v) => {
-            row.left(2) == 4 && v.even == fraction(row, 2, 3) && v.odd == fraction(row, 4, 5)
-        }
+        Answer::Values(v) => values_are(v, row),
     }
 }
 
@@ -90,7 +97,7 @@ pub fn right(letter: u8, n: usize, bonds: &[u8], row: Row) -> bool {
         b'v' => around(n, bonds, row),
         b'a' => apart(n, bonds, row),
         b'd' | b'e' => shared(letter, n, bonds, row),
-        b'p' | b'm' | b'n' => valued(n, bonds, x_of(letter, row), row),
+        b'p' | b'm' | b'n' => valued(letter, n, bonds, row),
         _ => false,
     }
 }
