@@ -1,297 +1,103 @@
-// Lone blocks: naphthalene and tables 3 and 4 of document 001, a ring of 4, chains of squares, document 01's ten graphs written out.
-use crate::made::Made;
-use crate::made::fill;
-use crate::replies;
-use crate::replies::ENTRY;
-use crate::replies::five;
-use crate::replies::seven;
-use crate::tally::Tally;
-use block::Indices;
-use block::Vertex;
+// What is asked of a block: its reply is compared with the numbers of a line.
+ghost use Prim.Native.Nat.{_≤_};
+ghost use lib.ListN.{length};
+use crate::row::FAR;
+use crate::row::Row;
+use crate::row::STAYS;
+use crate::told;
+use block::Reply;
+use poly::Answer;
+use poly::Values;
+use shares::Shares;
 
-fn measured(t: Tally, name: &[u8], n: usize, bonds: &[u8], x: Indices) -> Tally {
-    let reply = block::measure(n, bonds);
-    t.count(name, b"indices", replies::measured(reply, x))
-}
-
-fn around(t: Tally, name: &[u8], n: usize, bonds: &[u8], a: usize, x: Vertex) -> Tally {
-    let reply = block::vertex_sums(n, bonds, a);
-    t.count(name, b"sums round an atom", replies::around(reply, x))
-}
-
-fn apart(t: Tally, name: &[u8], n: usize, bonds: &[u8], i: usize, j: usize, d: u64) -> Tally {
-    let reply = block::distance(n, bonds, i, j);
-    t.count(name, b"distance", replies::apart(reply, d))
-}
-
-// The values at x = 0.5.
-fn valued(t: Tally, name: &[u8], n: usize, bonds: &[u8], even: f64, odd: f64) -> Tally {
-    let reply = poly::polynomial(n, bonds, 0.5);
-    t.count(name, b"values at 0.5", replies::valued(reply, even, odd))
-}
-
-fn shared(t: Tally, name: &[u8], n: usize, bonds: &[u8], d: u64, all: &[u64]) -> Tally {
-    let mut out = [ENTRY; 128];
-    let reply = shares::contributions(n, bonds, &mut out);
-    let t = t.count(name, b"D", replies::shared(reply, d));
-    t.count(name, b"shares", replies::has_entries(&out, all))
-}
-
-fn naphthalene(t: Tally) -> Tally {
-    let name = b"naphthalene";
-    let bonds =
-        b"\x01\x0a\x01\x02\x02\x03\x03\x08\x03\x04\x04\x05\x05\x06\x06\x07\x07\x08\x08\x09\x09\x0a";
-    let shares = [37, 51, 75, 76, 75, 51, 37, 51, 75, 75, 51];
-    let t = measured(t, name, 10, bonds, five(10, 109, 52, 57, 12));
-    let t = around(t, name, 10, bonds, 1, seven(25, 12, 13, 5, 5, 2, 2));
-    let t = valued(t, name, 10, bonds, 3.875, 7.0625);
-    shared(t, name, 10, bonds, 6, &shares)
-}
-
-fn dibenzfulvene(t: Tally) -> Tally {
-    let name = b"dibenzfulvene";
-    let bonds =
-        b"\x01\x0e\x01\x02\x02\x03\x03\x04\x04\x0d\x04\x05\x05\x0a\x05\x06\x06\x07\x07\x08\x08\x09\x09\x0a\x0a\x0b\x0b\x0d\x0b\x0c\x0d\x0e";
-    let shares = [
-        24,
-        14,
-        26,
-        42,
-        34,
-        54,
-        34,
-        42,
-        26,
-        14,
-        24,
-        40,
-        42,
-        42,
-        26,
-        40,
-    ];
-    let t = measured(t, name, 14, bonds, five(14, 262, 132, 130, 23));
-    let t = around(t, name, 14, bonds, 1, seven(46, 28, 18, 8, 6, 2, 2));
-    let t = valued(t, name, 14, bonds, 6.859375, 11.15625);
-    shared(t, name, 14, bonds, 2, &shares)
-}
-
-fn acepleiadylene(t: Tally) -> Tally {
-    let name = b"acepleiadylene";
-    let bonds =
-        b"\x01\x0a\x01\x02\x02\x0b\x02\x03\x03\x08\x03\x04\x04\x0e\x04\x05\x05\x06\x06\x07\x07\x10\x07\x08\x08\x09\x09\x0f\x09\x0a\x0b\x0c\x0c\x0d\x0d\x0e\x0f\x10";
-    let shares = [
-        85,
-        111,
-        144,
-        177,
-        208,
-        177,
-        144,
-        111,
-        85,
-        93,
-        84,
-        135,
-        135,
-        84,
-        93,
-        90,
-        60,
-        90,
-        42,
-    ];
-    let t = measured(t, name, 16, bonds, five(16, 358, 176, 182, 31));
-    let t = around(t, name, 16, bonds, 1, seven(45, 26, 19, 9, 7, 2, 3));
-    let t = valued(t, name, 16, bonds, 8.5625, 13.8125);
-    shared(t, name, 16, bonds, 6, &shares)
-}
-
-fn ring_of_4(t: Tally) -> Tally {
-    let name = b"ring of 4";
-    let bonds = b"\x01\x02\x02\x03\x03\x04\x04\x01";
-    let shares = [4, 4, 4, 4];
-    let t = measured(t, name, 4, bonds, five(4, 8, 4, 4, 0));
-    let t = around(t, name, 4, bonds, 1, seven(4, 2, 2, 2, 2, 2, 1));
-    let t = valued(t, name, 4, bonds, 0.5, 2.0);
-    shared(t, name, 4, bonds, 2, &shares)
-}
-
-// The shares of 19 squares: of the first, third, .. bond up to the middle. The next bond has the same, and so have the two as far from the other end.
-const SQUARES: [u64; 19] = [
-    15204352,
-    43515904,
-    56885248,
-    82051072,
-    93847552,
-    115867648,
-    126091264,
-    144965632,
-    153616384,
-    169345024,
-    176422912,
-    189005824,
-    194510848,
-    203948032,
-    207880192,
-    214171648,
-    216530944,
-    219676672,
-    220463104,
-];
-
-fn shares_of_squares() -> [u64; 76] {
-    let half = SQUARES;
-    let mut all = [0u64; 76];
-    let mut k: usize = 0;
-    while k < 38 {
-        let share = half[k / 2];
-        all[k] = share;
-        all[75 - k] = share;
-        k += 1;
+fn checked(n: usize, bonds: &[u8], row: Row) -> bool {
+    let reply = block::check(n, bonds);
+    match reply {
+        Reply::Refused(r) => told::refusal(r).is(row, 0),
+        Reply::Fine => told::nothing().is(row, 0),
     }
-    all
 }
 
-// The bonds of 20 squares, each sharing a corner with the next: 80 bonds. Fewer squares have the first of them.
-fn squares() -> [u8; 160] {
-    let mut bonds = [0u8; 160];
-    fill(&mut bonds, Made::Squares);
-    bonds
+fn measured(n: usize, bonds: &[u8], row: Row) -> bool {
+    let reply = block::measure(n, bonds);
+    told::of_measured(reply).is(row, 0)
 }
 
-fn nineteen(t: Tally, bonds: &[u8]) -> Tally {
-    let name = b"19 squares";
-    let all = shares_of_squares();
-    let t = measured(t, name, 58, bonds, five(58, 21698, 11818, 9880, 72));
-    shared(t, name, 58, bonds, 524288, &all)
+fn around(n: usize, bonds: &[u8], row: Row) -> bool {
+    let reply = block::vertex_sums(n, bonds, row.first(0, FAR));
+    told::of_around(reply).is(row, 1)
 }
 
-fn chains(t: Tally, bonds: &[u8]) -> Tally {
-    let t = nineteen(t, records::part(bonds, 0, 152));
-    let t = measured(
-        t,
-        b"20 squares",
-        61,
-        bonds,
-        five(61, 25240, 13760, 11480, 76),
-    );
-    too_many(t, bonds)
+fn apart(n: usize, bonds: &[u8], row: Row) -> bool {
+    let reply = block::distance(n, bonds, row.first(0, FAR), row.first(1, FAR));
+    told::of_apart(reply).is(row, 2)
 }
 
-// 20 squares: D is above its limit, and what is lent stays. One entry too few comes first.
-fn too_many(t: Tally, bonds: &[u8]) -> Tally {
-    let mut few = [ENTRY; 79];
-    let reply = shares::contributions(61, bonds, &mut few);
-    let t = t.count(
-        b"refusal 9",
-        b"79 entries for 80 bonds",
-        replies::not_shared(reply, 9, 0),
-    );
-    let mut out = [ENTRY; 80];
-    let reply = shares::contributions(61, bonds, &mut out);
-    let t = t.count(
-        b"refusal 8",
-        b"20 squares",
-        replies::not_shared(reply, 8, 0),
-    );
-    t.count(
-        b"refusal 8",
-        b"the entries stay",
-        replies::has_entries(&out, &[]),
-    )
+// The first entries of a buffer are lent.
+fn contributed(n: usize, bonds: &[u8], out: &mut [u64], lent: usize) -> Shares
+    requires { ⌜ lent ≤ length (now out) ⌝ }
+{
+    shares::contributions(n, bonds, &mut out[..lent])
 }
 
-// Document 01's table: one atom, paths, stars.
-fn trees(t: Tally) -> Tally {
-    let t = measured(t, b"one atom", 1, b"", five(1, 0, 0, 0, 0));
-    let t = measured(t, b"path of 2", 2, b"\x01\x02", five(2, 1, 0, 1, 0));
-    let t = measured(
-        t,
-        b"path of 4",
-        4,
-        b"\x01\x02\x02\x03\x03\x04",
-        five(4, 10, 4, 6, 1),
-    );
-    let t = measured(
-        t,
-        b"star of 4",
-        4,
-        b"\x01\x02\x01\x03\x01\x04",
-        five(4, 9, 6, 3, 0),
-    );
-    let t = measured(
-        t,
-        b"one atom + four on it",
-        5,
-        b"\x01\x02\x01\x03\x01\x04\x01\x05",
-        five(5, 16, 12, 4, 0),
-    );
-    measured(
-        t,
-        b"path of 2, an atom on each end",
-        4,
-        b"\x01\x02\x01\x03\x02\x04",
-        five(4, 10, 4, 6, 1),
-    )
+// D or a refusal, or what stands in the buffer after that.
+fn shared(letter: u8, n: usize, bonds: &[u8], row: Row) -> bool {
+    let mut out = [STAYS; 128];
+    let lent = row.first(0, 128);
+    let reply = contributed(n, bonds, &mut out, lent);
+    if letter == b'e' {
+        return told::entries_are(&out, row, 1);
+    }
+    told::of_shares(reply).is(row, 1)
 }
 
-// Its rings.
-fn rings(t: Tally) -> Tally {
-    let t = measured(
-        t,
-        b"ring of 3",
-        3,
-        b"\x01\x02\x02\x03\x03\x01",
-        five(3, 3, 0, 3, 0),
-    );
-    let t = measured(
-        t,
-        b"ring of 6",
-        6,
-        b"\x01\x02\x02\x03\x03\x04\x04\x05\x05\x06\x06\x01",
-        five(6, 27, 12, 15, 3),
-    );
-    let t = measured(
-        t,
-        b"ring of 6 + one atom",
-        7,
-        b"\x01\x02\x02\x03\x03\x04\x04\x05\x05\x06\x06\x01\x01\x07",
-        five(7, 42, 20, 22, 5),
-    );
-    measured(
-        t,
-        b"two rings of 6 joined",
-        12,
-        b"\x01\x02\x02\x03\x03\x04\x04\x05\x05\x06\x06\x01\x07\x08\x08\x09\x09\x0a\x0a\x0b\x0b\x0c\x0c\x07\x01\x07",
-        five(12, 198, 96, 102, 14),
-    )
+// What the least f64 above 1 has more.
+const NEXT: f64 = 2.220446049250313e-16;
+
+fn float(row: Row, i: usize) -> f64 {
+    (row.at(i, 0) % 4294967296) as u32 as f64
 }
 
-// Distances and vertex sums.
-fn atoms(t: Tally) -> Tally {
-    let six = b"\x01\x02\x02\x03\x03\x04\x04\x05\x05\x06\x06\x01";
-    let t = apart(t, b"opposite atoms of a ring of 6", 6, six, 2, 5, 3);
-    let t = apart(t, b"an atom and itself", 6, six, 4, 4, 0);
-    let t = around(
-        t,
-        b"an atom of a ring of 6",
-        6,
-        six,
-        3,
-        seven(9, 4, 5, 3, 3, 2, 2),
-    );
-    around(t, b"one atom alone", 1, b"", 1, seven(0, 0, 0, 1, 0, 0, 0))
+// A fraction, whose two numbers stand one after the other.
+fn fraction(row: Row, i: usize, j: usize) -> f64 {
+    float(row, i) / float(row, j)
 }
 
-pub fn all(t: Tally) -> Tally {
-    let t = trees(t);
-    let t = rings(t);
-    let t = atoms(t);
-    let t = naphthalene(t);
-    let t = dibenzfulvene(t);
-    let t = acepleiadylene(t);
-    let t = ring_of_4(t);
-    let bonds = squares();
-    chains(t, &bonds)
+// Where the polynomials are asked for: at a fraction, at minus that, or at what is next above 1.
+fn x_of(letter: u8, row: Row) -> f64 {
+    let x = fraction(row, 0, 1);
+    match letter {
+        b'm' => -x,
+        b'n' => x + NEXT,
+        _ => x,
+    }
+}
+
+// The even and the odd value are the second fraction of the line and the third.
+fn values_are(v: Values, row: Row) -> bool {
+    let even = fraction(row, 2, 3);
+    let odd = fraction(row, 4, 5);
+    v.even == even && v.odd == odd && row.left(2) == 4
+}
+
+fn valued(letter: u8, n: usize, bonds: &[u8], row: Row) -> bool {
+    let x = x_of(letter, row);
+    let reply = poly::polynomial(n, bonds, x);
+    match reply {
+        Answer::Refused(r) => told::refusal(r).is(row, 2),
+        Answer::Values(v) => values_are(v, row),
+    }
+}
+
+// Whether the reply to a question, which is known by its first letter, is that of its line.
+pub fn right(letter: u8, n: usize, bonds: &[u8], row: Row) -> bool {
+    match letter {
+        b'c' => checked(n, bonds, row),
+        b'i' => measured(n, bonds, row),
+        b'v' => around(n, bonds, row),
+        b'a' => apart(n, bonds, row),
+        b'd' | b'e' => shared(letter, n, bonds, row),
+        b'p' | b'm' | b'n' => valued(letter, n, bonds, row),
+        _ => false,
+    }
 }

@@ -1,138 +1,79 @@
-// Decks: document 01's ten graphs, the lookup of a block, and 32 paths of 64.
-use crate::made::Made;
-use crate::made::fill;
-use crate::replies;
-use crate::replies::five;
-use crate::tally::Tally;
-use block::Indices;
+// What is asked of a deck: its reply is compared with the numbers of a line.
+ghost use Prim.Native.Nat.{_≤_};
+ghost use lib.ListN.{length};
+use crate::row;
+use crate::row::FAR;
+use crate::row::Row;
+use crate::told;
+use molecule::Verdict;
+use molecule::Written;
 
-pub fn composed(t: Tally, name: &[u8], deck: &[u8], x: Indices) -> Tally {
+// What stands in a lent buffer before it is written to.
+const STAYS: u8 = row::STAYS as u8;
+
+fn composed(deck: &[u8], row: Row) -> bool {
     let reply = molecule::compose(deck);
-    t.count(name, b"composed", replies::measured(reply, x))
+    told::of_measured(reply).is(row, 0)
 }
 
-// Document 01's 40 bytes.
-pub fn rings() -> [u8; 40] {
-    *b"\x12\x00\x01\x00\x01\x00\x06\x00\x06\x00\x01\x02\x02\x03\x03\x04\x04\x05\x05\x06\x06\x01\x0e\x00\x02\x00\x02\x00\x01\x00\x00\x00\x00\x00\x01\x00\x01\x00\x01\x01"
+// The first field that differs, 0 for none.
+fn judged(deck: &[u8], row: Row) -> bool {
+    let reply = molecule::judge(deck);
+    let field = match reply {
+        Verdict::Refused(r) => {
+            return told::refusal(r).is(row, 0);
+        }
+        Verdict::Accepted => 0,
+        Verdict::Differs(k) => k,
+    };
+    told::one(field as u64).is(row, 0)
 }
 
-// Document 01's table: one placement.
-fn single(t: Tally) -> Tally {
-    let t = composed(
-        t,
-        b"one atom",
-        b"\x06\x00\x01\x00\x01\x00\x01\x00\x00\x00\x08\x00\x02\x00\x01\x00\x01\x00\x00\x00\x00\x00",
-        five(1, 0, 0, 0, 0),
-    );
-    let t = composed(
-        t,
-        b"path of 2",
-        b"\x08\x00\x01\x00\x01\x00\x02\x00\x01\x00\x01\x02\x08\x00\x02\x00\x01\x00\x01\x00\x00\x00\x00\x00",
-        five(2, 1, 0, 1, 0),
-    );
-    let t = composed(
-        t,
-        b"path of 4",
-        b"\x0c\x00\x01\x00\x01\x00\x04\x00\x03\x00\x01\x02\x02\x03\x03\x04\x08\x00\x02\x00\x01\x00\x01\x00\x00\x00\x00\x00",
-        five(4, 10, 4, 6, 1),
-    );
-    let t = composed(
-        t,
-        b"star of 4",
-        b"\x0c\x00\x01\x00\x01\x00\x04\x00\x03\x00\x01\x02\x01\x03\x01\x04\x08\x00\x02\x00\x01\x00\x01\x00\x00\x00\x00\x00",
-        five(4, 9, 6, 3, 0),
-    );
-    let t = composed(
-        t,
-        b"ring of 3",
-        b"\x0c\x00\x01\x00\x01\x00\x03\x00\x03\x00\x01\x02\x02\x03\x03\x01\x08\x00\x02\x00\x01\x00\x01\x00\x00\x00\x00\x00",
-        five(3, 3, 0, 3, 0),
-    );
-    composed(
-        t,
-        b"ring of 6",
-        b"\x12\x00\x01\x00\x01\x00\x06\x00\x06\x00\x01\x02\x02\x03\x03\x04\x04\x05\x05\x06\x06\x01\x08\x00\x02\x00\x01\x00\x01\x00\x00\x00\x00\x00",
-        five(6, 27, 12, 15, 3),
-    )
+// Placement and atom of each of the two ends.
+fn apart(deck: &[u8], row: Row) -> bool {
+    let k = row.first(0, FAR);
+    let i = row.first(1, FAR);
+    let l = row.first(2, FAR);
+    let j = row.first(3, FAR);
+    let reply = climb::placed_distance(deck, k, i, l, j);
+    told::of_apart(reply).is(row, 4)
 }
 
-// More of them.
-fn several(t: Tally) -> Tally {
-    let t = composed(
-        t,
-        b"ring of 6 + one atom",
-        b"\x12\x00\x01\x00\x01\x00\x06\x00\x06\x00\x01\x02\x02\x03\x03\x04\x04\x05\x05\x06\x06\x01\x06\x00\x01\x00\x02\x00\x01\x00\x00\x00\x0e\x00\x02\x00\x02\x00\x01\x00\x00\x00\x00\x00\x02\x00\x01\x00\x01\x01",
-        five(7, 42, 20, 22, 5),
-    );
-    let deck = rings();
-    let t = composed(
-        t,
-        b"two rings of 6 joined",
-        &deck,
-        five(12, 198, 96, 102, 14),
-    );
-    let t = composed(
-        t,
-        b"one atom + four on it",
-        b"\x06\x00\x01\x00\x01\x00\x01\x00\x00\x00\x06\x00\x01\x00\x02\x00\x01\x00\x00\x00\x20\x00\x02\x00\x05\x00\x01\x00\x00\x00\x00\x00\x02\x00\x01\x00\x01\x01\x02\x00\x01\x00\x01\x01\x02\x00\x01\x00\x01\x01\x02\x00\x01\x00\x01\x01",
-        five(5, 16, 12, 4, 0),
-    );
-    composed(
-        t,
-        b"path of 2, an atom on each end",
-        b"\x08\x00\x01\x00\x01\x00\x02\x00\x01\x00\x01\x02\x06\x00\x01\x00\x02\x00\x01\x00\x00\x00\x14\x00\x02\x00\x03\x00\x01\x00\x00\x00\x00\x00\x02\x00\x01\x00\x01\x01\x02\x00\x01\x00\x02\x01",
-        five(4, 10, 4, 6, 1),
-    )
+// The part of the deck that holds a block.
+fn found(deck: &[u8], row: Row) -> bool {
+    let part = deck::block_part(deck, row.first(0, FAR));
+    row.left(1) == part.len() && told::bytes_are(part, row)
 }
 
-// Whether the lookup of a block's number hands back these bytes.
-fn found(t: Tally, which: &[u8], d: &[u8], number: usize, bytes: &[u8]) -> Tally {
-    let part = deck::block_part(d, number);
-    t.count(
-        b"lookup",
-        which,
-        part.len() == bytes.len() && replies::has_bytes(part, bytes),
-    )
+// The first bytes of a buffer are lent.
+fn sheet_in(deck: &[u8], out: &mut [u8], lent: usize) -> Written
+    requires { ⌜ lent ≤ length (now out) ⌝ }
+{
+    molecule::write_sheet(deck, &mut out[..lent])
 }
 
-// Nothing of a deck that is cut off.
-fn found_cut(t: Tally, which: &[u8], d: &[u8], number: usize) -> Tally {
-    found(t, which, records::part(d, 0, 39), number, b"")
+// A sheet or a refusal, or what stands in the buffer after that.
+fn written(letter: u8, deck: &[u8], row: Row) -> bool {
+    let mut out = [STAYS; 64];
+    let lent = row.first(0, 64);
+    let reply = sheet_in(deck, &mut out, lent);
+    if letter == b'b' {
+        return told::bytes_are(&out, row);
+    }
+    match reply {
+        Written::Refused(r) => told::refusal(r).is(row, 1),
+        Written::Sheet => told::nothing().is(row, 1),
+    }
 }
 
-// The part of the 40 bytes that holds block 1; none for another number, and none of a refused deck.
-fn lookups(t: Tally) -> Tally {
-    let deck = rings();
-    let six = b"\x01\x00\x06\x00\x06\x00\x01\x02\x02\x03\x03\x04\x04\x05\x05\x06\x06\x01";
-    let t = found(t, b"block 1", &deck, 1, six);
-    let t = found(t, b"no block 0", &deck, 0, b"");
-    let t = found(t, b"no block 2", &deck, 2, b"");
-    found_cut(t, b"a refused deck", &deck, 1)
-}
-
-// One path of 64 atoms, placed 32 times end to end.
-fn long_deck() -> [u8; 334] {
-    let mut deck = [0u8; 334];
-    fill(&mut deck, Made::Paths);
-    deck
-}
-
-fn long(t: Tally) -> Tally {
-    let deck = long_deck();
-    let name = b"32 paths of 64";
-    let t = composed(
-        t,
-        name,
-        &deck,
-        five(2048, 1431655424, 715827200, 715828224, 2045),
-    );
-    let reply = climb::placed_distance(&deck, 1, 1, 32, 64);
-    t.count(name, b"from end to end", replies::apart(reply, 2047))
-}
-
-pub fn all(t: Tally) -> Tally {
-    let t = single(t);
-    let t = several(t);
-    let t = lookups(t);
-    long(t)
+// Whether the reply to a question, which is known by its first letter, is that of its line.
+pub fn right(letter: u8, deck: &[u8], row: Row) -> bool {
+    match letter {
+        b'c' => composed(deck, row),
+        b'j' => judged(deck, row),
+        b'a' => apart(deck, row),
+        b'f' => found(deck, row),
+        b'w' | b'b' => written(letter, deck, row),
+        _ => false,
+    }
 }

@@ -1,21 +1,79 @@
-// Runs the documents' numbers through the public functions and compares: prints the name of what is wrong, and how many were right.
+// Puts the documents' numbers, a table on standard input, to the public functions: prints the lines that are wrong, and how many were right.
+ghost use Prim.Native.Nat.{_≤_};
+
 mod blocks;
 mod decks;
-mod joined;
-mod judged;
-mod made;
-mod refusals;
-mod replies;
+mod row;
+mod subject;
 mod tally;
+mod told;
 
+use libc::STDIN_FILENO;
+use row::Row;
+use subject::Subject;
 use tally::Tally;
 
+// The tally, and what the next lines ask about.
+struct Table {
+    tally: Tally,
+    subject: Subject,
+}
+
+impl Table {
+    fn asked(self, text: &[u8], line: &[u8], letter: u8, row: Row) -> Table {
+        let subject = self.subject;
+        let ok = subject.right(letter, row);
+        let name = records::part(text, subject.from, subject.len);
+        let tally = self.tally;
+        Table {
+            tally: tally.count(name, line, ok),
+            subject,
+        }
+    }
+
+    // A line that starts with a capital says what is asked about; any other asks.
+    fn after_line(self, text: &[u8], line: &[u8], at: usize) -> Table {
+        let letter = records::byte_at(line, 0);
+        let row = row::row_of(line, letter);
+        match letter {
+            b'B' | b'D' | b'W' | b'F' => {
+                let subject = self.subject;
+                let tally = self.tally;
+                Table {
+                    tally,
+                    subject: subject.next(letter, row, at, line.len()),
+                }
+            }
+            b'#' | b'\n' => self,
+            _ => self.asked(text, line, letter, row),
+        }
+    }
+
+    // The line from one place to another, its line feed included.
+    fn after(self, text: &[u8], at: usize, end: usize) -> Table
+        requires { ⌜ at ≤ end ⌝ }
+    {
+        self.after_line(text, records::part(text, at, end - at), at)
+    }
+}
+
+fn read_table(text: &[u8]) -> Tally {
+    let mut table = Table {
+        tally: Tally::none(),
+        subject: Subject::none(),
+    };
+    let mut at = 0;
+    while at < text.len() {
+        let end = row::line_end(text, at);
+        let next = table.after(text, at, end);
+        table = next;
+        at = end;
+    }
+    table.tally
+}
+
 fn main() {
-    let t = Tally::none();
-    let t = blocks::all(t);
-    let t = decks::all(t);
-    let t = joined::all(t);
-    let t = refusals::all(t);
-    let t = judged::all(t);
-    t.print();
+    let mut text = io::large_buffer();
+    let n = io::read_full(STDIN_FILENO, &mut text);
+    read_table(&text[..n]).print();
 }

@@ -1,4 +1,4 @@
-// How many comparisons came out right. What is wrong is printed by its name.
+// How many comparisons came out right. What is wrong is printed with its name.
 use libc::STDOUT_FILENO;
 
 pub struct Tally {
@@ -18,8 +18,8 @@ impl Tally {
         Tally { right: 0, wrong: 0 }
     }
 
-    // One comparison more: of what, and which of its numbers.
-    pub fn count(self, name: &[u8], which: &[u8], ok: bool) -> Tally {
+    // One comparison more: the line that says of what, and the line that asks.
+    pub fn count(self, name: &[u8], line: &[u8], ok: bool) -> Tally {
         if ok {
             return Tally {
                 right: more(self.right),
@@ -28,9 +28,7 @@ impl Tally {
         }
         io::write_all(STDOUT_FILENO, b"wrong: ");
         io::write_all(STDOUT_FILENO, name);
-        io::write_all(STDOUT_FILENO, b": ");
-        io::write_all(STDOUT_FILENO, which);
-        io::write_all(STDOUT_FILENO, b"\n");
+        io::write_all(STDOUT_FILENO, line);
         Tally {
             right: self.right,
             wrong: more(self.wrong),
