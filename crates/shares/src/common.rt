@@ -32,6 +32,9 @@ fn common(a: u64, b: u64) -> u64
     requires { ⌜ (0 < a) × (a ≤ cap) × (0 < b) × (b ≤ cap) ⌝ }
     ensures { λ r. ⌜ r ≡ min cap (lcm a b) ⌝ }
 {
+    if a % b == 0 {
+        return a;
+    }
     let m = a / gcd(a, b) * b;
     if m < CAP { m } else { CAP }
 }
