@@ -16,8 +16,10 @@ use Rattle.block.specs.Rows.{rowOf, rowReply, saidRow, rowsOf}
 use Rattle.block.specs.Tables.{getD-table}
 use Rattle.block.specs.Told.{few-atoms, molecule, each-bond, row-read}
 use Rattle.shares.specs.Reply.{most}
-use Rattle.shares.specs.Work.{listOf, beside, Shows, Listed, Given, Whole}
+use Rattle.shares.specs.Work.{listOf, beside, Shows, Listed, Four, Given, Whole}
 use Rattle.shares.proofs.Rows.{of-places}
+use Rattle.shares.proofs.Lists.{four}
+use Rattle.shares.proofs.Few.{at-most-four}
 
 module _ (n : ℕ) (xs : List ℕ) (fine : blockReply n xs ≡ read tt) where
   pub plain : Plain n (bondsOf xs)
@@ -45,7 +47,8 @@ module _ (n : ℕ) (xs : List ℕ) (fine : blockReply n xs ≡ read tt) where
       record {
         small = few;
         molecule = molecule n xs fine;
-        lists = of-places (λ v. Listed n (beside (graphOf n xs) v) (listOf near v)) n (λ i l. h i l (distance (graphOf n xs) (suc i)) (shown i l));
+        lists = of-places (λ v. Four n (beside (graphOf n xs) v) (listOf near v)) n
+            (λ i l. let list = h i l (distance (graphOf n xs) (suc i)) (shown i l) in four list (at-most-four n xs fine (record { low = omega arith; high = l }) list));
         far = shown;
       }
 

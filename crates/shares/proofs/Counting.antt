@@ -30,7 +30,7 @@ eqb-same a b c d f h = go (eqb a b) refl
 
 module _ {g : Graph} (m : Molecule g) where
   -- two atoms are bonded exactly where their distance is 1
-  bonded-beside : {v w : ℕ} → Within (g .atoms) v → Within (g .atoms) w → (v ≡ w → ⊥) → bonded g v w ≡ beside g v w
+  pub bonded-beside : {v w : ℕ} → Within (g .atoms) v → Within (g .atoms) w → (v ≡ w → ⊥) → bonded g v w ≡ beside g v w
   bonded-beside {v} {w} hv hw ne = go (bonded g v w) refl
     where
       over : {x : ℕ} → Walk g v x 1 → bonded g v x ≡ true
@@ -70,10 +70,11 @@ module _ {n : ℕ} {bs : List Bond} {near : List (List ℕ)} {row : List ℕ} {i
     far-high : (v : ℕ) → Within n v → distance (graph n bs) i v ≤ top
     far-high = of-places (λ v. distance (graph n bs) i v ≤ top) n (λ j l. omega (arith, high j l, S .far .shows j l))
 
-    pub keyed : from ≤ top → top < mostAtoms → Keyed n (beside (graph n bs)) near key top
-    keyed l t = record {
+    pub keyed : at key 0 ≡ 255 → from ≤ top → top < mostAtoms → Keyed n (beside (graph n bs)) near key top
+    keyed e l t = record {
       small = S .small;
       lists = S .lists;
+      none = e;
       high = λ v hv. omega (arith, key-at v hv, far-high v hv);
       low = t;
     }

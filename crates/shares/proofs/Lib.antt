@@ -4,6 +4,7 @@ pub mod Lists
 pub mod Chains
 pub mod Sweeping
 pub mod Counting
+pub mod Few
 pub mod Tallying
 pub mod Entries
 pub mod Flowing

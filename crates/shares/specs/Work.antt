@@ -29,11 +29,25 @@ listOf near v = getD near v []
 pub record Shows (n : ℕ) (d : ℕ → ℕ) (row : List ℕ) : Type 0 where
   pub shows : (j : ℕ) → j < n → getD row j 0 ≡ d (suc j)
 
--- a list of the atoms of 1 to n that pass B: how many, and then each once
+-- a list of the atoms of 1 to n that pass B, each once from seat 1 on; what follows is 0
 pub record Listed (n : ℕ) (B : ℕ → Bool) (list : List ℕ) : Type 0 where
-  pub count : at list 0 ≤ n
-  pub each : (k : ℕ) → Within (at list 0) k → Within n (at list k)
-  pub sums : (f : ℕ → ℕ) → sum (at list 0) (λ k. f (at list k)) ≡ sum n (λ w. cond (B w) (f w) 0)
+  pub count : ℕ
+  pub each : (k : ℕ) → Within count k → Within n (at list k)
+  pub rest : (k : ℕ) → count < k → at list k ≡ 0
+  pub sums : (f : ℕ → ℕ) → sum count (λ k. f (at list k)) ≡ sum n (λ w. cond (B w) (f w) 0)
+
+-- what the seats 1 to 4 of a list give
+abbrev pub fromFour : (ℕ → ℕ) → List ℕ → ℕ
+fromFour f list = f (at list 1) + f (at list 2) + (f (at list 3) + f (at list 4))
+
+-- what atom w has in a row, if its key is just below level
+abbrev pub below : List ℕ → List ℕ → ℕ → ℕ → ℕ
+below key row level w = cond (eqb (suc (at key w)) level) (at row w) 0
+
+-- a list of at most four, read whole: a seat that no atom takes counts for nothing
+pub record Four (n : ℕ) (B : ℕ → Bool) (list : List ℕ) : Type 0 where
+  pub each : (k : ℕ) → Within 4 k → at list k ≤ n
+  pub sums : (f : ℕ → ℕ) → f 0 ≡ 0 → fromFour f list ≡ sum n (λ w. cond (B w) (f w) 0)
 
 -- the atoms by their keys: the last atom with each key, and before each atom the one before it with the same key
 pub record Chained (n : ℕ) (key last before : List ℕ) : Type 0 where
@@ -43,10 +57,11 @@ pub record Chained (n : ℕ) (key last before : List ℕ) : Type 0 where
   pub falls : (v : ℕ) → Within n v → at before v < v
   pub noneBetween : (v w : ℕ) → Within n v → Within n w → at key w ≡ at key v → w < v → w ≤ at before v
 
--- lists and keys of the atoms 1 to n
+-- lists and keys of the atoms 1 to n; seat 0 has the key of none
 pub record Keyed (n : ℕ) (B : ℕ → ℕ → Bool) (near : List (List ℕ)) (key : List ℕ) (top : ℕ) : Type 0 where
   pub small : n ≤ mostAtoms
-  pub lists : (v : ℕ) → Within n v → Listed n (B v) (listOf near v)
+  pub lists : (v : ℕ) → Within n v → Four n (B v) (listOf near v)
+  pub none : at key 0 ≡ 255
   pub high : (v : ℕ) → Within n v → at key v ≤ top
   pub low : top < mostAtoms
 
@@ -75,7 +90,7 @@ beside g v w = eqb (distance g v w) 1
 pub record Start (n : ℕ) (bs : List Bond) (near : List (List ℕ)) (row : List ℕ) (i : ℕ) : Type 0 where
   pub small : n ≤ mostAtoms
   pub molecule : Molecule (graph n bs)
-  pub lists : (v : ℕ) → Within n v → Listed n (beside (graph n bs) v) (listOf near v)
+  pub lists : (v : ℕ) → Within n v → Four n (beside (graph n bs) v) (listOf near v)
   pub far : Shows n (distance (graph n bs) i) row
   pub start : Within n i
 
@@ -83,7 +98,7 @@ pub record Start (n : ℕ) (bs : List Bond) (near : List (List ℕ)) (row : List
 pub record Given (n : ℕ) (bs : List Bond) (near rows : List (List ℕ)) : Type 0 where
   pub small : n ≤ mostAtoms
   pub molecule : Molecule (graph n bs)
-  pub lists : (v : ℕ) → Within n v → Listed n (beside (graph n bs) v) (listOf near v)
+  pub lists : (v : ℕ) → Within n v → Four n (beside (graph n bs) v) (listOf near v)
   pub far : (i : ℕ) → i < n → Shows n (distance (graph n bs) (suc i)) (listOf rows i)
 
 -- positive counts f and a positive number m, up to the cap

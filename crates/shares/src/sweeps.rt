@@ -14,7 +14,7 @@ ghost use Rattle.graph.specs.Graph.{Bond, Within, sum};
 ghost use Rattle.paths.specs.Paths.{pathCount};
 ghost use Rattle.paths.specs.Notions.{gathered};
 ghost use Rattle.block.specs.Block.{mostAtoms};
-ghost use Rattle.shares.specs.Work.{cap, full, at, Shows, Listed, Chained, Keyed, Ordered, Rule, Holds, graph, Start};
+ghost use Rattle.shares.specs.Work.{cap, full, at, below, fromFour, Shows, Listed, Chained, Keyed, Ordered, Rule, Holds, graph, Start};
 
 pub(crate) fn wide(x: u8) -> usize
     ensures { λ r. ⌜ (r ≡ x) × (r < 256) ⌝ }
@@ -54,12 +54,14 @@ pub(crate) fn farthest(n: usize, row: &[u8; ATOMS]) -> u8
     top
 }
 
-// How far each atom of a row is from the level from.
+// How far each atom of a row is from the level from; no atom's seat is far from all.
 pub(crate) fn spans(n: usize, row: &[u8; ATOMS], from: u8) -> [u8; SEATS]
     requires { ⌜ n ≤ mostAtoms ⌝ }
-    ensures { λ r. ⌜ ((j : ℕ) → j < n → at r (suc j) ≡ (from - getD (now (row .entry)) j 0) + (getD (now (row .entry)) j 0 - from)) ⌝ }
+    ensures { λ r. ⌜
+        (at r 0 ≡ 255) × ((j : ℕ) → j < n → at r (suc j) ≡ (from - getD (now (row .entry)) j 0) + (getD (now (row .entry)) j 0 - from))
+        ⌝ }
 {
-    let mut key = [0u8; SEATS];
+    let mut key = [255u8; SEATS];
     let mut j = 0;
     while j < n {
         key[j + 1] = gap(from, row[j]);
@@ -68,7 +70,7 @@ pub(crate) fn spans(n: usize, row: &[u8; ATOMS], from: u8) -> [u8; SEATS]
     key
 }
 
-// The atoms at distance 1: how many, and then each.
+// The atoms at distance 1.
 pub(crate) fn beside(n: usize, row: &[u8; ATOMS]) -> [u8; SEATS]
     requires { ⌜ n ≤ mostAtoms ⌝ }
     ensures { λ r. ⌜ ((d : ℕ → ℕ) → Shows n d (now (row .entry)) → Listed n (λ w. eqb (d w) 1) r) ⌝ }
@@ -83,7 +85,6 @@ pub(crate) fn beside(n: usize, row: &[u8; ATOMS]) -> [u8; SEATS]
         }
         j += 1;
     }
-    list[0] = c as u8;
     list
 }
 
@@ -104,30 +105,24 @@ fn chained(n: usize, key: &[u8; SEATS]) -> Chain
     Chain { last, before }
 }
 
-// What atom w has in a row, if its key is just below level.
-fn given(key: &[u8; SEATS], row: &[u64; SEATS], w: usize, level: usize) -> u64
-    requires { ⌜ w ≤ mostAtoms ⌝ }
-    ensures { λ r. ⌜ r ≡ cond (eqb (suc (at (now (key .entry)) w)) level) (at (now (row .entry)) w) 0 ⌝ }
+// What the atom at seat k of a list has in a row, if its key is just below level. It is read before the test, so that no jump depends on that.
+fn given(list: &[u8; SEATS], key: &[u8; SEATS], row: &[u64; SEATS], k: usize, level: usize) -> u64
+    requires { ⌜ (k ≤ mostAtoms) × (at (now list) k ≤ mostAtoms) ⌝ }
+    ensures { λ r. ⌜ r ≡ below (now (key .entry)) (now (row .entry)) level (at (now (list .entry)) k) ⌝ }
 {
-    if wide(key[w]) + 1 == level { row[w] } else { 0 }
+    let w = wide(list[k]);
+    let x = row[w];
+    if wide(key[w]) + 1 == level { x } else { 0 }
 }
 
 // What the listed atoms whose key is just below level have in a row, up to the cap.
 fn pull(list: &[u8; SEATS], key: &[u8; SEATS], row: &[u64; SEATS], level: usize, cap: u64) -> u64
-    requires { ⌜ ((n : ℕ) × (B : ℕ → Bool) × (n ≤ mostAtoms) × Listed n B (now list)) ⌝ }
-    ensures { λ r. ⌜
-        ((n : ℕ) (B : ℕ → Bool) → Listed n B (now (list .entry))
-        → r ≡ min cap (sum n (λ w. cond (B w && eqb (suc (at (now (key .entry)) w)) level) (at (now (row .entry)) w) 0)))
-        ⌝ }
+    requires { ⌜ ((k : ℕ) → Within 4 k → at (now list) k ≤ mostAtoms) × ((w : ℕ) → at (now row) w ≤ full) ⌝ }
+    ensures { λ r. ⌜ r ≡ min cap (fromFour (below (now (key .entry)) (now (row .entry)) level) (now (list .entry))) ⌝ }
 {
-    let c = wide(list[0]);
-    let mut sum = 0;
-    let mut k = 0;
-    while k < c {
-        k += 1;
-        sum = add(sum, given(key, row, wide(list[k]), level), cap);
-    }
-    sum
+    let s = given(list, key, row, 1, level) + given(list, key, row, 2, level);
+    let t = given(list, key, row, 3, level) + given(list, key, row, 4, level);
+    if s + t < cap { s + t } else { cap }
 }
 
 // The row whose rule gives each atom its own and what its neighbours with the next smaller key have. The atoms go in the order of their keys:
@@ -141,7 +136,7 @@ fn sweep(
     top: usize,
     cap: u64,
 ) -> [u64; SEATS]
-    requires { ⌜ ((n : ℕ) × (B : ℕ → ℕ → Bool) × Ordered n B (now near) (now key) (now last) (now before) top) ⌝ }
+    requires { ⌜ ((n : ℕ) × (B : ℕ → ℕ → Bool) × Ordered n B (now near) (now key) (now last) (now before) top × (cap ≤ full)) ⌝ }
     ensures { λ r. ⌜
         ((n : ℕ) (B : ℕ → ℕ → Bool) (F : ℕ → ℕ) → Ordered n B (now (near .entry)) (now (key .entry)) (now (last .entry)) (now (before .entry)) top
         → Rule n B (at (now (key .entry))) (at (now (own .entry))) F → Holds n cap F r)
@@ -151,13 +146,20 @@ fn sweep(
     let mut level = 0;
     let mut v = wide(last[0]);
     while level <= top {
+        let up = wide(last[level + 1]);
         if v != 0 {
             let s = pull(&near[v], key, &row, level, cap);
             row[v] = add(s, own[v], cap);
-            v = wide(before[v]);
+            let next = wide(before[v]);
+            if next != 0 {
+                v = next;
+            } else {
+                level += 1;
+                v = up;
+            }
         } else {
             level += 1;
-            v = wide(last[level]);
+            v = up;
         }
     }
     row
@@ -172,7 +174,7 @@ fn swept(
     top: u8,
     cap: u64,
 ) -> [u64; SEATS]
-    requires { ⌜ ((B : ℕ → ℕ → Bool) × Keyed n B (now near) (now key) top) ⌝ }
+    requires { ⌜ ((B : ℕ → ℕ → Bool) × Keyed n B (now near) (now key) top × (cap ≤ full)) ⌝ }
     ensures { λ r. ⌜
         ((B : ℕ → ℕ → Bool) (F : ℕ → ℕ) → Keyed n B (now (near .entry)) (now (key .entry)) top
         → Rule n B (at (now (key .entry))) (at (now (own .entry))) F → Holds n cap F r)

@@ -1,88 +1,73 @@
--- `pull` meets its contract: the sum is what the entries passed give, up to the cap.
-use Prim.Native.Nat.{ℕ, suc, _+_, _-_, min, _≤_}
-use mathlib.Core.Path.{_≡_, _∙_, ap}
-use mathlib.Core.Bool.{cond}
+-- `pull` meets its contract: four entries of a row fit together.
+use Prim.Native.Nat.{_≤_}
 use native.Mathlib.Omega.{arith}
 use borrow.Author.Needs.{needs}
-use lib.Dec.{eqb}
-use Rattle.shares.specs.Work.{at}
-use Rattle.shares.proofs.Lists.{pulled, pulled-none, pulled-next, pulled-all}
+use Rattle.shares.specs.Work.{full, at}
+use Rattle.shares.proofs.Lists.{below-low}
 use Rattle.shares.proofs.sweeps.pull.Statement.{statement}
 use Rattle.shares.proofs.sweeps.pull.Tie as tie
 
-abbrev Inv-loop : tie.InvT-loop
-Inv-loop list key row level cap c sum₀ k₀ sum k = (k ≤ c) × (c ≡ at list 0) × (sum ≡ min cap (pulled list key row level k))
+given-requires : tie.Need-given-requires
+given-requires c κs = (omega arith, c .pre .0 1 (record { low = omega arith; high = omega arith }))
 
-abbrev μ-loop : tie.MeasureT-loop
-μ-loop list key row level cap c sum₀ k₀ sum k = c - k
+given-requires-2 : tie.Need-given-requires-2
+given-requires-2 c κs = (omega arith, c .before .pre .0 2 (record { low = omega arith; high = omega arith }))
 
-element-copy-out-wide : tie.Need-element-copy-out-wide Inv-loop μ-loop
-element-copy-out-wide c = omega arith
-
-wide-requires : tie.Need-wide-requires Inv-loop μ-loop
-wide-requires c κs = search needs
-
-loop-holds : tie.Need-loop-holds Inv-loop μ-loop
-loop-holds c =
+-- the first two, and then all
+two : (c : tie.After-given2) → (c .before .given .result ≤ full) × (c .given2 .result ≤ full)
+two c =
     let a = c .before .before .args in
-    (omega arith, c .wide .ensures .0, omega (arith, pulled-none (a .list .now) (a .key .now) (a .row .now) (a .level)))
-
-add-k : tie.Need-add-k Inv-loop μ-loop
-add-k c = omega arith
-
-element-copy-out-wide-2 : tie.Need-element-copy-out-wide-2 Inv-loop μ-loop
-element-copy-out-wide-2 c = omega arith
-
-wide-requires-2 : tie.Need-wide-requires-2 Inv-loop μ-loop
-wide-requires-2 c κs = search needs
-
-given-requires : tie.Need-given-requires Inv-loop μ-loop
-given-requires c κs =
-    let p = c .before .before .before .before .before .before .pre in
-    omega (arith, c .wide2 .ensures, p .2, p .3 .each (c .before .before .before .loop .k + 1) (record { low = omega arith; high = omega arith }))
-
-add-requires : tie.Need-add-requires Inv-loop μ-loop
-add-requires c κs = search needs
-
-loop-less : tie.Need-loop-less Inv-loop μ-loop
-loop-less c = omega arith
-
-loop-again : tie.Need-loop-again Inv-loop μ-loop
-loop-again c =
-    let a = c .before .before .before .before .before .before .before .before .args in
-    let l = c .before .before .before .before .before .loop in (
-      omega arith,
-      l .inv .1,
-      omega (
-        arith,
-        c .add .ensures,
-        c .before .given .ensures,
-        ap (λ (w : ℕ). cond (eqb (suc (at (a .key .now) w)) (a .level)) (at (a .row .now) w) 0) (c .before .before .wide2 .ensures .0),
-        pulled-next (a .list .now) (a .key .now) (a .row .now) (a .level) (l .k),
-      ),
+    let p = c .before .before .pre in (
+      omega (arith, c .before .given .ensures, below-low (a .key .now) (a .row .now) (a .level) (at (a .list .now) 1) (p .1)),
+      omega (arith, c .given2 .ensures, below-low (a .key .now) (a .row .now) (a .level) (at (a .list .now) 2) (p .1)),
     )
 
-returns : tie.Need-returns Inv-loop μ-loop
-returns c n B h =
+add-s : tie.Need-add-s
+add-s c = omega (arith, two c)
+
+given-requires-3 : tie.Need-given-requires-3
+given-requires-3 c κs = (omega arith, c .before .before .pre .0 3 (record { low = omega arith; high = omega arith }))
+
+given-requires-4 : tie.Need-given-requires-4
+given-requires-4 c κs = (omega arith, c .before .before .before .pre .0 4 (record { low = omega arith; high = omega arith }))
+
+four : (c : tie.After-given4) → (c .before .before .before .given .result ≤ full) × (c .before .before .given2 .result ≤ full) × (c .before .given3 .result ≤ full) × (c .given4 .result ≤ full)
+four c =
     let a = c .before .before .before .before .args in
-    let l = c .before .loop in
-    let e : l .k ≡ at (a .list .now) 0 = omega arith in
-    l .inv .2 ∙ ap (min (a .cap)) (ap (pulled (a .list .now) (a .key .now) (a .row .now) (a .level)) e ∙ pulled-all (a .list .now) (a .key .now) (a .row .now) (a .level) h)
+    let p = c .before .before .before .before .pre in
+    let t = two (c .before .before) in (
+      t .0,
+      t .1,
+      omega (arith, c .before .given3 .ensures, below-low (a .key .now) (a .row .now) (a .level) (at (a .list .now) 3) (p .1)),
+      omega (arith, c .given4 .ensures, below-low (a .key .now) (a .row .now) (a .level) (at (a .list .now) 4) (p .1)),
+    )
+
+add-t : tie.Need-add-t
+add-t c = omega (arith, four c)
+
+add-if1 : tie.Need-add-if1
+add-if1 c = omega (arith, four c)
+
+add-result : tie.Need-add-result
+add-result c = search needs
+
+returns : tie.Need-returns
+returns c = search needs
+
+returns-2 : tie.Need-returns-2
+returns-2 c = search needs
 
 pub pull-spec : {M : Type 1} → statement M
 pull-spec =
     tie.close
     (tie.spec
-    Inv-loop
-    μ-loop
-    element-copy-out-wide
-    wide-requires
-    loop-holds
-    add-k
-    element-copy-out-wide-2
-    wide-requires-2
     given-requires
-    add-requires
-    loop-less
-    loop-again
-    returns)
+    given-requires-2
+    add-s
+    given-requires-3
+    given-requires-4
+    add-t
+    add-if1
+    add-result
+    returns
+    returns-2)

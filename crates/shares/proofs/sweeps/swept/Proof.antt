@@ -13,7 +13,7 @@ wide-requires c κs = search needs
 sweep-requires : tie.Need-sweep-requires
 sweep-requires c κs =
     let p = c .before .before .before .before .before .before .pre in
-    (c .before .before .before .before .before .before .args .n, p .0, rw (c .wide .ensures .0) (record { keyed = p .1; chain = c .before .before .before .before .before .chained .ensures }))
+    (c .before .before .before .before .before .before .args .n, p .0, rw (c .wide .ensures .0) (record { keyed = p .1; chain = c .before .before .before .before .before .chained .ensures }), p .2)
 
 returns : tie.Need-returns
 returns c B F k r =
