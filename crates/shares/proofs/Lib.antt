@@ -7,6 +7,7 @@ pub mod Counting
 pub mod Few
 pub mod Tallying
 pub mod Entries
+pub mod Scaling
 pub mod Flowing
 pub mod Listing
 pub mod Starting

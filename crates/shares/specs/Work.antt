@@ -6,8 +6,8 @@ use mathlib.Core.Path.{_≡_}
 use lib.Dec.{eqb}
 use lib.ListN.{length, getD}
 use Rattle.graph.specs.Graph.{Graph, Bond, bond, Within, Molecule, distance, sum}
-use Rattle.paths.specs.Paths.{pathCount, pathsUsing, denominator}
-use Rattle.paths.specs.Notions.{Plain, weight, gathered}
+use Rattle.paths.specs.Paths.{pathCount, pathsUsing}
+use Rattle.paths.specs.Notions.{Plain, weight, gathered, lcmStarts}
 use Rattle.block.specs.Block.{mostAtoms, bondsOf, graphOf}
 use Rattle.shares.specs.Reply.{most}
 
@@ -117,17 +117,26 @@ bondAt xs k = bond (getD xs (2 * k) 0) (getD xs (2 * k + 1) 0)
 abbrev pub carried : Graph → ℕ → ℕ → Bond → ℕ
 carried g i d e = sum (g .atoms) (λ j. pathsUsing g e i j * weight g d i j)
 
--- a block that is not refused, and its D
-pub record Whole (n : ℕ) (xs : List ℕ) (d : ℕ) : Type 0 where
+-- what bond k answers for, over d, in the pairs whose first atom is one of 1 to i
+abbrev pub sofar : ℕ → List ℕ → ℕ → ℕ → ℕ → ℕ
+sofar n xs i d k = sum i (λ s. carried (graphOf n xs) s d (bondAt xs k))
+
+-- a block that is not refused, and D of the pairs whose first atom is one of 1 to i
+pub record Whole (n : ℕ) (xs : List ℕ) (i d : ℕ) : Type 0 where
   pub small : n ≤ mostAtoms
   pub molecule : Molecule (graphOf n xs)
   pub plain : Plain n (bondsOf xs)
-  pub is : d ≡ denominator (graphOf n xs)
+  pub is : d ≡ lcmStarts n (pathCount (graphOf n xs)) i
   pub low : d ≤ most
+
+-- entries that have what the starts 1 to i add up to, over d
+pub record Sofar (n : ℕ) (xs : List ℕ) (i d : ℕ) (out : List ℕ) : Type 0 where
+  pub room : length xs / 2 ≤ length out
+  pub first : (k : ℕ) → k < length xs / 2 → getD out k 0 ≡ sofar n xs i d k
 
 -- the rows of one start: distances, counts, and what is gathered
 pub record Ready (n : ℕ) (xs row c t : List ℕ) (i d : ℕ) : Type 0 where
-  pub whole : Whole n xs d
+  pub whole : Whole n xs i d
   pub far : Shows n (distance (graphOf n xs) i) row
   pub start : Within n i
   pub counts : Holds n cap (pathCount (graphOf n xs) i) c
