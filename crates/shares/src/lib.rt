@@ -36,12 +36,6 @@ pub enum Shares {
     Denominator(u64),
 }
 
-// The atoms by their keys: the last with each key, and before each atom the one before it with the same key; 0 is none.
-struct Chain {
-    pub last: [u8; SEATS],
-    pub before: [u8; SEATS],
-}
-
 // The neighbours of each atom, by the rows.
 fn neighbours(n: usize, rows: &[[u8; ATOMS]; ATOMS]) -> [[u8; SEATS]; SEATS]
     requires { ⌜ n ≤ mostAtoms ⌝ }

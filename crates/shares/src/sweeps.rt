@@ -1,6 +1,5 @@
 // Rows of numbers, one for each atom, filled in the order of the atoms' keys.
 use super::CAP;
-use super::Chain;
 use super::FULL;
 use super::SEATS;
 use block::ATOMS;
@@ -14,7 +13,7 @@ ghost use Rattle.graph.specs.Graph.{Bond, Within, sum};
 ghost use Rattle.paths.specs.Paths.{pathCount};
 ghost use Rattle.paths.specs.Notions.{gathered};
 ghost use Rattle.block.specs.Block.{mostAtoms};
-ghost use Rattle.shares.specs.Work.{cap, full, at, below, fromFour, Shows, Listed, Chained, Keyed, Ordered, Rule, Holds, graph, Start};
+ghost use Rattle.shares.specs.Work.{cap, full, at, below, fromFour, Shows, Listed, Keyed, Ordered, Rule, Holds, graph, Start};
 
 pub(crate) fn wide(x: u8) -> usize
     ensures { λ r. ⌜ (r ≡ x) × (r < 256) ⌝ }
@@ -88,23 +87,6 @@ pub(crate) fn beside(n: usize, row: &[u8; ATOMS]) -> [u8; SEATS]
     list
 }
 
-// The atoms 1 to n by their keys.
-fn chained(n: usize, key: &[u8; SEATS]) -> Chain
-    requires { ⌜ (n ≤ mostAtoms) × ((v : ℕ) → Within n v → at (now key) v ≤ mostAtoms) ⌝ }
-    ensures { λ r. ⌜ Chained n (now (key .entry)) (r .last) (r .before) ⌝ }
-{
-    let mut last = [0u8; SEATS];
-    let mut before = [0u8; SEATS];
-    let mut v = 0;
-    while v < n {
-        v += 1;
-        let k = wide(key[v]);
-        before[v] = last[k];
-        last[k] = v as u8;
-    }
-    Chain { last, before }
-}
-
 // What the atom at seat k of a list has in a row, if its key is just below level. It is read before the test, so that no jump depends on that.
 fn given(list: &[u8; SEATS], key: &[u8; SEATS], row: &[u64; SEATS], k: usize, level: usize) -> u64
     requires { ⌜ (k ≤ mostAtoms) × (at (now list) k ≤ mostAtoms) ⌝ }
@@ -125,8 +107,8 @@ fn pull(list: &[u8; SEATS], key: &[u8; SEATS], row: &[u64; SEATS], level: usize,
     if s + t < cap { s + t } else { cap }
 }
 
-// The row whose rule gives each atom its own and what its neighbours with the next smaller key have. The atoms go in the order of their keys:
-// v is the next of those with the key level.
+// The row whose rule gives each atom its own and what its neighbours with the next smaller key have. The atoms go in the order of their keys, by the
+// last with each key and, before each atom, the one before it with the same key; 0 is none. v is the next of those with the key level.
 fn sweep(
     near: &[[u8; SEATS]; SEATS],
     key: &[u8; SEATS],
@@ -180,9 +162,15 @@ fn swept(
         → Rule n B (at (now (key .entry))) (at (now (own .entry))) F → Holds n cap F r)
         ⌝ }
 {
-    let chain = chained(n, key);
-    let last = chain.last;
-    let before = chain.before;
+    let mut last = [0u8; SEATS];
+    let mut before = [0u8; SEATS];
+    let mut v = 0;
+    while v < n {
+        v += 1;
+        let k = wide(key[v]);
+        before[v] = last[k];
+        last[k] = v as u8;
+    }
     sweep(near, key, &last, &before, own, wide(top), cap)
 }
 
