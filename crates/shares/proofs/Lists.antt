@@ -1,21 +1,19 @@
 -- Lists of atoms that are made and read entry by entry. Assumes nothing.
 use Prim.Native.Nat.{ℕ, suc, _+_, _-_, _≤_, _<_}
-use mathlib.Core.Bool.{Bool, true, false, _&&_, cond}
+use mathlib.Core.Bool.{Bool, true, false, cond}
 use mathlib.Core.List.{List}
 use mathlib.Core.Logic.{⊎-elim}
 use mathlib.Core.Path.{_≡_, refl, sym, _∙_, ap, subst}
 use native.Mathlib.Nat.{eq-or-lt-of-le}
 use native.Mathlib.Numerals.{add-one}
 use native.Mathlib.Omega.{arith}
-use borrow.Author.Tests.{ne-eqb, ltb-true, ltb-false}
-use lib.Dec.{eqb, ltb}
+use borrow.Author.Tests.{ltb-true, ltb-false}
+use lib.Dec.{ltb}
 use lib.ListN.{length, set}
 use lib.Seq.{getD-set-same, getD-set-other}
 use Rattle.graph.specs.Graph.{Within, sum}
 use Rattle.graph.specs.Sums.{wider, last, sum-cong, sum-split, sum-none}
-use Rattle.paths.specs.Choices.{cond-and}
-use Rattle.block.specs.Block.{mostAtoms}
-use Rattle.shares.specs.Work.{full, at, below, fromFour, Listed, Four}
+use Rattle.shares.specs.Work.{at, Listed, Four}
 
 -- the first c entries are the atoms of 1 to n that pass B
 pub record Listing (n c : ℕ) (B : ℕ → Bool) (list : List ℕ) : Type 0 where
@@ -84,17 +82,3 @@ module _ {n : ℕ} {B : ℕ → Bool} {list : List ℕ} (h : Listed n B list) (m
       go : (k : ℕ) → Within 4 k → (t : Bool) → ltb (h .count) k ≡ t → at list k ≤ n
       go k w true e = omega (arith, h .rest k (ltb-true (h .count) k e))
       go k w false e = omega (arith, h .each k (record { low = w .low; high = ltb-false (h .count) k e }))
-
--- what the listed atoms have in a row, of those whose key is just below a level: a seat that no atom takes has the key of none
-pub pulled : (key row : List ℕ) (level : ℕ) {n : ℕ} {B : ℕ → Bool} {list : List ℕ} → Four n B list → at key 0 ≡ 255 → level ≤ mostAtoms
-    → fromFour (below key row level) list ≡ sum n (λ w. cond (B w && eqb (suc (at key w)) level) (at row w) 0)
-pulled key row level {n} {B} h e l =
-    h .sums (below key row level) (ap (λ (t : Bool). cond t (at row 0) 0) (ne-eqb (suc (at key 0)) level (λ z. omega arith)))
-    ∙ sum-cong n (λ w x. sym (cond-and (B w) (eqb (suc (at key w)) level) (at row w)))
-
-pub below-low : (key row : List ℕ) (level w : ℕ) → ((v : ℕ) → at row v ≤ full) → below key row level w ≤ full
-below-low key row level w l = go (eqb (suc (at key w)) level)
-  where
-    go : (t : Bool) → cond t (at row w) 0 ≤ full
-    go true = l w
-    go false = omega arith

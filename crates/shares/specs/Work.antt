@@ -1,6 +1,6 @@
 -- What the arrays of the work hold, atom by atom. No promise cites this.
 use Prim.Native.Nat.{ℕ, suc, _+_, _*_, _/_, min, _≤_, _<_}
-use mathlib.Core.Bool.{Bool, _&&_, cond}
+use mathlib.Core.Bool.{Bool, true, _&&_, cond}
 use mathlib.Core.List.{List, []}
 use mathlib.Core.Path.{_≡_}
 use lib.Dec.{eqb}
@@ -40,9 +40,9 @@ pub record Listed (n : ℕ) (B : ℕ → Bool) (list : List ℕ) : Type 0 where
 abbrev pub fromFour : (ℕ → ℕ) → List ℕ → ℕ
 fromFour f list = f (at list 1) + f (at list 2) + (f (at list 3) + f (at list 4))
 
--- what atom w has in a row, if its key is just below level
-abbrev pub below : List ℕ → List ℕ → ℕ → ℕ → ℕ
-below key row level w = cond (eqb (suc (at key w)) level) (at row w) 0
+-- what atom w has on the side of a double row that starts at `from`
+abbrev pub there : List ℕ → ℕ → ℕ → ℕ
+there both from w = at both (from + w)
 
 -- a list of at most four, read whole: a seat that no atom takes counts for nothing
 pub record Four (n : ℕ) (B : ℕ → Bool) (list : List ℕ) : Type 0 where
@@ -57,11 +57,11 @@ pub record Chained (n : ℕ) (key last before : List ℕ) : Type 0 where
   pub falls : (v : ℕ) → Within n v → at before v < v
   pub noneBetween : (v w : ℕ) → Within n v → Within n w → at key w ≡ at key v → w < v → w ≤ at before v
 
--- lists and keys of the atoms 1 to n; seat 0 has the key of none
+-- lists and keys of the atoms 1 to n; from an atom to a listed one the key changes by 1 at most
 pub record Keyed (n : ℕ) (B : ℕ → ℕ → Bool) (near : List (List ℕ)) (key : List ℕ) (top : ℕ) : Type 0 where
   pub small : n ≤ mostAtoms
   pub lists : (v : ℕ) → Within n v → Four n (B v) (listOf near v)
-  pub none : at key 0 ≡ 255
+  pub close : (v w : ℕ) → Within n v → Within n w → B v w ≡ true → (at key w ≤ suc (at key v)) × (at key v ≤ suc (at key w))
   pub high : (v : ℕ) → Within n v → at key v ≤ top
   pub low : top < mostAtoms
 

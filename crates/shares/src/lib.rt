@@ -19,6 +19,9 @@ mod sweeps;
 // A seat for each atom, numbered from 1; seat 0 is free.
 const SEATS: usize = ATOMS + 1;
 
+// The seats of a double row.
+const SIDES: usize = 2 * SEATS;
+
 // The most bonds of a block: two bytes are one.
 const BONDS: usize = BYTES / 2;
 

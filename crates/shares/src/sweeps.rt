@@ -2,6 +2,7 @@
 use super::CAP;
 use super::FULL;
 use super::SEATS;
+use super::SIDES;
 use block::ATOMS;
 ghost use mathlib.Core.Path.{_≡_};
 ghost use mathlib.Core.Bool.{Bool, cond, _&&_};
@@ -13,7 +14,7 @@ ghost use Rattle.graph.specs.Graph.{Bond, Within, sum};
 ghost use Rattle.paths.specs.Paths.{pathCount};
 ghost use Rattle.paths.specs.Notions.{gathered};
 ghost use Rattle.block.specs.Block.{mostAtoms};
-ghost use Rattle.shares.specs.Work.{cap, full, at, below, fromFour, Shows, Listed, Keyed, Ordered, Rule, Holds, graph, Start};
+ghost use Rattle.shares.specs.Work.{cap, full, at, there, fromFour, Shows, Listed, Keyed, Ordered, Rule, Holds, graph, Start};
 
 pub(crate) fn wide(x: u8) -> usize
     ensures { λ r. ⌜ (r ≡ x) × (r < 256) ⌝ }
@@ -53,14 +54,12 @@ pub(crate) fn farthest(n: usize, row: &[u8; ATOMS]) -> u8
     top
 }
 
-// How far each atom of a row is from the level from; no atom's seat is far from all.
+// How far each atom of a row is from the level from.
 pub(crate) fn spans(n: usize, row: &[u8; ATOMS], from: u8) -> [u8; SEATS]
     requires { ⌜ n ≤ mostAtoms ⌝ }
-    ensures { λ r. ⌜
-        (at r 0 ≡ 255) × ((j : ℕ) → j < n → at r (suc j) ≡ (from - getD (now (row .entry)) j 0) + (getD (now (row .entry)) j 0 - from))
-        ⌝ }
+    ensures { λ r. ⌜ ((j : ℕ) → j < n → at r (suc j) ≡ (from - getD (now (row .entry)) j 0) + (getD (now (row .entry)) j 0 - from)) ⌝ }
 {
-    let mut key = [255u8; SEATS];
+    let mut key = [0u8; SEATS];
     let mut j = 0;
     while j < n {
         key[j + 1] = gap(from, row[j]);
@@ -87,64 +86,79 @@ pub(crate) fn beside(n: usize, row: &[u8; ATOMS]) -> [u8; SEATS]
     list
 }
 
-// What the atom at seat k of a list has in a row, if its key is just below level. It is read before the test, so that no jump depends on that.
-fn given(list: &[u8; SEATS], key: &[u8; SEATS], row: &[u64; SEATS], k: usize, level: usize) -> u64
-    requires { ⌜ (k ≤ mostAtoms) × (at (now list) k ≤ mostAtoms) ⌝ }
-    ensures { λ r. ⌜ r ≡ below (now (key .entry)) (now (row .entry)) level (at (now (list .entry)) k) ⌝ }
+// What the atom at seat k of a list has on the side of a double row that starts at from.
+fn given(list: &[u8; SEATS], both: &[u64; SIDES], from: usize, k: usize) -> u64
+    requires { ⌜ (from ≤ suc mostAtoms) × (k ≤ mostAtoms) × (at (now list) k ≤ mostAtoms) ⌝ }
+    ensures { λ r. ⌜ r ≡ there (now (both .entry)) from (at (now (list .entry)) k) ⌝ }
 {
-    let w = wide(list[k]);
-    let x = row[w];
-    if wide(key[w]) + 1 == level { x } else { 0 }
+    both[from + wide(list[k])]
 }
 
-// What the listed atoms whose key is just below level have in a row, up to the cap.
-fn pull(list: &[u8; SEATS], key: &[u8; SEATS], row: &[u64; SEATS], level: usize, cap: u64) -> u64
-    requires { ⌜ ((k : ℕ) → Within 4 k → at (now list) k ≤ mostAtoms) × ((w : ℕ) → at (now row) w ≤ full) ⌝ }
-    ensures { λ r. ⌜ r ≡ min cap (fromFour (below (now (key .entry)) (now (row .entry)) level) (now (list .entry))) ⌝ }
+// What the listed atoms have on the side of a double row that starts at from, up to the cap.
+fn pull(list: &[u8; SEATS], both: &[u64; SIDES], from: usize, cap: u64) -> u64
+    requires { ⌜ (from ≤ suc mostAtoms) × ((k : ℕ) → Within 4 k → at (now list) k ≤ mostAtoms) × ((w : ℕ) → at (now both) w ≤ full) ⌝ }
+    ensures { λ r. ⌜ r ≡ min cap (fromFour (there (now (both .entry)) from) (now (list .entry))) ⌝ }
 {
-    let s = given(list, key, row, 1, level) + given(list, key, row, 2, level);
-    let t = given(list, key, row, 3, level) + given(list, key, row, 4, level);
+    let s = given(list, both, from, 1) + given(list, both, from, 2);
+    let t = given(list, both, from, 3) + given(list, both, from, 4);
     if s + t < cap { s + t } else { cap }
 }
 
+// Both sides of a double row in one.
+fn joined(both: &[u64; SIDES]) -> [u64; SEATS]
+    requires { ⌜ ((w : ℕ) → at (now both) w ≤ full) ⌝ }
+    ensures { λ r. ⌜ ((w : ℕ) → w ≤ mostAtoms → at r w ≡ at (now (both .entry)) w + there (now (both .entry)) (suc mostAtoms) w) ⌝ }
+{
+    let mut row = [0u64; SEATS];
+    let mut w = 0;
+    while w < SEATS {
+        row[w] = both[w] + both[SEATS + w];
+        w += 1;
+    }
+    row
+}
+
 // The row whose rule gives each atom its own and what its neighbours with the next smaller key have. The atoms go in the order of their keys, by the
-// last with each key and, before each atom, the one before it with the same key; 0 is none. v is the next of those with the key level.
+// last with each key and, before each atom, the one before it with the same key; 0 is none. v is the next of those with the key level. Every other
+// level stands on the other side of a double row: where those below level stand, at from, its own neighbours have nothing and those above nothing yet.
 fn sweep(
     near: &[[u8; SEATS]; SEATS],
-    key: &[u8; SEATS],
     last: &[u8; SEATS],
     before: &[u8; SEATS],
     own: &[u64; SEATS],
     top: usize,
     cap: u64,
 ) -> [u64; SEATS]
-    requires { ⌜ ((n : ℕ) × (B : ℕ → ℕ → Bool) × Ordered n B (now near) (now key) (now last) (now before) top × (cap ≤ full)) ⌝ }
+    requires { ⌜ ((n : ℕ) × (B : ℕ → ℕ → Bool) × (key : List ℕ) × Ordered n B (now near) key (now last) (now before) top × (cap ≤ full)) ⌝ }
     ensures { λ r. ⌜
-        ((n : ℕ) (B : ℕ → ℕ → Bool) (F : ℕ → ℕ) → Ordered n B (now (near .entry)) (now (key .entry)) (now (last .entry)) (now (before .entry)) top
-        → Rule n B (at (now (key .entry))) (at (now (own .entry))) F → Holds n cap F r)
+        ((n : ℕ) (B : ℕ → ℕ → Bool) (key : List ℕ) (F : ℕ → ℕ) → Ordered n B (now (near .entry)) key (now (last .entry)) (now (before .entry)) top
+        → Rule n B (at key) (at (now (own .entry))) F → Holds n cap F r)
         ⌝ }
 {
-    let mut row = [0u64; SEATS];
+    let mut both = [0u64; SIDES];
+    let mut from = SEATS;
     let mut level = 0;
     let mut v = wide(last[0]);
     while level <= top {
         let up = wide(last[level + 1]);
         if v != 0 {
-            let s = pull(&near[v], key, &row, level, cap);
-            row[v] = add(s, own[v], cap);
+            let s = pull(&near[v], &both, from, cap);
+            both[SEATS - from + v] = add(s, own[v], cap);
             let next = wide(before[v]);
             if next != 0 {
                 v = next;
             } else {
+                from = SEATS - from;
                 level += 1;
                 v = up;
             }
         } else {
+            from = SEATS - from;
             level += 1;
             v = up;
         }
     }
-    row
+    joined(&both)
 }
 
 // The same, with the atoms 1 to n put in order first.
@@ -171,7 +185,7 @@ fn swept(
         before[v] = last[k];
         last[k] = v as u8;
     }
-    sweep(near, key, &last, &before, own, wide(top), cap)
+    sweep(near, &last, &before, own, wide(top), cap)
 }
 
 // The counts of shortest paths from the atom start, up to the cap.

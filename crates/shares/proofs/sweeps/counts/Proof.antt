@@ -25,14 +25,14 @@ swept-requires : tie.Need-swept-requires
 swept-requires c κs =
     let p = c .before .before .before .before .pre in
     let f = c .before .before .before .farthest in
-    (_, keyed (p .1) 0 (f .result) (c .before .before .spans .result) (c .before .before .spans .ensures .1) (f .ensures .1) (c .before .before .spans .ensures .0) (omega arith) (f .ensures .0), omega arith)
+    (_, keyed (p .1) 0 (f .result) (c .before .before .spans .result) (c .before .before .spans .ensures) (f .ensures .1) (omega arith) (f .ensures .0), omega arith)
 
 returns : tie.Need-returns
 returns c bs S =
     let f = c .before .before .before .before .farthest in
     let s = c .before .before .before .spans in
-    c .swept .ensures _ _ (keyed S 0 (f .result) (s .result) (s .ensures .1) (f .ensures .1) (s .ensures .0) (omega arith) (f .ensures .0))
-    (rule-counts S 0 (f .result) (s .result) (s .ensures .1) (f .ensures .1) refl (λ v w. unit-at (suc mostAtoms) _ v (omega (arith, S .small, S .start))))
+    c .swept .ensures _ _ (keyed S 0 (f .result) (s .result) (s .ensures) (f .ensures .1) (omega arith) (f .ensures .0))
+    (rule-counts S 0 (f .result) (s .result) (s .ensures) (f .ensures .1) refl (λ v w. unit-at (suc mostAtoms) _ v (omega (arith, S .small, S .start))))
 
 pub counts-spec : {M : Type 1} → statement M
 counts-spec =

@@ -16,14 +16,14 @@ swept-requires : tie.Need-swept-requires
 swept-requires c κs =
     let p = c .before .before .before .pre in
     let f = c .before .before .farthest in
-    (_, keyed (p .2) (f .result) (f .result) (c .before .spans .result) (c .before .spans .ensures .1) (f .ensures .1) (c .before .spans .ensures .0) (omega arith) (f .ensures .0), omega arith)
+    (_, keyed (p .2) (f .result) (f .result) (c .before .spans .result) (c .before .spans .ensures) (f .ensures .1) (omega arith) (f .ensures .0), omega arith)
 
 returns : tie.Need-returns
 returns c bs i q S e =
     let f = c .before .before .before .farthest in
     let s = c .before .before .spans in
-    c .swept .ensures _ _ (keyed S (f .result) (f .result) (s .result) (s .ensures .1) (f .ensures .1) (s .ensures .0) (omega arith) (f .ensures .0))
-    (rule-gathered S (f .result) (f .result) (s .result) (s .ensures .1) (f .ensures .1) refl e)
+    c .swept .ensures _ _ (keyed S (f .result) (f .result) (s .result) (s .ensures) (f .ensures .1) (omega arith) (f .ensures .0))
+    (rule-gathered S (f .result) (f .result) (s .result) (s .ensures) (f .ensures .1) refl e)
 
 pub onward-spec : {M : Type 1} → statement M
 onward-spec = tie.close (tie.spec farthest-requires spans-requires swept-requires returns)

@@ -1,35 +1,34 @@
 -- `pull` meets its contract: four entries of a row fit together.
-use Prim.Native.Nat.{_≤_}
+use Prim.Native.Nat.{_+_, _≤_}
 use native.Mathlib.Omega.{arith}
 use borrow.Author.Needs.{needs}
 use Rattle.shares.specs.Work.{full, at}
-use Rattle.shares.proofs.Lists.{below-low}
 use Rattle.shares.proofs.sweeps.pull.Statement.{statement}
 use Rattle.shares.proofs.sweeps.pull.Tie as tie
 
 given-requires : tie.Need-given-requires
-given-requires c κs = (omega arith, c .pre .0 1 (record { low = omega arith; high = omega arith }))
+given-requires c κs = (c .pre .0, omega arith, c .pre .1 1 (record { low = omega arith; high = omega arith }))
 
 given-requires-2 : tie.Need-given-requires-2
-given-requires-2 c κs = (omega arith, c .before .pre .0 2 (record { low = omega arith; high = omega arith }))
+given-requires-2 c κs = (c .before .pre .0, omega arith, c .before .pre .1 2 (record { low = omega arith; high = omega arith }))
 
 -- the first two, and then all
 two : (c : tie.After-given2) → (c .before .given .result ≤ full) × (c .given2 .result ≤ full)
 two c =
     let a = c .before .before .args in
     let p = c .before .before .pre in (
-      omega (arith, c .before .given .ensures, below-low (a .key .now) (a .row .now) (a .level) (at (a .list .now) 1) (p .1)),
-      omega (arith, c .given2 .ensures, below-low (a .key .now) (a .row .now) (a .level) (at (a .list .now) 2) (p .1)),
+      omega (arith, c .before .given .ensures, p .2 (a .from + at (a .list .now) 1)),
+      omega (arith, c .given2 .ensures, p .2 (a .from + at (a .list .now) 2)),
     )
 
 add-s : tie.Need-add-s
 add-s c = omega (arith, two c)
 
 given-requires-3 : tie.Need-given-requires-3
-given-requires-3 c κs = (omega arith, c .before .before .pre .0 3 (record { low = omega arith; high = omega arith }))
+given-requires-3 c κs = (c .before .before .pre .0, omega arith, c .before .before .pre .1 3 (record { low = omega arith; high = omega arith }))
 
 given-requires-4 : tie.Need-given-requires-4
-given-requires-4 c κs = (omega arith, c .before .before .before .pre .0 4 (record { low = omega arith; high = omega arith }))
+given-requires-4 c κs = (c .before .before .before .pre .0, omega arith, c .before .before .before .pre .1 4 (record { low = omega arith; high = omega arith }))
 
 four : (c : tie.After-given4) → (c .before .before .before .given .result ≤ full) × (c .before .before .given2 .result ≤ full) × (c .before .given3 .result ≤ full) × (c .given4 .result ≤ full)
 four c =
@@ -38,8 +37,8 @@ four c =
     let t = two (c .before .before) in (
       t .0,
       t .1,
-      omega (arith, c .before .given3 .ensures, below-low (a .key .now) (a .row .now) (a .level) (at (a .list .now) 3) (p .1)),
-      omega (arith, c .given4 .ensures, below-low (a .key .now) (a .row .now) (a .level) (at (a .list .now) 4) (p .1)),
+      omega (arith, c .before .given3 .ensures, p .2 (a .from + at (a .list .now) 3)),
+      omega (arith, c .given4 .ensures, p .2 (a .from + at (a .list .now) 4)),
     )
 
 add-t : tie.Need-add-t

@@ -1,10 +1,9 @@
 -- `spans` meets its contract: the places passed have their gaps.
 use Prim.Native.Nat.{ℕ, suc, _+_, _-_, _≤_, _<_}
-use mathlib.Core.Path.{_≡_, refl, _∙_}
+use mathlib.Core.Path.{_≡_, _∙_}
 use native.Mathlib.Omega.{arith}
 use borrow.Author.Needs.{needs}
 use lib.ListN.{length, getD, length-set}
-use lib.Seq.{getD-set-other}
 use Rattle.block.specs.Block.{mostAtoms}
 use Rattle.shares.specs.Work.{at}
 use Rattle.shares.proofs.Rows.{grown}
@@ -12,13 +11,13 @@ use Rattle.shares.proofs.sweeps.spans.Statement.{statement}
 use Rattle.shares.proofs.sweeps.spans.Tie as tie
 
 abbrev Inv-loop : tie.InvT-loop
-Inv-loop n row from key₀ j₀ key j = (j ≤ n) × (length key ≡ suc mostAtoms) × (at key 0 ≡ 255) × ((k : ℕ) → k < j → at key (suc k) ≡ (from - getD row k 0) + (getD row k 0 - from))
+Inv-loop n row from key₀ j₀ key j = (j ≤ n) × (length key ≡ suc mostAtoms) × ((k : ℕ) → k < j → at key (suc k) ≡ (from - getD row k 0) + (getD row k 0 - from))
 
 abbrev μ-loop : tie.MeasureT-loop
 μ-loop n row from key₀ j₀ key j = n - j
 
 loop-holds : tie.Need-loop-holds Inv-loop μ-loop
-loop-holds c = (omega arith, search needs, refl, λ k l. absurd (omega arith))
+loop-holds c = (omega arith, search needs, λ k l. absurd (omega arith))
 
 element-copy-out-gap : tie.Need-element-copy-out-gap Inv-loop μ-loop
 element-copy-out-gap c = omega arith
@@ -44,12 +43,11 @@ loop-again c =
     let a = c .before .before .before .before .args in (
       omega arith,
       length-set (l .key) (l .j + 1) (c .gap .result) ∙ l .inv .1,
-      getD-set-other (l .key) (l .j + 1) 0 (c .gap .result) 0 (λ z. omega arith) ∙ l .inv .2,
-      grown (l .key) (l .j) (c .gap .result) (λ k. (a .from - getD (a .row .now) k 0) + (getD (a .row .now) k 0 - a .from)) (omega arith) (l .inv .3) (c .gap .ensures),
+      grown (l .key) (l .j) (c .gap .result) (λ k. (a .from - getD (a .row .now) k 0) + (getD (a .row .now) k 0 - a .from)) (omega arith) (l .inv .2) (c .gap .ensures),
     )
 
 returns : tie.Need-returns Inv-loop μ-loop
-returns c = (c .before .loop .inv .2, λ k l. c .before .loop .inv .3 k (omega arith))
+returns c = λ k l. c .before .loop .inv .2 k (omega arith)
 
 pub spans-spec : {M : Type 1} → statement M
 spans-spec =

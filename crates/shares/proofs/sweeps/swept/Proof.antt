@@ -69,10 +69,10 @@ chain c =
 sweep-requires : tie.Need-sweep-requires Inv-loop μ-loop
 sweep-requires c κs =
     let p = c .before .before .before .before .before .pre in
-    (c .before .before .before .before .before .args .n, p .0, rw (c .wide2 .ensures .0) (record { keyed = p .1; chain = chain (c .before .before .before) }), p .2)
+    (c .before .before .before .before .before .args .n, p .0, c .before .before .before .before .before .args .key .now, rw (c .wide2 .ensures .0) (record { keyed = p .1; chain = chain (c .before .before .before) }), p .2)
 
 returns : tie.Need-returns Inv-loop μ-loop
-returns c B F k r = c .sweep .ensures _ B F (rw (c .before .wide2 .ensures .0) (record { keyed = k; chain = chain (c .before .before .before .before) })) r
+returns c B F k r = c .sweep .ensures _ B (c .before .before .before .before .before .before .args .key .now) F (rw (c .before .wide2 .ensures .0) (record { keyed = k; chain = chain (c .before .before .before .before) })) r
 
 pub swept-spec : {M : Type 1} → statement M
 swept-spec =
