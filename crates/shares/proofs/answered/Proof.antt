@@ -15,7 +15,7 @@ use Rattle.shares.proofs.answered.Statement.{statement}
 use Rattle.shares.proofs.answered.Tie as tie
 
 refused-requires : tie.Need-refused-requires
-refused-requires c κs = search needs
+refused-requires c κs = tt
 
 returns : tie.Need-returns
 returns c =
@@ -24,7 +24,7 @@ returns c =
     (c .refused .ensures ∙ sym (ap saidShares e), entries-stay (a .n) (a .bonds .now) (a .out .now) e)
 
 rows-requires : tie.Need-rows-requires
-rows-requires c κs = search needs
+rows-requires c κs = tt
 
 neighbours-requires : tie.Need-neighbours-requires
 neighbours-requires c κs = few (c .before .before .before .before .before .args .n) (c .before .before .before .before .before .args .bonds .now) (c .before .before .before .before .before .pre)
@@ -43,7 +43,7 @@ fill-requires c κs =
     (whole (a .n) (a .bonds .now) p, known (c .before .before .before), nothing (a .n) (a .bonds .now) (few-bonds (a .n) (a .bonds .now) p))
 
 refused-requires-2 : tie.Need-refused-requires-2
-refused-requires-2 c κs = search needs
+refused-requires-2 c κs = tt
 
 returns-2 : tie.Need-returns-2
 returns-2 c =
@@ -55,7 +55,7 @@ put-requires : tie.Need-put-requires
 put-requires c κs = (c .before .before .before .before .before .before .before .before .before .before .before .if1 .left, few-bonds (c .before .before .before .before .before .before .before .before .before .before .before .before .before .before .args .n) (c .before .before .before .before .before .before .before .before .before .before .before .before .before .before .args .bonds .now) (c .before .before .before .before .before .before .before .before .before .before .before .before .before .before .pre))
 
 same-length : tie.Need-same-length
-same-length c = search needs
+same-length c = c .before .before .put .ensures .same
 
 returns-3 : tie.Need-returns-3
 returns-3 c =

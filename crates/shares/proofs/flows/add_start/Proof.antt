@@ -1,6 +1,6 @@
 -- `add_start` meets its contract: D takes the counts in, the entries grow with it, and the rows of the start are ready.
 use Prim.Native.Nat.{_+_, min, _≤_}
-use mathlib.Core.Path.{_≡_}
+use mathlib.Core.Path.{_≡_, _∙_}
 use native.Mathlib.Omega.{arith}
 use Rattle.paths.specs.Paths.{pathCount}
 use Rattle.paths.specs.Notions.{lcmStarts}
@@ -16,7 +16,7 @@ add-start : tie.Need-add-start
 add-start c = search needs
 
 counts-requires : tie.Need-counts-requires
-counts-requires c κs = search needs
+counts-requires c κs = (_, c .before .before .pre .0)
 
 -- the counts of the start, and what was taken in before
 tallied : (c : tie.After-counts) → let a = c .before .before .before .args in
@@ -53,7 +53,7 @@ weights-requires c κs =
     (p .0 .small, p .0 .start .high, counts-pos (next (c .before .before .before .before .before)) (p .0 .start) (c .before .before .before .before .before .before .before .before .counts .ensures _ (p .0)))
 
 onward-requires : tie.Need-onward-requires
-onward-requires c κs = search needs
+onward-requires c κs = (_, _, c .before .before .before .before .before .before .before .before .before .before .before .before .before .pre .0)
 
 -- the rows of this start
 rows : (c : tie.After-onward) → let a = c .before .before .before .before .before .before .before .before .before .before .before .before .before .before .args in
@@ -71,7 +71,7 @@ add-flows-requires c κs =
     ((_, _, _, rows (c .before .before .before)), sofar-room (next e) (c .before .before .before .before .before .before .before .before .before .before .before .before .before .before .before .before .before .args .i) (few e) (raised (p .1) (next e) (few e) (p .2) (c .before .before .before .before .before .before .before .before .before .raise .ensures)))
 
 same-length : tie.Need-same-length
-same-length c = search needs
+same-length c = c .before .before .add-flows .ensures _ _ _ (rows (c .before .before .before .before .before .before)) .same ∙ c .before .before .before .before .before .before .before .before .before .before .before .before .raise .ensures .same
 
 returns-2 : tie.Need-returns-2
 returns-2 c =
