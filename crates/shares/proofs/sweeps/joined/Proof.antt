@@ -1,8 +1,7 @@
 -- `joined` meets its contract: the seats passed have both sides.
 use Prim.Native.Nat.{ℕ, suc, _+_, _-_, _≤_, _<_}
-use mathlib.Core.Path.{_≡_, _∙_}
+use mathlib.Core.Path.{_≡_, refl, _∙_}
 use native.Mathlib.Omega.{arith}
-use borrow.Author.Needs.{needs}
 use lib.ListN.{length, length-set}
 use lib.Seq.{getD-set-same, getD-set-other}
 use Rattle.block.specs.Block.{mostAtoms}
@@ -18,10 +17,10 @@ abbrev μ-loop : tie.MeasureT-loop
 μ-loop both row₀ w₀ row w = suc mostAtoms - w
 
 loop-holds : tie.Need-loop-holds Inv-loop μ-loop
-loop-holds c = (omega arith, search needs, λ k l. absurd (omega arith))
+loop-holds c = (omega arith, refl, λ k l. absurd (omega arith))
 
 mul-row : tie.Need-mul-row Inv-loop μ-loop
-mul-row c = search needs
+mul-row c = omega arith
 
 element-copy-out-row : tie.Need-element-copy-out-row Inv-loop μ-loop
 element-copy-out-row c = omega arith
@@ -30,7 +29,7 @@ add-row : tie.Need-add-row Inv-loop μ-loop
 add-row c = omega arith
 
 mul-row-2 : tie.Need-mul-row-2 Inv-loop μ-loop
-mul-row-2 c = search needs
+mul-row-2 c = omega arith
 
 element-copy-out-row-2 : tie.Need-element-copy-out-row-2 Inv-loop μ-loop
 element-copy-out-row-2 c = omega arith
@@ -39,7 +38,7 @@ add-row-2 : tie.Need-add-row-2 Inv-loop μ-loop
 add-row-2 c = let p = c .before .before .before .before .pre in let w = c .before .before .before .loop .w in omega (arith, p w, p (suc mostAtoms + w))
 
 mul-row-3 : tie.Need-mul-row-3 Inv-loop μ-loop
-mul-row-3 c = search needs
+mul-row-3 c = omega arith
 
 array-write-row : tie.Need-array-write-row Inv-loop μ-loop
 array-write-row c = omega arith

@@ -26,7 +26,7 @@ element-copy-out-wide : tie.Need-element-copy-out-wide Inv-loop μ-loop
 element-copy-out-wide c = omega (arith, c .before .before .pre .1 .small)
 
 wide-requires : tie.Need-wide-requires Inv-loop μ-loop
-wide-requires c κs = search needs
+wide-requires c κs = tt
 
 -- the key of the atom at hand has a place
 seated : (c : tie.After-wide Inv-loop μ-loop) → c .wide .result ≤ mostAtoms
@@ -58,7 +58,7 @@ loop-again c =
     )
 
 wide-requires-2 : tie.Need-wide-requires-2 Inv-loop μ-loop
-wide-requires-2 c κs = search needs
+wide-requires-2 c κs = tt
 
 -- all are chained
 chain : (c : tie.After-loop Inv-loop μ-loop) → let l = c .before .loop in let a = c .before .before .args in Chained (a .n) (a .key .now) (l .last) (l .before)
