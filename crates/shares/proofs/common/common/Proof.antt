@@ -6,7 +6,6 @@ use native.Mathlib.Omega.{arith}
 use Rattle.paths.specs.Paths.{lcm}
 use Rattle.paths.specs.Lcm.{lcm-gcd, gcd-step, gcd-end}
 use Rattle.shares.proofs.Tallying.{divisor-pos, product-fits}
-use borrow.Author.Needs.{needs}
 use Rattle.shares.proofs.common.common.Statement.{statement}
 use Rattle.shares.proofs.common.common.Tie as tie
 
@@ -22,7 +21,7 @@ returns c =
     omega arith
 
 gcd-requires : tie.Need-gcd-requires
-gcd-requires c κs = search needs
+gcd-requires c κs = tt
 
 div-m : tie.Need-div-m
 div-m c = divisor-pos (c .gcd .ensures) (c .before .before .pre .0)

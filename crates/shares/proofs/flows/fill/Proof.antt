@@ -33,7 +33,7 @@ returns c =
     (stops-early (c .before .before .before .before .before .pre .0 .molecule) (l .d) (l .i) (l .inv .2) (omega arith), λ h. absurd (omega arith))
 
 mul-add-start : tie.Need-mul-add-start Inv-loop μ-loop
-mul-add-start c = search needs
+mul-add-start c = omega arith
 
 index-1-add-start : tie.Need-index-1-add-start Inv-loop μ-loop
 index-1-add-start c = omega arith

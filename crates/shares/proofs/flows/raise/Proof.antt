@@ -3,7 +3,6 @@ use Prim.Native.Nat.{ℕ, _*_, _-_, _≤_}
 use mathlib.Core.Path.{_≡_, ap}
 use native.Mathlib.Nat.{le-refl}
 use native.Mathlib.Omega.{arith}
-use borrow.Author.Needs.{needs}
 use lib.ListN.{getD}
 use Rattle.shares.specs.Work.{Filled}
 use Rattle.shares.proofs.Entries.{filled-none, filled-same, filled-store}
@@ -23,7 +22,7 @@ loop-holds : tie.Need-loop-holds Inv-loop μ-loop
 loop-holds c = (omega arith, filled-none)
 
 mul-out : tie.Need-mul-out Inv-loop μ-loop
-mul-out c = search needs
+mul-out c = omega arith
 
 slice-read-out : tie.Need-slice-read-out Inv-loop μ-loop
 slice-read-out c = omega (arith, c .before .before .loop .inv .1 .same)
@@ -36,7 +35,7 @@ mul-out-2 : tie.Need-mul-out-2 Inv-loop μ-loop
 mul-out-2 c = omega (arith, old (c .before), c .before .before .before .before .pre .1 (c .before .before .loop .k) (c .before .loop-test .taken))
 
 mul-out-3 : tie.Need-mul-out-3 Inv-loop μ-loop
-mul-out-3 c = search needs
+mul-out-3 c = omega arith
 
 slice-write-out : tie.Need-slice-write-out Inv-loop μ-loop
 slice-write-out c = omega (arith, c .before .before .loop .inv .1 .same)

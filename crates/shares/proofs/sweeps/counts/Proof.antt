@@ -16,7 +16,7 @@ spans-requires : tie.Need-spans-requires
 spans-requires c κs = search needs
 
 mul-own : tie.Need-mul-own
-mul-own c = search needs
+mul-own c = omega arith
 
 array-write-own : tie.Need-array-write-own
 array-write-own c = search needs

@@ -2,24 +2,24 @@
 use Prim.Native.Nat.{ℕ, _+_}
 use mathlib.Core.Path.{ap}
 use Rattle.shares.specs.Work.{there}
-use borrow.Author.Needs.{needs}
+use native.Mathlib.Omega.{arith}
 use Rattle.shares.proofs.sweeps.given.Statement.{statement}
 use Rattle.shares.proofs.sweeps.given.Tie as tie
 
 element-copy-out-wide : tie.Need-element-copy-out-wide
-element-copy-out-wide c = search needs
+element-copy-out-wide c = omega arith
 
 wide-requires : tie.Need-wide-requires
 wide-requires c κs = tt
 
 add-result : tie.Need-add-result
-add-result c = search needs
+add-result c = omega arith
 
 mul-result : tie.Need-mul-result
-mul-result c = search needs
+mul-result c = omega arith
 
 element-copy-out-result : tie.Need-element-copy-out-result
-element-copy-out-result c = search needs
+element-copy-out-result c = omega arith
 
 returns : tie.Need-returns
 returns c = let a = c .before .before .before .args in ap (there (a .both .now) (a .from)) (c .before .wide .ensures .0)

@@ -4,7 +4,6 @@ use mathlib.Core.Bool.{Bool}
 use mathlib.Core.List.{List}
 use mathlib.Core.Path.{_≡_, refl, sym, _∙_}
 use native.Mathlib.Omega.{arith}
-use borrow.Author.Needs.{needs}
 use lib.ListN.{length, set, length-set}
 use Rattle.graph.specs.Graph.{Within}
 use Rattle.block.specs.Block.{mostAtoms}
@@ -50,7 +49,7 @@ wide-requires-2 : tie.Need-wide-requires-2 Inv-loop μ-loop
 wide-requires-2 c κs = tt
 
 mul-pull : tie.Need-mul-pull Inv-loop μ-loop
-mul-pull c = search needs
+mul-pull c = omega arith
 
 index-1-pull : tie.Need-index-1-pull Inv-loop μ-loop
 index-1-pull c = omega arith
@@ -66,7 +65,7 @@ pull-requires c κs =
     (l .inv .3, λ k w. omega (arith, p .3 .keyed .small, p .3 .keyed .lists (l .v) (taken (c .before .before)) .each k w), λ w. omega (arith, l .inv .4 w, p .4))
 
 mul-add : tie.Need-mul-add Inv-loop μ-loop
-mul-add c = search needs
+mul-add c = omega arith
 
 element-copy-out-add : tie.Need-element-copy-out-add Inv-loop μ-loop
 element-copy-out-add c = omega arith
@@ -81,7 +80,7 @@ add-both : tie.Need-add-both Inv-loop μ-loop
 add-both c = omega arith
 
 mul-both : tie.Need-mul-both Inv-loop μ-loop
-mul-both c = search needs
+mul-both c = omega arith
 
 array-write-both : tie.Need-array-write-both Inv-loop μ-loop
 array-write-both c = omega arith

@@ -1,8 +1,7 @@
 -- `swept` meets its contract: the atoms passed are chained, and the chains of all are those that the sweep goes over.
 use Prim.Native.Nat.{suc, _+_, _-_, _≤_}
-use mathlib.Core.Path.{_≡_, _∙_, sym}
+use mathlib.Core.Path.{_≡_, refl, _∙_, sym}
 use native.Mathlib.Omega.{arith}
-use borrow.Author.Needs.{needs}
 use lib.ListN.{length, length-set}
 use Rattle.block.specs.Block.{mostAtoms}
 use Rattle.shares.specs.Work.{at, Chained}
@@ -17,7 +16,7 @@ abbrev μ-loop : tie.MeasureT-loop
 μ-loop n near key own top cap last₀ before₀ v₀ last before v = n - v
 
 loop-holds : tie.Need-loop-holds Inv-loop μ-loop
-loop-holds c = (omega arith, search needs, search needs, chained-none _ (suc mostAtoms) _)
+loop-holds c = (omega arith, refl, refl, chained-none _ (suc mostAtoms) _)
 
 add-v : tie.Need-add-v Inv-loop μ-loop
 add-v c = omega (arith, c .before .before .pre .1 .small)
