@@ -221,7 +221,7 @@ module _ (f : ℕ → ℕ → ℕ) where
     starts-pos zero = omega arith
     starts-pos (suc i) = over-pos (λ k. f (suc i) (suc i + k)) (lcmStarts n f i) (starts-pos i) (n - suc i) (row-pos (suc i) (omega arith))
 
-    starts-dvd : (m t : ℕ) → (lcmStarts n f m ∣ t) ↔ ((i j : ℕ) → Pair n i j → i ≤ m → f i j ∣ t)
+    pub starts-dvd : (m t : ℕ) → (lcmStarts n f m ∣ t) ↔ ((i j : ℕ) → Pair n i j → i ≤ m → f i j ∣ t)
     unfolding lcmStarts
     starts-dvd zero t = (λ d i j p l. absurd (omega arith), λ d. one-dvd t)
     starts-dvd (suc m) t =

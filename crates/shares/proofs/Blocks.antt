@@ -1,20 +1,23 @@
 -- What a block that is not refused brings to the work. Assumes nothing.
-use Prim.Native.Nat.{ℕ, suc, _-_, _≤_, _<_}
+use Prim.Native.Nat.{ℕ, suc, _-_, _/_, _%_, _≤_, _<_}
+use mathlib.Core.Bool.{not}
 use mathlib.Core.List.{List, []}
-use mathlib.Core.Path.{_≡_, _∙_, ap, subst₂}
+use mathlib.Core.Path.{_≡_, refl, _∙_, ap, subst₂}
 use native.Mathlib.Omega.{arith}
-use lib.Dec.{eqb}
-use lib.ListN.{getD}
-use Rattle.graph.specs.Graph.{distance}
-use Rattle.paths.specs.Paths.{denominator}
-use Rattle.paths.specs.Notions.{Plain}
+use borrow.Author.Tests.{ltb-false}
+use lib.Dec.{eqb, ltb}
+use lib.ListN.{length, getD, replicate}
+use Rattle.graph.specs.Graph.{distance, sum}
+use Rattle.paths.specs.Notions.{Plain, lcmStarts}
 use Rattle.block.specs.Read.{read}
-use Rattle.block.specs.Block.{mostAtoms, bondsOf, graphOf, blockReply}
+use Rattle.block.specs.Block.{mostAtoms, mostBytes, bondsOf, graphOf, blockReply}
+use Rattle.block.specs.Faults.{neither}
 use Rattle.block.specs.Rows.{rowsOf}
-use Rattle.block.specs.Told.{few-atoms, molecule, each-bond, distance-at}
-use Rattle.shares.specs.Reply.{most}
-use Rattle.shares.specs.Work.{listOf, beside, Shows, Listed, Given, Whole}
-use Rattle.shares.proofs.Rows.{of-places}
+use Rattle.block.specs.Told.{passed, few-atoms, molecule, each-bond, distance-at}
+use Rattle.shares.specs.Work.{listOf, beside, Shows, Listed, Few, Given, Whole, Sofar}
+use Rattle.shares.proofs.Rows.{zeros, of-places}
+use Rattle.shares.proofs.Lists.{few-read}
+use Rattle.shares.proofs.Few.{at-most-limit}
 
 module _ (n : ℕ) (xs : List ℕ) (fine : blockReply n xs ≡ read tt) where
   pub plain : Plain n (bondsOf xs)
@@ -42,9 +45,19 @@ module _ (n : ℕ) (xs : List ℕ) (fine : blockReply n xs ≡ read tt) where
       record {
         small = few;
         molecule = molecule n xs fine;
-        lists = of-places (λ v. Listed n (beside (graphOf n xs) v) (listOf near v)) n (λ i l. h i l (distance (graphOf n xs) (suc i)) (shown i l));
+        lists = of-places (λ v. Few n (beside (graphOf n xs) v) (listOf near v)) n
+            (λ i l. let list = h i l (distance (graphOf n xs) (suc i)) (shown i l) in few-read list (at-most-limit n xs fine (record { low = omega arith; high = l }) list));
         far = shown;
       }
 
-  pub whole : (d : ℕ) → d ≡ denominator (graphOf n xs) → d ≤ most → Whole n xs d
-  whole d e l = record { small = few; molecule = molecule n xs fine; plain = plain; is = e; low = l }
+  pub whole : Whole n xs 0 1
+  unfolding lcmStarts
+  whole = record { small = few; molecule = molecule n xs fine; plain = plain; is = refl; low = omega arith }
+
+  pub few-bonds : length xs / 2 ≤ mostBytes / 2
+  few-bonds = let l = ltb-false mostBytes (length xs) (neither (not (eqb (length xs % 2) 0)) (ltb mostBytes (length xs)) (passed n xs fine .bytes) .1) in omega arith
+
+-- entries of 0 have what no start adds up to
+pub nothing : (n : ℕ) (xs : List ℕ) → length xs / 2 ≤ mostBytes / 2 → Sofar n xs 0 1 (replicate (mostBytes / 2) 0)
+unfolding sum
+nothing n xs l = record { room = l; first = λ k h. zeros (mostBytes / 2) k }

@@ -10,7 +10,7 @@ use lib.ListN.{getD}
 use Rattle.graph.specs.Graph.{Graph, Bond, Walk, Within, Molecule, bonded, distance}
 use Rattle.graph.specs.Graph.Walk.{stay, step}
 use Rattle.graph.specs.Bonds.{anyJoins-sym}
-use Rattle.graph.specs.Distance.{distance-shortest, distance-self, distance-zero, distance-bond, distance-below}
+use Rattle.graph.specs.Distance.{distance-shortest, distance-sym, distance-self, distance-zero, distance-bond, distance-below}
 use Rattle.graph.specs.Sums.{sum-cong}
 use Rattle.paths.specs.Paths.{pathCount}
 use Rattle.paths.specs.Notions.{near, gathered}
@@ -30,7 +30,7 @@ eqb-same a b c d f h = go (eqb a b) refl
 
 module _ {g : Graph} (m : Molecule g) where
   -- two atoms are bonded exactly where their distance is 1
-  bonded-beside : {v w : ℕ} → Within (g .atoms) v → Within (g .atoms) w → (v ≡ w → ⊥) → bonded g v w ≡ beside g v w
+  pub bonded-beside : {v w : ℕ} → Within (g .atoms) v → Within (g .atoms) w → (v ≡ w → ⊥) → bonded g v w ≡ beside g v w
   bonded-beside {v} {w} hv hw ne = go (bonded g v w) refl
     where
       over : {x : ℕ} → Walk g v x 1 → bonded g v x ≡ true
@@ -70,10 +70,22 @@ module _ {n : ℕ} {bs : List Bond} {near : List (List ℕ)} {row : List ℕ} {i
     far-high : (v : ℕ) → Within n v → distance (graph n bs) i v ≤ top
     far-high = of-places (λ v. distance (graph n bs) i v ≤ top) n (λ j l. omega (arith, high j l, S .far .shows j l))
 
+    -- two neighbours
+    closer : {v w : ℕ} → Within n v → Within n w → beside (graph n bs) v w ≡ true → distance (graph n bs) i w ≤ suc (distance (graph n bs) i v)
+    closer {v} {w} hv hw b =
+        let one : distance (graph n bs) v w ≡ 1 = eqb-true (distance (graph n bs) v w) 1 b in
+        let apart : v ≡ w → ⊥ = λ z. omega (arith, one, ap (distance (graph n bs) v) z, distance-self (S .molecule .sound) hv) in
+        distance-bond (S .molecule) (S .start) v w (bonded-beside (S .molecule) hv hw apart ∙ b)
+
     pub keyed : from ≤ top → top < mostAtoms → Keyed n (beside (graph n bs)) near key top
     keyed l t = record {
       small = S .small;
       lists = S .lists;
+      close = λ v w hv hw b.
+          let c = ap (λ (d : ℕ). eqb d 1) (distance-sym (S .molecule) hw hv) ∙ b in
+          let x = closer hv hw b in
+          let y = closer hw hv c in
+          (omega (arith, key-at v hv, key-at w hw, x, y), omega (arith, key-at v hv, key-at w hw, x, y));
       high = λ v hv. omega (arith, key-at v hv, far-high v hv);
       low = t;
     }

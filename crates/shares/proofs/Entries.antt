@@ -1,7 +1,7 @@
 -- Lent entries that are filled one by one. Assumes nothing.
 use Prim.Native.Nat.{ℕ, _+_, _<_}
 use mathlib.Core.List.{List}
-use mathlib.Core.Path.{_≡_, refl, _∙_, ap}
+use mathlib.Core.Path.{_≡_, refl, _∙_}
 use native.Mathlib.Omega.{arith}
 use lib.ListN.{length, getD, set, length-set}
 use lib.Seq.{getD-set-same, getD-set-other}
@@ -19,11 +19,10 @@ filled-store {m} {F} {old} {new} h i x e = record {
   kept = λ k l. getD-set-other new m k x 0 (λ z. omega arith) ∙ h .kept k (omega arith);
 }
 
--- filled once more, with more
-pub filled-more : {m : ℕ} {F : ℕ → ℕ} (G : ℕ → ℕ) {H : ℕ → ℕ} {old mid new : List ℕ} → Filled m F old mid → Filled m (λ k. getD mid k 0 + G k) mid new
-    → ((k : ℕ) → F k + G k ≡ H k) → Filled m H old new
-filled-more G f h e = record {
-  same = h .same ∙ f .same;
-  first = λ k l. h .first k l ∙ ap (λ (x : ℕ). x + G k) (f .first k l) ∙ e k;
-  kept = λ k l. h .kept k l ∙ f .kept k l;
-}
+-- the entries are F's as they are
+pub filled-same : {m : ℕ} {F : ℕ → ℕ} {old : List ℕ} → ((k : ℕ) → k < m → getD old k 0 ≡ F k) → Filled m F old old
+filled-same h = record { same = refl; first = h; kept = λ k l. refl }
+
+-- by another name
+pub filled-as : {m : ℕ} {F H : ℕ → ℕ} {old new : List ℕ} → Filled m F old new → ((k : ℕ) → k < m → F k ≡ H k) → Filled m H old new
+filled-as f e = record { same = f .same; first = λ k l. f .first k l ∙ e k l; kept = f .kept }

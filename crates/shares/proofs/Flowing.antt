@@ -10,11 +10,11 @@ use lib.Dec.{eqb}
 use lib.ListN.{length, getD}
 use Rattle.graph.specs.Graph.{Graph, Bond, Within, anyJoins, bonded, distance}
 use Rattle.graph.specs.Bonds.{anyJoins-sym}
-use Rattle.paths.specs.Paths.{pathCount, denominator}
+use Rattle.paths.specs.Paths.{pathCount}
 use Rattle.paths.specs.Notions.{near, Inside, weight, gathered}
 use Rattle.paths.specs.Steps.{count-pos}
-use Rattle.paths.specs.Lcm.{pairs-pos}
-use Rattle.paths.specs.Backwards.{pair-pos, count-dvd}
+use Rattle.paths.specs.Lcm.{starts-pos}
+use Rattle.paths.specs.Backwards.{pair-pos}
 use Rattle.paths.specs.Uses.{start-le}
 use Rattle.paths.specs.Flow.{through}
 use Rattle.block.specs.Block.{mostAtoms, bondsOf, graphOf}
@@ -22,6 +22,7 @@ use Rattle.shares.specs.Reply.{most}
 use Rattle.shares.specs.Work.{cap, full, at, Shows, bondAt, carried, Whole, Ready}
 use Rattle.shares.proofs.Rows.{of-places}
 use Rattle.shares.proofs.Listing.{listed}
+use Rattle.shares.proofs.Scaling.{count-divides}
 
 -- a number that a test lets pass, times another
 pub let-pass : (p q x t : ℕ) → p + 1 ≡ q → x * t ≡ cond (eqb (suc p) q) x 0 * t
@@ -34,13 +35,12 @@ let-none p q x t d = simp (ne-eqb (suc p) q (λ z. d (omega arith))) (omega arit
 shown-at : {n : ℕ} {d : ℕ → ℕ} {row : List ℕ} → Shows n d row → (v : ℕ) → Within n v → getD row (v - 1) 0 ≡ d v
 shown-at {n} {d} {row} s = of-places (λ v. getD row (v - 1) 0 ≡ d v) n (λ j l. let e : suc j - 1 ≡ j = omega arith in ap (λ (k : ℕ). getD row k 0) e ∙ s .shows j l)
 
-module _ {n : ℕ} {xs : List ℕ} {d : ℕ} (W : Whole n xs d) where
-  pub count-low : {i v : ℕ} → Within n i → Within n v → pathCount (graphOf n xs) i v ≤ most
-  unfolding denominator
+module _ {n : ℕ} {xs : List ℕ} {i d : ℕ} (W : Whole n xs i d) where
+  pub count-low : {v : ℕ} → Within n i → Within n v → pathCount (graphOf n xs) i v ≤ most
   count-low hi hv =
-      omega (arith, W .is, W .low, le-of-dvd (pairs-pos (pathCount (graphOf n xs)) n (pair-pos (W .molecule))) (count-dvd (W .molecule) hi hv))
+      omega (arith, W .is, W .low, le-of-dvd (starts-pos (pathCount (graphOf n xs)) n (pair-pos (W .molecule)) i) (count-divides (W .molecule) hi hv))
 
-  pub carried-low : {i : ℕ} → Within n i → (e : Bond) → carried (graphOf n xs) i d e ≤ full
+  pub carried-low : {s : ℕ} → Within n s → (e : Bond) → carried (graphOf n xs) s d e ≤ full
   carried-low hi e = omega (arith, start-le (W .molecule) hi e d, mul-le-mul (W .small) (W .low))
 
 module _ {n : ℕ} {xs row c t : List ℕ} {i d : ℕ} (R : Ready n xs row c t i d) (k : ℕ) (l : k < length xs / 2) where

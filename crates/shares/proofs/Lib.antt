@@ -4,8 +4,10 @@ pub mod Lists
 pub mod Chains
 pub mod Sweeping
 pub mod Counting
+pub mod Few
 pub mod Tallying
 pub mod Entries
+pub mod Scaling
 pub mod Flowing
 pub mod Listing
 pub mod Starting

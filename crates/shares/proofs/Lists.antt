@@ -1,19 +1,20 @@
 -- Lists of atoms that are made and read entry by entry. Assumes nothing.
-use Prim.Native.Nat.{ℕ, suc, _+_, _≤_, _<_}
-use mathlib.Core.Bool.{Bool, true, false, _&&_, cond}
+use Prim.Native.Nat.{ℕ, suc, _+_, _-_, _≤_, _<_}
+use mathlib.Core.Bool.{Bool, true, false, cond}
 use mathlib.Core.List.{List}
 use mathlib.Core.Logic.{⊎-elim}
 use mathlib.Core.Path.{_≡_, refl, sym, _∙_, ap, subst}
 use native.Mathlib.Nat.{eq-or-lt-of-le}
 use native.Mathlib.Numerals.{add-one}
 use native.Mathlib.Omega.{arith}
-use lib.Dec.{eqb}
+use borrow.Author.Tests.{ltb-true, ltb-false}
+use lib.Dec.{ltb}
 use lib.ListN.{length, set}
 use lib.Seq.{getD-set-same, getD-set-other}
 use Rattle.graph.specs.Graph.{Within, sum}
-use Rattle.graph.specs.Sums.{wider, last, sum-cong}
-use Rattle.paths.specs.Choices.{cond-and}
-use Rattle.shares.specs.Work.{at, Listed}
+use Rattle.graph.specs.Sums.{wider, last, sum-cong, sum-split, sum-none}
+use Rattle.block.specs.Block.{limit}
+use Rattle.shares.specs.Work.{at, Listed, Few}
 
 -- the first c entries are the atoms of 1 to n that pass B
 pub record Listing (n c : ℕ) (B : ℕ → Bool) (list : List ℕ) : Type 0 where
@@ -56,36 +57,28 @@ module _ (j c : ℕ) (B : ℕ → Bool) (list : List ℕ) (h : Listing j c B lis
       old : Listing j c B new
       old = listing-cong (λ k w. getD-set-other list (suc c) k x 0 (λ z. omega arith)) h
 
-  -- the count is entered
-  pub listing-done : c ≤ j → 0 < length list → Listed j B (set list 0 c)
-  listing-done l i = record {
-    count = omega (arith, here);
-    each = whole .each;
-    sums = whole .sums;
+  pub listing-done : ((k : ℕ) → c < k → at list k ≡ 0) → Listed j B list
+  listing-done rest = record { count = c; each = h .each; rest = rest; sums = h .sums }
+
+-- a list of at most as many as an atom has bonds is read whole
+module _ {n : ℕ} {B : ℕ → Bool} {list : List ℕ} (h : Listed n B list) (most : h .count ≤ limit) where
+  over : (g : ℕ → ℕ) → ((k : ℕ) → h .count < k → g k ≡ 0) → sum limit g ≡ sum (h .count) g
+  over g z =
+      let e : limit ≡ h .count + (limit - h .count) = omega arith in
+      ap (λ (m : ℕ). sum m g) e
+      ∙ sum-split (h .count) (limit - h .count) g
+      ∙ omega (
+        arith,
+        sum-cong (limit - h .count) {f = λ j. g (h .count + j)} {h = λ j. 0} (λ j w. z (h .count + j) (omega arith)),
+        sum-none (limit - h .count),
+      )
+
+  pub few-read : Few n B list
+  few-read = record {
+    each = λ k w. go k w (ltb (h .count) k) refl;
+    sums = λ f z. over (λ k. f (at list k)) (λ k l. ap f (h .rest k l) ∙ z) ∙ h .sums f;
   }
     where
-      here : at (set list 0 c) 0 ≡ c
-      here = getD-set-same list 0 c 0 i
-
-      whole : Listing j (at (set list 0 c) 0) B (set list 0 c)
-      whole = subst (λ (x : ℕ). Listing j x B (set list 0 c)) (sym here) (listing-cong (λ k w. getD-set-other list 0 k c 0 (λ z. omega arith)) h)
-
--- what the first k listed atoms have in a row, of those whose key is just below a level
-unfoldable pub pulled : List ℕ → List ℕ → List ℕ → ℕ → ℕ → ℕ
-pulled list key row level k = sum k (λ i. cond (eqb (suc (at key (at list i))) level) (at row (at list i)) 0)
-
-module _ (list key row : List ℕ) (level : ℕ) where
-  pub pulled-none : pulled list key row level 0 ≡ 0
-  unfolding pulled sum
-  pulled-none = refl
-
-  pub pulled-next : (k : ℕ) → pulled list key row level (k + 1)
-      ≡ pulled list key row level k + cond (eqb (suc (at key (at list (k + 1)))) level) (at row (at list (k + 1))) 0
-  unfolding pulled sum
-  pulled-next k = rw (add-one k)
-
-  pub pulled-all : {n : ℕ} {B : ℕ → Bool} → Listed n B list
-      → pulled list key row level (at list 0) ≡ sum n (λ w. cond (B w && eqb (suc (at key w)) level) (at row w) 0)
-  unfolding pulled
-  pulled-all {n} {B} h =
-      h .sums (λ w. cond (eqb (suc (at key w)) level) (at row w) 0) ∙ sum-cong n (λ w x. sym (cond-and (B w) (eqb (suc (at key w)) level) (at row w)))
+      go : (k : ℕ) → Within limit k → (t : Bool) → ltb (h .count) k ≡ t → at list k ≤ n
+      go k w true e = omega (arith, h .rest k (ltb-true (h .count) k e))
+      go k w false e = omega (arith, h .each k (record { low = w .low; high = ltb-false (h .count) k e }))

@@ -1,5 +1,5 @@
 -- Rows that are filled place by place. Assumes nothing.
-use Prim.Native.Nat.{ℕ, zero, suc, _+_, _<_}
+use Prim.Native.Nat.{ℕ, zero, suc, _+_, _≤_, _<_}
 use mathlib.Core.List.{List}
 use mathlib.Core.Bool.{Bool, true, false, cond}
 use mathlib.Core.Logic.{_⊎_, inl, inr, ⊎-elim}
@@ -21,6 +21,10 @@ after-store row i x k l = go (eqb k i) refl
     go : (t : Bool) → eqb k i ≡ t → ((k ≡ i) × (at (set row i x) k ≡ x)) ⊎ ((k ≡ i → ⊥) × (at (set row i x) k ≡ at row k))
     go true e = let z = eqb-true k i e in inl (z, ap (at (set row i x)) z ∙ getD-set-same row i x 0 l)
     go false e = let z = eqb-false k i e in inr (z, getD-set-other row i k x 0 z)
+
+-- a row that is low stays so where what is stored is low
+pub store-low : (row : List ℕ) (i x : ℕ) {most : ℕ} → i < length row → ((k : ℕ) → at row k ≤ most) → x ≤ most → (k : ℕ) → at (set row i x) k ≤ most
+store-low row i x l h m k = ⊎-elim (λ q. omega (arith, q .1)) (λ q. omega (arith, q .1, h k)) (after-store row i x k l)
 
 -- an entry of zeros
 pub zeros : (m k : ℕ) → _≡_ {A = ℕ} (getD (replicate m 0) k 0) 0

@@ -1,14 +1,14 @@
 -- The least common multiple of path counts, taken in one by one, up to the cap. Assumes nothing.
 use Prim.Native.Nat.{ℕ, suc, _+_, _*_, _-_, min, _≤_, _<_}
 use mathlib.Core.List.{List}
-use mathlib.Core.Path.{_≡_, refl, _∙_, ap, ap₂}
+use mathlib.Core.Path.{_≡_, _∙_, ap, ap₂}
 use native.Mathlib.Nat.{pos-of-dvd-of-pos, mul-le-mul, lt-of-le-of-lt}
 use native.Mathlib.Numerals.{add-one}
 use native.Mathlib.Omega.{arith}
 use lib.Dec.{lit<}
 use mir.Syntax.{w64}
 use mir.Val.{Fits}
-use Rattle.graph.specs.Graph.{Bond, Within}
+use Rattle.graph.specs.Graph.{Bond, Within, Molecule}
 use Rattle.paths.specs.Paths.{pathCount, lcm, lcmOver, denominator}
 use Rattle.paths.specs.Notions.{Gcd, Pair, lcmStarts}
 use Rattle.paths.specs.Lcm.{over-pos, lcm-cap, starts-pos, starts-all, starts-le}
@@ -51,44 +51,37 @@ module _ {n : ℕ} {f : ℕ → ℕ} {m : ℕ} {c : List ℕ} {before : ℕ} (t 
         ∙ lcm-cap cap (upTo k) (f (k + 1)) (omega arith) upTo-pos (t .positive (k + 1) here)
         ∙ rw (next, last)
 
+-- a start's arrays, of all
+pub start-of : {n : ℕ} {bs : List Bond} {near rows : List (List ℕ)} → Given n bs near rows → (i : ℕ) → i < n → Start n bs near (listOf rows i) (i + 1)
+start-of G i l = record {
+  small = G .small;
+  molecule = G .molecule;
+  lists = G .lists;
+  far = rw (add-one i) (G .far i l);
+  start = record { low = omega arith; high = omega arith };
+}
+
 -- the starts one by one
-module _ {n : ℕ} {bs : List Bond} {near rows : List (List ℕ)} (G : Given n bs near rows) where
+module _ {n : ℕ} {bs : List Bond} (molecule : Molecule (graph n bs)) where
   pairs : (i j : ℕ) → Pair n i j → 0 < pathCount (graph n bs) i j
-  pairs = pair-pos (G .molecule)
+  pairs = pair-pos molecule
 
   abbrev starts : ℕ → ℕ
   starts i = lcmStarts n (pathCount (graph n bs)) i
 
-  pub start-none : 1 ≡ min cap (starts 0)
+  pub tally-of : (i : ℕ) {near : List (List ℕ)} {row c : List ℕ} {all : ℕ} → Start n bs near row (i + 1) → Holds n cap (pathCount (graph n bs) (i + 1)) c → all ≡ starts i → all ≤ cap
+      → Tally n (pathCount (graph n bs) (i + 1)) (starts i) c all
+  tally-of i s h e l = record {
+    small = s .small;
+    counts = h;
+    positive = λ v w. count-pos molecule (s .start) w;
+    first = starts-pos (pathCount (graph n bs)) n pairs i;
+    capped = omega arith;
+  }
+
+  pub start-next : (i all : ℕ) → all ≡ min cap (lcmOver (n - (i + 1)) (λ k. pathCount (graph n bs) (i + 1) (i + 1 + k)) (starts i)) → all ≡ min cap (starts (i + 1))
   unfolding lcmStarts
-  start-none = refl
-
-  module _ (i : ℕ) (l : i < n) where
-    first : Within n (i + 1)
-    first = record { low = omega arith; high = omega arith }
-
-    pub start-of : Start n bs near (listOf rows i) (i + 1)
-    start-of = record {
-      small = G .small;
-      molecule = G .molecule;
-      lists = G .lists;
-      far = rw (add-one i) (G .far i l);
-      start = first;
-    }
-
-    pub tally-of : {c : List ℕ} {all : ℕ} → Holds n cap (pathCount (graph n bs) (i + 1)) c → all ≡ min cap (starts i)
-        → Tally n (pathCount (graph n bs) (i + 1)) (starts i) c all
-    tally-of h e = record {
-      small = G .small;
-      counts = h;
-      positive = λ v w. count-pos (G .molecule) first w;
-      first = starts-pos (pathCount (graph n bs)) n pairs i;
-      capped = e;
-    }
-
-    pub start-next : (all : ℕ) → all ≡ min cap (lcmOver (n - (i + 1)) (λ k. pathCount (graph n bs) (i + 1) (i + 1 + k)) (starts i)) → all ≡ min cap (starts (i + 1))
-    unfolding lcmStarts
-    start-next all e = e ∙ rw (add-one i)
+  start-next i all e = e ∙ rw (add-one i)
 
   pub stops-early : (all i : ℕ) → all ≡ min cap (starts i) → cap ≤ all → cap ≡ min cap (denominator (graph n bs))
   unfolding denominator

@@ -1,14 +1,14 @@
 -- What the arrays of the work hold, atom by atom. No promise cites this.
 use Prim.Native.Nat.{ℕ, suc, _+_, _*_, _/_, min, _≤_, _<_}
-use mathlib.Core.Bool.{Bool, _&&_, cond}
+use mathlib.Core.Bool.{Bool, true, _&&_, cond}
 use mathlib.Core.List.{List, []}
 use mathlib.Core.Path.{_≡_}
 use lib.Dec.{eqb}
 use lib.ListN.{length, getD}
 use Rattle.graph.specs.Graph.{Graph, Bond, bond, Within, Molecule, distance, sum}
-use Rattle.paths.specs.Paths.{pathCount, pathsUsing, denominator}
-use Rattle.paths.specs.Notions.{Plain, weight, gathered}
-use Rattle.block.specs.Block.{mostAtoms, bondsOf, graphOf}
+use Rattle.paths.specs.Paths.{pathCount, pathsUsing}
+use Rattle.paths.specs.Notions.{Plain, weight, gathered, lcmStarts}
+use Rattle.block.specs.Block.{mostAtoms, limit, bondsOf, graphOf}
 use Rattle.shares.specs.Reply.{most}
 
 -- where path counts stop, just above the most that D may be, and where what is gathered stops
@@ -29,11 +29,25 @@ listOf near v = getD near v []
 pub record Shows (n : ℕ) (d : ℕ → ℕ) (row : List ℕ) : Type 0 where
   pub shows : (j : ℕ) → j < n → getD row j 0 ≡ d (suc j)
 
--- a list of the atoms of 1 to n that pass B: how many, and then each once
+-- a list of the atoms of 1 to n that pass B, each once from seat 1 on; what follows is 0
 pub record Listed (n : ℕ) (B : ℕ → Bool) (list : List ℕ) : Type 0 where
-  pub count : at list 0 ≤ n
-  pub each : (k : ℕ) → Within (at list 0) k → Within n (at list k)
-  pub sums : (f : ℕ → ℕ) → sum (at list 0) (λ k. f (at list k)) ≡ sum n (λ w. cond (B w) (f w) 0)
+  pub count : ℕ
+  pub each : (k : ℕ) → Within count k → Within n (at list k)
+  pub rest : (k : ℕ) → count < k → at list k ≡ 0
+  pub sums : (f : ℕ → ℕ) → sum count (λ k. f (at list k)) ≡ sum n (λ w. cond (B w) (f w) 0)
+
+-- what the seats 1 to k of a list give
+abbrev pub fromSeats : ℕ → (ℕ → ℕ) → List ℕ → ℕ
+fromSeats k f list = sum k (λ j. f (at list j))
+
+-- what atom w has on the side of a double row that starts at `from`
+abbrev pub there : List ℕ → ℕ → ℕ → ℕ
+there both from w = at both (from + w)
+
+-- a list of at most as many as an atom has bonds, read whole: a seat that no atom takes counts for nothing
+pub record Few (n : ℕ) (B : ℕ → Bool) (list : List ℕ) : Type 0 where
+  pub each : (k : ℕ) → Within limit k → at list k ≤ n
+  pub sums : (f : ℕ → ℕ) → f 0 ≡ 0 → fromSeats limit f list ≡ sum n (λ w. cond (B w) (f w) 0)
 
 -- the atoms by their keys: the last atom with each key, and before each atom the one before it with the same key
 pub record Chained (n : ℕ) (key last before : List ℕ) : Type 0 where
@@ -43,10 +57,11 @@ pub record Chained (n : ℕ) (key last before : List ℕ) : Type 0 where
   pub falls : (v : ℕ) → Within n v → at before v < v
   pub noneBetween : (v w : ℕ) → Within n v → Within n w → at key w ≡ at key v → w < v → w ≤ at before v
 
--- lists and keys of the atoms 1 to n
+-- lists and keys of the atoms 1 to n; from an atom to a listed one the key changes by 1 at most
 pub record Keyed (n : ℕ) (B : ℕ → ℕ → Bool) (near : List (List ℕ)) (key : List ℕ) (top : ℕ) : Type 0 where
   pub small : n ≤ mostAtoms
-  pub lists : (v : ℕ) → Within n v → Listed n (B v) (listOf near v)
+  pub lists : (v : ℕ) → Within n v → Few n (B v) (listOf near v)
+  pub close : (v w : ℕ) → Within n v → Within n w → B v w ≡ true → (at key w ≤ suc (at key v)) × (at key v ≤ suc (at key w))
   pub high : (v : ℕ) → Within n v → at key v ≤ top
   pub low : top < mostAtoms
 
@@ -75,7 +90,7 @@ beside g v w = eqb (distance g v w) 1
 pub record Start (n : ℕ) (bs : List Bond) (near : List (List ℕ)) (row : List ℕ) (i : ℕ) : Type 0 where
   pub small : n ≤ mostAtoms
   pub molecule : Molecule (graph n bs)
-  pub lists : (v : ℕ) → Within n v → Listed n (beside (graph n bs) v) (listOf near v)
+  pub lists : (v : ℕ) → Within n v → Few n (beside (graph n bs) v) (listOf near v)
   pub far : Shows n (distance (graph n bs) i) row
   pub start : Within n i
 
@@ -83,7 +98,7 @@ pub record Start (n : ℕ) (bs : List Bond) (near : List (List ℕ)) (row : List
 pub record Given (n : ℕ) (bs : List Bond) (near rows : List (List ℕ)) : Type 0 where
   pub small : n ≤ mostAtoms
   pub molecule : Molecule (graph n bs)
-  pub lists : (v : ℕ) → Within n v → Listed n (beside (graph n bs) v) (listOf near v)
+  pub lists : (v : ℕ) → Within n v → Few n (beside (graph n bs) v) (listOf near v)
   pub far : (i : ℕ) → i < n → Shows n (distance (graph n bs) (suc i)) (listOf rows i)
 
 -- positive counts f and a positive number m, up to the cap
@@ -102,17 +117,26 @@ bondAt xs k = bond (getD xs (2 * k) 0) (getD xs (2 * k + 1) 0)
 abbrev pub carried : Graph → ℕ → ℕ → Bond → ℕ
 carried g i d e = sum (g .atoms) (λ j. pathsUsing g e i j * weight g d i j)
 
--- a block that is not refused, and its D
-pub record Whole (n : ℕ) (xs : List ℕ) (d : ℕ) : Type 0 where
+-- what bond k answers for, over d, in the pairs whose first atom is one of 1 to i
+abbrev pub sofar : ℕ → List ℕ → ℕ → ℕ → ℕ → ℕ
+sofar n xs i d k = sum i (λ s. carried (graphOf n xs) s d (bondAt xs k))
+
+-- a block that is not refused, and D of the pairs whose first atom is one of 1 to i
+pub record Whole (n : ℕ) (xs : List ℕ) (i d : ℕ) : Type 0 where
   pub small : n ≤ mostAtoms
   pub molecule : Molecule (graphOf n xs)
   pub plain : Plain n (bondsOf xs)
-  pub is : d ≡ denominator (graphOf n xs)
+  pub is : d ≡ lcmStarts n (pathCount (graphOf n xs)) i
   pub low : d ≤ most
+
+-- entries that have what the starts 1 to i add up to, over d
+pub record Sofar (n : ℕ) (xs : List ℕ) (i d : ℕ) (out : List ℕ) : Type 0 where
+  pub room : length xs / 2 ≤ length out
+  pub first : (k : ℕ) → k < length xs / 2 → getD out k 0 ≡ sofar n xs i d k
 
 -- the rows of one start: distances, counts, and what is gathered
 pub record Ready (n : ℕ) (xs row c t : List ℕ) (i d : ℕ) : Type 0 where
-  pub whole : Whole n xs d
+  pub whole : Whole n xs i d
   pub far : Shows n (distance (graphOf n xs) i) row
   pub start : Within n i
   pub counts : Holds n cap (pathCount (graphOf n xs) i) c

@@ -1,17 +1,11 @@
-// The common denominator D: the least common multiple of all path counts, by Euclid's divisor, up to just above the most that it may be.
+// The least common multiple of path counts, by Euclid's divisor, up to just above the most that D may be.
 use super::CAP;
-use super::MOST;
 use super::SEATS;
-use super::sweeps;
-use block::ATOMS;
 ghost use mathlib.Core.Path.{_≡_};
-ghost use mathlib.Core.List.{List};
 ghost use Prim.Native.Nat.{ℕ, _+_, _-_, min, _<_, _≤_};
-ghost use Rattle.graph.specs.Graph.{Bond};
 ghost use Rattle.paths.specs.Paths.{lcm, lcmOver};
-ghost use Rattle.paths.specs.Paths as paths;
 ghost use Rattle.paths.specs.Notions.{Gcd};
-ghost use Rattle.shares.specs.Work.{cap, graph, Given, Tally};
+ghost use Rattle.shares.specs.Work.{cap, Tally};
 
 // The greatest common divisor.
 fn gcd(a: u64, b: u64) -> u64
@@ -32,12 +26,15 @@ fn common(a: u64, b: u64) -> u64
     requires { ⌜ (0 < a) × (a ≤ cap) × (0 < b) × (b ≤ cap) ⌝ }
     ensures { λ r. ⌜ r ≡ min cap (lcm a b) ⌝ }
 {
+    if a % b == 0 {
+        return a;
+    }
     let m = a / gcd(a, b) * b;
     if m < CAP { m } else { CAP }
 }
 
 // The counts of the atoms after start, taken into the least common multiple of those before.
-fn common_start(n: usize, c: &[u64; SEATS], start: usize, before: u64) -> u64
+pub(crate) fn common_start(n: usize, c: &[u64; SEATS], start: usize, before: u64) -> u64
     requires { ⌜ (start ≤ n) × ((f : ℕ → ℕ) × (m : ℕ) × Tally n f m (now c) before) ⌝ }
     ensures { λ r. ⌜
         ((f : ℕ → ℕ) (m : ℕ) → Tally n f m (now (c .entry)) before → r ≡ min cap (lcmOver (n - start) (λ k. f (start + k)) m))
@@ -48,26 +45,6 @@ fn common_start(n: usize, c: &[u64; SEATS], start: usize, before: u64) -> u64
     while k < n {
         k += 1;
         all = common(all, c[k]);
-    }
-    all
-}
-
-// D, and just above the most that it may be where it is more.
-pub(crate) fn denominator(n: usize, near: &[[u8; SEATS]; SEATS], rows: &[[u8; ATOMS]; ATOMS]) -> u64
-    requires { ⌜ ((bs : List Bond) × Given n bs (now near) (now rows)) ⌝ }
-    ensures { λ r. ⌜
-        ((bs : List Bond) → Given n bs (now (near .entry)) (now (rows .entry)) → r ≡ min cap (paths.denominator (graph n bs)))
-        ⌝ }
-{
-    let mut all: u64 = 1;
-    let mut i = 0;
-    while i < n {
-        if MOST < all {
-            return CAP;
-        }
-        let c = sweeps::counts(n, near, &rows[i], i + 1);
-        all = common_start(n, &c, i + 1, all);
-        i += 1;
     }
     all
 }

@@ -1,18 +1,23 @@
 // What each bond answers for: document 001's pass in whole numbers, one start after the other.
+use super::BONDS;
+use super::CAP;
+use super::MOST;
 use super::SEATS;
+use super::common;
 use super::sweeps;
 use super::sweeps::wide;
 use block::ATOMS;
 ghost use mathlib.Core.Path.{_≡_};
 ghost use mathlib.Core.Bool.{cond};
-ghost use mathlib.Core.List.{_++_, map};
-ghost use Prim.Native.Nat.{ℕ, suc, _+_, _*_, _-_, _/_, _<_, _≤_};
+ghost use Prim.Native.Nat.{ℕ, suc, _+_, _*_, _-_, _/_, min, _<_, _≤_};
 ghost use lib.Dec.{eqb, ltb};
-ghost use lib.ListN.{length, getD, drop};
+ghost use lib.ListN.{length, getD};
 ghost use Rattle.graph.specs.Graph.{Within};
-ghost use Rattle.paths.specs.Paths.{share};
-ghost use Rattle.block.specs.Block.{mostAtoms, bondsOf, graphOf};
-ghost use Rattle.shares.specs.Work.{cap, full, at, bondAt, carried, Start, Given, Whole, Ready, Room, Filled};
+ghost use Rattle.paths.specs.Paths.{pathCount, denominator, share};
+ghost use Rattle.paths.specs.Notions.{lcmStarts};
+ghost use Rattle.block.specs.Block.{mostAtoms, mostBytes, bondsOf, graphOf};
+ghost use Rattle.shares.specs.Reply.{most};
+ghost use Rattle.shares.specs.Work.{cap, full, at, bondAt, carried, Start, Given, Whole, Sofar, Ready, Room, Filled};
 
 // What each atom after start weighs: its part of d.
 fn weights(n: usize, c: &[u64; SEATS], start: usize, d: u64) -> [u64; SEATS]
@@ -62,58 +67,88 @@ fn add_flows(bonds: &[u8], row: &[u8; ATOMS], c: &[u64; SEATS], t: &[u64; SEATS]
     }
 }
 
-// One start: adds to the entry of each bond what it answers for in the pairs of start and a later atom.
+// Multiplies the first m entries by f.
+fn raise(m: usize, f: u64, out: &mut [u64])
+    requires { ⌜ (m ≤ length (now out)) × ((k : ℕ) → k < m → getD (now out) k 0 * f ≤ mostAtoms * full) ⌝ }
+    ensures { λ _. ⌜ Filled m (λ k. getD (now (out .entry)) k 0 * f) (now (out .entry)) (now (out .exit)) ⌝ }
+{
+    if f == 1 {
+        return;
+    }
+    let mut k = 0;
+    while k < m {
+        out[k] = out[k] * f;
+        k += 1;
+    }
+}
+
+// The start after i others: takes its path counts into D, and adds to the entry of each bond what it answers for in the pairs of the start and a
+// later atom. The entries go with D. Where D is above the most, they are worth nothing.
 fn add_start(
     n: usize,
     bonds: &[u8],
     near: &[[u8; SEATS]; SEATS],
     row: &[u8; ATOMS],
-    start: usize,
-    d: u64,
+    i: usize,
+    before: u64,
     out: &mut [u64],
-)
-    requires { ⌜ Whole n (now bonds) d × Start n (bondsOf (now bonds)) (now near) (now row) start × Room (now bonds) (now out) ⌝ }
-    ensures { λ _. ⌜
-        Filled (length (now (bonds .entry)) / 2)
-        (λ k. getD (now (out .entry)) k 0 + carried (graphOf n (now (bonds .entry))) start d (bondAt (now (bonds .entry)) k)) (now (out .entry)) (now (out .exit))
+) -> u64
+    requires { ⌜
+        Start n (bondsOf (now bonds)) (now near) (now row) (i + 1) × Whole n (now bonds) i before × Sofar n (now bonds) i before (now out)
+        ⌝ }
+    ensures { λ r. ⌜
+        (r ≡ min cap (lcmStarts n (pathCount (graphOf n (now (bonds .entry)))) (i + 1)))
+        × (r ≤ most → Sofar n (now (bonds .entry)) (i + 1) r (now (out .exit)))
         ⌝ }
 {
+    let start = i + 1;
     let c = sweeps::counts(n, near, row, start);
+    let d = common::common_start(n, &c, start, before);
+    if MOST < d {
+        return d;
+    }
+    raise(bonds.len() / 2, d / before, out);
     let q = weights(n, &c, start, d);
     let t = sweeps::onward(n, near, row, &q);
     add_flows(bonds, row, &c, &t, out);
+    d
 }
 
-// Clears the first m entries.
-fn clear(m: usize, out: &mut [u64])
-    requires { ⌜ m ≤ length (now out) ⌝ }
-    ensures { λ _. ⌜ Filled m (λ k. 0) (now (out .entry)) (now (out .exit)) ⌝ }
-{
-    let mut j = 0;
-    while j < m {
-        out[j] = 0;
-        j += 1;
-    }
-}
-
-// The share of each bond, over D.
+// D, up to just above the most that it may be, and, where it is not above that, the share of each bond over D in the lent entries, which are 0.
 pub(crate) fn fill(
     n: usize,
     bonds: &[u8],
     near: &[[u8; SEATS]; SEATS],
     rows: &[[u8; ATOMS]; ATOMS],
-    d: u64,
     out: &mut [u64],
-)
-    requires { ⌜ Whole n (now bonds) d × Given n (bondsOf (now bonds)) (now near) (now rows) × (length (now bonds) / 2 ≤ length (now out)) ⌝ }
-    ensures { λ _. ⌜
-        Filled (length (now (bonds .entry)) / 2) (λ k. share (graphOf n (now (bonds .entry))) (bondAt (now (bonds .entry)) k)) (now (out .entry)) (now (out .exit))
+) -> u64
+    requires { ⌜ Whole n (now bonds) 0 1 × Given n (bondsOf (now bonds)) (now near) (now rows) × Sofar n (now bonds) 0 1 (now out) ⌝ }
+    ensures { λ r. ⌜
+        (r ≡ min cap (denominator (graphOf n (now (bonds .entry)))))
+        × (r ≤ most → (k : ℕ) → k < length (now (bonds .entry)) / 2 → getD (now (out .exit)) k 0 ≡ share (graphOf n (now (bonds .entry))) (bondAt (now (bonds .entry)) k))
         ⌝ }
 {
-    clear(bonds.len() / 2, out);
+    let mut d: u64 = 1;
     let mut i = 0;
     while i < n {
-        add_start(n, bonds, near, &rows[i], i + 1, d, out);
+        if MOST < d {
+            return CAP;
+        }
+        let next = add_start(n, bonds, near, &rows[i], i, d, out);
+        d = next;
         i += 1;
+    }
+    d
+}
+
+// Puts the first m of the entries worked out into those that are lent.
+pub(crate) fn put(m: usize, entries: &[u64; BONDS], out: &mut [u64])
+    requires { ⌜ (m ≤ length (now out)) × (m ≤ mostBytes / 2) ⌝ }
+    ensures { λ _. ⌜ Filled m (λ k. getD (now (entries .entry)) k 0) (now (out .entry)) (now (out .exit)) ⌝ }
+{
+    let mut j = 0;
+    while j < m {
+        out[j] = entries[j];
+        j += 1;
     }
 }

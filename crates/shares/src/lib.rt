@@ -8,6 +8,7 @@ ghost use Rattle.block.specs.Block.{mostAtoms, blockReply};
 ghost use Rattle.shares.specs.Reply.{sharesReply, saidShares, sharesEntries};
 ghost use Rattle.shares.specs.Work.{listOf, Shows, Listed};
 use block::ATOMS;
+use block::BYTES;
 use block::Refusal;
 use block::Reply;
 
@@ -17,6 +18,12 @@ mod sweeps;
 
 // A seat for each atom, numbered from 1; seat 0 is free.
 const SEATS: usize = ATOMS + 1;
+
+// The seats of a double row.
+const SIDES: usize = 2 * SEATS;
+
+// The most bonds of a block: two bytes are one.
+const BONDS: usize = BYTES / 2;
 
 // The most that D may be, and where path counts stop.
 const MOST: u64 = 1_000_000;
@@ -30,12 +37,6 @@ const FULL: u64 = ATOMS as u64 * MOST;
 pub enum Shares {
     Refused(Refusal),
     Denominator(u64),
-}
-
-// The atoms by their keys: the last with each key, and before each atom the one before it with the same key; 0 is none.
-struct Chain {
-    pub last: [u8; SEATS],
-    pub before: [u8; SEATS],
 }
 
 // The neighbours of each atom, by the rows.
@@ -73,11 +74,12 @@ fn answered(n: usize, bonds: &[u8], out: &mut [u64]) -> Shares
     }
     let rows = block::rows(n, bonds);
     let near = neighbours(n, &rows);
-    let d = common::denominator(n, &near, &rows);
+    let mut entries = [0u64; BONDS];
+    let d = flows::fill(n, bonds, &near, &rows, &mut entries);
     if MOST < d {
         return refused(8);
     }
-    flows::fill(n, bonds, &near, &rows, d, out);
+    flows::put(bonds.len() / 2, &entries, out);
     Shares::Denominator(d)
 }
 

@@ -1,9 +1,10 @@
 // Rows of numbers, one for each atom, filled in the order of the atoms' keys.
 use super::CAP;
-use super::Chain;
 use super::FULL;
 use super::SEATS;
+use super::SIDES;
 use block::ATOMS;
+use block::LIMIT;
 ghost use mathlib.Core.Path.{_≡_};
 ghost use mathlib.Core.Bool.{Bool, cond, _&&_};
 ghost use mathlib.Core.List.{List};
@@ -13,8 +14,8 @@ ghost use lib.ListN.{getD};
 ghost use Rattle.graph.specs.Graph.{Bond, Within, sum};
 ghost use Rattle.paths.specs.Paths.{pathCount};
 ghost use Rattle.paths.specs.Notions.{gathered};
-ghost use Rattle.block.specs.Block.{mostAtoms};
-ghost use Rattle.shares.specs.Work.{cap, full, at, Shows, Listed, Chained, Keyed, Ordered, Rule, Holds, graph, Start};
+ghost use Rattle.block.specs.Block.{mostAtoms, limit};
+ghost use Rattle.shares.specs.Work.{cap, full, at, there, fromSeats, Shows, Listed, Keyed, Ordered, Rule, Holds, graph, Start};
 
 pub(crate) fn wide(x: u8) -> usize
     ensures { λ r. ⌜ (r ≡ x) × (r < 256) ⌝ }
@@ -68,7 +69,7 @@ pub(crate) fn spans(n: usize, row: &[u8; ATOMS], from: u8) -> [u8; SEATS]
     key
 }
 
-// The atoms at distance 1: how many, and then each.
+// The atoms at distance 1.
 pub(crate) fn beside(n: usize, row: &[u8; ATOMS]) -> [u8; SEATS]
     requires { ⌜ n ≤ mostAtoms ⌝ }
     ensures { λ r. ⌜ ((d : ℕ → ℕ) → Shows n d (now (row .entry)) → Listed n (λ w. eqb (d w) 1) r) ⌝ }
@@ -83,84 +84,86 @@ pub(crate) fn beside(n: usize, row: &[u8; ATOMS]) -> [u8; SEATS]
         }
         j += 1;
     }
-    list[0] = c as u8;
     list
 }
 
-// The atoms 1 to n by their keys.
-fn chained(n: usize, key: &[u8; SEATS]) -> Chain
-    requires { ⌜ (n ≤ mostAtoms) × ((v : ℕ) → Within n v → at (now key) v ≤ mostAtoms) ⌝ }
-    ensures { λ r. ⌜ Chained n (now (key .entry)) (r .last) (r .before) ⌝ }
+// What the atom at seat k of a list has on the side of a double row that starts at from.
+fn given(list: &[u8; SEATS], both: &[u64; SIDES], from: usize, k: usize) -> u64
+    requires { ⌜ (from ≤ suc mostAtoms) × (k ≤ mostAtoms) × (at (now list) k ≤ mostAtoms) ⌝ }
+    ensures { λ r. ⌜ r ≡ there (now (both .entry)) from (at (now (list .entry)) k) ⌝ }
 {
-    let mut last = [0u8; SEATS];
-    let mut before = [0u8; SEATS];
-    let mut v = 0;
-    while v < n {
-        v += 1;
-        let k = wide(key[v]);
-        before[v] = last[k];
-        last[k] = v as u8;
-    }
-    Chain { last, before }
+    both[from + wide(list[k])]
 }
 
-// What atom w has in a row, if its key is just below level.
-fn given(key: &[u8; SEATS], row: &[u64; SEATS], w: usize, level: usize) -> u64
-    requires { ⌜ w ≤ mostAtoms ⌝ }
-    ensures { λ r. ⌜ r ≡ cond (eqb (suc (at (now (key .entry)) w)) level) (at (now (row .entry)) w) 0 ⌝ }
+// What the listed atoms have on the side of a double row that starts at from, up to the cap.
+fn pull(list: &[u8; SEATS], both: &[u64; SIDES], from: usize, cap: u64) -> u64
+    requires { ⌜ (from ≤ suc mostAtoms) × ((k : ℕ) → Within limit k → at (now list) k ≤ mostAtoms) × ((w : ℕ) → at (now both) w ≤ full) ⌝ }
+    ensures { λ r. ⌜ r ≡ min cap (fromSeats limit (there (now (both .entry)) from) (now (list .entry))) ⌝ }
 {
-    if wide(key[w]) + 1 == level { row[w] } else { 0 }
-}
-
-// What the listed atoms whose key is just below level have in a row, up to the cap.
-fn pull(list: &[u8; SEATS], key: &[u8; SEATS], row: &[u64; SEATS], level: usize, cap: u64) -> u64
-    requires { ⌜ ((n : ℕ) × (B : ℕ → Bool) × (n ≤ mostAtoms) × Listed n B (now list)) ⌝ }
-    ensures { λ r. ⌜
-        ((n : ℕ) (B : ℕ → Bool) → Listed n B (now (list .entry))
-        → r ≡ min cap (sum n (λ w. cond (B w && eqb (suc (at (now (key .entry)) w)) level) (at (now (row .entry)) w) 0)))
-        ⌝ }
-{
-    let c = wide(list[0]);
     let mut sum = 0;
     let mut k = 0;
-    while k < c {
+    while k < LIMIT {
         k += 1;
-        sum = add(sum, given(key, row, wide(list[k]), level), cap);
+        sum += given(list, both, from, k);
     }
-    sum
+    if sum < cap { sum } else { cap }
 }
 
-// The row whose rule gives each atom its own and what its neighbours with the next smaller key have. The atoms go in the order of their keys:
-// v is the next of those with the key level.
+// Both sides of a double row in one.
+fn joined(both: &[u64; SIDES]) -> [u64; SEATS]
+    requires { ⌜ ((w : ℕ) → at (now both) w ≤ full) ⌝ }
+    ensures { λ r. ⌜ ((w : ℕ) → w ≤ mostAtoms → at r w ≡ at (now (both .entry)) w + there (now (both .entry)) (suc mostAtoms) w) ⌝ }
+{
+    let mut row = [0u64; SEATS];
+    let mut w = 0;
+    while w < SEATS {
+        row[w] = both[w] + both[SEATS + w];
+        w += 1;
+    }
+    row
+}
+
+// The row whose rule gives each atom its own and what its neighbours with the next smaller key have. The atoms go in the order of their keys, by the
+// last with each key and, before each atom, the one before it with the same key; 0 is none. v is the next of those with the key level. Every other
+// level stands on the other side of a double row: where those below level stand, at from, its own neighbours have nothing and those above nothing yet.
 fn sweep(
     near: &[[u8; SEATS]; SEATS],
-    key: &[u8; SEATS],
     last: &[u8; SEATS],
     before: &[u8; SEATS],
     own: &[u64; SEATS],
     top: usize,
     cap: u64,
 ) -> [u64; SEATS]
-    requires { ⌜ ((n : ℕ) × (B : ℕ → ℕ → Bool) × Ordered n B (now near) (now key) (now last) (now before) top) ⌝ }
+    requires { ⌜ ((n : ℕ) × (B : ℕ → ℕ → Bool) × (key : List ℕ) × Ordered n B (now near) key (now last) (now before) top × (cap ≤ full)) ⌝ }
     ensures { λ r. ⌜
-        ((n : ℕ) (B : ℕ → ℕ → Bool) (F : ℕ → ℕ) → Ordered n B (now (near .entry)) (now (key .entry)) (now (last .entry)) (now (before .entry)) top
-        → Rule n B (at (now (key .entry))) (at (now (own .entry))) F → Holds n cap F r)
+        ((n : ℕ) (B : ℕ → ℕ → Bool) (key : List ℕ) (F : ℕ → ℕ) → Ordered n B (now (near .entry)) key (now (last .entry)) (now (before .entry)) top
+        → Rule n B (at key) (at (now (own .entry))) F → Holds n cap F r)
         ⌝ }
 {
-    let mut row = [0u64; SEATS];
+    let mut both = [0u64; SIDES];
+    let mut from = SEATS;
     let mut level = 0;
     let mut v = wide(last[0]);
     while level <= top {
+        let up = wide(last[level + 1]);
         if v != 0 {
-            let s = pull(&near[v], key, &row, level, cap);
-            row[v] = add(s, own[v], cap);
-            v = wide(before[v]);
+            let s = pull(&near[v], &both, from, cap);
+            both[SEATS - from + v] = add(s, own[v], cap);
+            let next = wide(before[v]);
+            if next != 0 {
+                v = next;
+            } else {
+                from = SEATS - from;
+                level += 1;
+                v = up;
+            }
         } else {
+            from = SEATS - from;
             level += 1;
-            v = wide(last[level]);
+            v = up;
         }
     }
-    row
+    joined(&both)
 }
 
 // The same, with the atoms 1 to n put in order first.
@@ -172,16 +175,22 @@ fn swept(
     top: u8,
     cap: u64,
 ) -> [u64; SEATS]
-    requires { ⌜ ((B : ℕ → ℕ → Bool) × Keyed n B (now near) (now key) top) ⌝ }
+    requires { ⌜ ((B : ℕ → ℕ → Bool) × Keyed n B (now near) (now key) top × (cap ≤ full)) ⌝ }
     ensures { λ r. ⌜
         ((B : ℕ → ℕ → Bool) (F : ℕ → ℕ) → Keyed n B (now (near .entry)) (now (key .entry)) top
         → Rule n B (at (now (key .entry))) (at (now (own .entry))) F → Holds n cap F r)
         ⌝ }
 {
-    let chain = chained(n, key);
-    let last = chain.last;
-    let before = chain.before;
-    sweep(near, key, &last, &before, own, wide(top), cap)
+    let mut last = [0u8; SEATS];
+    let mut before = [0u8; SEATS];
+    let mut v = 0;
+    while v < n {
+        v += 1;
+        let k = wide(key[v]);
+        before[v] = last[k];
+        last[k] = v as u8;
+    }
+    sweep(near, &last, &before, own, wide(top), cap)
 }
 
 // The counts of shortest paths from the atom start, up to the cap.

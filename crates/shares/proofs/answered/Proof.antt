@@ -1,20 +1,21 @@
 -- `answered` meets its contract: each return is one way through the definition.
-use Prim.Native.Nat.{min}
+use Prim.Native.Nat.{min, _≤_}
 use mathlib.Core.Path.{_≡_, sym, _∙_, ap}
 use native.Mathlib.Omega.{arith}
 use borrow.Author.Needs.{needs}
 use Rattle.paths.specs.Paths.{denominator}
 use Rattle.block.specs.Block.{bondsOf, graphOf}
-use Rattle.shares.specs.Reply.{saidShares}
+use Rattle.shares.specs.Reply.{most, saidShares}
 use Rattle.shares.specs.Work.{cap, Given}
 use Rattle.shares.specs.declared.Shares.the-variants.{Denominator}
-use Rattle.shares.proofs.Blocks.{few, given, whole}
+use Rattle.shares.proofs.Blocks.{few, few-bonds, given, whole, nothing}
+use Rattle.shares.proofs.Entries.{filled-as}
 use Rattle.shares.proofs.Reply.{reply-short, reply-large, reply-done, entries-stay, entries-done}
 use Rattle.shares.proofs.answered.Statement.{statement}
 use Rattle.shares.proofs.answered.Tie as tie
 
 refused-requires : tie.Need-refused-requires
-refused-requires c κs = search needs
+refused-requires c κs = tt
 
 returns : tie.Need-returns
 returns c =
@@ -23,49 +24,48 @@ returns c =
     (c .refused .ensures ∙ sym (ap saidShares e), entries-stay (a .n) (a .bonds .now) (a .out .now) e)
 
 rows-requires : tie.Need-rows-requires
-rows-requires c κs = search needs
+rows-requires c κs = tt
 
 neighbours-requires : tie.Need-neighbours-requires
 neighbours-requires c κs = few (c .before .before .before .before .before .args .n) (c .before .before .before .before .before .args .bonds .now) (c .before .before .before .before .before .pre)
 
--- the lists and the rows, and D up to the cap
+slice-aggregate-fill : tie.Need-slice-aggregate-fill
+slice-aggregate-fill c = search needs
+
+-- the lists and the rows
 known : (c : tie.After-neighbours) → let a = c .before .before .before .before .before .before .args in Given (a .n) (bondsOf (a .bonds .now)) (c .neighbours .result) (c .before .before .rows .result)
 known c = let a = c .before .before .before .before .before .before .args in given (a .n) (a .bonds .now) (c .before .before .before .before .before .before .pre) (c .neighbours .result) (c .before .before .rows .result) (c .before .before .rows .ensures) (c .neighbours .ensures)
 
-capped : (c : tie.After-denominator) → let a = c .before .before .before .before .before .before .before .before .before .args in c .denominator .result ≡ min cap (denominator (graphOf (a .n) (a .bonds .now)))
-capped c = c .denominator .ensures _ (known (c .before .before .before))
-
-denominator-requires : tie.Need-denominator-requires
-denominator-requires c κs = (_, known (c .before .before))
+fill-requires : tie.Need-fill-requires
+fill-requires c κs =
+    let a = c .before .before .before .before .before .before .before .before .before .args in
+    let p = c .before .before .before .before .before .before .before .before .before .pre in
+    (whole (a .n) (a .bonds .now) p, known (c .before .before .before), nothing (a .n) (a .bonds .now) (few-bonds (a .n) (a .bonds .now) p))
 
 refused-requires-2 : tie.Need-refused-requires-2
-refused-requires-2 c κs = search needs
+refused-requires-2 c κs = tt
 
 returns-2 : tie.Need-returns-2
 returns-2 c =
-    let a = c .before .before .before .before .before .before .before .before .before .before .before .args in
-    let e = reply-large (a .n) (a .bonds .now) (c .before .before .before .before .before .before .before .before .before .before .before .pre) _ (c .before .before .before .before .before .before .before .before .if1 .left) (omega (arith, c .before .if2 .taken, capped (c .before .before))) in
+    let a = c .before .before .before .before .before .before .before .before .before .before .before .before .before .args in
+    let e = reply-large (a .n) (a .bonds .now) (c .before .before .before .before .before .before .before .before .before .before .before .before .before .pre) _ (c .before .before .before .before .before .before .before .before .before .before .if1 .left) (omega (arith, c .before .if2 .taken, c .before .before .before .fill .ensures .0)) in
     (c .refused2 .ensures ∙ sym (ap saidShares e), entries-stay (a .n) (a .bonds .now) (a .out .now) e)
 
-fill-requires : tie.Need-fill-requires
-fill-requires c κs =
-    let a = c .before .before .before .before .before .before .before .before .before .before .before .before .before .args in
-    let d = capped (c .before .before .before .before) in
-    let l = c .before .before .before .if2 .left in
-    (whole (a .n) (a .bonds .now) (c .before .before .before .before .before .before .before .before .before .before .before .before .before .pre) (c .before .before .before .before .denominator .result) (omega arith) (omega arith), known (c .before .before .before .before .before .before .before), c .before .before .before .before .before .before .before .before .before .before .if1 .left)
+put-requires : tie.Need-put-requires
+put-requires c κs = (c .before .before .before .before .before .before .before .before .before .before .before .if1 .left, few-bonds (c .before .before .before .before .before .before .before .before .before .before .before .before .before .before .args .n) (c .before .before .before .before .before .before .before .before .before .before .before .before .before .before .args .bonds .now) (c .before .before .before .before .before .before .before .before .before .before .before .before .before .before .pre))
 
 same-length : tie.Need-same-length
-same-length c = search needs
+same-length c = c .before .before .put .ensures .same
 
 returns-3 : tie.Need-returns-3
 returns-3 c =
-    let a = c .before .before .before .before .before .before .before .before .before .before .before .before .before .before .before .before .args in
-    let d = capped (c .before .before .before .before .before .before .before) in
-    let l = c .before .before .before .before .before .before .if2 .left in
-    let r = c .before .before .before .before .before .before .before .before .before .before .before .before .before .if1 .left in
-    let e = reply-done (a .n) (a .bonds .now) (c .before .before .before .before .before .before .before .before .before .before .before .before .before .before .before .before .pre) _ r (omega arith) in
-    let is : c .before .before .before .before .before .before .before .denominator .result ≡ denominator (graphOf (a .n) (a .bonds .now)) = omega arith in
-    (ap Denominator is ∙ sym (ap saidShares e), entries-done (a .n) (a .bonds .now) e (c .before .before .fill .ensures) r)
+    let a = c .before .before .before .before .before .before .before .before .before .before .before .before .before .before .before .before .before .args in
+    let f = c .before .before .before .before .before .before .before .fill in
+    let low : f .result ≤ most = omega (arith, c .before .before .before .before .before .if2 .left) in
+    let is : f .result ≡ denominator (graphOf (a .n) (a .bonds .now)) = omega (arith, f .ensures .0) in
+    let r = c .before .before .before .before .before .before .before .before .before .before .before .before .before .before .if1 .left in
+    let e = reply-done (a .n) (a .bonds .now) (c .before .before .before .before .before .before .before .before .before .before .before .before .before .before .before .before .before .pre) _ r (omega arith) in
+    (ap Denominator is ∙ sym (ap saidShares e), entries-done (a .n) (a .bonds .now) e (filled-as (c .before .before .put .ensures) (f .ensures .1 low)) r)
 
 pub answered-spec : {M : Type 1} → statement M
 answered-spec =
@@ -75,9 +75,10 @@ answered-spec =
     returns
     rows-requires
     neighbours-requires
-    denominator-requires
+    slice-aggregate-fill
+    fill-requires
     refused-requires-2
     returns-2
-    fill-requires
+    put-requires
     same-length
     returns-3)

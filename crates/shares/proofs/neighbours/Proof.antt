@@ -23,7 +23,7 @@ loop-holds : tie.Need-loop-holds Inv-loop μ-loop
 loop-holds c = (omega arith, search needs, λ k l. absurd (omega arith))
 
 mul-beside : tie.Need-mul-beside Inv-loop μ-loop
-mul-beside c = search needs
+mul-beside c = omega arith
 
 index-1-beside : tie.Need-index-1-beside Inv-loop μ-loop
 index-1-beside c = omega arith
@@ -35,7 +35,7 @@ add-near : tie.Need-add-near Inv-loop μ-loop
 add-near c = omega arith
 
 mul-near : tie.Need-mul-near Inv-loop μ-loop
-mul-near c = search needs
+mul-near c = omega arith
 
 array-set-from-near : tie.Need-array-set-from-near Inv-loop μ-loop
 array-set-from-near c = omega arith

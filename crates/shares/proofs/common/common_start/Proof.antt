@@ -2,7 +2,6 @@
 use Prim.Native.Nat.{ℕ, _+_, _-_, min, _≤_}
 use mathlib.Core.Path.{_≡_}
 use native.Mathlib.Omega.{arith}
-use borrow.Author.Needs.{needs}
 use Rattle.paths.specs.Paths.{lcmOver}
 use Rattle.shares.specs.Work.{cap, Tally}
 use Rattle.shares.proofs.Tallying.{none-yet, taken-fits, taken-in}
@@ -22,7 +21,7 @@ add-k : tie.Need-add-k Inv-loop μ-loop
 add-k c = omega arith
 
 mul-common : tie.Need-mul-common Inv-loop μ-loop
-mul-common c = search needs
+mul-common c = omega arith
 
 element-copy-out-common : tie.Need-element-copy-out-common Inv-loop μ-loop
 element-copy-out-common c = omega arith

@@ -1,44 +1,96 @@
--- `add_start` meets its contract: the rows of the start are ready.
-use Rattle.shares.specs.Work.{Ready}
-use Rattle.shares.proofs.Starting.{counts-pos, weighs, ready}
+-- `add_start` meets its contract: D takes the counts in, the entries grow with it, and the rows of the start are ready.
+use Prim.Native.Nat.{_+_, min, _≤_}
+use mathlib.Core.Path.{_≡_, _∙_}
+use native.Mathlib.Omega.{arith}
+use Rattle.paths.specs.Paths.{pathCount}
+use Rattle.paths.specs.Notions.{lcmStarts}
+use Rattle.block.specs.Block.{graphOf}
+use Rattle.shares.specs.Work.{cap, Tally, Whole, Ready}
+use Rattle.shares.proofs.Tallying.{tally-of, start-next}
+use Rattle.shares.proofs.Starting.{counts-pos, weighs, ready, whole-pos, whole-at, sofar-room, raise-fits, raised, added}
 use borrow.Author.Needs.{needs}
 use Rattle.shares.proofs.flows.add_start.Statement.{statement}
 use Rattle.shares.proofs.flows.add_start.Tie as tie
 
+add-start : tie.Need-add-start
+add-start c = search needs
+
 counts-requires : tie.Need-counts-requires
-counts-requires c κs = search needs
+counts-requires c κs = (_, c .before .before .pre .0)
+
+-- the counts of the start, and what was taken in before
+tallied : (c : tie.After-counts) → let a = c .before .before .before .args in
+    Tally (a .n) (pathCount (graphOf (a .n) (a .bonds .now)) (a .i + 1)) (lcmStarts (a .n) (pathCount (graphOf (a .n) (a .bonds .now))) (a .i)) (c .counts .result) (a .before)
+tallied c =
+    let p = c .before .before .before .pre in
+    tally-of (p .1 .molecule) (c .before .before .before .args .i) (p .0) (c .counts .ensures _ (p .0)) (p .1 .is) (omega (arith, p .1 .low))
+
+common-start-requires : tie.Need-common-start-requires
+common-start-requires c κs = (c .before .before .before .before .pre .0 .start .high, (_, _, tallied (c .before)))
+
+-- D of the starts up to this
+found : (c : tie.After-common-start) → let a = c .before .before .before .before .before .args in c .common-start .result ≡ min cap (lcmStarts (a .n) (pathCount (graphOf (a .n) (a .bonds .now))) (a .i + 1))
+found c = start-next (c .before .before .before .before .before .pre .1 .molecule) (c .before .before .before .before .before .args .i) (c .common-start .result) (c .common-start .ensures _ _ (tallied (c .before .before)))
+
+returns : tie.Need-returns
+returns c = (found (c .before), λ l. absurd (omega (arith, c .if1 .taken)))
+
+next : (c : tie.Else1) → let a = c .before .before .before .before .before .before .args in Whole (a .n) (a .bonds .now) (a .i + 1) (c .before .common-start .result)
+next c = whole-at (c .before .before .before .before .before .before .pre .1) (c .before .before .before .before .before .before .args .i + 1) (c .before .common-start .result) (found (c .before)) (omega (arith, c .if1 .left))
+
+few : (c : tie.Else1) → c .before .before .before .before .before .before .args .i ≤ c .before .before .before .before .before .before .args .n
+few c = omega (arith, c .before .before .before .before .before .before .pre .0 .start .high)
+
+div-raise : tie.Need-div-raise
+div-raise c = omega (arith, whole-pos (c .before .before .before .before .before .before .pre .1))
+
+raise-requires : tie.Need-raise-requires
+raise-requires c κs = let p = c .before .before .before .before .before .before .before .pre in (p .2 .room, raise-fits (p .1) (next (c .before)) (few (c .before)) (p .2))
 
 weights-requires : tie.Need-weights-requires
 weights-requires c κs =
-    let p = c .before .before .before .before .pre in
-    (p .0 .small, p .1 .start .high, counts-pos (p .0) (p .1 .start) (c .before .counts .ensures _ (p .1)))
+    let p = c .before .before .before .before .before .before .before .before .before .before .before .pre in
+    (p .0 .small, p .0 .start .high, counts-pos (next (c .before .before .before .before .before)) (p .0 .start) (c .before .before .before .before .before .before .before .before .counts .ensures _ (p .0)))
 
 onward-requires : tie.Need-onward-requires
-onward-requires c κs = search needs
+onward-requires c κs = (_, _, c .before .before .before .before .before .before .before .before .before .before .before .before .before .pre .0)
 
 -- the rows of this start
-rows : (c : tie.After-onward) → let a = c .before .before .before .before .before .before .before .args in Ready (a .n) (a .bonds .now) (a .row .now) (c .before .before .before .before .counts .result) (c .onward .result) (a .start) (a .d)
+rows : (c : tie.After-onward) → let a = c .before .before .before .before .before .before .before .before .before .before .before .before .before .before .args in
+    Ready (a .n) (a .bonds .now) (a .row .now) (c .before .before .before .before .before .before .before .before .before .before .before .counts .result) (c .onward .result) (a .i + 1) (c .before .before .before .before .before .before .before .before .before .common-start .result)
 rows c =
-    let p = c .before .before .before .before .before .before .before .pre in
-    let h = c .before .before .before .before .counts .ensures _ (p .1) in
-    ready (p .0) (p .1 .start) h (p .1) (c .onward .ensures _ _ _ (p .1) (weighs (p .0) (p .1 .start) h (c .before .before .weights .ensures)))
+    let p = c .before .before .before .before .before .before .before .before .before .before .before .before .before .before .pre in
+    let X = next (c .before .before .before .before .before .before .before .before) in
+    let h = c .before .before .before .before .before .before .before .before .before .before .before .counts .ensures _ (p .0) in
+    ready X (p .0 .start) h (p .0) (c .onward .ensures _ _ _ (p .0) (weighs X (p .0 .start) h (c .before .before .weights .ensures)))
 
 add-flows-requires : tie.Need-add-flows-requires
-add-flows-requires c κs = ((_, _, _, rows (c .before .before .before)), c .before .before .before .before .before .before .before .before .before .before .pre .2)
+add-flows-requires c κs =
+    let p = c .before .before .before .before .before .before .before .before .before .before .before .before .before .before .before .before .before .pre in
+    let e = c .before .before .before .before .before .before .before .before .before .before .before in
+    ((_, _, _, rows (c .before .before .before)), sofar-room (next e) (c .before .before .before .before .before .before .before .before .before .before .before .before .before .before .before .before .before .args .i) (few e) (raised (p .1) (next e) (few e) (p .2) (c .before .before .before .before .before .before .before .before .before .raise .ensures)))
 
 same-length : tie.Need-same-length
-same-length c = search needs
+same-length c = c .before .before .add-flows .ensures _ _ _ (rows (c .before .before .before .before .before .before)) .same ∙ c .before .before .before .before .before .before .before .before .before .before .before .before .raise .ensures .same
 
-returns : tie.Need-returns
-returns c = c .before .before .add-flows .ensures _ _ _ (rows (c .before .before .before .before .before .before))
+returns-2 : tie.Need-returns-2
+returns-2 c =
+    let p = c .before .before .before .before .before .before .before .before .before .before .before .before .before .before .before .before .before .before .before .before .pre in
+    let e = c .before .before .before .before .before .before .before .before .before .before .before .before .before .before in
+    (found (c .before .before .before .before .before .before .before .before .before .before .before .before .before .before .before), λ l. added (raised (p .1) (next e) (few e) (p .2) (c .before .before .before .before .before .before .before .before .before .before .before .before .raise .ensures)) (c .before .before .add-flows .ensures _ _ _ (rows (c .before .before .before .before .before .before))))
 
 pub add-start-spec : {M : Type 1} → statement M
 add-start-spec =
     tie.close
     (tie.spec
+    add-start
     counts-requires
+    common-start-requires
+    returns
+    div-raise
+    raise-requires
     weights-requires
     onward-requires
     add-flows-requires
     same-length
-    returns)
+    returns-2)

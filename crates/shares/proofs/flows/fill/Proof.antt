@@ -1,44 +1,49 @@
--- `fill` meets its contract: the entries have what the starts passed add up to.
-use Prim.Native.Nat.{_+_, _-_, _/_, _≤_}
-use mathlib.Core.Path.{_∙_}
+-- `fill` meets its contract: D and the entries have what the starts passed give, and what is above the most stays above.
+use Prim.Native.Nat.{_+_, _-_, min, _≤_}
+use mathlib.Core.Path.{_≡_, refl, _∙_}
 use native.Mathlib.Omega.{arith}
 use borrow.Author.Needs.{needs}
 use lib.ListN.{length}
-use Rattle.graph.specs.Graph.{sum}
+use Rattle.paths.specs.Paths.{pathCount}
+use Rattle.paths.specs.Notions.{lcmStarts}
 use Rattle.block.specs.Block.{graphOf}
-use Rattle.shares.specs.Work.{bondAt, carried, Filled}
-use Rattle.shares.proofs.Entries.{filled-more}
-use Rattle.shares.proofs.Tallying.{start-of}
-use Rattle.shares.proofs.Starting.{sofar-none, sofar-next, sofar-room, sofar-all}
+use Rattle.shares.specs.Reply.{most}
+use Rattle.shares.specs.Work.{cap, Sofar}
+use Rattle.shares.proofs.Tallying.{start-of, stops-early, starts-done}
+use Rattle.shares.proofs.Starting.{whole-at, sofar-all}
 use Rattle.shares.proofs.flows.fill.Statement.{statement}
 use Rattle.shares.proofs.flows.fill.Tie as tie
 
 abbrev Inv-loop : tie.InvT-loop
-Inv-loop n bonds near rows d out₀ i₀ out i = (i ≤ n) × Filled (length bonds / 2) (λ k. sum i (λ s. carried (graphOf n bonds) s d (bondAt bonds k))) out₀ out
+Inv-loop n bonds near rows out₀ d₀ i₀ out d i =
+    (i ≤ n) × (length out ≡ length out₀) × (d ≡ min cap (lcmStarts n (pathCount (graphOf n bonds)) i)) × (d ≤ most → Sofar n bonds i d out)
 
 abbrev μ-loop : tie.MeasureT-loop
-μ-loop n bonds near rows d out₀ i₀ out i = n - i
-
-clear-requires : tie.Need-clear-requires Inv-loop μ-loop
-clear-requires c κs = c .before .before .before .pre .2
+μ-loop n bonds near rows out₀ d₀ i₀ out d i = n - i
 
 loop-holds : tie.Need-loop-holds Inv-loop μ-loop
-loop-holds c = (omega arith, sofar-none (c .before .before .before .before .before .before .pre .0) (c .before .before .clear .ensures))
+loop-holds c = let p = c .before .before .pre in (omega arith, refl, omega (arith, p .0 .is), λ l. p .2)
+
+same-length : tie.Need-same-length Inv-loop μ-loop
+same-length c = c .before .before .loop .inv .1
+
+returns : tie.Need-returns Inv-loop μ-loop
+returns c =
+    let l = c .before .before .loop in
+    (stops-early (c .before .before .before .before .before .pre .0 .molecule) (l .d) (l .i) (l .inv .2) (omega arith), λ h. absurd (omega arith))
 
 mul-add-start : tie.Need-mul-add-start Inv-loop μ-loop
-mul-add-start c = search needs
+mul-add-start c = omega arith
 
 index-1-add-start : tie.Need-index-1-add-start Inv-loop μ-loop
 index-1-add-start c = omega arith
 
-add-add-start : tie.Need-add-add-start Inv-loop μ-loop
-add-add-start c = omega arith
-
 add-start-requires : tie.Need-add-start-requires Inv-loop μ-loop
 add-start-requires c κs =
-    let p = c .before .before .before .before .before .before .before .before .before .before .pre in
-    let l = c .before .before .before .loop in
-    (p .0, start-of (p .1) (l .i) (c .before .before .loop-test .taken), sofar-room (p .0) (l .i) (l .inv .0) (l .inv .1) (omega (arith, c .before .before .before .before .before .before .clear .ensures .same, p .2)))
+    let p = c .before .before .before .before .before .before .before .pre in
+    let l = c .before .before .before .before .loop in
+    let low : l .d ≤ most = omega (arith, c .before .before .if1 .left) in
+    (start-of (p .1) (l .i) (c .before .before .before .loop-test .taken), whole-at (p .0) (l .i) (l .d) (l .inv .2) low, l .inv .3 low)
 
 add-i : tie.Need-add-i Inv-loop μ-loop
 add-i c = omega arith
@@ -48,16 +53,17 @@ loop-less c = omega arith
 
 loop-again : tie.Need-loop-again Inv-loop μ-loop
 loop-again c =
-    let a = c .before .before .before .before .before .before .before .before .before .before .before .before .before .args in
-    let p = c .before .before .before .before .before .before .before .before .before .before .before .before .before .pre in
-    let l = c .before .before .before .before .before .before .loop in
-    (omega arith, filled-more (λ k. carried (graphOf (a .n) (a .bonds .now)) (l .i + 1) (a .d) (bondAt (a .bonds .now) k)) (l .inv .1) (c .before .before .add-start .ensures) (sofar-next (p .0) (l .i)))
+    let s = c .before .before .add-start .ensures in
+    (omega arith, search needs, s .0, s .1)
 
-same-length : tie.Need-same-length Inv-loop μ-loop
-same-length c = c .before .loop .inv .1 .same ∙ c .before .before .before .before .clear .ensures .same
+same-length-2 : tie.Need-same-length-2 Inv-loop μ-loop
+same-length-2 c = c .before .loop .inv .1
 
-returns : tie.Need-returns Inv-loop μ-loop
-returns c = sofar-all (c .before .before .before .before .before .before .before .before .pre .0) (c .before .loop .i) (omega arith) (c .before .before .before .before .clear .ensures) (c .before .loop .inv .1)
+returns-2 : tie.Need-returns-2 Inv-loop μ-loop
+returns-2 c =
+    let p = c .before .before .before .before .pre in
+    let l = c .before .loop in
+    (starts-done (p .0 .molecule) (l .d) (l .i) (omega arith) (l .inv .2), λ h. sofar-all (whole-at (p .0) (l .i) (l .d) (l .inv .2) h) (omega arith) (l .inv .3 h))
 
 pub fill-spec : {M : Type 1} → statement M
 fill-spec =
@@ -65,14 +71,14 @@ fill-spec =
     (tie.spec
     Inv-loop
     μ-loop
-    clear-requires
     loop-holds
+    same-length
+    returns
     mul-add-start
     index-1-add-start
-    add-add-start
     add-start-requires
     add-i
     loop-less
     loop-again
-    same-length
-    returns)
+    same-length-2
+    returns-2)

@@ -5,42 +5,41 @@ use lib.ListN.{getD}
 use Rattle.shares.specs.Work.{at}
 use Rattle.shares.proofs.Tallying.{product-fits}
 use Rattle.shares.proofs.Flowing.{let-pass, let-none}
-use borrow.Author.Needs.{needs}
 use Rattle.shares.proofs.flows.passed.Statement.{statement}
 use Rattle.shares.proofs.flows.passed.Tie as tie
 
 sub-wide : tie.Need-sub-wide
-sub-wide c = search needs
+sub-wide c = omega arith
 
 element-copy-out-wide : tie.Need-element-copy-out-wide
-element-copy-out-wide c = search needs
+element-copy-out-wide c = omega arith
 
 wide-requires : tie.Need-wide-requires
-wide-requires c κs = search needs
+wide-requires c κs = tt
 
 add-if1 : tie.Need-add-if1
-add-if1 c = search needs
+add-if1 c = omega arith
 
 sub-wide-2 : tie.Need-sub-wide-2
-sub-wide-2 c = search needs
+sub-wide-2 c = omega arith
 
 element-copy-out-wide-2 : tie.Need-element-copy-out-wide-2
-element-copy-out-wide-2 c = search needs
+element-copy-out-wide-2 c = omega arith
 
 wide-requires-2 : tie.Need-wide-requires-2
-wide-requires-2 c κs = search needs
+wide-requires-2 c κs = tt
 
 mul-result : tie.Need-mul-result
-mul-result c = search needs
+mul-result c = omega arith
 
 element-copy-out-result : tie.Need-element-copy-out-result
-element-copy-out-result c = search needs
+element-copy-out-result c = omega arith
 
 mul-result-2 : tie.Need-mul-result-2
-mul-result-2 c = search needs
+mul-result-2 c = omega arith
 
 element-copy-out-result-2 : tie.Need-element-copy-out-result-2
-element-copy-out-result-2 c = search needs
+element-copy-out-result-2 c = omega arith
 
 mul-result-3 : tie.Need-mul-result-3
 mul-result-3 c =

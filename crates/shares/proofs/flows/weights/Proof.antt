@@ -32,7 +32,7 @@ add-v : tie.Need-add-v Inv-loop μ-loop
 add-v c = omega arith
 
 mul-row : tie.Need-mul-row Inv-loop μ-loop
-mul-row c = search needs
+mul-row c = omega arith
 
 element-copy-out-row : tie.Need-element-copy-out-row Inv-loop μ-loop
 element-copy-out-row c = omega arith
@@ -41,7 +41,7 @@ div-row : tie.Need-div-row Inv-loop μ-loop
 div-row c = c .before .before .before .pre .2 (c .before .before .loop .v + 1) (record { low = omega arith; high = omega arith })
 
 mul-row-2 : tie.Need-mul-row-2 Inv-loop μ-loop
-mul-row-2 c = search needs
+mul-row-2 c = omega arith
 
 array-write-row : tie.Need-array-write-row Inv-loop μ-loop
 array-write-row c = omega arith

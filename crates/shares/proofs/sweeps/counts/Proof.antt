@@ -16,7 +16,7 @@ spans-requires : tie.Need-spans-requires
 spans-requires c κs = search needs
 
 mul-own : tie.Need-mul-own
-mul-own c = search needs
+mul-own c = omega arith
 
 array-write-own : tie.Need-array-write-own
 array-write-own c = search needs
@@ -25,7 +25,7 @@ swept-requires : tie.Need-swept-requires
 swept-requires c κs =
     let p = c .before .before .before .before .pre in
     let f = c .before .before .before .farthest in
-    (_, keyed (p .1) 0 (f .result) (c .before .before .spans .result) (c .before .before .spans .ensures) (f .ensures .1) (omega arith) (f .ensures .0))
+    (_, keyed (p .1) 0 (f .result) (c .before .before .spans .result) (c .before .before .spans .ensures) (f .ensures .1) (omega arith) (f .ensures .0), omega arith)
 
 returns : tie.Need-returns
 returns c bs S =

@@ -16,7 +16,7 @@ swept-requires : tie.Need-swept-requires
 swept-requires c κs =
     let p = c .before .before .before .pre in
     let f = c .before .before .farthest in
-    (_, keyed (p .2) (f .result) (f .result) (c .before .spans .result) (c .before .spans .ensures) (f .ensures .1) (omega arith) (f .ensures .0))
+    (_, keyed (p .2) (f .result) (f .result) (c .before .spans .result) (c .before .spans .ensures) (f .ensures .1) (omega arith) (f .ensures .0), omega arith)
 
 returns : tie.Need-returns
 returns c bs i q S e =

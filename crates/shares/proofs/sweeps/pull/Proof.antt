@@ -1,73 +1,64 @@
--- `pull` meets its contract: the sum is what the entries passed give, up to the cap.
-use Prim.Native.Nat.{ℕ, suc, _+_, _-_, min, _≤_}
-use mathlib.Core.Path.{_≡_, _∙_, ap}
-use mathlib.Core.Bool.{cond}
+-- `pull` meets its contract: the entries of as many seats as an atom has bonds fit together.
+use Prim.Native.Nat.{_+_, _*_, _-_, _≤_}
+use mathlib.Core.Path.{_≡_, refl}
 use native.Mathlib.Omega.{arith}
+use native.Mathlib.Numerals.{add-one}
 use borrow.Author.Needs.{needs}
-use lib.Dec.{eqb}
-use Rattle.shares.specs.Work.{at}
-use Rattle.shares.proofs.Lists.{pulled, pulled-none, pulled-next, pulled-all}
+use Rattle.graph.specs.Graph.{sum}
+use Rattle.block.specs.Block.{limit}
+use Rattle.shares.specs.Work.{full, at, there, fromSeats}
 use Rattle.shares.proofs.sweeps.pull.Statement.{statement}
 use Rattle.shares.proofs.sweeps.pull.Tie as tie
 
 abbrev Inv-loop : tie.InvT-loop
-Inv-loop list key row level cap c sum₀ k₀ sum k = (k ≤ c) × (c ≡ at list 0) × (sum ≡ min cap (pulled list key row level k))
+Inv-loop list both from cap sum₀ k₀ sum k = (k ≤ limit) × (sum ≡ fromSeats k (there both from) list) × (sum ≤ k * full)
 
 abbrev μ-loop : tie.MeasureT-loop
-μ-loop list key row level cap c sum₀ k₀ sum k = c - k
-
-element-copy-out-wide : tie.Need-element-copy-out-wide Inv-loop μ-loop
-element-copy-out-wide c = omega arith
-
-wide-requires : tie.Need-wide-requires Inv-loop μ-loop
-wide-requires c κs = search needs
+μ-loop list both from cap sum₀ k₀ sum k = limit - k
 
 loop-holds : tie.Need-loop-holds Inv-loop μ-loop
-loop-holds c =
-    let a = c .before .before .args in
-    (omega arith, c .wide .ensures .0, omega (arith, pulled-none (a .list .now) (a .key .now) (a .row .now) (a .level)))
+unfolding sum
+loop-holds c = (omega arith, refl, omega arith)
 
 add-k : tie.Need-add-k Inv-loop μ-loop
 add-k c = omega arith
 
-element-copy-out-wide-2 : tie.Need-element-copy-out-wide-2 Inv-loop μ-loop
-element-copy-out-wide-2 c = omega arith
-
-wide-requires-2 : tie.Need-wide-requires-2 Inv-loop μ-loop
-wide-requires-2 c κs = search needs
-
 given-requires : tie.Need-given-requires Inv-loop μ-loop
 given-requires c κs =
-    let p = c .before .before .before .before .before .before .pre in
-    omega (arith, c .wide2 .ensures, p .2, p .3 .each (c .before .before .before .loop .k + 1) (record { low = omega arith; high = omega arith }))
+    let p = c .before .before .pre in
+    let l = c .before .loop in
+    (p .0, omega arith, p .1 (l .k + 1) (omega arith))
 
-add-requires : tie.Need-add-requires Inv-loop μ-loop
-add-requires c κs = search needs
+-- the seat that is read has at most as much as a row may
+low : (c : tie.After-given Inv-loop μ-loop) → c .given .result ≤ full
+low c =
+    let a = c .before .before .before .args in
+    omega (arith, c .given .ensures, c .before .before .before .pre .2 (a .from + at (a .list .now) (c .before .before .loop .k + 1)))
+
+add-sum : tie.Need-add-sum Inv-loop μ-loop
+add-sum c = omega (arith, low c)
 
 loop-less : tie.Need-loop-less Inv-loop μ-loop
 loop-less c = omega arith
 
 loop-again : tie.Need-loop-again Inv-loop μ-loop
+unfolding sum
 loop-again c =
-    let a = c .before .before .before .before .before .before .before .before .args in
-    let l = c .before .before .before .before .before .loop in (
-      omega arith,
-      l .inv .1,
-      omega (
-        arith,
-        c .add .ensures,
-        c .before .given .ensures,
-        ap (λ (w : ℕ). cond (eqb (suc (at (a .key .now) w)) (a .level)) (at (a .row .now) w) 0) (c .before .before .wide2 .ensures .0),
-        pulled-next (a .list .now) (a .key .now) (a .row .now) (a .level) (l .k),
-      ),
-    )
+    let l = c .before .before .loop in
+    (omega arith, rw (add-one (l .k)) (omega (arith, l .inv .1, rw (add-one (l .k)) at (c .given .ensures))), omega (arith, low c))
+
+-- all seats are read
+all : (c : tie.After-loop Inv-loop μ-loop) → let a = c .before .before .args in c .before .loop .sum ≡ fromSeats limit (there (a .both .now) (a .from)) (a .list .now)
+all c =
+    let l = c .before .loop in
+    let e : l .k ≡ limit = omega arith in
+    rw e at (l .inv .1)
 
 returns : tie.Need-returns Inv-loop μ-loop
-returns c n B h =
-    let a = c .before .before .before .before .args in
-    let l = c .before .loop in
-    let e : l .k ≡ at (a .list .now) 0 = omega arith in
-    l .inv .2 ∙ ap (min (a .cap)) (ap (pulled (a .list .now) (a .key .now) (a .row .now) (a .level)) e ∙ pulled-all (a .list .now) (a .key .now) (a .row .now) (a .level) h)
+returns c = omega (arith, all (c .before), c .if1 .taken)
+
+returns-2 : tie.Need-returns-2 Inv-loop μ-loop
+returns-2 c = omega (arith, all (c .before), c .if1 .left)
 
 pub pull-spec : {M : Type 1} → statement M
 pull-spec =
@@ -75,14 +66,11 @@ pull-spec =
     (tie.spec
     Inv-loop
     μ-loop
-    element-copy-out-wide
-    wide-requires
     loop-holds
     add-k
-    element-copy-out-wide-2
-    wide-requires-2
     given-requires
-    add-requires
+    add-sum
     loop-less
     loop-again
-    returns)
+    returns
+    returns-2)

@@ -23,7 +23,7 @@ element-copy-out-gap : tie.Need-element-copy-out-gap Inv-loop μ-loop
 element-copy-out-gap c = omega arith
 
 gap-requires : tie.Need-gap-requires Inv-loop μ-loop
-gap-requires c κs = search needs
+gap-requires c κs = tt
 
 add-key : tie.Need-add-key Inv-loop μ-loop
 add-key c = omega arith

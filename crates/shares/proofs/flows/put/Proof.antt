@@ -1,27 +1,33 @@
--- `clear` meets its contract: the entries passed are 0.
-use Prim.Native.Nat.{_-_, _≤_}
+-- `put` meets its contract: the entries passed are put.
+use Prim.Native.Nat.{ℕ, _-_, _≤_}
 use mathlib.Core.Path.{_≡_, refl}
 use native.Mathlib.Omega.{arith}
-use borrow.Author.Needs.{needs}
+use lib.ListN.{getD}
 use Rattle.shares.specs.Work.{Filled}
 use Rattle.shares.proofs.Entries.{filled-none, filled-store}
-use Rattle.shares.proofs.flows.clear.Statement.{statement}
-use Rattle.shares.proofs.flows.clear.Tie as tie
+use Rattle.shares.proofs.flows.put.Statement.{statement}
+use Rattle.shares.proofs.flows.put.Tie as tie
 
 abbrev Inv-loop : tie.InvT-loop
-Inv-loop m out₀ j₀ out j = (j ≤ m) × Filled j (λ k. 0) out₀ out
+Inv-loop m entries out₀ j₀ out j = (j ≤ m) × Filled j (λ k. getD entries k 0) out₀ out
 
 abbrev μ-loop : tie.MeasureT-loop
-μ-loop m out₀ j₀ out j = m - j
+μ-loop m entries out₀ j₀ out j = m - j
 
 loop-holds : tie.Need-loop-holds Inv-loop μ-loop
 loop-holds c = (omega arith, filled-none)
 
 mul-out : tie.Need-mul-out Inv-loop μ-loop
-mul-out c = search needs
+mul-out c = omega arith
+
+element-copy-out-out : tie.Need-element-copy-out-out Inv-loop μ-loop
+element-copy-out-out c = omega arith
+
+mul-out-2 : tie.Need-mul-out-2 Inv-loop μ-loop
+mul-out-2 c = omega arith
 
 slice-write-out : tie.Need-slice-write-out Inv-loop μ-loop
-slice-write-out c = omega (arith, c .before .loop .inv .1 .same)
+slice-write-out c = omega (arith, c .before .before .loop .inv .1 .same)
 
 add-j : tie.Need-add-j Inv-loop μ-loop
 add-j c = omega arith
@@ -30,7 +36,7 @@ loop-less : tie.Need-loop-less Inv-loop μ-loop
 loop-less c = omega arith
 
 loop-again : tie.Need-loop-again Inv-loop μ-loop
-loop-again c = (omega arith, filled-store (c .before .loop .inv .1) (omega (arith, c .before .loop .inv .1 .same)) 0 refl)
+loop-again c = let l = c .before .before .loop in (omega arith, filled-store (l .inv .1) (omega (arith, l .inv .1 .same)) _ refl)
 
 same-length : tie.Need-same-length Inv-loop μ-loop
 same-length c = c .before .loop .inv .1 .same
@@ -38,14 +44,16 @@ same-length c = c .before .loop .inv .1 .same
 returns : tie.Need-returns Inv-loop μ-loop
 returns c = let e : c .before .loop .j ≡ c .before .before .args .m = omega arith in rw e at (c .before .loop .inv .1)
 
-pub clear-spec : {M : Type 1} → statement M
-clear-spec =
+pub put-spec : {M : Type 1} → statement M
+put-spec =
     tie.close
     (tie.spec
     Inv-loop
     μ-loop
     loop-holds
     mul-out
+    element-copy-out-out
+    mul-out-2
     slice-write-out
     add-j
     loop-less
