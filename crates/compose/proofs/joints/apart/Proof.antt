@@ -3,7 +3,7 @@
 use Prim.Native.Nat.{ℕ, _+_, _*_, _-_, _<_}
 use mathlib.Core.Path.{_≡_}
 use native.Mathlib.Omega.{arith}
-use borrow.Author.Needs.{needs}
+use lib.Dec.{lit<}
 use Rattle.graph.specs.Graph.{Graph, Within}
 use Rattle.block.specs.Block.{mostAtoms}
 use Rattle.assembly.specs.Placements.{mostPlacements}
@@ -55,10 +55,10 @@ element-copy-out-q : tie.Need-element-copy-out-q Inv-loop μ-loop
 element-copy-out-q c = second-small (c .before)
 
 array-read-first : tie.Need-array-read-first Inv-loop μ-loop
-array-read-first c = search needs
+array-read-first c = lit< tt
 
 array-read-second : tie.Need-array-read-second Inv-loop μ-loop
-array-read-second c = search needs
+array-read-second c = lit< tt
 
 -- both have one parent
 mul-at : tie.Need-mul-at Inv-loop μ-loop
@@ -68,7 +68,7 @@ add-at : tie.Need-add-at Inv-loop μ-loop
 add-at c = let s = c .before .before .before in omega (arith, first s, s .before .pre .2 .few)
 
 array-read-at : tie.Need-array-read-at Inv-loop μ-loop
-array-read-at c = search needs
+array-read-at c = lit< tt
 
 at-requires : tie.Need-at-requires Inv-loop μ-loop
 at-requires c κs =
@@ -91,7 +91,7 @@ later c w x h = let l = c .before .pre .2 in above l x (omega (arith, h, parent-
 
 -- the second one's is later
 array-read-climbed : tie.Need-array-read-climbed Inv-loop μ-loop
-array-read-climbed c = search needs
+array-read-climbed c = lit< tt
 
 climbed-requires : tie.Need-climbed-requires Inv-loop μ-loop
 climbed-requires c κs = let s = c .before .before .before .before in (parent-small (s .before .pre .2) (second s), site-small (s .before .pre .2) (second s))
@@ -119,7 +119,7 @@ first-later : (c : tie.Else2 Inv-loop μ-loop) → let s = c .before .before .be
 first-later c = omega (arith, c .if2 .left, c .before .if1 .left)
 
 array-read-climbed-2 : tie.Need-array-read-climbed-2 Inv-loop μ-loop
-array-read-climbed-2 c = search needs
+array-read-climbed-2 c = lit< tt
 
 climbed-requires-2 : tie.Need-climbed-requires-2 Inv-loop μ-loop
 climbed-requires-2 c κs = let s = c .before .before .before .before in (parent-small (s .before .pre .2) (first s), site-small (s .before .pre .2) (first s))
