@@ -54,17 +54,19 @@ fn apart(links: &Links, rows: &[[u8; ATOMS]; ENDS], x: usize, y: usize) -> u64
     let mut v = y;
     let mut d: u64 = 0;
     loop {
-        let p = links[u][PARENT];
-        let q = links[v][PARENT];
-        if p == q {
-            return d + at(rows, 2 * u + 1, links[v][SITE]);
+        let p = links[u];
+        let q = links[v];
+        let first = p[PARENT];
+        let second = q[PARENT];
+        if first == second {
+            return d + at(rows, 2 * u + 1, q[SITE]);
         }
-        if p < q {
-            d = d + climbed(rows, q, links[v][SITE]);
-            v = q - 1;
+        if first < second {
+            d = d + climbed(rows, second, q[SITE]);
+            v = second - 1;
         } else {
-            d = d + climbed(rows, p, links[u][SITE]);
-            u = p - 1;
+            d = d + climbed(rows, first, p[SITE]);
+            u = first - 1;
         }
     }
 }

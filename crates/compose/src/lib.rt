@@ -58,7 +58,7 @@ fn block_of(xs: &[u8], blocks: [BlockAt; BLOCKS], count: usize, f: usize) -> Blo
 }
 
 // The five numbers of the block that the placement at index f has first. Stores the rows of the ends that are in it.
-fn measured(
+fn take_block(
     d: &[u8],
     b: BlockAt,
     links: &Links,
@@ -94,7 +94,7 @@ fn filled(
     while f < placements {
         if links[f][FIRST] == f {
             let b = block_of(xs, blocks, count, f);
-            numbers[f] = measured(d, b, links, placements, f, &mut ends);
+            numbers[f] = take_block(d, b, links, placements, f, &mut ends);
         }
         f += 1;
     }

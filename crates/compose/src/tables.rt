@@ -23,15 +23,16 @@ fn end_of(links: &Links, e: usize) -> End
     ensures { λ r. ⌜ r ≡ endAt (now (links .entry)) e ⌝ }
 {
     let k = e / 2;
+    let q = links[k];
     if e % 2 == 0 {
         End {
             home: k,
-            atom: links[k][OWN],
+            atom: q[OWN],
         }
     } else {
         End {
-            home: links[k][PARENT] - 1,
-            atom: links[k][SITE],
+            home: q[PARENT] - 1,
+            atom: q[SITE],
         }
     }
 }

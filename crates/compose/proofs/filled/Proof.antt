@@ -43,11 +43,11 @@ block-of-requires c κs = search needs
 tall : (c : tie.After-ends Inv-loop μ-loop) → length (c .before .before .before .before .before .loop .ends) ≡ ends
 tall c = let s = c .before .before .before .before .before in s .loop .inv .1 (s .before .before .before .pre) .tall
 
-slice-aggregate-measured : tie.Need-slice-aggregate-measured Inv-loop μ-loop
-slice-aggregate-measured c = omega (arith, tall c)
+slice-aggregate-take-block : tie.Need-slice-aggregate-take-block Inv-loop μ-loop
+slice-aggregate-take-block c = omega (arith, tall c)
 
-measured-requires : tie.Need-measured-requires Inv-loop μ-loop
-measured-requires c κs = (ranged (c .before .before .before .before .before .before .before .before .pre), tall c)
+take-block-requires : tie.Need-take-block-requires Inv-loop μ-loop
+take-block-requires c κs = (ranged (c .before .before .before .before .before .before .before .before .pre), tall c)
 
 mul-numbers : tie.Need-mul-numbers Inv-loop μ-loop
 mul-numbers c = omega (arith, small (c .before .before .before .before .before .before))
@@ -96,8 +96,8 @@ filled-spec =
     index-1-if1
     index-2-if1
     block-of-requires
-    slice-aggregate-measured
-    measured-requires
+    slice-aggregate-take-block
+    take-block-requires
     mul-numbers
     array-set-from-numbers
     add-f

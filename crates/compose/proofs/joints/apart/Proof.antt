@@ -45,20 +45,20 @@ module _ (c : tie.At-loop Inv-loop μ-loop) where
 mul-p : tie.Need-mul-p Inv-loop μ-loop
 mul-p c = row-at (first-small c)
 
-index-1-p : tie.Need-index-1-p Inv-loop μ-loop
-index-1-p c = first-small c
-
-index-2-p : tie.Need-index-2-p Inv-loop μ-loop
-index-2-p c = lit< tt
+element-copy-out-p : tie.Need-element-copy-out-p Inv-loop μ-loop
+element-copy-out-p c = first-small c
 
 mul-q : tie.Need-mul-q Inv-loop μ-loop
 mul-q c = row-at (second-small (c .before))
 
-index-1-q : tie.Need-index-1-q Inv-loop μ-loop
-index-1-q c = second-small (c .before)
+element-copy-out-q : tie.Need-element-copy-out-q Inv-loop μ-loop
+element-copy-out-q c = second-small (c .before)
 
-index-2-q : tie.Need-index-2-q Inv-loop μ-loop
-index-2-q c = lit< tt
+array-read-first : tie.Need-array-read-first Inv-loop μ-loop
+array-read-first c = lit< tt
+
+array-read-second : tie.Need-array-read-second Inv-loop μ-loop
+array-read-second c = lit< tt
 
 -- both have one parent
 mul-at : tie.Need-mul-at Inv-loop μ-loop
@@ -67,28 +67,22 @@ mul-at c = let s = c .before .before .before in omega (arith, first s, s .before
 add-at : tie.Need-add-at Inv-loop μ-loop
 add-at c = let s = c .before .before .before in omega (arith, first s, s .before .pre .2 .few)
 
-mul-at-2 : tie.Need-mul-at-2 Inv-loop μ-loop
-mul-at-2 c = row-at (second-small (c .before .before .before))
-
-index-1-at : tie.Need-index-1-at Inv-loop μ-loop
-index-1-at c = second-small (c .before .before .before)
-
-index-2-at : tie.Need-index-2-at Inv-loop μ-loop
-index-2-at c = lit< tt
+array-read-at : tie.Need-array-read-at Inv-loop μ-loop
+array-read-at c = lit< tt
 
 at-requires : tie.Need-at-requires Inv-loop μ-loop
 at-requires c κs =
-    let s = c .before .before .before .before in
+    let s = c .before .before .before in
     (omega (arith, first s, s .before .pre .2 .few), site-small (s .before .pre .2) (second s))
 
 add-result : tie.Need-add-result Inv-loop μ-loop
-add-result c = let s = c .before .before .before .before .before in omega (arith, left s, c .at .ensures .1)
+add-result c = let s = c .before .before .before .before in omega (arith, left s, c .at .ensures .1)
 
 returns : tie.Need-returns Inv-loop μ-loop
 returns c blocks last l w v =
-    let s = c .before .before .before .before .before in
+    let s = c .before .before .before .before in
     let i = s .loop .inv blocks last l w v in
-    omega (arith, i .2, between-same l (i .0) (i .1) (c .before .before .if1 .taken), c .at .ensures .0)
+    omega (arith, i .2, between-same l (i .0) (i .1) (c .before .if1 .taken), c .at .ensures .0)
 
 -- the later parent is joined itself
 later : {u v : ℕ} (c : tie.At-loop Inv-loop μ-loop) → Within (c .before .pre .1) u → Within (c .before .pre .1) v
@@ -96,33 +90,27 @@ later : {u v : ℕ} (c : tie.At-loop Inv-loop μ-loop) → Within (c .before .pr
 later c w x h = let l = c .before .pre .2 in above l x (omega (arith, h, parent-earlier l w))
 
 -- the second one's is later
-mul-climbed : tie.Need-mul-climbed Inv-loop μ-loop
-mul-climbed c = row-at (second-small (c .before .before .before .before))
-
-index-1-climbed : tie.Need-index-1-climbed Inv-loop μ-loop
-index-1-climbed c = second-small (c .before .before .before .before)
-
-index-2-climbed : tie.Need-index-2-climbed Inv-loop μ-loop
-index-2-climbed c = lit< tt
+array-read-climbed : tie.Need-array-read-climbed Inv-loop μ-loop
+array-read-climbed c = lit< tt
 
 climbed-requires : tie.Need-climbed-requires Inv-loop μ-loop
-climbed-requires c κs = let s = c .before .before .before .before .before in (parent-small (s .before .pre .2) (second s), site-small (s .before .pre .2) (second s))
+climbed-requires c κs = let s = c .before .before .before .before in (parent-small (s .before .pre .2) (second s), site-small (s .before .pre .2) (second s))
 
 add-d : tie.Need-add-d Inv-loop μ-loop
-add-d c = let s = c .before .before .before .before .before .before in omega (arith, left s, c .climbed .ensures .1)
+add-d c = let s = c .before .before .before .before .before in omega (arith, left s, c .climbed .ensures .1)
 
 sub-v : tie.Need-sub-v Inv-loop μ-loop
-sub-v c = let s = c .before .before .before .before .before .before in omega (arith, parent-earlier (s .before .pre .2) (second s))
+sub-v c = let s = c .before .before .before .before .before in omega (arith, parent-earlier (s .before .pre .2) (second s))
 
 loop-less : tie.Need-loop-less Inv-loop μ-loop
 loop-less c =
-    let s = c .before .before .before .before .before .before in
-    omega (arith, parent-earlier (s .before .pre .2) (later s (first s) (second s) (c .before .before .if2 .taken)), parent-earlier (s .before .pre .2) (second s))
+    let s = c .before .before .before .before .before in
+    omega (arith, parent-earlier (s .before .pre .2) (later s (first s) (second s) (c .before .if2 .taken)), parent-earlier (s .before .pre .2) (second s))
 
 loop-again : tie.Need-loop-again Inv-loop μ-loop
 loop-again c blocks last l w v =
-    let i = c .before .before .before .before .before .before .loop .inv blocks last l w v in
-    let h = c .before .before .if2 .taken in
+    let i = c .before .before .before .before .before .loop .inv blocks last l w v in
+    let h = c .before .if2 .taken in
     (i .0, above l (i .1) (omega (arith, h, parent-earlier l (i .0))), omega (arith, i .2, between-later l (i .0) (i .1) h, c .climbed .ensures .0))
 
 -- the first one's is later
@@ -130,33 +118,27 @@ first-later : (c : tie.Else2 Inv-loop μ-loop) → let s = c .before .before .be
     link (s .before .args .links .now) (s .loop .v) .parent < link (s .before .args .links .now) (s .loop .u) .parent
 first-later c = omega (arith, c .if2 .left, c .before .if1 .left)
 
-mul-climbed-2 : tie.Need-mul-climbed-2 Inv-loop μ-loop
-mul-climbed-2 c = row-at (first-small (c .before .before .before .before))
-
-index-1-climbed-2 : tie.Need-index-1-climbed-2 Inv-loop μ-loop
-index-1-climbed-2 c = first-small (c .before .before .before .before)
-
-index-2-climbed-2 : tie.Need-index-2-climbed-2 Inv-loop μ-loop
-index-2-climbed-2 c = lit< tt
+array-read-climbed-2 : tie.Need-array-read-climbed-2 Inv-loop μ-loop
+array-read-climbed-2 c = lit< tt
 
 climbed-requires-2 : tie.Need-climbed-requires-2 Inv-loop μ-loop
-climbed-requires-2 c κs = let s = c .before .before .before .before .before in (parent-small (s .before .pre .2) (first s), site-small (s .before .pre .2) (first s))
+climbed-requires-2 c κs = let s = c .before .before .before .before in (parent-small (s .before .pre .2) (first s), site-small (s .before .pre .2) (first s))
 
 add-d-2 : tie.Need-add-d-2 Inv-loop μ-loop
-add-d-2 c = let s = c .before .before .before .before .before .before in omega (arith, left s, c .climbed2 .ensures .1)
+add-d-2 c = let s = c .before .before .before .before .before in omega (arith, left s, c .climbed2 .ensures .1)
 
 sub-u : tie.Need-sub-u Inv-loop μ-loop
-sub-u c = let s = c .before .before .before .before .before .before in omega (arith, parent-earlier (s .before .pre .2) (first s))
+sub-u c = let s = c .before .before .before .before .before in omega (arith, parent-earlier (s .before .pre .2) (first s))
 
 loop-less-2 : tie.Need-loop-less-2 Inv-loop μ-loop
 loop-less-2 c =
-    let s = c .before .before .before .before .before .before in
-    omega (arith, parent-earlier (s .before .pre .2) (later s (second s) (first s) (first-later (c .before .before))), parent-earlier (s .before .pre .2) (first s))
+    let s = c .before .before .before .before .before in
+    omega (arith, parent-earlier (s .before .pre .2) (later s (second s) (first s) (first-later (c .before))), parent-earlier (s .before .pre .2) (first s))
 
 loop-again-2 : tie.Need-loop-again-2 Inv-loop μ-loop
 loop-again-2 c blocks last l w v =
-    let i = c .before .before .before .before .before .before .loop .inv blocks last l w v in
-    let h = first-later (c .before .before) in
+    let i = c .before .before .before .before .before .loop .inv blocks last l w v in
+    let h = first-later (c .before) in
     (above l (i .0) (omega (arith, h, parent-earlier l (i .1))), i .1, omega (arith, i .2, between-earlier l (i .0) (i .1) h, c .climbed2 .ensures .0))
 
 pub apart-spec : {M : Type 1} → statement M
@@ -167,30 +149,24 @@ apart-spec =
     μ-loop
     loop-holds
     mul-p
-    index-1-p
-    index-2-p
+    element-copy-out-p
     mul-q
-    index-1-q
-    index-2-q
+    element-copy-out-q
+    array-read-first
+    array-read-second
     mul-at
     add-at
-    mul-at-2
-    index-1-at
-    index-2-at
+    array-read-at
     at-requires
     add-result
     returns
-    mul-climbed
-    index-1-climbed
-    index-2-climbed
+    array-read-climbed
     climbed-requires
     add-d
     sub-v
     loop-less
     loop-again
-    mul-climbed-2
-    index-1-climbed-2
-    index-2-climbed-2
+    array-read-climbed-2
     climbed-requires-2
     add-d-2
     sub-u

@@ -6,31 +6,31 @@ use Rattle.compose.proofs.summary.Summary.joined.Statement.{statement}
 use Rattle.compose.proofs.summary.Summary.joined.Tie as tie
 
 add-w : tie.Need-add-w
-add-w c = search needs
+add-w c = omega arith
 
 across-requires : tie.Need-across-requires
 across-requires c κs = search needs
 
 add-w-2 : tie.Need-add-w-2
-add-w-2 c = search needs
+add-w-2 c = omega arith
 
 add-even : tie.Need-add-even
-add-even c = search needs
+add-even c = omega arith
 
 even-across-requires : tie.Need-even-across-requires
 even-across-requires c κs = search needs
 
 add-even-2 : tie.Need-add-even-2
-add-even-2 c = search needs
+add-even-2 c = omega arith
 
 add-odd : tie.Need-add-odd
-add-odd c = search needs
+add-odd c = omega arith
 
 odd-across-requires : tie.Need-odd-across-requires
 odd-across-requires c κs = search needs
 
 add-odd-2 : tie.Need-add-odd-2
-add-odd-2 c = search needs
+add-odd-2 c = omega arith
 
 add-polarity : tie.Need-add-polarity
 add-polarity c = let p = c .before .before .before .before .before .before .before .before .before .before .before .before .pre in omega arith

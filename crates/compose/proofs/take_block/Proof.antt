@@ -1,4 +1,4 @@
--- `compose::measured` meets its contract. Assumes nothing.
+-- `compose::take_block` meets its contract. Assumes nothing.
 use Prim.Native.Nat.{ℕ, min}
 use mathlib.Core.List.{List}
 use mathlib.Core.Path.{_≡_, _∙_, ap, subst}
@@ -8,8 +8,8 @@ use Rattle.block.specs.Rows.{rowsOf}
 use Rattle.block.specs.Sums.{pairEntry, indicesBy}
 use Rattle.assembly.specs.Book.{bondBytes}
 use Rattle.compose.specs.Tables.{Copied}
-use Rattle.compose.proofs.measured.Statement.{statement}
-use Rattle.compose.proofs.measured.Tie as tie
+use Rattle.compose.proofs.take_block.Statement.{statement}
+use Rattle.compose.proofs.take_block.Tie as tie
 
 cast-n : tie.Need-cast-n
 cast-n c = search needs
@@ -42,6 +42,6 @@ returns c =
       subst (λ (x : List (List ℕ)). Copied (a .links .now) (a .placements) (a .f) x (a .out .now) (o .last .1 .1 .1 .1 .0)) e (o .ensures),
     )
 
-pub measured-spec : {M : Type 1} → statement M
-measured-spec =
+pub take-block-spec : {M : Type 1} → statement M
+take-block-spec =
     tie.close (tie.spec cast-n bonds-part-requires rows-requires copy-ends-requires sums-requires number-row-requires same-length returns)
