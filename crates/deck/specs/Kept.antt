@@ -64,7 +64,6 @@ first-same false f g other h = refl
 -- the tests that a block record passed
 pub record Fit (d : List ℕ) (at : ℕ) (done : List BlockAt) : Type 0 where
   pub numbered : blockAt d at .number ≡ 0 → ⊥
-  pub unused : used done (blockAt d at .number) ≡ false
   pub room : length done < mostBlocks
   pub fine : blockReply (blockAt d at .atoms) (bondBytes d (blockAt d at)) ≡ read tt
 
@@ -75,10 +74,8 @@ fit d at done e =
     let unfit = eqb number 0 || used done number || leb mostBlocks (length done) in
     let (u, p, f) = then-read (refuseIf unfit 14 at) _ e in
     let (q, r) = neither (eqb number 0 || used done number) (leb mostBlocks (length done)) (if-read unfit 14 at p) in
-    let (z, w) = neither (eqb number 0) (used done number) q in
     record {
-      numbered = eqb-false number 0 z;
-      unused = w;
+      numbered = eqb-false number 0 (neither (eqb number 0) (used done number) q .0);
       room = leb-false mostBlocks (length done) r;
       fine = unmoved (blockPlace at) (blockReply (blockAt d at .atoms) (bondBytes d (blockAt d at))) f;
     }
@@ -121,7 +118,7 @@ module _ (last : Kind) (d : List ℕ) where
   unfolding blocksReply Each
   kept e = keeps (suc mostBlocks) 0 [] tt (omega arith) e
 
-  -- the fuel lasts: more of it changes nothing
+  -- each block uses up one place of sixteen, so the fuel lasts
   lasts : (fuel at : ℕ) (done : List BlockAt) → length done ≤ mostBlocks → mostBlocks < fuel + length done → blocksFrom (suc fuel) last d at done ≡ blocksFrom fuel last d at done
   unfolding blocksFrom
   lasts zero at done l h = absurd (omega arith)
@@ -133,6 +130,7 @@ module _ (last : Kind) (d : List ℕ) where
       let n : length (done ++ blockAt d at ∷ []) ≡ length done + 1 = simp length-append in
       lasts fuel (endAt d at) (done ++ blockAt d at ∷ []) (omega arith) (omega arith))))
 
+  -- for the reader of `blocksReply`: its fuel only lets the recursion end, and no deck is read otherwise with more of it
   pub fuel-lasts : (more : ℕ) → blocksFrom (more + suc mostBlocks) last d 0 [] ≡ blocksReply last d
   unfolding blocksReply
   fuel-lasts zero = refl

@@ -165,10 +165,6 @@ at-past d = ap (λ (t : Bool). cond {A = ℕ} t 1 0) (eqb·suc-zero d)
 at0 : (x y : ℕ) → isAt 0 (x + 1 + y) ≡ 0
 at0 x y = ap (isAt 0) (omega arith) ∙ at-past (x + y)
 
-pub splits-at0 : Splits (isAt 0) []
-unfolding products
-splits-at0 = record { across = at0 }
-
 at-here : isAt 0 0 ≡ 1
 unfolding isAt
 at-here = refl
@@ -236,7 +232,6 @@ pub record Grown (new old other : (ℕ → ℕ) → ℕ) (d : ℕ) : Type 0 wher
       + oddOf d * other oddOne + oddOne d * other oddOne + oddOne d * other oddOf
   pub even-counts : new evenOne ≡ old evenOne + evenOne d * other oddOne + oddOne d * other evenOne
   pub odd-counts : new oddOne ≡ old oddOne + evenOne d * other evenOne + oddOne d * other oddOne
-  pub at-0 : new (isAt 0) ≡ old (isAt 0)
   pub at-1 : new (isAt 1) ≡ old (isAt 1) + isAt 0 d * other (isAt 0)
   pub at-2 : new (isAt 2) ≡ old (isAt 2) + isAt 0 d * other (isAt 1) + isAt 1 d * other (isAt 0)
 
@@ -249,7 +244,6 @@ grown new old other d law = record {
   odds = omega (arith, law _ _ splits-odd);
   even-counts = omega (arith, law _ _ splits-even-one);
   odd-counts = omega (arith, law _ _ splits-odd-one);
-  at-0 = omega (arith, law _ _ splits-at0);
   at-1 = omega (arith, law _ _ splits-at1);
   at-2 = omega (arith, law _ _ splits-at2);
 }

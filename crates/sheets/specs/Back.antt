@@ -98,10 +98,6 @@ pub fields-said : (d : List ℕ) (at : ℕ) → fieldsOf (saidFields (claimedAt 
 unfolding fieldsOf claimedAt fieldsAt
 fields-said d at = refl
 
-pub same-sheet : (x y : Indices) → fieldsOf x ≡ fieldsOf y → x ≡ y
-unfolding fieldsOf
-same-sheet x y e = ap saidFields e
-
 -- two sheets differ in no field exactly when they are equal
 pub none-wrong : (k : ℕ) (xs : List ℕ) → firstWrong k xs xs ≡ 0
 unfolding firstWrong
