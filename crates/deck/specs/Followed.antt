@@ -105,7 +105,7 @@ sheet-behind d s i =
 
 module _ (d : List ℕ) (k : Deck) (e : deckReply Composed d ≡ read k) where
   -- a deck that composes ends with its assembly
-  pub ends : k .sheet ≡ length d
+  ends : k .sheet ≡ length d
   unfolding sheetReply endReply
   ends =
       let p = parts Composed d k e in
@@ -128,11 +128,11 @@ module _ (d : List ℕ) (k : Deck) (e : deckReply Composed d ≡ read k) where
     payloads = payload-same d s (k .assembly) whole
 
     -- the molecule is the same with anything behind the deck, and what a sheet there claims is its own
-    pub same-graphs : graphAt (d ++ s) k ≡ graphAt d k
+    same-graphs : graphAt (d ++ s) k ≡ graphAt d k
     unfolding graphAt placedIn
     same-graphs = ap₂ (λ (b : Book) (xs : List ℕ). graphOn b (placementAt xs)) books payloads
 
-    pub same-joins : joinAt (d ++ s) k ≡ joinAt d k
+    same-joins : joinAt (d ++ s) k ≡ joinAt d k
     unfolding joinAt placedIn
     same-joins = ap (λ (xs : List ℕ). joinOn (placementAt xs)) payloads
 

@@ -27,7 +27,7 @@ pub record Listed (bs : List BlockAt) (x : ℕ) : Type 0 where
   pub within : index < length bs
   pub number : getD bs index noBlock .number ≡ x
 
-pub listed : (bs : List BlockAt) (x : ℕ) → used bs x ≡ true → Listed bs x
+listed : (bs : List BlockAt) (x : ℕ) → used bs x ≡ true → Listed bs x
 unfolding find
 listed [] x u =
     let (p, q) = both (not (eqb x 0)) (eqb 0 x) u in
@@ -39,7 +39,7 @@ listed (b ∷ bs) x u = go (eqb (b .number) x) refl u (listed bs x)
     go false e v more = let r = more v in record { index = suc (r .index); within = omega (arith, r .within); number = r .number }
 
 -- where each block has a number that is not 0, its number is found
-pub listed-used : (d : List ℕ) (bs : List BlockAt) (x : ℕ) → Each (Standing d) bs → Listed bs x → used bs x ≡ true
+listed-used : (d : List ℕ) (bs : List BlockAt) (x : ℕ) → Each (Standing d) bs → Listed bs x → used bs x ≡ true
 unfolding Each find
 listed-used d [] x s l = absurd (omega (arith, l .within))
 listed-used d (b ∷ bs) x s l = go (eqb (b .number) x) refl (listed-used d bs x (s .1))
@@ -85,7 +85,7 @@ module _ (d : List ℕ) (x : ℕ) where
       go (refused r) e (refused q) f = refl
 
   -- a deck says the same in both forms
-  pub same : (f g : Form) (k l : Deck) → deckReply f d ≡ read k → deckReply g d ≡ read l → k ≡ l
+  same : (f g : Form) (k l : Deck) → deckReply f d ≡ read k → deckReply g d ≡ read l → k ≡ l
   same f g k l p q =
       let a = parts f d k p .blocks in
       let b = parts g d l q .blocks in

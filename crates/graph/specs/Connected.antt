@@ -14,14 +14,14 @@ use Rattle.graph.specs.Distance.{not-true, walk-of-distance, distance-be
 use Rattle.graph.specs.Sums.{wider, last}
 
 -- a test on all atoms, as facts
-pub all-out : (n : ℕ) (p : ℕ → Bool) → allAtoms n p ≡ true → (v : ℕ) → Within n v → p v ≡ true
+all-out : (n : ℕ) (p : ℕ → Bool) → allAtoms n p ≡ true → (v : ℕ) → Within n v → p v ≡ true
 unfolding allAtoms
 all-out zero p e v w = absurd (omega arith)
 all-out (suc n) p e v w =
     let r = both (p (suc n)) (allAtoms n p) e in
     ⊎-elim (λ q. all-out n p (r .1) v (record { low = w .low; high = q })) (λ q. ap p q ∙ r .0) (le-suc-iff .0 (w .high))
 
-pub all-in : (n : ℕ) (p : ℕ → Bool) → ((v : ℕ) → Within n v → p v ≡ true) → allAtoms n p ≡ true
+all-in : (n : ℕ) (p : ℕ → Bool) → ((v : ℕ) → Within n v → p v ≡ true) → allAtoms n p ≡ true
 unfolding allAtoms
 all-in zero p h = refl
 all-in (suc n) p h = both-true (p (suc n)) (allAtoms n p) (h (suc n) (last n)) (all-in n p (λ v w. h v (wider w)))

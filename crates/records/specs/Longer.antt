@@ -50,7 +50,7 @@ module _ (d s : List ℕ) where
       ap (take len) (drop-append-le from d s (omega arith)) ∙ take-append-le len (drop from d) s (omega (arith, length-drop from d))
 
   module _ (at : ℕ) (whole : endAt d at ≤ length d) where
-    pub length-same : lengthAt (d ++ s) at ≡ lengthAt d at
+    length-same : lengthAt (d ++ s) at ≡ lengthAt d at
     length-same = little-same 2 at (omega arith)
 
     pub end-same : endAt (d ++ s) at ≡ endAt d at
