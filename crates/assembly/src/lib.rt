@@ -28,6 +28,14 @@ pub struct BlockAt {
     pub bonds: u16,
 }
 
+// An empty place: 0 is no block's number.
+pub const NO_BLOCK: BlockAt = BlockAt {
+    number: 0,
+    start: 0,
+    atoms: 0,
+    bonds: 0,
+};
+
 // The blocks of a book, as many as are counted, then empty places.
 pub type BlockTable = [BlockAt; BLOCKS];
 
@@ -43,16 +51,10 @@ pub struct Placement {
 pub fn find_block(blocks: BlockTable, count: usize, number: usize) -> BlockAt
     ensures { λ r. ⌜ r ≡ find (take count blocks) number ⌝ }
 {
-    let none = BlockAt {
-        number: 0,
-        start: 0,
-        atoms: 0,
-        bonds: 0,
-    };
     let mut i = 0;
     while i < BLOCKS {
         if count <= i {
-            return none;
+            return NO_BLOCK;
         }
         let b = blocks[i];
         if (b.number as usize) == number {
@@ -60,7 +62,7 @@ pub fn find_block(blocks: BlockTable, count: usize, number: usize) -> BlockAt
         }
         i += 1;
     }
-    none
+    NO_BLOCK
 }
 
 // Whether a block that was looked for has the number: 0 is no block's.
@@ -106,7 +108,7 @@ pub fn placement_at(xs: &[u8], k: usize) -> Placement
 }
 
 // 0 or above n.
-fn is_outside(n: usize, v: usize) -> bool
+pub fn is_outside(n: usize, v: usize) -> bool
     ensures { λ r. ⌜ r ≡ isOutside n v ⌝ }
 {
     if v == 0 {

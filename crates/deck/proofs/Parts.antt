@@ -44,10 +44,6 @@ module _ (d : List ℕ) (at : ℕ) where
   sheet-end e = rw e
 
 module _ (form : Form) (d : List ℕ) where
-  pub deck-long : longestDeck < length d → deckReply form d ≡ refused (refusal 20 0)
-  unfolding deckReply
-  deck-long h = rw (lt-ltb longestDeck (length d) h)
-
   module _ (short : length d ≤ longestDeck) where
     pub bad-blocks : (r : Refusal) → blocksReply assemblyKind d ≡ refused r → deckReply form d ≡ refused r
     unfolding deckReply

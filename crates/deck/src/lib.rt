@@ -14,6 +14,7 @@ ghost use Rattle.deck.specs.Molecule.{claimedAt, saidFields};
 ghost use Rattle.deck.specs.Said.{refusedDeck, tabledDeck, movedReply, saidDeck};
 use assembly::BLOCKS;
 use assembly::BlockAt;
+use assembly::NO_BLOCK;
 use assembly::Placement;
 use block::Indices;
 use block::Refusal;
@@ -135,13 +136,7 @@ fn second_kind(count: usize, last: Kind) -> Kind
 fn deck_refused(reply: Reply) -> DeckRead
     ensures { λ r. ⌜ r ≡ refusedDeck reply ⌝ }
 {
-    let none = BlockAt {
-        number: 0,
-        start: 0,
-        atoms: 0,
-        bonds: 0,
-    };
-    let blocks = [none; BLOCKS];
+    let blocks = [NO_BLOCK; BLOCKS];
     let layout = Layout {
         count: 0,
         blocks,
@@ -175,13 +170,7 @@ fn deck_at(d: &[u8], blocks: [BlockAt; BLOCKS], count: usize, at: usize) -> Deck
 fn read_blocks(d: &[u8], last: Kind) -> DeckRead
     ensures { λ r. ⌜ r ≡ saidDeck (blocksReply last (now (d .entry))) ⌝ }
 {
-    let none = BlockAt {
-        number: 0,
-        start: 0,
-        atoms: 0,
-        bonds: 0,
-    };
-    let mut blocks = [none; BLOCKS];
+    let mut blocks = [NO_BLOCK; BLOCKS];
     let mut count = 0;
     let mut next = 0;
     loop {
