@@ -6,11 +6,14 @@ ghost use lib.ListN.{length, take};
 ghost use Rattle.graph.specs.Graph.{degree};
 ghost use Rattle.block.specs.Block.{bondsOf, isOutside, saidBlock};
 ghost use Rattle.records.specs.Bytes.{PartOf};
+ghost use Rattle.records.specs.Records.{blockKind};
 ghost use Rattle.assembly.specs.Book.{find, isNumbered, blockGraph, bookOf};
 ghost use Rattle.assembly.specs.Placements.{placementAt, joinsOn, joinOn, isFull, mostPlacements, firstFault, parentFault, joinFault, laterFault, fault, assemblyReply};
 use block::LIMIT;
 use block::Refusal;
 use block::Reply;
+use records::ASSEMBLY;
+use records::BLOCK;
 use records::byte_at;
 use records::le16_at;
 use records::part;
@@ -19,6 +22,15 @@ use records::part;
 pub const BLOCKS: usize = 16;
 
 pub const PLACEMENTS: usize = 32;
+
+// The bytes before a block's bonds in its payload, and of a bond; those before an assembly's placements, and of a placement.
+pub const BLOCK_HEAD: usize = BLOCK.fixed as usize;
+
+pub const BOND_BYTES: usize = BLOCK.item as usize;
+
+const ASSEMBLY_HEAD: usize = ASSEMBLY.fixed as usize;
+
+pub const PLACEMENT_BYTES: usize = ASSEMBLY.item as usize;
 
 // Where a block stands: its number, the first byte of its payload, its atoms and its bonds.
 pub struct BlockAt {
@@ -77,20 +89,20 @@ pub fn is_numbered(b: BlockAt, number: usize) -> bool
 
 // The part that holds a block's bonds.
 pub fn bonds_part(d: &[u8], b: BlockAt) -> &[u8]
-    ensures { λ r. ⌜ PartOf (d .entry) (b .start + 6) (2 * b .bonds) r ⌝ }
+    ensures { λ r. ⌜ PartOf (d .entry) (b .start + blockKind .fixed) (blockKind .item * b .bonds) r ⌝ }
 {
     let start = b.start;
     if d.len() < start {
         return part(d, start, 0);
     }
-    part(d, start + 6, 2 * (b.bonds as usize))
+    part(d, start + BLOCK_HEAD, BOND_BYTES * (b.bonds as usize))
 }
 
 // The placement at an index from 0 of an assembly's payload.
 pub fn placement_at(xs: &[u8], k: usize) -> Placement
     ensures { λ r. ⌜ r ≡ placementAt (now (xs .entry)) k ⌝ }
 {
-    if xs.len() / 6 < k {
+    if xs.len() / PLACEMENT_BYTES < k {
         return Placement {
             block: 0,
             parent: 0,
@@ -98,12 +110,12 @@ pub fn placement_at(xs: &[u8], k: usize) -> Placement
             own: 0,
         };
     }
-    let at = 6 * k;
+    let at = ASSEMBLY_HEAD + PLACEMENT_BYTES * k;
     Placement {
-        block: le16_at(xs, at + 2),
-        parent: le16_at(xs, at + 4),
-        site: byte_at(xs, at + 6),
-        own: byte_at(xs, at + 7),
+        block: le16_at(xs, at),
+        parent: le16_at(xs, at + 2),
+        site: byte_at(xs, at + 4),
+        own: byte_at(xs, at + 5),
     }
 }
 

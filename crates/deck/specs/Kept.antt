@@ -13,7 +13,6 @@ use Rattle.block.specs.Block.{blockReply}
 use Rattle.block.specs.Chain.{not-read, then-read, if-read}
 use Rattle.block.specs.Faults.{neither}
 use Rattle.block.specs.declared.Refusal.{Refusal}
-use Rattle.records.specs.Bytes.{le16}
 use Rattle.records.specs.Records.{blockKind, lengthAt, kindAt, endAt, wanted, recordReply}
 use Rattle.records.specs.Taken.{taken, of-first, of-other, of-one}
 use Rattle.records.specs.declared.Kind.{Kind}
@@ -29,7 +28,7 @@ Each P (b ∷ bs) = P b × Each P bs
 -- a block has a number, lies within the deck, and is not refused
 pub record Standing (d : List ℕ) (b : BlockAt) : Type 0 where
   pub numbered : b .number ≡ 0 → ⊥
-  pub within : b .start + 6 + 2 * b .bonds ≤ length d
+  pub within : b .start + blockKind .fixed + blockKind .item * b .bonds ≤ length d
   pub fine : blockReply (b .atoms) (bondBytes d b) ≡ read tt
 
 -- the blocks of a deck stand in it, and after them a record of the last kind
@@ -86,8 +85,6 @@ module _ (last : Kind) (d : List ℕ) where
   stands at done e k f =
       let w = taken d at (kindsAfter done last) e .whole in
       let n : lengthAt d at ≡ wanted blockKind d at = long done e in
-      let p : at + 4 + 4 ≡ at + 8 = omega arith in
-      let m : lengthAt d at ≡ 6 + 2 * le16 d (at + 8) = n ∙ ap (λ (x : ℕ). 6 + 2 * le16 d x) p in
       record { numbered = f .numbered; within = omega arith; fine = f .fine }
     where
       long : (done : List BlockAt) → recordReply (kindsAfter done last) d at ≡ read tt → lengthAt d at ≡ wanted blockKind d at

@@ -13,6 +13,7 @@ use Rattle.graph.specs.Distance as distance
 use Rattle.block.specs.Read.{Read, refused, read}
 use Rattle.block.specs.Chain.{not-read}
 use Rattle.records.specs.Bytes.{part}
+use Rattle.records.specs.Records.{blockKind}
 use Rattle.assembly.specs.Book.{noBlock, find, isNumbered, used}
 use Rattle.assembly.specs.declared.BlockAt.{BlockAt}
 use Rattle.deck.specs.Deck.{Deck, deckReply, nowhere, payload, payloadOr, blockSpan, blockPart}
@@ -60,7 +61,7 @@ unfolding payload
 payload-some d bs x s u e =
     let b = find bs x in
     let w = found d bs x s u .within in
-    let n : length (take (6 + 2 * b .bonds) (drop (b .start) d)) ≡ 0 = ap length (rw u at e) in
+    let n : length (take (blockKind .fixed + blockKind .item * b .bonds) (drop (b .start) d)) ≡ 0 = ap length (rw u at e) in
     omega (arith, simp (length-take, length-drop) at n)
 
 payload-none : (d : List ℕ) (bs : List BlockAt) (x : ℕ) → used bs x ≡ false → part d (payload bs x .from) (payload bs x .len) ≡ []

@@ -13,14 +13,18 @@ ghost use Rattle.deck.specs.Deck.{mostBlocks, longestDeck, blockAt, bloc
 ghost use Rattle.deck.specs.Molecule.{claimedAt, saidFields};
 ghost use Rattle.deck.specs.Said.{refusedDeck, tabledDeck, movedReply, saidDeck};
 use assembly::BLOCKS;
+use assembly::BLOCK_HEAD;
+use assembly::BOND_BYTES;
 use assembly::BlockAt;
 use assembly::NO_BLOCK;
+use assembly::PLACEMENT_BYTES;
 use assembly::Placement;
 use block::Indices;
 use block::Refusal;
 use block::Reply;
 use records::ASSEMBLY;
 use records::BLOCK;
+use records::HEAD;
 use records::Kind;
 use records::SHEET;
 use records::le16_at;
@@ -32,6 +36,9 @@ use records::record_at;
 
 // The most bytes of a deck.
 pub const LONGEST: usize = 32768;
+
+// Where in a block's payload its bond count stands.
+const COUNT: usize = BLOCK.count as usize;
 
 // A deck to be composed has no sheet, a deck to be judged has one.
 pub enum Form {
@@ -78,7 +85,7 @@ fn placement_place(at: usize, r: Refusal) -> usize
     requires { ⌜ (at ≤ longestDeck) × (r .place ≤ mostPlacements) ⌝ }
     ensures { λ p. ⌜ p ≡ placementPlace at r ⌝ }
 {
-    at + 6 * r.place
+    at + PLACEMENT_BYTES * r.place
 }
 
 // What the block record at a place says.
@@ -86,11 +93,12 @@ fn block_at(d: &[u8], at: usize) -> BlockAt
     requires { ⌜ at ≤ length (now d) ⌝ }
     ensures { λ r. ⌜ r ≡ blockAt (now (d .entry)) at ⌝ }
 {
+    let start = at + HEAD;
     BlockAt {
-        number: le16_at(d, at + 4),
-        start: at + 4,
-        atoms: le16_at(d, at + 6),
-        bonds: le16_at(d, at + 8),
+        number: le16_at(d, start),
+        start,
+        atoms: le16_at(d, start + 2),
+        bonds: le16_at(d, start + COUNT),
     }
 }
 
@@ -158,7 +166,7 @@ fn deck_at(d: &[u8], blocks: [BlockAt; BLOCKS], count: usize, at: usize) -> Deck
         blocks,
         assembly: at,
         placements: le16_at(xs, 0) as usize,
-        sheet: at + 4 + (le16_at(d, at) as usize),
+        sheet: at + HEAD + (le16_at(d, at) as usize),
     };
     DeckRead {
         reply: Reply::Fine,
@@ -188,7 +196,7 @@ fn read_blocks(d: &[u8], last: Kind) -> DeckRead
         };
         blocks[count] = b;
         count += 1;
-        next = next + 4 + (le16_at(d, next) as usize);
+        next = next + HEAD + (le16_at(d, next) as usize);
     }
 }
 
@@ -232,7 +240,7 @@ fn sheet_reply(form: Form, d: &[u8], at: usize) -> Reply
     let Reply::Fine = r else {
         return r;
     };
-    end_reply(d, at + 4 + (le16_at(d, at) as usize))
+    end_reply(d, at + HEAD + (le16_at(d, at) as usize))
 }
 
 // What a deck says: record by record, each taken or refused with its place.
@@ -271,7 +279,7 @@ fn payload_of(d: &[u8], blocks: [BlockAt; BLOCKS], count: usize, number: usize) 
     if !assembly::is_numbered(b, number) {
         return part(d, 0, 0);
     }
-    part(d, b.start, 6 + 2 * (b.bonds as usize))
+    part(d, b.start, BLOCK_HEAD + BOND_BYTES * (b.bonds as usize))
 }
 
 // The part of a deck that holds the payload of a block: empty exactly where the deck is refused in both forms or has no such block.
@@ -316,7 +324,7 @@ pub fn claimed(d: &[u8], sheet: usize) -> Indices
             polarity: 0,
         };
     }
-    let atoms = sheet + 4;
+    let atoms = sheet + HEAD;
     let w = atoms + 4;
     let even = w + 8;
     let odd = even + 8;

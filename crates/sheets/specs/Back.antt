@@ -12,7 +12,7 @@ use lib.Seq.{getD-drop, drop-drop, drop-append-seam}
 use Rattle.block.specs.Read.{read}
 use Rattle.block.specs.declared.Indices.{Indices}
 use Rattle.records.specs.Bytes.{byteAt, little}
-use Rattle.records.specs.Records.{sheetKind}
+use Rattle.records.specs.Records.{headBytes, sheetKind}
 use Rattle.deck.specs.Deck.{longestDeck, Deck, deckReply}
 use Rattle.deck.specs.Followed.{IsSheet, followed, claims}
 use Rattle.deck.specs.declared.Form.the-variants.{Composed, Judged}
@@ -81,7 +81,7 @@ module _ (x : Indices) (fit : Fit widths (fieldsOf x)) where
   unfolding fieldsAt
   is-sheet = record { size = length-sheet x; payload = ap (λ (l : List ℕ). getD l 0 0) read-whole; kind = ap (λ (l : List ℕ). getD l 1 0) read-whole }
 
-  sheet-fields : fieldsAt widths bytes 4 ≡ fieldsOf x
+  sheet-fields : fieldsAt widths bytes headBytes ≡ fieldsOf x
   unfolding fieldsAt
   sheet-fields = ap (drop 2) read-whole
 
