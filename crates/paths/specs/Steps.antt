@@ -55,7 +55,7 @@ unfolding pathsUsing pathCount
 using-le g e i j = count-le (uses e) (shortestPaths g i j)
 
 -- one more bond: a walk to j is a walk to a neighbour, and j
-walks-suc : (g : Graph) (k i j : ℕ) (q : List ℕ → Bool)
+pub walks-suc : (g : Graph) (k i j : ℕ) (q : List ℕ → Bool)
     → count q (walks g (suc k) i j) ≡ sum (g .atoms) (λ v. cond (bonded g v j) (count (λ p. q (j ∷ p)) (walks g k i v)) 0)
 unfolding walks
 walks-suc g k i j q =
