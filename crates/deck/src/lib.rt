@@ -16,6 +16,7 @@ use assembly::BLOCKS;
 use assembly::BLOCK_HEAD;
 use assembly::BOND_BYTES;
 use assembly::BlockAt;
+use assembly::BlockTable;
 use assembly::NO_BLOCK;
 use assembly::PLACEMENT_BYTES;
 use assembly::Placement;
@@ -49,7 +50,7 @@ pub enum Form {
 // What stands where: the blocks, the assembly's first byte, how many placements it has, and the first byte after it.
 pub struct Layout {
     pub count: usize,
-    pub blocks: [BlockAt; BLOCKS],
+    pub blocks: BlockTable,
     pub assembly: usize,
     pub placements: usize,
     pub sheet: usize,
@@ -103,7 +104,7 @@ fn block_at(d: &[u8], at: usize) -> BlockAt
 }
 
 // Whether a block's number is 0 or was used before, or there is no room for a block.
-fn is_unfit(blocks: [BlockAt; BLOCKS], count: usize, number: usize) -> bool
+fn is_unfit(blocks: BlockTable, count: usize, number: usize) -> bool
     requires { ⌜ count ≤ mostBlocks ⌝ }
     ensures { λ r. ⌜ r ≡ (eqb number 0 || used (take count blocks) number || leb mostBlocks (length (take count blocks))) ⌝ }
 {
@@ -117,7 +118,7 @@ fn is_unfit(blocks: [BlockAt; BLOCKS], count: usize, number: usize) -> bool
 }
 
 // Refusal 14 and the block's own of the record at a place, after the first `count` blocks.
-fn block_reply(d: &[u8], at: usize, b: BlockAt, blocks: [BlockAt; BLOCKS], count: usize) -> Reply
+fn block_reply(d: &[u8], at: usize, b: BlockAt, blocks: BlockTable, count: usize) -> Reply
     requires { ⌜ (count ≤ mostBlocks) × (b ≡ blockAt (now d) at) ⌝ }
     ensures { λ r. ⌜ r ≡ saidBlock (blockReplyAt (now (d .entry)) at (take count blocks)) ⌝ }
 {
@@ -156,7 +157,7 @@ fn deck_refused(reply: Reply) -> DeckRead
 }
 
 // A deck whose first `count` blocks end before the record at a place.
-fn deck_at(d: &[u8], blocks: [BlockAt; BLOCKS], count: usize, at: usize) -> DeckRead
+fn deck_at(d: &[u8], blocks: BlockTable, count: usize, at: usize) -> DeckRead
     requires { ⌜ at ≤ length (now d) ⌝ }
     ensures { λ r. ⌜ r ≡ tabledDeck (now (d .entry)) blocks count at ⌝ }
 {
@@ -201,7 +202,7 @@ fn read_blocks(d: &[u8], last: Kind) -> DeckRead
 }
 
 // Refusals 15 to 19 of the assembly record at a place, over the first `count` blocks.
-fn assembly_reply(d: &[u8], at: usize, blocks: [BlockAt; BLOCKS], count: usize) -> Reply
+fn assembly_reply(d: &[u8], at: usize, blocks: BlockTable, count: usize) -> Reply
     requires { ⌜ at ≤ longestDeck ⌝ }
     ensures { λ r. ⌜ r ≡ saidBlock (assemblyReplyAt (now (d .entry)) (take count blocks) at) ⌝ }
 {
@@ -272,7 +273,7 @@ pub fn read_deck(d: &[u8], form: Form) -> DeckRead
 }
 
 // The payload of the block of a number among the first `count`, and nothing where there is no such block.
-fn payload_of(d: &[u8], blocks: [BlockAt; BLOCKS], count: usize, number: usize) -> &[u8]
+fn payload_of(d: &[u8], blocks: BlockTable, count: usize, number: usize) -> &[u8]
     ensures { λ r. ⌜ PartOf (d .entry) (payload (take count blocks) number .from) (payload (take count blocks) number .len) r ⌝ }
 {
     let b = assembly::find_block(blocks, count, number);
