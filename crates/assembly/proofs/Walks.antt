@@ -9,7 +9,7 @@ use borrow.Author.Tests.{eq-eqb, ne-eqb}
 use lib.Dec.{eqb}
 use lib.ListN.{length, take, drop, getD, drop-of-length-le, length-take, length-drop}
 use lib.Seq.{drop-cons, getD-take}
-use Rattle.graph.specs.Graph.{bond, degree, sum}
+use Rattle.graph.specs.Graph.{degree, sum}
 use Rattle.graph.specs.Assembly.{Join}
 use Rattle.block.specs.Block.{bondsOf}
 use Rattle.assembly.specs.Book.{noBlock, find}
@@ -18,7 +18,7 @@ use Rattle.assembly.specs.declared.BlockAt.{BlockAt}
 
 -- the blocks from i on of the first `count` of a table
 module _ (t : List BlockAt) (count x i : ℕ) where
-  abbrev pub left : List BlockAt
+  abbrev left : List BlockAt
   left = drop i (take count t)
 
   pub find-over : length (take count t) ≤ i → find left x ≡ noBlock

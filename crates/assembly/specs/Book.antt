@@ -6,6 +6,7 @@ use lib.Dec.{eqb}
 use Rattle.graph.specs.Graph.{Graph}
 use Rattle.block.specs.Block.{graphOf}
 use Rattle.records.specs.Bytes.{part}
+use Rattle.records.specs.Records.{blockKind}
 use Rattle.assembly.specs.declared.BlockAt.{BlockAt}
 
 pub record Book : Type 0 where
@@ -29,7 +30,7 @@ used bs x = isNumbered (find bs x) x
 
 -- a block's bonds stand behind its number, n and m
 abbrev pub bondBytes : List ℕ → BlockAt → List ℕ
-bondBytes d b = part d (b .start + 6) (2 * b .bonds)
+bondBytes d b = part d (b .start + blockKind .fixed) (blockKind .item * b .bonds)
 
 abbrev pub blockGraph : List ℕ → BlockAt → Graph
 blockGraph d b = graphOf (b .atoms) (bondBytes d b)

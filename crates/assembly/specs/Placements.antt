@@ -8,19 +8,22 @@ use Rattle.graph.specs.Assembly.{Join}
 use Rattle.block.specs.Read.{Read, read, _then_, refuseIf, refuseFor}
 use Rattle.block.specs.Block.{limit, isOutside}
 use Rattle.records.specs.Bytes.{byteAt, le16}
+use Rattle.records.specs.Records.{assemblyKind}
 use Rattle.assembly.specs.Book.{Book}
 use Rattle.assembly.specs.declared.Placement.{Placement}
 
 abbrev pub mostPlacements : ℕ
 mostPlacements = 32
 
--- An assembly's payload: placement count p (2), then p placements of 6 bytes.
+-- An assembly's payload: placement count p (2), then p placements.
 abbrev pub placementCount : List ℕ → ℕ
 placementCount xs = le16 xs 0
 
 -- Block number (2), parent placement (2), parent's atom (1), own atom (1). Placement number k stands at index k - 1.
 unfoldable pub placementAt : List ℕ → ℕ → Placement
-placementAt xs k = record { block = le16 xs (6 * k + 2); parent = le16 xs (6 * k + 4); site = byteAt xs (6 * k + 6); own = byteAt xs (6 * k + 7) }
+placementAt xs k =
+    let at = assemblyKind .fixed + assemblyKind .item * k in
+    record { block = le16 xs at; parent = le16 xs (at + 2); site = byteAt xs (at + 4); own = byteAt xs (at + 5) }
 
 unfoldable pub joinOf : Placement → Join
 joinOf q = record { parent = q .parent; site = q .site; own = q .own }

@@ -12,7 +12,7 @@ use lib.Dec.{eqb}
 use Rattle.graph.specs.Graph.{Graph, Within, Molecule, degree}
 use Rattle.graph.specs.Assembly.{Join, atomOf, written, Stands, Assembled, Placed}
 use Rattle.graph.specs.Climb.{sooner}
-use Rattle.block.specs.Read.{refused, read, _then_, refuseIf, refuseFor}
+use Rattle.block.specs.Read.{read, refuseIf, refuseFor}
 use Rattle.block.specs.Block.{limit, isOutside}
 use Rattle.block.specs.Chain.{then-read, if-read, for-read}
 use Rattle.block.specs.Faults.{neither, inside}

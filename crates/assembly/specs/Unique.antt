@@ -5,9 +5,10 @@ use mathlib.Core.List.{List}
 use mathlib.Core.Path.{_≡_}
 use lib.ListN.{take}
 use denote.Ref.{RefT, ptr, now}
-use Rattle.block.specs.Block.{saidBlock}
+use Rattle.block.specs.Block.{isOutside, saidBlock}
 use Rattle.block.specs.declared.Reply.{Reply}
 use Rattle.records.specs.Bytes.{PartOf}
+use Rattle.records.specs.Records.{blockKind}
 use Rattle.records.specs.Unique.{unique, unique-part}
 use Rattle.assembly.specs.Book.{find, isNumbered, bookOf}
 use Rattle.assembly.specs.Placements.{placementAt, assemblyReply}
@@ -20,7 +21,10 @@ unique-find-block blocks count number r s = unique
 pub unique-is-numbered : (b : BlockAt) (number : ℕ) (r s : Bool) → r ≡ isNumbered b number → s ≡ isNumbered b number → r ≡ s
 unique-is-numbered b number r s = unique
 
-pub unique-bonds-part : (s : RefT (List ℕ)) (b : BlockAt) (q r : RefT (List ℕ)) → PartOf s (b .start + 6) (2 * b .bonds) q → PartOf s (b .start + 6) (2 * b .bonds) r → (now q ≡ now r) × (ptr q ≡ ptr r)
+pub unique-is-outside : (n v : ℕ) (r s : Bool) → r ≡ isOutside n v → s ≡ isOutside n v → r ≡ s
+unique-is-outside n v r s = unique
+
+pub unique-bonds-part : (s : RefT (List ℕ)) (b : BlockAt) (q r : RefT (List ℕ)) → PartOf s (b .start + blockKind .fixed) (blockKind .item * b .bonds) q → PartOf s (b .start + blockKind .fixed) (blockKind .item * b .bonds) r → (now q ≡ now r) × (ptr q ≡ ptr r)
 unique-bonds-part s b q r = unique-part
 
 pub unique-placement-at : (xs : List ℕ) (k : ℕ) (r s : Placement) → r ≡ placementAt xs k → s ≡ placementAt xs k → r ≡ s

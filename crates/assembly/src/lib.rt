@@ -6,11 +6,14 @@ ghost use lib.ListN.{length, take};
 ghost use Rattle.graph.specs.Graph.{degree};
 ghost use Rattle.block.specs.Block.{bondsOf, isOutside, saidBlock};
 ghost use Rattle.records.specs.Bytes.{PartOf};
+ghost use Rattle.records.specs.Records.{blockKind};
 ghost use Rattle.assembly.specs.Book.{find, isNumbered, blockGraph, bookOf};
 ghost use Rattle.assembly.specs.Placements.{placementAt, joinsOn, joinOn, isFull, mostPlacements, firstFault, parentFault, joinFault, laterFault, fault, assemblyReply};
 use block::LIMIT;
 use block::Refusal;
 use block::Reply;
+use records::ASSEMBLY;
+use records::BLOCK;
 use records::byte_at;
 use records::le16_at;
 use records::part;
@@ -20,6 +23,15 @@ pub const BLOCKS: usize = 16;
 
 pub const PLACEMENTS: usize = 32;
 
+// The bytes before a block's bonds in its payload, and of a bond; those before an assembly's placements, and of a placement.
+pub const BLOCK_HEAD: usize = BLOCK.fixed as usize;
+
+pub const BOND_BYTES: usize = BLOCK.item as usize;
+
+const ASSEMBLY_HEAD: usize = ASSEMBLY.fixed as usize;
+
+pub const PLACEMENT_BYTES: usize = ASSEMBLY.item as usize;
+
 // Where a block stands: its number, the first byte of its payload, its atoms and its bonds.
 pub struct BlockAt {
     pub number: u16,
@@ -27,6 +39,14 @@ pub struct BlockAt {
     pub atoms: u16,
     pub bonds: u16,
 }
+
+// An empty place: 0 is no block's number.
+pub const NO_BLOCK: BlockAt = BlockAt {
+    number: 0,
+    start: 0,
+    atoms: 0,
+    bonds: 0,
+};
 
 // The blocks of a book, as many as are counted, then empty places.
 pub type BlockTable = [BlockAt; BLOCKS];
@@ -43,16 +63,10 @@ pub struct Placement {
 pub fn find_block(blocks: BlockTable, count: usize, number: usize) -> BlockAt
     ensures { λ r. ⌜ r ≡ find (take count blocks) number ⌝ }
 {
-    let none = BlockAt {
-        number: 0,
-        start: 0,
-        atoms: 0,
-        bonds: 0,
-    };
     let mut i = 0;
     while i < BLOCKS {
         if count <= i {
-            return none;
+            return NO_BLOCK;
         }
         let b = blocks[i];
         if (b.number as usize) == number {
@@ -60,7 +74,7 @@ pub fn find_block(blocks: BlockTable, count: usize, number: usize) -> BlockAt
         }
         i += 1;
     }
-    none
+    NO_BLOCK
 }
 
 // Whether a block that was looked for has the number: 0 is no block's.
@@ -75,20 +89,20 @@ pub fn is_numbered(b: BlockAt, number: usize) -> bool
 
 // The part that holds a block's bonds.
 pub fn bonds_part(d: &[u8], b: BlockAt) -> &[u8]
-    ensures { λ r. ⌜ PartOf (d .entry) (b .start + 6) (2 * b .bonds) r ⌝ }
+    ensures { λ r. ⌜ PartOf (d .entry) (b .start + blockKind .fixed) (blockKind .item * b .bonds) r ⌝ }
 {
     let start = b.start;
     if d.len() < start {
         return part(d, start, 0);
     }
-    part(d, start + 6, 2 * (b.bonds as usize))
+    part(d, start + BLOCK_HEAD, BOND_BYTES * (b.bonds as usize))
 }
 
 // The placement at an index from 0 of an assembly's payload.
 pub fn placement_at(xs: &[u8], k: usize) -> Placement
     ensures { λ r. ⌜ r ≡ placementAt (now (xs .entry)) k ⌝ }
 {
-    if xs.len() / 6 < k {
+    if xs.len() / PLACEMENT_BYTES < k {
         return Placement {
             block: 0,
             parent: 0,
@@ -96,17 +110,17 @@ pub fn placement_at(xs: &[u8], k: usize) -> Placement
             own: 0,
         };
     }
-    let at = 6 * k;
+    let at = ASSEMBLY_HEAD + PLACEMENT_BYTES * k;
     Placement {
-        block: le16_at(xs, at + 2),
-        parent: le16_at(xs, at + 4),
-        site: byte_at(xs, at + 6),
-        own: byte_at(xs, at + 7),
+        block: le16_at(xs, at),
+        parent: le16_at(xs, at + 2),
+        site: byte_at(xs, at + 4),
+        own: byte_at(xs, at + 5),
     }
 }
 
 // 0 or above n.
-fn is_outside(n: usize, v: usize) -> bool
+pub fn is_outside(n: usize, v: usize) -> bool
     ensures { λ r. ⌜ r ≡ isOutside n v ⌝ }
 {
     if v == 0 {

@@ -10,7 +10,7 @@ use Rattle.block.specs.Read.{Read, refused, read, refusal}
 use Rattle.block.specs.Block.{graphOf, isOutside, blockReply}
 use Rattle.block.specs.Index.{distanceReply, saidDistance}
 use Rattle.block.specs.declared.Refusal.{Refusal}
-use Rattle.block.specs.declared.Reply.the-variants.{Fine, Refused}
+use Rattle.block.specs.declared.Reply.the-variants.{Fine}
 use Rattle.block.specs.declared.Apart.{Apart}
 use Rattle.block.specs.declared.Apart.the-variants as apart
 use Rattle.assembly.specs.Book.{find, bondBytes, bookOf}
@@ -23,14 +23,10 @@ use Rattle.deck.specs.declared.Form.the-variants.{Composed}
 use Rattle.climb.specs.Placed.{isMissing, placedReply}
 use Rattle.climb.specs.Pairs.{deckOf, laid-out, between, Pair}
 
--- a deck is read, or refused
+-- a deck that is fine is read
 pub deck-read : (x : Read Deck) (r : DeckRead) → r ≡ saidDeck x → r .reply ≡ Fine → x ≡ read (deckOf (r .layout))
 deck-read (refused q) r e f = let z : _≡_ {A = ℕ} 0 1 = cc in absurd (omega arith)
 deck-read (read k) r e f = rw e (ap read (sym (laid-out k)))
-
-pub deck-refused : (x : Read Deck) (r : DeckRead) (q : Refusal) → r ≡ saidDeck x → r .reply ≡ Refused q → x ≡ refused q
-deck-refused (refused p) r q e f = cc
-deck-refused (read k) r q e f = let z : _≡_ {A = ℕ} 0 1 = cc in absurd (omega arith)
 
 -- the block of the placement at an index
 module _ (d : List ℕ) (deck : Deck) (n : ℕ) (b : BlockAt) (e : b ≡ find (deck .blocks) (placedIn d deck n .block)) where

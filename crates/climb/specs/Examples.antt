@@ -1,7 +1,6 @@
 -- Document 01's deck of two rings of 6, by computing: distances of its atoms, and a query about one that does not exist.
 use Prim.Native.Nat.{ℕ}
 use mathlib.Core.Path.{_≡_, refl}
-use mathlib.Core.List.{List, [], _∷_}
 use Rattle.graph.specs.Graph.{joins, anyJoins, bonded, anyAtom, reaches, firstFrom, distance, allAtoms, connected, degree, sum}
 use Rattle.graph.specs.Assembly.{shifted, joined, startAt, written}
 use Rattle.block.specs.Read.{Read, refused, read, refusal}
@@ -12,17 +11,13 @@ use Rattle.assembly.specs.Book.{find, bookOf}
 use Rattle.assembly.specs.Placements.{placementAt, joinOf, joinEnds, joinsOn, bondsOn, firstFault, parentFault, joinFault, laterFault, fault, assemblyReply}
 use Rattle.assembly.specs.Placements as placements
 use Rattle.deck.specs.Deck.{blockReplyAt, assemblyReplyAt, blocksFrom, blocksReply, endReply, sheetReply, deckReply}
+use Rattle.deck.specs.Examples.{document}
 use Rattle.deck.specs.Molecule.{placedIn, graphAt, joinAt, moleculeOf}
 use Rattle.climb.specs.Placed.{isMissing, placedReply}
 
-rings : List ℕ
-rings =
-    18 ∷ 0 ∷ 1 ∷ 0 ∷ 1 ∷ 0 ∷ 6 ∷ 0 ∷ 6 ∷ 0 ∷ 1 ∷ 2 ∷ 2 ∷ 3 ∷ 3 ∷ 4 ∷ 4 ∷ 5 ∷ 5 ∷ 6 ∷ 6 ∷ 1
-    ∷ 14 ∷ 0 ∷ 2 ∷ 0 ∷ 2 ∷ 0 ∷ 1 ∷ 0 ∷ 0 ∷ 0 ∷ 0 ∷ 0 ∷ 1 ∷ 0 ∷ 1 ∷ 0 ∷ 1 ∷ 1 ∷ []
-
 asked : ℕ → ℕ → ℕ → ℕ → Read ℕ
-unfolding rings joins anyJoins bonded anyAtom reaches firstFrom distance allAtoms connected degree sum bondsOf bondFault bondsReply blockReply little kindReply lengthReply recordReply find bookOf placementAt joinOf joinEnds joinsOn bondsOn firstFault parentFault joinFault laterFault fault placements.placedReply assemblyReply blockReplyAt assemblyReplyAt blocksFrom blocksReply endReply sheetReply deckReply shifted joined startAt written placedIn graphAt joinAt moleculeOf isMissing placedReply
-asked k i l j = placedReply rings k i l j
+unfolding document joins anyJoins bonded anyAtom reaches firstFrom distance allAtoms connected degree sum bondsOf bondFault bondsReply blockReply little kindReply lengthReply recordReply find bookOf placementAt joinOf joinEnds joinsOn bondsOn firstFault parentFault joinFault laterFault fault placements.placedReply assemblyReply blockReplyAt assemblyReplyAt blocksFrom blocksReply endReply sheetReply deckReply shifted joined startAt written placedIn graphAt joinAt moleculeOf isMissing placedReply
+asked k i l j = placedReply document k i l j
 
 -- from end to end, back, within one ring, and to a seventh atom and a third placement
 across : asked 1 4 2 4 ≡ read 7

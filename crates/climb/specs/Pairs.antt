@@ -31,7 +31,7 @@ pub laid-out : (k : Deck) → deckOf (layoutOf k) ≡ k
 laid-out k = ap (λ (bs : List _). record { blocks = bs; assembly = k .assembly; placements = k .placements; sheet = k .sheet }) (take-append-seam (k .blocks) _)
 
 module _ (d : List ℕ) (deck : Deck) where
-  abbrev pub last : ℕ
+  abbrev last : ℕ
   last = deck .placements - 1
 
   abbrev pub Has : ℕ → ℕ → Type 0

@@ -3,7 +3,6 @@ ghost use mathlib.Core.Path.{_≡_};
 ghost use Prim.Native.Nat.{_-_, _≤_};
 ghost use Rattle.graph.specs.Graph.{distance};
 ghost use Rattle.block.specs.Index.{saidDistance};
-ghost use Rattle.block.specs.Block.{isOutside};
 ghost use Rattle.assembly.specs.Book.{find};
 ghost use Rattle.deck.specs.Molecule.{placedIn, graphAt};
 ghost use Rattle.climb.specs.Placed.{isMissing, placedReply};
@@ -25,25 +24,15 @@ fn block_of(d: &[u8], deck: Layout, k: usize) -> BlockAt
     assembly::find_block(blocks, deck.count, p.block as usize)
 }
 
-// 0 or above n.
-fn is_outside(n: usize, v: usize) -> bool
-    ensures { λ r. ⌜ r ≡ isOutside n v ⌝ }
-{
-    if v == 0 {
-        return true;
-    }
-    n < v
-}
-
 // Whether placement number k does not exist, or has no atom i.
 fn is_missing(d: &[u8], deck: Layout, k: usize, i: usize) -> bool
     ensures { λ r. ⌜ r ≡ isMissing (now (d .entry)) (deckOf deck) k i ⌝ }
 {
-    if is_outside(deck.placements, k) {
+    if assembly::is_outside(deck.placements, k) {
         return true;
     }
     let b = block_of(d, deck, k);
-    is_outside(b.atoms as usize, i)
+    assembly::is_outside(b.atoms as usize, i)
 }
 
 // The distance of atoms i and j of placement number k.

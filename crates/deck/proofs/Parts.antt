@@ -12,7 +12,7 @@ use Rattle.block.specs.declared.Refusal.{Refusal}
 use Rattle.block.specs.declared.Reply.the-variants.{Fine, Refused}
 use denote.Ref.{RefT}
 use Rattle.records.specs.Bytes.{PartOf}
-use Rattle.records.specs.Records.{assemblyKind, endAt, recordReply}
+use Rattle.records.specs.Records.{blockKind, assemblyKind, endAt, recordReply}
 use Rattle.assembly.specs.Book.{find, used}
 use Rattle.assembly.specs.declared.BlockAt.{BlockAt}
 use Rattle.deck.specs.Deck.{longestDeck, Deck, blocksReply, assemblyReplyAt, endReply, sheetKinds, sheetReply, deckReply, Span, nowhere, payload, blockSpan}
@@ -44,10 +44,6 @@ module _ (d : List ℕ) (at : ℕ) where
   sheet-end e = rw e
 
 module _ (form : Form) (d : List ℕ) where
-  pub deck-long : longestDeck < length d → deckReply form d ≡ refused (refusal 20 0)
-  unfolding deckReply
-  deck-long h = rw (lt-ltb longestDeck (length d) h)
-
   module _ (short : length d ≤ longestDeck) where
     pub bad-blocks : (r : Refusal) → blocksReply assemblyKind d ≡ refused r → deckReply form d ≡ refused r
     unfolding deckReply
@@ -85,7 +81,7 @@ table-blocks k r e = rw e (take-append-seam (k .blocks) _)
 
 -- the lookup
 module _ (bs : List BlockAt) (x : ℕ) where
-  pub has-payload : used bs x ≡ true → payload bs x ≡ record { from = find bs x .start; len = 6 + 2 * find bs x .bonds }
+  pub has-payload : used bs x ≡ true → payload bs x ≡ record { from = find bs x .start; len = blockKind .fixed + blockKind .item * find bs x .bonds }
   unfolding payload
   has-payload e = rw e
 

@@ -2,6 +2,7 @@
 use Prim.Native.Nat.{ℕ, zero, suc, _+_, _*_}
 use mathlib.Core.Bool.{Bool, true, false, _||_, cond}
 use mathlib.Core.List.{List, [], _∷_, _++_}
+use mathlib.Core.Path.{_≡_, refl}
 use lib.Dec.{eqb, leb, ltb}
 use lib.ListN.{length}
 use Rattle.block.specs.declared.Refusal.{Refusal}
@@ -9,7 +10,7 @@ use Rattle.block.specs.Read.{Read, refused, read, _then_, refuseIf, refusal}
 use Rattle.block.specs.Block.{blockReply}
 use Rattle.records.specs.Bytes.{le16, part}
 use Rattle.records.specs.declared.Kind.{Kind}
-use Rattle.records.specs.Records.{blockKind, assemblyKind, sheetKind, kindAt, payloadAt, endAt, recordReply}
+use Rattle.records.specs.Records.{headBytes, blockKind, assemblyKind, sheetKind, kindAt, payloadAt, endAt, recordReply}
 use Rattle.assembly.specs.declared.BlockAt.{BlockAt}
 use Rattle.assembly.specs.Book.{used, find, bondBytes, bookOf}
 use Rattle.assembly.specs.Placements.{placementCount, assemblyReply}
@@ -39,7 +40,9 @@ sheetKinds = sheetKind ∷ []
 
 -- what the block record at a place says
 abbrev pub blockAt : List ℕ → ℕ → BlockAt
-blockAt d at = record { number = le16 d (at + 4); start = at + 4; atoms = le16 d (at + 6); bonds = le16 d (at + 8) }
+blockAt d at =
+    let start = at + headBytes in
+    record { number = le16 d start; start = start; atoms = le16 d (start + 2); bonds = le16 d (start + blockKind .count) }
 
 -- the same refusal at another place
 abbrev pub moved : (Refusal → ℕ) → Read (Unit {0}) → Read (Unit {0})
@@ -50,9 +53,13 @@ moved place (read u) = read u
 abbrev pub blockPlace : ℕ → Refusal → ℕ
 blockPlace at r = at
 
--- the place of an assembly's refusal: the placement's first byte, or the record's
+-- the place of an assembly's refusal: the placement's first byte, or the record's. `head-and-count` is why one factor serves both.
 abbrev pub placementPlace : ℕ → Refusal → ℕ
-placementPlace at r = at + 6 * r .place
+placementPlace at r = at + assemblyKind .item * r .place
+
+-- what stands before the first placement is as long as a placement
+pub head-and-count : headBytes + assemblyKind .fixed ≡ assemblyKind .item
+head-and-count = refl
 
 -- 14 and the block's own of the block record at a place, after the blocks of `done`
 unfoldable pub blockReplyAt : List ℕ → ℕ → List BlockAt → Read (Unit {0})
@@ -112,7 +119,7 @@ nowhere = record { from = 0; len = 0 }
 
 -- the payload of the block of a number, and nothing where there is no such block
 unfoldable pub payload : List BlockAt → ℕ → Span
-payload bs x = let b = find bs x in cond (used bs x) (record { from = b .start; len = 6 + 2 * b .bonds }) nowhere
+payload bs x = let b = find bs x in cond (used bs x) (record { from = b .start; len = blockKind .fixed + blockKind .item * b .bonds }) nowhere
 
 abbrev pub payloadOr : ℕ → Read Deck → Span → Span
 payloadOr x (refused r) other = other

@@ -14,7 +14,7 @@ use Rattle.block.specs.Read.{read, _then_, refuseIf}
 use Rattle.block.specs.Block.{graphOf, blockReply}
 use Rattle.block.specs.Chain.{not-read, then-read, if-read}
 use Rattle.records.specs.Bytes.{le16}
-use Rattle.records.specs.Records.{blockKind, assemblyKind, sheetKind, lengthAt, kindAt, endAt, payloadAt, wanted, kindReply, lengthReply, recordReply}
+use Rattle.records.specs.Records.{headBytes, blockKind, assemblyKind, sheetKind, lengthAt, kindAt, endAt, payloadAt, wanted, kindReply, lengthReply, recordReply}
 use Rattle.records.specs.Taken.{taken}
 use Rattle.records.specs.Longer.{Counted, little-same, little-behind, part-same, kind-same, end-same, payload-same, record-same}
 use Rattle.records.specs.declared.Kind.{Kind}
@@ -29,11 +29,13 @@ use Rattle.deck.specs.declared.Form.the-variants.{Composed, Judged}
 
 module _ (d s : List ℕ) where
   -- a block that stands in the deck
-  bonds-same : (b : BlockAt) → b .start + 6 + 2 * b .bonds ≤ length d → bondBytes (d ++ s) b ≡ bondBytes d b
-  bonds-same b h = part-same d s (b .start + 6) (2 * b .bonds) h
+  bonds-same : (b : BlockAt) → b .start + blockKind .fixed + blockKind .item * b .bonds ≤ length d → bondBytes (d ++ s) b ≡ bondBytes d b
+  bonds-same b h = part-same d s (b .start + blockKind .fixed) (blockKind .item * b .bonds) h
 
-  block-same : (at : ℕ) → at + 10 ≤ length d → blockAt (d ++ s) at ≡ blockAt d at
-  block-same at h = rw (little-same d s 2 (at + 4) (omega arith), little-same d s 2 (at + 6) (omega arith), little-same d s 2 (at + 8) (omega arith))
+  block-same : (at : ℕ) → at + headBytes + blockKind .fixed ≤ length d → blockAt (d ++ s) at ≡ blockAt d at
+  block-same at h =
+      let start = at + headBytes in
+      rw (little-same d s 2 start (omega arith), little-same d s 2 (start + 2) (omega arith), little-same d s 2 (start + blockKind .count) (omega arith))
 
   reply-same : (at : ℕ) (done : List BlockAt) → Standing d (blockAt d at) → blockReplyAt (d ++ s) at done ≡ blockReplyAt d at done
   unfolding blockReplyAt
@@ -76,11 +78,11 @@ module _ (d s : List ℕ) where
   unfolding bookOf
   book-same bs t = λ i. record { has = used bs; graph = λ x. graphOf (find bs x .atoms) (found-same bs x t i) }
 
--- a record of a sheet: 36 bytes of payload, kind 3
+-- a record of a sheet
 pub record IsSheet (s : List ℕ) : Type 0 where
-  pub size : length s ≡ 40
-  pub payload : le16 s 0 ≡ 36
-  pub kind : le16 s 2 ≡ 3
+  pub size : length s ≡ headBytes + sheetKind .fixed
+  pub payload : le16 s 0 ≡ sheetKind .fixed
+  pub kind : le16 s 2 ≡ sheetKind .number
 
 fields-behind : (d s ws : List ℕ) (at : ℕ) → fieldsAt ws (d ++ s) (length d + at) ≡ fieldsAt ws s at
 unfolding fieldsAt
@@ -93,19 +95,19 @@ sheet-behind : (d s : List ℕ) → IsSheet s → sheetReply Judged (d ++ s) (le
 unfolding sheetReply recordReply kindReply lengthReply endReply
 sheet-behind d s i =
     let z : length d + 0 ≡ length d = omega arith in
-    let n : lengthAt (d ++ s) (length d) ≡ 36 = ap (le16 (d ++ s)) (sym z) ∙ little-behind d s 2 0 ∙ i .payload in
-    let m : kindAt (d ++ s) (length d) ≡ 3 = little-behind d s 2 2 ∙ i .kind in
+    let n : lengthAt (d ++ s) (length d) ≡ sheetKind .fixed = ap (le16 (d ++ s)) (sym z) ∙ little-behind d s 2 0 ∙ i .payload in
+    let m : kindAt (d ++ s) (length d) ≡ sheetKind .number = little-behind d s 2 2 ∙ i .kind in
     let l : length (d ++ s) ≡ endAt (d ++ s) (length d) = omega (arith, length-append d s, i .size, n) in
     rw (
       le-ltb (length (d ++ s)) (endAt (d ++ s) (length d)) (omega arith),
-      eq-eqb (kindAt (d ++ s) (length d)) 3 m,
+      eq-eqb (kindAt (d ++ s) (length d)) (sheetKind .number) m,
       eq-eqb (lengthAt (d ++ s) (length d)) (wanted sheetKind (d ++ s) (length d)) (omega (arith, n)),
       le-ltb (endAt (d ++ s) (length d)) (length (d ++ s)) (omega arith),
     )
 
 module _ (d : List ℕ) (k : Deck) (e : deckReply Composed d ≡ read k) where
   -- a deck that composes ends with its assembly
-  pub ends : k .sheet ≡ length d
+  ends : k .sheet ≡ length d
   unfolding sheetReply endReply
   ends =
       let p = parts Composed d k e in
@@ -128,11 +130,11 @@ module _ (d : List ℕ) (k : Deck) (e : deckReply Composed d ≡ read k) where
     payloads = payload-same d s (k .assembly) whole
 
     -- the molecule is the same with anything behind the deck, and what a sheet there claims is its own
-    pub same-graphs : graphAt (d ++ s) k ≡ graphAt d k
+    same-graphs : graphAt (d ++ s) k ≡ graphAt d k
     unfolding graphAt placedIn
     same-graphs = ap₂ (λ (b : Book) (xs : List ℕ). graphOn b (placementAt xs)) books payloads
 
-    pub same-joins : joinAt (d ++ s) k ≡ joinAt d k
+    same-joins : joinAt (d ++ s) k ≡ joinAt d k
     unfolding joinAt placedIn
     same-joins = ap (λ (xs : List ℕ). joinOn (placementAt xs)) payloads
 
@@ -140,9 +142,9 @@ module _ (d : List ℕ) (k : Deck) (e : deckReply Composed d ≡ read k) where
     unfolding moleculeOf
     same-molecule = ap₂ (λ (blocks : ℕ → Graph) (joins : ℕ → Join). written blocks joins (k .placements - 1)) same-graphs same-joins
 
-    pub claims : claimedAt (d ++ s) (k .sheet) ≡ fieldsAt widths s 4
+    pub claims : claimedAt (d ++ s) (k .sheet) ≡ fieldsAt widths s headBytes
     unfolding claimedAt
-    claims = ap (λ (n : ℕ). fieldsAt widths (d ++ s) (n + 4)) ends ∙ fields-behind d s widths 4
+    claims = ap (λ (n : ℕ). fieldsAt widths (d ++ s) (n + headBytes)) ends ∙ fields-behind d s widths headBytes
 
     -- with a sheet behind it, it is read in the form that is judged
     pub followed : IsSheet s → length d + length s ≤ longestDeck → deckReply Judged (d ++ s) ≡ read k

@@ -13,7 +13,6 @@ use Rattle.block.specs.Block.{blockReply}
 use Rattle.block.specs.Chain.{not-read, then-read, if-read}
 use Rattle.block.specs.Faults.{neither}
 use Rattle.block.specs.declared.Refusal.{Refusal}
-use Rattle.records.specs.Bytes.{le16}
 use Rattle.records.specs.Records.{blockKind, lengthAt, kindAt, endAt, wanted, recordReply}
 use Rattle.records.specs.Taken.{taken, of-first, of-other, of-one}
 use Rattle.records.specs.declared.Kind.{Kind}
@@ -29,7 +28,7 @@ Each P (b ∷ bs) = P b × Each P bs
 -- a block has a number, lies within the deck, and is not refused
 pub record Standing (d : List ℕ) (b : BlockAt) : Type 0 where
   pub numbered : b .number ≡ 0 → ⊥
-  pub within : b .start + 6 + 2 * b .bonds ≤ length d
+  pub within : b .start + blockKind .fixed + blockKind .item * b .bonds ≤ length d
   pub fine : blockReply (b .atoms) (bondBytes d b) ≡ read tt
 
 -- the blocks of a deck stand in it, and after them a record of the last kind
@@ -64,7 +63,6 @@ first-same false f g other h = refl
 -- the tests that a block record passed
 pub record Fit (d : List ℕ) (at : ℕ) (done : List BlockAt) : Type 0 where
   pub numbered : blockAt d at .number ≡ 0 → ⊥
-  pub unused : used done (blockAt d at .number) ≡ false
   pub room : length done < mostBlocks
   pub fine : blockReply (blockAt d at .atoms) (bondBytes d (blockAt d at)) ≡ read tt
 
@@ -75,10 +73,8 @@ fit d at done e =
     let unfit = eqb number 0 || used done number || leb mostBlocks (length done) in
     let (u, p, f) = then-read (refuseIf unfit 14 at) _ e in
     let (q, r) = neither (eqb number 0 || used done number) (leb mostBlocks (length done)) (if-read unfit 14 at p) in
-    let (z, w) = neither (eqb number 0) (used done number) q in
     record {
-      numbered = eqb-false number 0 z;
-      unused = w;
+      numbered = eqb-false number 0 (neither (eqb number 0) (used done number) q .0);
       room = leb-false mostBlocks (length done) r;
       fine = unmoved (blockPlace at) (blockReply (blockAt d at .atoms) (bondBytes d (blockAt d at))) f;
     }
@@ -89,8 +85,6 @@ module _ (last : Kind) (d : List ℕ) where
   stands at done e k f =
       let w = taken d at (kindsAfter done last) e .whole in
       let n : lengthAt d at ≡ wanted blockKind d at = long done e in
-      let p : at + 4 + 4 ≡ at + 8 = omega arith in
-      let m : lengthAt d at ≡ 6 + 2 * le16 d (at + 8) = n ∙ ap (λ (x : ℕ). 6 + 2 * le16 d x) p in
       record { numbered = f .numbered; within = omega arith; fine = f .fine }
     where
       long : (done : List BlockAt) → recordReply (kindsAfter done last) d at ≡ read tt → lengthAt d at ≡ wanted blockKind d at
@@ -121,7 +115,7 @@ module _ (last : Kind) (d : List ℕ) where
   unfolding blocksReply Each
   kept e = keeps (suc mostBlocks) 0 [] tt (omega arith) e
 
-  -- the fuel lasts: more of it changes nothing
+  -- each block uses up one place of sixteen, so the fuel lasts
   lasts : (fuel at : ℕ) (done : List BlockAt) → length done ≤ mostBlocks → mostBlocks < fuel + length done → blocksFrom (suc fuel) last d at done ≡ blocksFrom fuel last d at done
   unfolding blocksFrom
   lasts zero at done l h = absurd (omega arith)
@@ -133,6 +127,7 @@ module _ (last : Kind) (d : List ℕ) where
       let n : length (done ++ blockAt d at ∷ []) ≡ length done + 1 = simp length-append in
       lasts fuel (endAt d at) (done ++ blockAt d at ∷ []) (omega arith) (omega arith))))
 
+  -- for the reader of `blocksReply`: its fuel only lets the recursion end, and no deck is read otherwise with more of it
   pub fuel-lasts : (more : ℕ) → blocksFrom (more + suc mostBlocks) last d 0 [] ≡ blocksReply last d
   unfolding blocksReply
   fuel-lasts zero = refl

@@ -13,6 +13,7 @@ use Rattle.graph.specs.Distance as distance
 use Rattle.block.specs.Read.{Read, refused, read}
 use Rattle.block.specs.Chain.{not-read}
 use Rattle.records.specs.Bytes.{part}
+use Rattle.records.specs.Records.{blockKind}
 use Rattle.assembly.specs.Book.{noBlock, find, isNumbered, used}
 use Rattle.assembly.specs.declared.BlockAt.{BlockAt}
 use Rattle.deck.specs.Deck.{Deck, deckReply, nowhere, payload, payloadOr, blockSpan, blockPart}
@@ -27,7 +28,7 @@ pub record Listed (bs : List BlockAt) (x : ℕ) : Type 0 where
   pub within : index < length bs
   pub number : getD bs index noBlock .number ≡ x
 
-pub listed : (bs : List BlockAt) (x : ℕ) → used bs x ≡ true → Listed bs x
+listed : (bs : List BlockAt) (x : ℕ) → used bs x ≡ true → Listed bs x
 unfolding find
 listed [] x u =
     let (p, q) = both (not (eqb x 0)) (eqb 0 x) u in
@@ -39,7 +40,7 @@ listed (b ∷ bs) x u = go (eqb (b .number) x) refl u (listed bs x)
     go false e v more = let r = more v in record { index = suc (r .index); within = omega (arith, r .within); number = r .number }
 
 -- where each block has a number that is not 0, its number is found
-pub listed-used : (d : List ℕ) (bs : List BlockAt) (x : ℕ) → Each (Standing d) bs → Listed bs x → used bs x ≡ true
+listed-used : (d : List ℕ) (bs : List BlockAt) (x : ℕ) → Each (Standing d) bs → Listed bs x → used bs x ≡ true
 unfolding Each find
 listed-used d [] x s l = absurd (omega (arith, l .within))
 listed-used d (b ∷ bs) x s l = go (eqb (b .number) x) refl (listed-used d bs x (s .1))
@@ -60,7 +61,7 @@ unfolding payload
 payload-some d bs x s u e =
     let b = find bs x in
     let w = found d bs x s u .within in
-    let n : length (take (6 + 2 * b .bonds) (drop (b .start) d)) ≡ 0 = ap length (rw u at e) in
+    let n : length (take (blockKind .fixed + blockKind .item * b .bonds) (drop (b .start) d)) ≡ 0 = ap length (rw u at e) in
     omega (arith, simp (length-take, length-drop) at n)
 
 payload-none : (d : List ℕ) (bs : List BlockAt) (x : ℕ) → used bs x ≡ false → part d (payload bs x .from) (payload bs x .len) ≡ []
@@ -85,7 +86,7 @@ module _ (d : List ℕ) (x : ℕ) where
       go (refused r) e (refused q) f = refl
 
   -- a deck says the same in both forms
-  pub same : (f g : Form) (k l : Deck) → deckReply f d ≡ read k → deckReply g d ≡ read l → k ≡ l
+  same : (f g : Form) (k l : Deck) → deckReply f d ≡ read k → deckReply g d ≡ read l → k ≡ l
   same f g k l p q =
       let a = parts f d k p .blocks in
       let b = parts g d l q .blocks in

@@ -1,13 +1,14 @@
 -- The molecule that a deck describes, with every atom and bond written out; the fields of its sheet and of the sheet that the deck claims.
 use Prim.Native.Nat.{ℕ, _+_, _-_}
 use mathlib.Core.List.{List, [], _∷_}
-use lib.ListN.{getD}
-use Rattle.graph.specs.Graph.{Graph}
+use mathlib.Core.Path.{_≡_, refl}
+use lib.ListN.{length, getD}
+use Rattle.graph.specs.Graph.{Graph, sum}
 use Rattle.graph.specs.Assembly.{Join, written}
 use Rattle.block.specs.declared.Indices.{Indices}
 use Rattle.block.specs.Index.{indicesOf}
 use Rattle.records.specs.Bytes.{little}
-use Rattle.records.specs.Records.{payloadAt}
+use Rattle.records.specs.Records.{headBytes, sheetKind, payloadAt}
 use Rattle.assembly.specs.declared.Placement.{Placement}
 use Rattle.assembly.specs.Book.{bookOf}
 use Rattle.assembly.specs.Placements.{placementAt, graphOn, joinOn}
@@ -33,6 +34,11 @@ fieldsOf x = x .atoms ∷ x .w ∷ x .even ∷ x .odd ∷ x .polarity ∷ []
 abbrev pub widths : List ℕ
 widths = 4 ∷ 8 ∷ 8 ∷ 8 ∷ 8 ∷ []
 
+-- together they are a sheet's payload
+pub widths-fill : sum (length widths) (λ i. getD widths (i - 1) 0) ≡ sheetKind .fixed
+unfolding sum
+widths-fill = refl
+
 unfoldable pub sheetOf : Graph → List ℕ
 sheetOf g = fieldsOf (indicesOf g)
 
@@ -43,7 +49,7 @@ fieldsAt (w ∷ ws) d at = little w d at ∷ fieldsAt ws d (at + w)
 
 -- the fields that the sheet record at a place claims
 unfoldable pub claimedAt : List ℕ → ℕ → List ℕ
-claimedAt d at = fieldsAt widths d (at + 4)
+claimedAt d at = fieldsAt widths d (at + headBytes)
 
 -- how the code says five fields
 abbrev pub saidFields : List ℕ → Indices

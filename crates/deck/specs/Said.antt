@@ -21,7 +21,7 @@ tableOf bs = bs ++ drop (length bs) (replicate mostBlocks noBlock)
 abbrev pub layoutOf : Deck → Layout
 layoutOf k = record { count = length (k .blocks); blocks = tableOf (k .blocks); assembly = k .assembly; placements = k .placements; sheet = k .sheet }
 
-abbrev pub nothing : Deck
+abbrev nothing : Deck
 nothing = record { blocks = []; assembly = 0; placements = 0; sheet = 0 }
 
 abbrev pub refusedDeck : Reply → DeckRead

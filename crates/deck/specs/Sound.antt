@@ -10,7 +10,7 @@ use lib.ListN.{length}
 use Rattle.graph.specs.Graph.{Within, degree}
 use Rattle.graph.specs.Assembly.{atomOf, Assembled, Placed}
 use Rattle.graph.specs.Bonds.{both}
-use Rattle.block.specs.Read.{refused, read, _then_, refuseIf}
+use Rattle.block.specs.Read.{read, _then_, refuseIf}
 use Rattle.block.specs.Block.{mostAtoms, limit}
 use Rattle.block.specs.Chain.{then-read, if-read}
 use Rattle.block.specs.Told as told
@@ -66,7 +66,6 @@ pub record Whole (d : List ℕ) (k : Deck) : Type 0 where
   pub few : length (k .blocks) ≤ mostBlocks
   -- 1 to 32 placements, each of a block that stands in the deck, has at most 64 atoms and is a molecule
   pub count : Within mostPlacements (k .placements)
-  pub held : (i : ℕ) → i < k .placements → used (k .blocks) (placedIn d k i .block) ≡ true
   pub stands : (i : ℕ) → i < k .placements → Standing d (find (k .blocks) (placedIn d k i .block))
   pub atoms : (i : ℕ) → i < k .placements → Within mostAtoms (graphAt d k i .atoms)
   -- parents are earlier, and join atoms exist
@@ -97,7 +96,6 @@ module _ (form : Form) (d : List ℕ) (k : Deck) (e : deckReply form d ≡ read 
         blocks = q .blocks;
         few = q .few;
         count = rw n (w .count);
-        held = λ i h. w .right .has i (omega arith);
         stands = stands;
         atoms = λ i h. told.few-atoms _ _ (stands i h .fine);
         assembled = a;

@@ -13,13 +13,19 @@ ghost use Rattle.deck.specs.Deck.{mostBlocks, longestDeck, blockAt, bloc
 ghost use Rattle.deck.specs.Molecule.{claimedAt, saidFields};
 ghost use Rattle.deck.specs.Said.{refusedDeck, tabledDeck, movedReply, saidDeck};
 use assembly::BLOCKS;
+use assembly::BLOCK_HEAD;
+use assembly::BOND_BYTES;
 use assembly::BlockAt;
+use assembly::BlockTable;
+use assembly::NO_BLOCK;
+use assembly::PLACEMENT_BYTES;
 use assembly::Placement;
 use block::Indices;
 use block::Refusal;
 use block::Reply;
 use records::ASSEMBLY;
 use records::BLOCK;
+use records::HEAD;
 use records::Kind;
 use records::SHEET;
 use records::le16_at;
@@ -32,6 +38,9 @@ use records::record_at;
 // The most bytes of a deck.
 pub const LONGEST: usize = 32768;
 
+// Where in a block's payload its bond count stands.
+const COUNT: usize = BLOCK.count as usize;
+
 // A deck to be composed has no sheet, a deck to be judged has one.
 pub enum Form {
     Composed,
@@ -41,7 +50,7 @@ pub enum Form {
 // What stands where: the blocks, the assembly's first byte, how many placements it has, and the first byte after it.
 pub struct Layout {
     pub count: usize,
-    pub blocks: [BlockAt; BLOCKS],
+    pub blocks: BlockTable,
     pub assembly: usize,
     pub placements: usize,
     pub sheet: usize,
@@ -77,7 +86,7 @@ fn placement_place(at: usize, r: Refusal) -> usize
     requires { ⌜ (at ≤ longestDeck) × (r .place ≤ mostPlacements) ⌝ }
     ensures { λ p. ⌜ p ≡ placementPlace at r ⌝ }
 {
-    at + 6 * r.place
+    at + PLACEMENT_BYTES * r.place
 }
 
 // What the block record at a place says.
@@ -85,16 +94,17 @@ fn block_at(d: &[u8], at: usize) -> BlockAt
     requires { ⌜ at ≤ length (now d) ⌝ }
     ensures { λ r. ⌜ r ≡ blockAt (now (d .entry)) at ⌝ }
 {
+    let start = at + HEAD;
     BlockAt {
-        number: le16_at(d, at + 4),
-        start: at + 4,
-        atoms: le16_at(d, at + 6),
-        bonds: le16_at(d, at + 8),
+        number: le16_at(d, start),
+        start,
+        atoms: le16_at(d, start + 2),
+        bonds: le16_at(d, start + COUNT),
     }
 }
 
 // Whether a block's number is 0 or was used before, or there is no room for a block.
-fn is_unfit(blocks: [BlockAt; BLOCKS], count: usize, number: usize) -> bool
+fn is_unfit(blocks: BlockTable, count: usize, number: usize) -> bool
     requires { ⌜ count ≤ mostBlocks ⌝ }
     ensures { λ r. ⌜ r ≡ (eqb number 0 || used (take count blocks) number || leb mostBlocks (length (take count blocks))) ⌝ }
 {
@@ -108,7 +118,7 @@ fn is_unfit(blocks: [BlockAt; BLOCKS], count: usize, number: usize) -> bool
 }
 
 // Refusal 14 and the block's own of the record at a place, after the first `count` blocks.
-fn block_reply(d: &[u8], at: usize, b: BlockAt, blocks: [BlockAt; BLOCKS], count: usize) -> Reply
+fn block_reply(d: &[u8], at: usize, b: BlockAt, blocks: BlockTable, count: usize) -> Reply
     requires { ⌜ (count ≤ mostBlocks) × (b ≡ blockAt (now d) at) ⌝ }
     ensures { λ r. ⌜ r ≡ saidBlock (blockReplyAt (now (d .entry)) at (take count blocks)) ⌝ }
 {
@@ -135,13 +145,7 @@ fn second_kind(count: usize, last: Kind) -> Kind
 fn deck_refused(reply: Reply) -> DeckRead
     ensures { λ r. ⌜ r ≡ refusedDeck reply ⌝ }
 {
-    let none = BlockAt {
-        number: 0,
-        start: 0,
-        atoms: 0,
-        bonds: 0,
-    };
-    let blocks = [none; BLOCKS];
+    let blocks = [NO_BLOCK; BLOCKS];
     let layout = Layout {
         count: 0,
         blocks,
@@ -153,7 +157,7 @@ fn deck_refused(reply: Reply) -> DeckRead
 }
 
 // A deck whose first `count` blocks end before the record at a place.
-fn deck_at(d: &[u8], blocks: [BlockAt; BLOCKS], count: usize, at: usize) -> DeckRead
+fn deck_at(d: &[u8], blocks: BlockTable, count: usize, at: usize) -> DeckRead
     requires { ⌜ at ≤ length (now d) ⌝ }
     ensures { λ r. ⌜ r ≡ tabledDeck (now (d .entry)) blocks count at ⌝ }
 {
@@ -163,7 +167,7 @@ fn deck_at(d: &[u8], blocks: [BlockAt; BLOCKS], count: usize, at: usize) -> Deck
         blocks,
         assembly: at,
         placements: le16_at(xs, 0) as usize,
-        sheet: at + 4 + (le16_at(d, at) as usize),
+        sheet: at + HEAD + (le16_at(d, at) as usize),
     };
     DeckRead {
         reply: Reply::Fine,
@@ -175,13 +179,7 @@ fn deck_at(d: &[u8], blocks: [BlockAt; BLOCKS], count: usize, at: usize) -> Deck
 fn read_blocks(d: &[u8], last: Kind) -> DeckRead
     ensures { λ r. ⌜ r ≡ saidDeck (blocksReply last (now (d .entry))) ⌝ }
 {
-    let none = BlockAt {
-        number: 0,
-        start: 0,
-        atoms: 0,
-        bonds: 0,
-    };
-    let mut blocks = [none; BLOCKS];
+    let mut blocks = [NO_BLOCK; BLOCKS];
     let mut count = 0;
     let mut next = 0;
     loop {
@@ -199,12 +197,12 @@ fn read_blocks(d: &[u8], last: Kind) -> DeckRead
         };
         blocks[count] = b;
         count += 1;
-        next = next + 4 + (le16_at(d, next) as usize);
+        next = next + HEAD + (le16_at(d, next) as usize);
     }
 }
 
 // Refusals 15 to 19 of the assembly record at a place, over the first `count` blocks.
-fn assembly_reply(d: &[u8], at: usize, blocks: [BlockAt; BLOCKS], count: usize) -> Reply
+fn assembly_reply(d: &[u8], at: usize, blocks: BlockTable, count: usize) -> Reply
     requires { ⌜ at ≤ longestDeck ⌝ }
     ensures { λ r. ⌜ r ≡ saidBlock (assemblyReplyAt (now (d .entry)) (take count blocks) at) ⌝ }
 {
@@ -243,7 +241,7 @@ fn sheet_reply(form: Form, d: &[u8], at: usize) -> Reply
     let Reply::Fine = r else {
         return r;
     };
-    end_reply(d, at + 4 + (le16_at(d, at) as usize))
+    end_reply(d, at + HEAD + (le16_at(d, at) as usize))
 }
 
 // What a deck says: record by record, each taken or refused with its place.
@@ -275,14 +273,14 @@ pub fn read_deck(d: &[u8], form: Form) -> DeckRead
 }
 
 // The payload of the block of a number among the first `count`, and nothing where there is no such block.
-fn payload_of(d: &[u8], blocks: [BlockAt; BLOCKS], count: usize, number: usize) -> &[u8]
+fn payload_of(d: &[u8], blocks: BlockTable, count: usize, number: usize) -> &[u8]
     ensures { λ r. ⌜ PartOf (d .entry) (payload (take count blocks) number .from) (payload (take count blocks) number .len) r ⌝ }
 {
     let b = assembly::find_block(blocks, count, number);
     if !assembly::is_numbered(b, number) {
         return part(d, 0, 0);
     }
-    part(d, b.start, 6 + 2 * (b.bonds as usize))
+    part(d, b.start, BLOCK_HEAD + BOND_BYTES * (b.bonds as usize))
 }
 
 // The part of a deck that holds the payload of a block: empty exactly where the deck is refused in both forms or has no such block.
@@ -327,7 +325,7 @@ pub fn claimed(d: &[u8], sheet: usize) -> Indices
             polarity: 0,
         };
     }
-    let atoms = sheet + 4;
+    let atoms = sheet + HEAD;
     let w = atoms + 4;
     let even = w + 8;
     let odd = even + 8;

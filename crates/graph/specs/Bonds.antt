@@ -38,7 +38,7 @@ joins-out b u v e = ⊎-map (pair u v) (pair v u) (one-of (eqb (b .one) u && eqb
     pair : (x y : ℕ) → (eqb (b .one) x && eqb (b .two) y) ≡ true → (b .one ≡ x) × (b .two ≡ y)
     pair x y q = let r = both (eqb (b .one) x) (eqb (b .two) y) q in (eqb-true (b .one) x (r .0), eqb-true (b .two) y (r .1))
 
-pub joins-in : (b : Bond) (u v : ℕ) → Joins b u v → joins b u v ≡ true
+joins-in : (b : Bond) (u v : ℕ) → Joins b u v → joins b u v ≡ true
 unfolding joins
 joins-in b u v s =
     ⊎-elim (λ q. first-of (eqb (b .one) u && eqb (b .two) v) (eqb (b .one) v && eqb (b .two) u) (pair u v q))
@@ -65,7 +65,7 @@ unfolding anyJoins
 any-none u v e = false≢true e
 
 -- a bond may be read from either end
-pub joins-sym : (b : Bond) (u v : ℕ) → joins b u v ≡ joins b v u
+joins-sym : (b : Bond) (u v : ℕ) → joins b u v ≡ joins b v u
 unfolding joins
 joins-sym b u v = or-comm (eqb (b .one) u && eqb (b .two) v) (eqb (b .one) v && eqb (b .two) u)
 

@@ -39,7 +39,7 @@ unfolding isAt
 tame-at k = record { tame = λ d. chosen (eqb d k) d 1 0 (omega arith) (omega arith) }
 
 -- sums of numbers that are at most m
-pub sum-most : (n m : ℕ) (f : ℕ → ℕ) → ((i : ℕ) → Within n i → f i ≤ m) → sum n f ≤ n * m
+sum-most : (n m : ℕ) (f : ℕ → ℕ) → ((i : ℕ) → Within n i → f i ≤ m) → sum n f ≤ n * m
 unfolding sum
 sum-most zero m f h = omega arith
 sum-most (suc n) m f h = omega (arith, sum-most n m f (λ i w. h i (omega arith)), h (suc n) (omega arith))
@@ -51,7 +51,7 @@ pairs-most (suc n) m f h =
     omega (arith, pairs-most n m f (λ i j w v. h i j (omega arith) (omega arith)), sum-most n m (λ i. f i (suc n)) (λ i w. h i (suc n) (omega arith) (omega arith)))
 
 module _ {g : Graph} (m : Molecule g) {f : ℕ → ℕ} (t : Tame f) where
-  pub distance-most : {i j : ℕ} → Within (g .atoms) i → Within (g .atoms) j → f (distance g i j) ≤ g .atoms
+  distance-most : {i j : ℕ} → Within (g .atoms) i → Within (g .atoms) j → f (distance g i j) ≤ g .atoms
   distance-most {i} {j} w v = omega (arith, t .tame (distance g i j), distance-below m w v)
 
   pub vertex-most : {a : ℕ} → Within (g .atoms) a → vertex g a f ≤ g .atoms * g .atoms

@@ -43,7 +43,7 @@ module _ (blocks : ℕ → Graph) (joins : ℕ → Join) where
   placed-within {m} {k} {i} p = omega (arith, p .atom, size-written m, start-most (k - 1) m (omega (arith, p .number)), start-next (k - 1))
 
 -- an atom of an earlier placement is still placed when there are more, and that of a placement up to m is placed then
-pub placed-later : {blocks : ℕ → Graph} {m k i : ℕ} (n : ℕ) → m ≤ n → Placed blocks m k i → Placed blocks n k i
+placed-later : {blocks : ℕ → Graph} {m k i : ℕ} (n : ℕ) → m ≤ n → Placed blocks m k i → Placed blocks n k i
 placed-later n h p = record { number = omega (arith, p .number); atom = p .atom }
 
 pub placed-sooner : {blocks : ℕ → Graph} {n k i : ℕ} (m : ℕ) → k ≤ suc m → Placed blocks n k i → Placed blocks m k i
@@ -87,16 +87,16 @@ module _ {blocks : ℕ → Graph} {joins : ℕ → Join} (m : ℕ) (a : Assemble
   behind {k} i e = let n : k - 1 ≡ suc m = omega arith in ap (λ (x : ℕ). x + i) (ap (startAt blocks) n ∙ size-written blocks joins m)
 
   -- distances: of two earlier atoms, of two of its atoms, and of one of each
-  pub apart-old : {k i l j : ℕ} → Placed blocks m k i → Placed blocks m l j → apart blocks joins (suc m) k i l j ≡ apart blocks joins m k i l j
+  apart-old : {k i l j : ℕ} → Placed blocks m k i → Placed blocks m l j → apart blocks joins (suc m) k i l j ≡ apart blocks joins m k i l j
   unfolding written
   apart-old p q = distance-first core block site own (placed-within blocks joins p) (placed-within blocks joins q)
 
-  pub apart-new : {k i l j : ℕ} → k ≡ suc (suc m) → Placed blocks (suc m) k i → l ≡ suc (suc m) → Placed blocks (suc m) l j
+  apart-new : {k i l j : ℕ} → k ≡ suc (suc m) → Placed blocks (suc m) k i → l ≡ suc (suc m) → Placed blocks (suc m) l j
       → apart blocks joins (suc m) k i l j ≡ distance (blocks (suc m)) i j
   unfolding written
   apart-new {i = i} {j = j} e p f q = rw (behind i e, behind j f) (distance-second core block site own (here e p) (here f q))
 
-  pub apart-on : {k i l j : ℕ} → Placed blocks m k i → l ≡ suc (suc m) → Placed blocks (suc m) l j
+  apart-on : {k i l j : ℕ} → Placed blocks m k i → l ≡ suc (suc m) → Placed blocks (suc m) l j
       → apart blocks joins (suc m) k i l j ≡ apart blocks joins m k i (joins (suc m) .parent) (joins (suc m) .site) + 1 + distance (blocks (suc m)) (joins (suc m) .own) j
   unfolding written
   apart-on {j = j} p f q = rw (behind j f) (distance-cross core block site own (placed-within blocks joins p) (here f q))

@@ -1,8 +1,8 @@
 -- `connected` holds exactly where every two atoms have a walk, of whatever length. Assumes nothing.
-use Prim.Native.Nat.{ℕ, zero, suc, _+_, _<_}
-use mathlib.Core.Bool.{Bool, true, false, _&&_, true≢false}
+use Prim.Native.Nat.{ℕ, zero, suc, _+_}
+use mathlib.Core.Bool.{Bool, true, false}
 use mathlib.Core.Logic.{⊎-elim, _↔_}
-use mathlib.Core.Path.{_≡_, refl, sym, _∙_, ap}
+use mathlib.Core.Path.{_≡_, refl, _∙_, ap}
 use native.Mathlib.Nat.{le-suc-iff}
 use native.Mathlib.Omega.{arith}
 use borrow.Author.Tests.{ltb-true, lt-ltb}
@@ -14,26 +14,17 @@ use Rattle.graph.specs.Distance.{not-true, walk-of-distance, distance-be
 use Rattle.graph.specs.Sums.{wider, last}
 
 -- a test on all atoms, as facts
-pub all-out : (n : ℕ) (p : ℕ → Bool) → allAtoms n p ≡ true → (v : ℕ) → Within n v → p v ≡ true
+all-out : (n : ℕ) (p : ℕ → Bool) → allAtoms n p ≡ true → (v : ℕ) → Within n v → p v ≡ true
 unfolding allAtoms
 all-out zero p e v w = absurd (omega arith)
 all-out (suc n) p e v w =
     let r = both (p (suc n)) (allAtoms n p) e in
     ⊎-elim (λ q. all-out n p (r .1) v (record { low = w .low; high = q })) (λ q. ap p q ∙ r .0) (le-suc-iff .0 (w .high))
 
-pub all-in : (n : ℕ) (p : ℕ → Bool) → ((v : ℕ) → Within n v → p v ≡ true) → allAtoms n p ≡ true
+all-in : (n : ℕ) (p : ℕ → Bool) → ((v : ℕ) → Within n v → p v ≡ true) → allAtoms n p ≡ true
 unfolding allAtoms
 all-in zero p h = refl
 all-in (suc n) p h = both-true (p (suc n)) (allAtoms n p) (h (suc n) (last n)) (all-in n p (λ v w. h v (wider w)))
-
-pub all-missed : (n : ℕ) (p : ℕ → Bool) → allAtoms n p ≡ false → (v : ℕ) × Within n v × (p v ≡ false)
-unfolding allAtoms
-all-missed zero p e = absurd (true≢false e)
-all-missed (suc n) p e = go (p (suc n)) refl (all-missed n p)
-  where
-    go : (t : Bool) → p (suc n) ≡ t → (allAtoms n p ≡ false → (v : ℕ) × Within n v × (p v ≡ false)) → (v : ℕ) × Within (suc n) v × (p v ≡ false)
-    go false q r = (suc n, last n, q)
-    go true q r = let (v, w, f) = r (rw q at e) in (v, wider w, f)
 
 -- every two atoms have a walk
 pub record Linked (g : Graph) : Type 0 where

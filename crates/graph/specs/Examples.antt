@@ -3,15 +3,13 @@ use Prim.Native.Nat.{ℕ}
 use mathlib.Core.List.{List, [], _∷_}
 use mathlib.Core.Path.{_≡_, refl}
 use Rattle.graph.specs.Graph.{Graph, bond, joins, anyJoins, bonded, anyAtom, reaches, firstFrom, distance, sum, sumPairs, evenOf, oddOf, evenOne, oddOne, isAt, total, vertex, wiener, evenPart, oddPart, polarity, pairsAt, vertexSum, vertexEven, vertexOdd, evenCount, oddCount, countAt}
+use Rattle.graph.specs.Table.{ring6}
 
 pub naphthalene : Graph
 naphthalene = record {
   atoms = 10;
   bonds = bond 1 2 ∷ bond 1 10 ∷ bond 2 3 ∷ bond 3 4 ∷ bond 3 8 ∷ bond 4 5 ∷ bond 5 6 ∷ bond 6 7 ∷ bond 7 8 ∷ bond 8 9 ∷ bond 9 10 ∷ [];
 }
-
-ring6 : Graph
-ring6 = record { atoms = 6; bonds = bond 1 2 ∷ bond 2 3 ∷ bond 3 4 ∷ bond 4 5 ∷ bond 5 6 ∷ bond 6 1 ∷ [] }
 
 -- W, even part, odd part and polarity; and n(1) to n(5)
 wholes : Graph → List ℕ

@@ -13,21 +13,21 @@ use Rattle.graph.specs.Sums.{sum-cong, sum-split, sum-add, sum-const, su
 use Rattle.graph.specs.Join.{distance-first, distance-second, distance-cross, distance-back}
 
 -- a product of something counted on one side with something counted on the other
-pub record Term : Type 0 where
+record Term : Type 0 where
   pub near : ℕ → ℕ
   pub far : ℕ → ℕ
 
-abbrev pub _⊗_ : (ℕ → ℕ) → (ℕ → ℕ) → Term
+abbrev _⊗_ : (ℕ → ℕ) → (ℕ → ℕ) → Term
 u ⊗ v = record { near = u; far = v }
 
 infix 90 _⊗_
 -- the sum of the products, with p and q to say what a count comes to on each side
-unfoldable pub products : List Term → ((ℕ → ℕ) → ℕ) → ((ℕ → ℕ) → ℕ) → ℕ
+unfoldable products : List Term → ((ℕ → ℕ) → ℕ) → ((ℕ → ℕ) → ℕ) → ℕ
 products [] p q = 0
 products (t ∷ ts) p q = p (t .near) * q (t .far) + products ts p q
 
 -- f of a distance across the joining bond is a sum of products
-pub record Splits (f : ℕ → ℕ) (ts : List Term) : Type 0 where
+record Splits (f : ℕ → ℕ) (ts : List Term) : Type 0 where
   pub across : (x y : ℕ) → f (x + 1 + y) ≡ products ts (λ u. u x) (λ v. v y)
 
 -- products add up side by side
@@ -47,7 +47,7 @@ products-near (t ∷ ts) q n d =
 
 module _ {g h : Graph} {a b : ℕ} (mg : Molecule g) (mh : Molecule h) (ha : Within (g .atoms) a) (hb : Within (h .atoms) b) {f : ℕ → ℕ} {ts : List Term} (s : Splits f ts) where
   -- a sum over all atoms, seen from an atom of g
-  pub vertex-first : {c : ℕ} → Within (g .atoms) c → vertex (joined g h a b) c f ≡ vertex g c f + products ts (λ u. u (distance g a c)) (vertex h b)
+  vertex-first : {c : ℕ} → Within (g .atoms) c → vertex (joined g h a b) c f ≡ vertex g c f + products ts (λ u. u (distance g a c)) (vertex h b)
   unfolding joined vertex
   vertex-first {c} hc =
       sum-split (g .atoms) (h .atoms) (λ j. f (distance (joined g h a b) c j))
@@ -56,7 +56,7 @@ module _ {g h : Graph} {a b : ℕ} (mg : Molecule g) (mh : Molecule h) (ha : Wit
       ∙ products-far ts (λ u. u (distance g a c)) (h .atoms) (distance h b))
 
   -- and from an atom of h
-  pub vertex-second : {c : ℕ} → Within (h .atoms) c → vertex (joined g h a b) (g .atoms + c) f ≡ vertex h c f + products ts (λ u. u (distance h b c)) (vertex g a)
+  vertex-second : {c : ℕ} → Within (h .atoms) c → vertex (joined g h a b) (g .atoms + c) f ≡ vertex h c f + products ts (λ u. u (distance h b c)) (vertex g a)
   unfolding joined vertex
   vertex-second {c} hc =
       sum-split (g .atoms) (h .atoms) (λ j. f (distance (joined g h a b) (g .atoms + c) j))
@@ -67,7 +67,7 @@ module _ {g h : Graph} {a b : ℕ} (mg : Molecule g) (mh : Molecule h) (ha : Wit
       ∙ omega arith
 
   -- the sum over all pairs
-  pub total-joined : total (joined g h a b) f ≡ total g f + total h f + products ts (vertex g a) (vertex h b)
+  total-joined : total (joined g h a b) f ≡ total g f + total h f + products ts (vertex g a) (vertex h b)
   unfolding joined total vertex
   total-joined =
       sumPairs-split (g .atoms) (h .atoms) (λ i j. f (distance (joined g h a b) i j))
@@ -77,11 +77,11 @@ module _ {g h : Graph} {a b : ℕ} (mg : Molecule g) (mh : Molecule h) (ha : Wit
       ∙ products-near ts (vertex h b) (g .atoms) (distance g a))
 
 -- How each thing that is counted splits.
-pub splits-each : Splits each (each ⊗ each ∷ [])
+splits-each : Splits each (each ⊗ each ∷ [])
 unfolding products
 splits-each = record { across = λ x y. refl }
 
-pub splits-itself : Splits itself (itself ⊗ each ∷ each ⊗ each ∷ each ⊗ itself ∷ [])
+splits-itself : Splits itself (itself ⊗ each ∷ each ⊗ each ∷ each ⊗ itself ∷ [])
 unfolding products
 splits-itself = record { across = λ x y. omega arith }
 
@@ -111,7 +111,7 @@ even-of true false x y = omega arith
 even-of false true x y = omega arith
 even-of false false x y = omega arith
 
-pub splits-even : Splits evenOf (evenOf ⊗ oddOne ∷ evenOne ⊗ oddOne ∷ evenOne ⊗ oddOf ∷ oddOf ⊗ evenOne ∷ oddOne ⊗ evenOne ∷ oddOne ⊗ evenOf ∷ [])
+splits-even : Splits evenOf (evenOf ⊗ oddOne ∷ evenOne ⊗ oddOne ∷ evenOne ⊗ oddOf ∷ oddOf ⊗ evenOne ∷ oddOne ⊗ evenOne ∷ oddOne ⊗ evenOf ∷ [])
 unfolding products evenOf oddOf evenOne oddOne
 splits-even = record { across = λ x y. ap (λ (t : Bool). cond t (x + 1 + y) 0) (parity x y) ∙ even-of (isEven x) (isEven y) x y }
 
@@ -123,7 +123,7 @@ odd-of true false x y = omega arith
 odd-of false true x y = omega arith
 odd-of false false x y = omega arith
 
-pub splits-odd : Splits oddOf (evenOf ⊗ evenOne ∷ evenOne ⊗ evenOne ∷ evenOne ⊗ evenOf ∷ oddOf ⊗ oddOne ∷ oddOne ⊗ oddOne ∷ oddOne ⊗ oddOf ∷ [])
+splits-odd : Splits oddOf (evenOf ⊗ evenOne ∷ evenOne ⊗ evenOne ∷ evenOne ⊗ evenOf ∷ oddOf ⊗ oddOne ∷ oddOne ⊗ oddOne ∷ oddOne ⊗ oddOf ∷ [])
 unfolding products evenOf oddOf evenOne oddOne
 splits-odd = record { across = λ x y. ap (λ (t : Bool). cond t 0 (x + 1 + y)) (parity x y) ∙ odd-of (isEven x) (isEven y) x y }
 
@@ -134,7 +134,7 @@ even-one true false = refl
 even-one false true = refl
 even-one false false = refl
 
-pub splits-even-one : Splits evenOne (evenOne ⊗ oddOne ∷ oddOne ⊗ evenOne ∷ [])
+splits-even-one : Splits evenOne (evenOne ⊗ oddOne ∷ oddOne ⊗ evenOne ∷ [])
 unfolding products evenOne oddOne
 splits-even-one = record { across = λ x y. ap (λ (t : Bool). cond {A = ℕ} t 1 0) (parity x y) ∙ even-one (isEven x) (isEven y) }
 
@@ -145,7 +145,7 @@ odd-one true false = refl
 odd-one false true = refl
 odd-one false false = refl
 
-pub splits-odd-one : Splits oddOne (evenOne ⊗ evenOne ∷ oddOne ⊗ oddOne ∷ [])
+splits-odd-one : Splits oddOne (evenOne ⊗ evenOne ∷ oddOne ⊗ oddOne ∷ [])
 unfolding products evenOne oddOne
 splits-odd-one = record { across = λ x y. ap (λ (t : Bool). cond {A = ℕ} t 0 1) (parity x y) ∙ odd-one (isEven x) (isEven y) }
 
@@ -165,10 +165,6 @@ at-past d = ap (λ (t : Bool). cond {A = ℕ} t 1 0) (eqb·suc-zero d)
 at0 : (x y : ℕ) → isAt 0 (x + 1 + y) ≡ 0
 at0 x y = ap (isAt 0) (omega arith) ∙ at-past (x + y)
 
-pub splits-at0 : Splits (isAt 0) []
-unfolding products
-splits-at0 = record { across = at0 }
-
 at-here : isAt 0 0 ≡ 1
 unfolding isAt
 at-here = refl
@@ -177,7 +173,7 @@ at1 : (x y : ℕ) → isAt 1 (x + 1 + y) ≡ isAt 0 x * isAt 0 y + 0
 at1 zero y = ap (isAt 1) (omega arith) ∙ at-suc 0 y ∙ simp at-here (omega arith)
 at1 (suc x) y = ap (isAt 1) (omega arith) ∙ at-suc 0 (x + 1 + y) ∙ at0 x y ∙ simp at-past (omega arith)
 
-pub splits-at1 : Splits (isAt 1) (isAt 0 ⊗ isAt 0 ∷ [])
+splits-at1 : Splits (isAt 1) (isAt 0 ⊗ isAt 0 ∷ [])
 unfolding products
 splits-at1 = record { across = at1 }
 
@@ -185,7 +181,7 @@ at2 : (x y : ℕ) → isAt 2 (x + 1 + y) ≡ isAt 0 x * isAt 1 y + (isAt 1 x * i
 at2 zero y = ap (isAt 2) (omega arith) ∙ at-suc 1 y ∙ simp (at-here, at-none 0) (omega arith)
 at2 (suc x) y = ap (isAt 2) (omega arith) ∙ at-suc 1 (x + 1 + y) ∙ at1 x y ∙ simp (at-past, at-suc 0) (omega arith)
 
-pub splits-at2 : Splits (isAt 2) (isAt 0 ⊗ isAt 1 ∷ isAt 1 ⊗ isAt 0 ∷ [])
+splits-at2 : Splits (isAt 2) (isAt 0 ⊗ isAt 1 ∷ isAt 1 ⊗ isAt 0 ∷ [])
 unfolding products
 splits-at2 = record { across = at2 }
 
@@ -193,11 +189,11 @@ at3 : (x y : ℕ) → isAt 3 (x + 1 + y) ≡ isAt 0 x * isAt 2 y + (isAt 1 x * i
 at3 zero y = ap (isAt 3) (omega arith) ∙ at-suc 2 y ∙ simp (at-here, at-none 0, at-none 1) (omega arith)
 at3 (suc x) y = ap (isAt 3) (omega arith) ∙ at-suc 2 (x + 1 + y) ∙ at2 x y ∙ simp (at-past, at-suc 0, at-suc 1) (omega arith)
 
-pub splits-at3 : Splits (isAt 3) (isAt 0 ⊗ isAt 2 ∷ isAt 1 ⊗ isAt 1 ∷ isAt 2 ⊗ isAt 0 ∷ [])
+splits-at3 : Splits (isAt 3) (isAt 0 ⊗ isAt 2 ∷ isAt 1 ⊗ isAt 1 ∷ isAt 2 ⊗ isAt 0 ∷ [])
 unfolding products
 splits-at3 = record { across = at3 }
 
-pub vertex-each : (g : Graph) (a : ℕ) → vertex g a each ≡ g .atoms
+vertex-each : (g : Graph) (a : ℕ) → vertex g a each ≡ g .atoms
 unfolding vertex
 vertex-each g a = sum-const (g .atoms) 1 ∙ omega arith
 
@@ -236,7 +232,6 @@ pub record Grown (new old other : (ℕ → ℕ) → ℕ) (d : ℕ) : Type 0 wher
       + oddOf d * other oddOne + oddOne d * other oddOne + oddOne d * other oddOf
   pub even-counts : new evenOne ≡ old evenOne + evenOne d * other oddOne + oddOne d * other evenOne
   pub odd-counts : new oddOne ≡ old oddOne + evenOne d * other evenOne + oddOne d * other oddOne
-  pub at-0 : new (isAt 0) ≡ old (isAt 0)
   pub at-1 : new (isAt 1) ≡ old (isAt 1) + isAt 0 d * other (isAt 0)
   pub at-2 : new (isAt 2) ≡ old (isAt 2) + isAt 0 d * other (isAt 1) + isAt 1 d * other (isAt 0)
 
@@ -249,7 +244,6 @@ grown new old other d law = record {
   odds = omega (arith, law _ _ splits-odd);
   even-counts = omega (arith, law _ _ splits-even-one);
   odd-counts = omega (arith, law _ _ splits-odd-one);
-  at-0 = omega (arith, law _ _ splits-at0);
   at-1 = omega (arith, law _ _ splits-at1);
   at-2 = omega (arith, law _ _ splits-at2);
 }

@@ -1,6 +1,6 @@
--- Shortest paths read backwards: counts and uses are the same both ways, each count divides D, and half the sum over all starts is a share. Assumes nothing.
-use Prim.Native.Nat.{ℕ, zero, suc, _+_, _*_, _/_, _<_, _∣_}
-use mathlib.Core.Bool.{Bool, true, false, _&&_, not, cond}
+-- Shortest paths read backwards: counts are the same both ways, and each count divides D. Assumes nothing.
+use Prim.Native.Nat.{ℕ, zero, suc, _<_, _∣_}
+use mathlib.Core.Bool.{Bool, true, false, cond}
 use mathlib.Core.List.{[], _∷_}
 use mathlib.Core.Logic.{_↔_}
 use mathlib.Core.Path.{_≡_, refl, sym, _∙_, ap, ap₂}
@@ -9,14 +9,14 @@ use native.Mathlib.Omega.{arith}
 use borrow.Author.Tests.{ltb-true, ltb-false}
 use lib.Dec.{eqb, ltb}
 use lib.ListN.{length}
-use Rattle.graph.specs.Graph.{Graph, Bond, Within, Molecule, joins, bonded, distance, sum}
-use Rattle.graph.specs.Bonds.{joins-sym, anyJoins-sym}
+use Rattle.graph.specs.Graph.{Graph, Within, Molecule, bonded, distance, sum}
+use Rattle.graph.specs.Bonds.{anyJoins-sym}
 use Rattle.graph.specs.Distance.{distance-sym}
-use Rattle.graph.specs.Sums.{sum-cong, sum-add, sum-none, sum-swap, sum-pick, sum-square}
-use Rattle.paths.specs.Paths.{walks, shortestPaths, uses, count, pathCount, pathsUsing, denominator, share}
+use Rattle.graph.specs.Sums.{sum-cong, sum-swap, sum-pick}
+use Rattle.paths.specs.Paths.{walks, shortestPaths, pathCount, denominator}
 use Rattle.paths.specs.Notions.{Pair}
 use Rattle.paths.specs.Choices.{eqb-sym, cond-swap, cond-sum}
-use Rattle.paths.specs.Steps.{walks-suc, walks-length, uses-suc, using-self, count-self, count-pos}
+use Rattle.paths.specs.Steps.{walks-length, count-self, count-pos}
 use Rattle.paths.specs.Lcm.{pairs-dvd}
 
 -- how many ways lead from i to j in k steps along m
@@ -44,7 +44,6 @@ module _ (n : ℕ) (m : ℕ → ℕ → Bool) where
   power-sym s (suc k) i j hi hj =
       sum-cong n (λ v w. ap₂ (λ (t : Bool) (x : ℕ). cond t x 0) (s v j) (power-sym s k i v hi w)) ∙ sym (power-first k j i hj hi)
 
--- all walks, and those that do not use e: they go along the other bonds
 walks-power : (g : Graph) (k i j : ℕ) → length (walks g k i j) ≡ power (g .atoms) (bonded g) k i j
 unfolding walks power
 walks-power g zero i j = go (eqb i j)
@@ -54,54 +53,14 @@ walks-power g zero i j = go (eqb i j)
     go false = refl
 walks-power g (suc k) i j = walks-length g k i j ∙ sum-cong (g .atoms) (λ v w. ap (λ (x : ℕ). cond (bonded g v j) x 0) (walks-power g k i v))
 
-without : Graph → Bond → ℕ → ℕ → Bool
-without g e u v = bonded g u v && not (joins e u v)
-
-uses-power : (g : Graph) (e : Bond) (k i j : ℕ) → count (uses e) (walks g k i j) + power (g .atoms) (without g e) k i j ≡ length (walks g k i j)
-unfolding walks power without count uses
-uses-power g e zero i j = go (eqb i j)
-  where
-    go : (t : Bool) → count (uses e) (cond t ((j ∷ []) ∷ []) []) + cond t 1 0 ≡ length (cond t ((j ∷ []) ∷ []) [])
-    go true = refl
-    go false = refl
-uses-power g e (suc k) i j =
-    ap (λ (x : ℕ). x + power (g .atoms) (without g e) (suc k) i j)
-    (walks-suc g k i j (uses e) ∙ sum-cong (g .atoms) (λ v w. ap (λ (x : ℕ). cond (bonded g v j) x 0) (uses-suc g e k i v j)))
-    ∙ sym (sum-add (g .atoms) (λ v. cond (bonded g v j) (cond (joins e v j) (length (walks g k i v)) (count (uses e) (walks g k i v))) 0)
-    (λ v. cond (without g e v j) (power (g .atoms) (without g e) k i v) 0))
-    ∙ sum-cong (g .atoms) (λ v w. at v (bonded g v j) (joins e v j) (uses-power g e k i v))
-    ∙ sym (walks-length g k i j)
-  where
-    at : (v : ℕ) (t w : Bool) → count (uses e) (walks g k i v) + power (g .atoms) (without g e) k i v ≡ length (walks g k i v)
-        → cond t (cond w (length (walks g k i v)) (count (uses e) (walks g k i v))) 0 + cond (t && not w) (power (g .atoms) (without g e) k i v) 0
-        ≡ cond t (length (walks g k i v)) 0
-    at v true true h = omega arith
-    at v true false h = h
-    at v false w h = refl
-
 module _ {g : Graph} (m : Molecule g) {i j : ℕ} (hi : Within (g .atoms) i) (hj : Within (g .atoms) j) where
   walks-sym : (k : ℕ) → length (walks g k i j) ≡ length (walks g k j i)
   unfolding bonded
   walks-sym k = walks-power g k i j ∙ power-sym (g .atoms) (bonded g) (anyJoins-sym (g .bonds)) k i j hi hj ∙ sym (walks-power g k j i)
 
-  uses-sym : (e : Bond) (k : ℕ) → count (uses e) (walks g k i j) ≡ count (uses e) (walks g k j i)
-  unfolding without bonded
-  uses-sym e k =
-      omega (
-        arith,
-        uses-power g e k i j,
-        uses-power g e k j i,
-        walks-sym k,
-        power-sym (g .atoms) (without g e) (λ u v. ap₂ (λ (x y : Bool). x && not y) (anyJoins-sym (g .bonds) u v) (joins-sym e u v)) k i j hi hj,
-      )
-
   pub count-sym : pathCount g i j ≡ pathCount g j i
   unfolding pathCount shortestPaths
   count-sym = walks-sym (distance g i j) ∙ ap (λ (k : ℕ). length (walks g k j i)) (distance-sym m hi hj)
-
-  pub using-sym : (e : Bond) → pathsUsing g e i j ≡ pathsUsing g e j i
-  unfolding pathsUsing shortestPaths
-  using-sym e = uses-sym e (distance g i j) ∙ ap (λ (k : ℕ). count (uses e) (walks g k j i)) (distance-sym m hi hj)
 
 module _ {g : Graph} (m : Molecule g) where
   pub pair-pos : (i j : ℕ) → Pair (g .atoms) i j → 0 < pathCount g i j
@@ -125,16 +84,3 @@ module _ {g : Graph} (m : Molecule g) where
       go false h false k =
           let e : j ≡ i = omega (arith, ltb-false i j h, ltb-false j i k) in
           rw (e, count-self m hi) (one-dvd _)
-
-  -- document 001's own form: half the sum over all starts and ends
-  pub share-twice : (e : Bond) → sum (g .atoms) (λ i. sum (g .atoms) (λ j. pathsUsing g e i j * (denominator g / pathCount g i j))) ≡ 2 * share g e
-  unfolding share
-  share-twice e =
-      sum-square (g .atoms) (λ i j. pathsUsing g e i j * (denominator g / pathCount g i j))
-      (λ i j hi hj. ap₂ (λ (x y : ℕ). x * (denominator g / y)) (using-sym m hi hj e) (count-sym m hi hj))
-      ∙ omega (
-        arith,
-        sum-cong (g .atoms) {f = λ i. pathsUsing g e i i * (denominator g / pathCount g i i)} {h = λ i. 0}
-            (λ i hi. ap (λ (x : ℕ). x * (denominator g / pathCount g i i)) (using-self m hi e) ∙ omega arith),
-        sum-none (g .atoms),
-      )

@@ -11,11 +11,11 @@ use Rattle.graph.specs.Graph.{Graph, Bond, Within, Molecule, joins, distance, s
 use Rattle.graph.specs.Bonds.{both}
 use Rattle.graph.specs.Distance.{distance-below, distance-zero}
 use Rattle.graph.specs.Sums.{sum-cong, sum-add, sum-scale, sum-scaled, sum-swap, sum-pick}
-use Rattle.paths.specs.Paths.{pathCount, pathsUsing, denominator, share}
-use Rattle.paths.specs.Notions.{near, Near, across, Inside, weight, onward, gathered}
+use Rattle.paths.specs.Paths.{pathCount, pathsUsing}
+use Rattle.paths.specs.Notions.{near, Near, across, Inside, onward, gathered}
 use Rattle.paths.specs.Choices.{cond-and, cond-swap, cond-or, cond-add, cond-left, cond-right}
 use Rattle.paths.specs.Steps.{near-at, near-cong, near-none, using-step, using-self}
-use Rattle.paths.specs.Uses.{using-joined, share-rows}
+use Rattle.paths.specs.Uses.{using-joined}
 
 -- U carries its sources along m, T gathers its weights against m: both ways of adding them up agree
 module _ (n : ℕ) (m : ℕ → ℕ → Bool) (s U q T : ℕ → ℕ)
@@ -125,8 +125,3 @@ module _ {g : Graph} (m : Molecule g) {i : ℕ} (hi : Within (g .atoms) i) (e : 
 
       from : ℕ → ℕ → ℕ
       from v j = cond (near g i v j) (pathCount g i v) 0
-
--- THE PASS OF DOCUMENT 001 in whole numbers: a share is a sum over the starts
-pub share-starts : {g : Graph} → Molecule g → (e : Bond) → Inside (g .atoms) e
-    → share g e ≡ sum (g .atoms) (λ i. flow g i (gathered g i (weight g (denominator g) i)) e)
-share-starts {g} m e r = share-rows g e ∙ sum-cong (g .atoms) (λ i hi. through m hi e r (weight g (denominator g) i))

@@ -60,7 +60,7 @@ module _ (a b : ℕ) (pa : 0 < a) (pb : 0 < b) where
   unfolding factor test
   within = first-between b 1 test b pb (eq-eqb _ 0 (mul-mod-right b a))
 
-  pub lcm-pos : 0 < lcm a b
+  lcm-pos : 0 < lcm a b
   unfolding lcm factor test
   lcm-pos = mul-pos (within .0) pa
 
@@ -82,7 +82,7 @@ module _ (a b : ℕ) (pa : 0 < a) (pb : 0 < b) where
       (mul-le-mul-right a (first-between b 1 test (t / a) q (eq-eqb _ 0 (ap (λ (n : ℕ). n % b) e ∙ mod-eq-zero-of-dvd b v)) .1))
 
   -- it divides exactly the common multiples
-  pub lcm-dvd : (t : ℕ) → (lcm a b ∣ t) ↔ ((a ∣ t) × (b ∣ t))
+  lcm-dvd : (t : ℕ) → (lcm a b ∣ t) ↔ ((a ∣ t) × (b ∣ t))
   lcm-dvd t = (λ d. (dvd-trans a lcm-left d, dvd-trans b lcm-right d), λ d. into (d .0) (d .1))
     where
       into : a ∣ t → b ∣ t → lcm a b ∣ t
@@ -168,7 +168,7 @@ module _ (f : ℕ → ℕ) (m : ℕ) (pm : 0 < m) where
   over-pos zero pos = pm
   over-pos (suc n) pos = lcm-pos (lcmOver n f m) (f (suc n)) (over-pos n (λ k w. pos k (wider w))) (pos (suc n) (last n))
 
-  pub over-dvd : (n : ℕ) → ((k : ℕ) → Within n k → 0 < f k) → (t : ℕ) → (lcmOver n f m ∣ t) ↔ ((m ∣ t) × ((k : ℕ) → Within n k → f k ∣ t))
+  over-dvd : (n : ℕ) → ((k : ℕ) → Within n k → 0 < f k) → (t : ℕ) → (lcmOver n f m ∣ t) ↔ ((m ∣ t) × ((k : ℕ) → Within n k → f k ∣ t))
   unfolding lcmOver
   over-dvd zero pos t = (λ d. (d, λ k w. absurd (omega arith)), λ d. d .0)
   over-dvd (suc n) pos t =

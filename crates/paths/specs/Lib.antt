@@ -7,4 +7,5 @@ pub mod Choices
 pub mod Backwards
 pub mod Uses
 pub mod Flow
+pub mod Listed
 pub mod Examples

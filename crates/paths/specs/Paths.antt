@@ -11,7 +11,7 @@ unfoldable pub gather : ℕ → (ℕ → List (List ℕ)) → List (List ℕ)
 gather zero f = []
 gather (suc n) f = gather n f ++ f (suc n)
 
--- the walks of k bonds from i to j, each as the list of its atoms from j back to i
+-- the walks of k bonds from i to j, each once (`walks-once`), as the list of its atoms from j back to i
 unfoldable pub walks : Graph → ℕ → ℕ → ℕ → List (List ℕ)
 walks g zero i j = cond (eqb i j) ((j ∷ []) ∷ []) []
 walks g (suc k) i j =

@@ -96,7 +96,7 @@ walks-of-walk {g} {i} s (step {v = v} {w = j} {k = k} p b) =
     )
 
 -- whether e is used by a walk to v that goes on to j
-pub uses-suc : (g : Graph) (e : Bond) (k i v j : ℕ)
+uses-suc : (g : Graph) (e : Bond) (k i v j : ℕ)
     → count (λ p. uses e (j ∷ p)) (walks g k i v) ≡ cond (joins e v j) (length (walks g k i v)) (count (uses e) (walks g k i v))
 unfolding walks count uses
 uses-suc g e zero i v j = go (eqb i v) (joins e v j) refl
@@ -118,7 +118,7 @@ uses-suc g e (suc k) i v j = count-map (λ p. uses e (j ∷ p)) v before ∙ go 
     go false h = simp h (sym (count-map (uses e) v before))
 
 -- `near` as facts: what stands where v is not a nearer neighbour of j does not matter
-pub near-out : (g : Graph) (i v j : ℕ) → near g i v j ≡ true → Near g i v j
+near-out : (g : Graph) (i v j : ℕ) → near g i v j ≡ true → Near g i v j
 unfolding near
 near-out g i v j h = go (bonded g v j) refl (eqb (suc (distance g i v)) (distance g i j)) refl h
   where

@@ -11,7 +11,7 @@ use lib.Seq.{take-append-le, drop-append-le, getD-append-add}
 use Rattle.block.specs.Read.{Read, read}
 use Rattle.block.specs.Chain.{not-read}
 use Rattle.records.specs.Bytes.{little, part}
-use Rattle.records.specs.Records.{lengthAt, kindAt, endAt, payloadAt, wanted, kindReply, lengthReply, recordReply}
+use Rattle.records.specs.Records.{headBytes, lengthAt, kindAt, endAt, payloadAt, wanted, kindReply, lengthReply, recordReply}
 use Rattle.records.specs.Taken.{taken}
 use Rattle.records.specs.declared.Kind.{Kind}
 
@@ -50,17 +50,17 @@ module _ (d s : List ℕ) where
       ap (take len) (drop-append-le from d s (omega arith)) ∙ take-append-le len (drop from d) s (omega (arith, length-drop from d))
 
   module _ (at : ℕ) (whole : endAt d at ≤ length d) where
-    pub length-same : lengthAt (d ++ s) at ≡ lengthAt d at
+    length-same : lengthAt (d ++ s) at ≡ lengthAt d at
     length-same = little-same 2 at (omega arith)
 
     pub end-same : endAt (d ++ s) at ≡ endAt d at
-    end-same = ap (λ (n : ℕ). at + 4 + n) length-same
+    end-same = ap (λ (n : ℕ). at + headBytes + n) length-same
 
     pub kind-same : kindAt (d ++ s) at ≡ kindAt d at
     kind-same = little-same 2 (at + 2) (omega arith)
 
     pub payload-same : payloadAt (d ++ s) at ≡ payloadAt d at
-    payload-same = ap (part (d ++ s) (at + 4)) length-same ∙ part-same (at + 4) (lengthAt d at) whole
+    payload-same = ap (part (d ++ s) (at + headBytes)) length-same ∙ part-same (at + headBytes) (lengthAt d at) whole
 
   stands-same : (ks : List Kind) (at : ℕ) → kindAt (d ++ s) at ≡ kindAt d at → kindReply ks (d ++ s) at ≡ kindReply ks d at
   unfolding kindReply
@@ -75,7 +75,7 @@ module _ (d s : List ℕ) where
       let w = t .whole in
       let h = counted kinds d at c (t .stands) in
       let n = length-same at w in
-      let m : wanted k (d ++ s) at ≡ wanted k d at = ap (λ (x : ℕ). k .fixed + k .item * x) (little-same 2 (at + 4 + k .count) (omega (arith, t .suits))) in
+      let m : wanted k (d ++ s) at ≡ wanted k d at = ap (λ (x : ℕ). k .fixed + k .item * x) (little-same 2 (at + headBytes + k .count) (omega (arith, t .suits))) in
       rw (
         le-ltb (length (d ++ s)) (endAt (d ++ s) at) (omega (arith, end-same at w, length-append d s)),
         stands-same kinds at (kind-same at w) ∙ t .stands,

@@ -8,6 +8,10 @@ use Rattle.block.specs.Read.{Read, refused, read, _then_, refuseIf, refusal}
 use Rattle.records.specs.Bytes.{le16, part}
 use Rattle.records.specs.declared.Kind.{Kind}
 
+-- a record's head: payload length and kind
+abbrev pub headBytes : ℕ
+headBytes = 4
+
 -- Kind 1, block: block number (2), n (2), bond count m (2), m bonds of two bytes
 abbrev pub blockKind : Kind
 blockKind = record { number = 1; fixed = 6; count = 4; item = 2 }
@@ -28,14 +32,14 @@ kindAt d at = le16 d (at + 2)
 
 -- the payload of the record at a place, and the first byte after it
 abbrev pub payloadAt : List ℕ → ℕ → List ℕ
-payloadAt d at = part d (at + 4) (lengthAt d at)
+payloadAt d at = part d (at + headBytes) (lengthAt d at)
 
 abbrev pub endAt : List ℕ → ℕ → ℕ
-endAt d at = at + 4 + lengthAt d at
+endAt d at = at + headBytes + lengthAt d at
 
 -- the payload length that a kind and the count in its payload ask
 abbrev pub wanted : Kind → List ℕ → ℕ → ℕ
-wanted k d at = k .fixed + k .item * le16 d (at + 4 + k .count)
+wanted k d at = k .fixed + k .item * le16 d (at + headBytes + k .count)
 
 -- which of the kinds stands there
 unfoldable pub kindReply : List Kind → List ℕ → ℕ → Read Kind

@@ -7,7 +7,7 @@ use native.Mathlib.Decide.{ℕ-discrete}
 use borrow.Author.Tests.{eq-eqb, ne-eqb, eqb-true, ltb-false, not-false}
 use lib.Dec.{eqb, ltb}
 use lib.ListN.{length}
-use Rattle.block.specs.Read.{Read, refused, read, _then_, refuseIf}
+use Rattle.block.specs.Read.{Read, refused, read, refuseIf}
 use Rattle.block.specs.Block.{saidBlock}
 use Rattle.block.specs.Chain.{not-read, then-read, if-read}
 use Rattle.block.specs.declared.Refusal.{Refusal}
@@ -57,7 +57,7 @@ module _ (d : List ℕ) (at : ℕ) where
   unfolding recordReply kindReply
   of-other k ks e n = rw (ne-eqb (kindAt d at) (k .number) n) at e
 
-  pub of-none : recordReply [] d at ≡ read tt → ⊥
+  of-none : recordReply [] d at ≡ read tt → ⊥
   unfolding kindReply
   of-none e = not-read (taken [] e .stands)
 

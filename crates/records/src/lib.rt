@@ -5,9 +5,12 @@ ghost use Prim.Native.Nat.{_+_, _≤_};
 ghost use lib.ListN.{length};
 ghost use Rattle.block.specs.Block.{saidBlock};
 ghost use Rattle.records.specs.Bytes.{byteAt, little, le16, PartOf};
-ghost use Rattle.records.specs.Records.{lengthAt, lengthReply, recordReply};
+ghost use Rattle.records.specs.Records.{headBytes, lengthAt, lengthReply, recordReply};
 use block::Refusal;
 use block::Reply;
+
+// The bytes of a record's head: payload length and kind.
+pub const HEAD: usize = 4;
 
 // A kind of record: its number, the bytes of payload that hold its counts, where in the payload the count of its items stands, and the bytes of an item.
 pub struct Kind {
@@ -91,20 +94,20 @@ pub fn part(d: &[u8], from: usize, len: usize) -> &[u8]
 
 // The payload of the record at a place.
 pub fn payload_at(d: &[u8], at: usize) -> &[u8]
-    ensures { λ r. ⌜ PartOf (d .entry) (at + 4) (lengthAt (now (d .entry)) at) r ⌝ }
+    ensures { λ r. ⌜ PartOf (d .entry) (at + headBytes) (lengthAt (now (d .entry)) at) r ⌝ }
 {
     if d.len() < at {
         return part(d, at, 0);
     }
-    part(d, at + 4, le16_at(d, at) as usize)
+    part(d, at + HEAD, le16_at(d, at) as usize)
 }
 
 // Refusal 13 of the record at a place, which is of a kind.
 fn length_reply(d: &[u8], at: usize, k: Kind) -> Reply
-    requires { ⌜ at + 4 ≤ length (now d) ⌝ }
+    requires { ⌜ at + headBytes ≤ length (now d) ⌝ }
     ensures { λ r. ⌜ r ≡ saidBlock (lengthReply k (now (d .entry)) at) ⌝ }
 {
-    let items = le16_at(d, at + 4 + (k.count as usize)) as usize;
+    let items = le16_at(d, at + HEAD + (k.count as usize)) as usize;
     if (le16_at(d, at) as usize) != (k.fixed as usize) + (k.item as usize) * items {
         return Reply::Refused(Refusal {
             number: 13,
@@ -124,7 +127,7 @@ pub fn record_at(d: &[u8], at: usize, a: Kind, b: Kind) -> Reply
             place: at,
         });
     }
-    if d.len() - at < 4 + (le16_at(d, at) as usize) {
+    if d.len() - at < HEAD + (le16_at(d, at) as usize) {
         return Reply::Refused(Refusal {
             number: 11,
             place: at,

@@ -30,7 +30,7 @@ sets-more l i (x ∷ xs) ys =
     sets-more (set l i x) (suc i) xs ys ∙ ap (λ (n : ℕ). sets (sets (set l i x) (suc i) xs) n ys) e
 
 -- a field is put, and then the rest
-pub one-field : (a b : List ℕ) (at w x : ℕ) (ws xs : List ℕ) → b ≡ sets a at (littleBytes w x) → sets a at (fieldBytes (w ∷ ws) (x ∷ xs)) ≡ sets b (at + w) (fieldBytes ws xs)
+one-field : (a b : List ℕ) (at w x : ℕ) (ws xs : List ℕ) → b ≡ sets a at (littleBytes w x) → sets a at (fieldBytes (w ∷ ws) (x ∷ xs)) ≡ sets b (at + w) (fieldBytes ws xs)
 unfolding fieldBytes
 one-field a b at w x ws xs e = rw e (sets-more a at (littleBytes w x) (fieldBytes ws xs) ∙ ap (λ (n : ℕ). sets (sets a at (littleBytes w x)) (at + n) (fieldBytes ws xs)) (length-little w x))
 

@@ -12,7 +12,7 @@ use lib.Seq.{getD-drop, drop-drop, drop-append-seam}
 use Rattle.block.specs.Read.{read}
 use Rattle.block.specs.declared.Indices.{Indices}
 use Rattle.records.specs.Bytes.{byteAt, little}
-use Rattle.records.specs.Records.{sheetKind}
+use Rattle.records.specs.Records.{headBytes, sheetKind}
 use Rattle.deck.specs.Deck.{longestDeck, Deck, deckReply}
 use Rattle.deck.specs.Followed.{IsSheet, followed, claims}
 use Rattle.deck.specs.declared.Form.the-variants.{Composed, Judged}
@@ -38,7 +38,7 @@ behind : (d : List ℕ) (at : ℕ) (bs cs : List ℕ) (n : ℕ) → length bs �
 behind d at bs cs n l e = rw (← l) (sym (drop-drop (length bs) at d) ∙ ap (drop (length bs)) e ∙ drop-append-seam bs cs)
 
 -- a number that fits its bytes is read back from them
-pub little-back : (k n : ℕ) (d : List ℕ) (at : ℕ) (cs : List ℕ) → n < 256 ^ k → drop at d ≡ littleBytes k n ++ cs → little k d at ≡ n
+little-back : (k n : ℕ) (d : List ℕ) (at : ℕ) (cs : List ℕ) → n < 256 ^ k → drop at d ≡ littleBytes k n ++ cs → little k d at ≡ n
 unfolding littleBytes little
 little-back zero n d at cs h e = omega arith
 little-back (suc k) n d at cs h e =
@@ -54,7 +54,7 @@ Fit [] (x ∷ xs) = ⊥
 Fit (w ∷ ws) [] = ⊥
 Fit (w ∷ ws) (x ∷ xs) = (x < 256 ^ w) × Fit ws xs
 
-pub fields-back : (ws xs : List ℕ) (d : List ℕ) (at : ℕ) (cs : List ℕ) → Fit ws xs → drop at d ≡ fieldBytes ws xs ++ cs → fieldsAt ws d at ≡ xs
+fields-back : (ws xs : List ℕ) (d : List ℕ) (at : ℕ) (cs : List ℕ) → Fit ws xs → drop at d ≡ fieldBytes ws xs ++ cs → fieldsAt ws d at ≡ xs
 unfolding fieldBytes fieldsAt
 fields-back [] [] d at cs f e = refl
 fields-back [] (x ∷ xs) d at cs f e = absurd f
@@ -77,11 +77,11 @@ module _ (x : Indices) (fit : Fit widths (fieldsOf x)) where
       let all : Fit (2 ∷ 2 ∷ widths) (sheetKind .fixed ∷ sheetKind .number ∷ fieldsOf x) = (lit< tt, (lit< tt, fit)) in
       fields-back (2 ∷ 2 ∷ widths) (sheetKind .fixed ∷ sheetKind .number ∷ fieldsOf x) bytes 0 [] all (sym (append-nil bytes))
 
-  pub is-sheet : IsSheet bytes
+  is-sheet : IsSheet bytes
   unfolding fieldsAt
   is-sheet = record { size = length-sheet x; payload = ap (λ (l : List ℕ). getD l 0 0) read-whole; kind = ap (λ (l : List ℕ). getD l 1 0) read-whole }
 
-  pub sheet-fields : fieldsAt widths bytes 4 ≡ fieldsOf x
+  sheet-fields : fieldsAt widths bytes headBytes ≡ fieldsOf x
   unfolding fieldsAt
   sheet-fields = ap (drop 2) read-whole
 
@@ -97,10 +97,6 @@ module _ (x : Indices) (fit : Fit widths (fieldsOf x)) where
 pub fields-said : (d : List ℕ) (at : ℕ) → fieldsOf (saidFields (claimedAt d at)) ≡ claimedAt d at
 unfolding fieldsOf claimedAt fieldsAt
 fields-said d at = refl
-
-pub same-sheet : (x y : Indices) → fieldsOf x ≡ fieldsOf y → x ≡ y
-unfolding fieldsOf
-same-sheet x y e = ap saidFields e
 
 -- two sheets differ in no field exactly when they are equal
 pub none-wrong : (k : ℕ) (xs : List ℕ) → firstWrong k xs xs ≡ 0

@@ -5,7 +5,7 @@ use mathlib.Core.Bool.{cond}
 use mathlib.Core.List.{List, [], _∷_, _++_}
 use lib.Dec.{eqb, ltb}
 use lib.ListN.{length, drop}
-use Rattle.records.specs.Records.{sheetKind}
+use Rattle.records.specs.Records.{headBytes, sheetKind}
 use Rattle.deck.specs.Molecule.{widths}
 
 -- a number in k bytes, little-endian
@@ -24,7 +24,7 @@ unfoldable pub sheetRecord : List ℕ → List ℕ
 sheetRecord xs = fieldBytes (2 ∷ 2 ∷ widths) (sheetKind .fixed ∷ sheetKind .number ∷ xs)
 
 abbrev pub sheetBytes : ℕ
-sheetBytes = 4 + sheetKind .fixed
+sheetBytes = headBytes + sheetKind .fixed
 
 -- what a buffer holds after a sheet was put into it: later bytes stay, and one that is too short stays as it was
 unfoldable pub sheetPut : List ℕ → List ℕ → List ℕ

@@ -6,10 +6,22 @@ ghost use lib.Seq.{sets};
 ghost use Rattle.deck.specs.Molecule.{fieldsOf};
 ghost use Rattle.sheets.specs.Sheets.{littleBytes, sheetPut, firstWrong};
 use block::Indices;
+use records::HEAD;
 use records::SHEET;
 
 // The bytes of a sheet's record.
-pub const BYTES: usize = 40;
+pub const BYTES: usize = HEAD + SHEET.fixed as usize;
+
+// Where the fields stand in it.
+const ATOMS: usize = HEAD;
+
+const W: usize = ATOMS + 4;
+
+const EVEN: usize = W + 8;
+
+const ODD: usize = EVEN + 8;
+
+const POLARITY: usize = ODD + 8;
 
 // Puts a number into as many bytes as `width` says, from a place on, little-endian.
 fn put(out: &mut [u8], at: usize, width: usize, n: u64)
@@ -35,11 +47,11 @@ pub fn put_sheet(out: &mut [u8], x: Indices)
     }
     put(out, 0, 2, SHEET.fixed as u64);
     put(out, 2, 2, SHEET.number as u64);
-    put(out, 4, 4, x.atoms);
-    put(out, 8, 8, x.w);
-    put(out, 16, 8, x.even);
-    put(out, 24, 8, x.odd);
-    put(out, 32, 8, x.polarity);
+    put(out, ATOMS, 4, x.atoms);
+    put(out, W, 8, x.w);
+    put(out, EVEN, 8, x.even);
+    put(out, ODD, 8, x.odd);
+    put(out, POLARITY, 8, x.polarity);
 }
 
 // The first field, 1 to 5, in which two sheets differ, or 0.

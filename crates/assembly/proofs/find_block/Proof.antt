@@ -10,10 +10,10 @@ use Rattle.assembly.proofs.find_block.Statement.{statement}
 use Rattle.assembly.proofs.find_block.Tie as tie
 
 abbrev Inv-loop : tie.InvT-loop
-Inv-loop count number blocks none i₀ i = (i ≤ 16) × (find (take count blocks) number ≡ find (drop i (take count blocks)) number)
+Inv-loop count number blocks i₀ i = (i ≤ 16) × (find (take count blocks) number ≡ find (drop i (take count blocks)) number)
 
 abbrev μ-loop : tie.MeasureT-loop
-μ-loop count number blocks none i₀ i = 16 - i
+μ-loop count number blocks i₀ i = 16 - i
 
 table : (s : tie.Start Inv-loop μ-loop) → length (s .args .t1) ≡ 16
 table s = search needs

@@ -13,26 +13,27 @@ returns : tie.Need-returns
 unfolding placementAt
 returns c = let a = c .before .before .args in
     let d = a .xs .now in
+    let at = 2 + 6 * a .k in
     sym (
     rw (
-      past 2 d (6 * a .k + 2) (omega arith),
-      past 2 d (6 * a .k + 4) (omega arith),
-      List·getD-eq-default d 0 {n = 6 * a .k + 6} (omega arith),
-      List·getD-eq-default d 0 {n = 6 * a .k + 7} (omega arith),
+      past 2 d at (omega arith),
+      past 2 d (at + 2) (omega arith),
+      List·getD-eq-default d 0 {n = at + 4} (omega arith),
+      List·getD-eq-default d 0 {n = at + 5} (omega arith),
     )
     )
 
 mul-at : tie.Need-mul-at
 mul-at c = search needs
 
-add-le16-at : tie.Need-add-le16-at
-add-le16-at c = search needs
+add-at : tie.Need-add-at
+add-at c = search needs
 
 le16-at-requires : tie.Need-le16-at-requires
 le16-at-requires c κs = search needs
 
-add-le16-at-2 : tie.Need-add-le16-at-2
-add-le16-at-2 c = search needs
+add-le16-at : tie.Need-add-le16-at
+add-le16-at c = search needs
 
 le16-at-requires-2 : tie.Need-le16-at-requires-2
 le16-at-requires-2 c κs = search needs
@@ -59,9 +60,9 @@ placement-at-spec =
     (tie.spec
     returns
     mul-at
-    add-le16-at
+    add-at
     le16-at-requires
-    add-le16-at-2
+    add-le16-at
     le16-at-requires-2
     add-byte-at
     byte-at-requires

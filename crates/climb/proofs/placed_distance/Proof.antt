@@ -11,7 +11,8 @@ use Rattle.deck.specs.Sound.{whole}
 use Rattle.deck.specs.declared.Form.the-variants.{Composed}
 use Rattle.climb.specs.Placed.{isMissing}
 use Rattle.climb.specs.Pairs.{deckOf, pair}
-use Rattle.climb.proofs.Reading.{deck-read, deck-refused, reply-refused, reply-missing, reply-far}
+use Rattle.deck.proofs.Parts.{deck-stopped}
+use Rattle.climb.proofs.Reading.{deck-read, reply-refused, reply-missing, reply-far}
 use Rattle.climb.proofs.placed_distance.Statement.{statement}
 use Rattle.climb.proofs.placed_distance.Tie as tie
 
@@ -60,7 +61,7 @@ returns-2 : tie.Need-returns-2
 returns-2 c =
     let a = c .before .before .before .before .before .args in
     let r = c .before .before .before .read-deck in
-    reply-refused (now (a .d)) (a .k) (a .i) (a .l) (a .j) (deck-refused (deckReply Composed (now (a .d))) (r .result) _ (r .ensures) (c .before .reply .given .1))
+    reply-refused (now (a .d)) (a .k) (a .i) (a .l) (a .j) (deck-stopped (deckReply Composed (now (a .d))) (r .result) _ (r .ensures) (c .before .reply .given .1))
 
 returns-3 : tie.Need-returns-3
 returns-3 c =

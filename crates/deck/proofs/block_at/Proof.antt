@@ -3,23 +3,20 @@ use borrow.Author.Needs.{needs}
 use Rattle.deck.proofs.block_at.Statement.{statement}
 use Rattle.deck.proofs.block_at.Tie as tie
 
-add-le16-at : tie.Need-add-le16-at
-add-le16-at c = search needs
+add-start : tie.Need-add-start
+add-start c = search needs
 
 le16-at-requires : tie.Need-le16-at-requires
 le16-at-requires c κs = search needs
 
-add-t5 : tie.Need-add-t5
-add-t5 c = search needs
-
-add-le16-at-2 : tie.Need-add-le16-at-2
-add-le16-at-2 c = search needs
+add-le16-at : tie.Need-add-le16-at
+add-le16-at c = search needs
 
 le16-at-requires-2 : tie.Need-le16-at-requires-2
 le16-at-requires-2 c κs = search needs
 
-add-le16-at-3 : tie.Need-add-le16-at-3
-add-le16-at-3 c = search needs
+add-le16-at-2 : tie.Need-add-le16-at-2
+add-le16-at-2 c = search needs
 
 le16-at-requires-3 : tie.Need-le16-at-requires-3
 le16-at-requires-3 c κs = search needs
@@ -31,11 +28,10 @@ pub block-at-spec : {M : Type 1} → statement M
 block-at-spec =
     tie.close
     (tie.spec
-    add-le16-at
+    add-start
     le16-at-requires
-    add-t5
-    add-le16-at-2
+    add-le16-at
     le16-at-requires-2
-    add-le16-at-3
+    add-le16-at-2
     le16-at-requires-3
     returns)

@@ -5,6 +5,7 @@ use mathlib.Core.Path.{_≡_, sym, ap, _∙_}
 use lib.ListN.{take}
 use borrow.Author.Tests.{not-true, not-false}
 use borrow.Author.Needs.{needs}
+use Rattle.records.specs.Records.{blockKind}
 use Rattle.assembly.specs.Book.{isNumbered, used}
 use Rattle.assembly.specs.declared.BlockAt.{BlockAt}
 use Rattle.deck.specs.Deck.{Span}
@@ -17,7 +18,7 @@ abbrev blocks : tie.Start → List BlockAt
 blocks s = take (s .args .count) (s .args .blocks)
 
 abbrev span : BlockAt → Span
-span b = record { from = b .start; len = 6 + 2 * b .bonds }
+span b = record { from = b .start; len = blockKind .fixed + blockKind .item * b .bonds }
 
 used-is : (c : tie.After-is-numbered) → let s = c .before .before .before in used (blocks s) (s .args .number) ≡ c .is-numbered .result
 used-is c = let s = c .before .before .before in sym (c .is-numbered .ensures ∙ ap (λ (b : BlockAt). isNumbered b (s .args .number)) (c .before .find-block .ensures))

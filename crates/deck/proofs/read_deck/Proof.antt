@@ -14,7 +14,8 @@ use Rattle.deck.specs.Deck.{longestDeck, Deck, blocksReply, assemblyRepl
 use Rattle.deck.specs.Said.{refusedDeck, saidDeck}
 use Rattle.deck.specs.Kept.{kept}
 use Rattle.deck.specs.declared.DeckRead.{DeckRead}
-use Rattle.deck.proofs.Parts.{deck-long, bad-blocks, bad-assembly, bad-sheet, whole-deck, deck-ended, deck-stopped, table-blocks}
+use Rattle.deck.specs.Examples.{too-long}
+use Rattle.deck.proofs.Parts.{bad-blocks, bad-assembly, bad-sheet, whole-deck, deck-ended, deck-stopped, table-blocks}
 use borrow.Author.Needs.{needs}
 use Rattle.deck.proofs.read_deck.Statement.{statement}
 use Rattle.deck.proofs.read_deck.Tie as tie
@@ -49,7 +50,7 @@ deck-refused-requires : tie.Need-deck-refused-requires
 deck-refused-requires c κs = search needs
 
 returns : tie.Need-returns
-returns c = let s = c .before .before .before in c .deck-refused .ensures ∙ ap saidDeck (sym (deck-long (s .args .form) (deck s) (c .before .if1 .taken)))
+returns c = let s = c .before .before .before in c .deck-refused .ensures ∙ ap saidDeck (sym (too-long (s .args .form) (deck s) (c .before .if1 .taken)))
 
 read-blocks-requires : tie.Need-read-blocks-requires
 read-blocks-requires c κs = search needs
