@@ -10,7 +10,6 @@ use Rattle.assembly.specs.Placements.{placementAt, firstFault}
 use Rattle.assembly.specs.declared.BlockAt.{BlockAt}
 use Rattle.assembly.specs.declared.Placement.{Placement}
 use Rattle.assembly.proofs.Faults.{no-block, is-first, is-later}
-use borrow.Author.Needs.{needs}
 use Rattle.assembly.proofs.fault_of.Statement.{statement}
 use Rattle.assembly.proofs.fault_of.Tie as tie
 

@@ -7,7 +7,6 @@ use borrow.Author.Needs.{needs}
 use Rattle.graph.specs.Graph.{degree}
 use Rattle.block.specs.Block.{limit, bondsOf}
 use Rattle.assembly.specs.Placements.{bondsOn}
-use borrow.Author.Needs.{needs}
 use Rattle.assembly.proofs.is_full.Statement.{statement}
 use Rattle.assembly.proofs.is_full.Tie as tie
 

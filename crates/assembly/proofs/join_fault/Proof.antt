@@ -10,7 +10,6 @@ use Rattle.assembly.specs.Book.{blockGraph}
 use Rattle.assembly.specs.Placements.{placementAt, joinOf, joinOn, isFull}
 use Rattle.assembly.specs.declared.Placement.{Placement}
 use Rattle.assembly.proofs.Faults.{no-site, no-own, full-site, full-own, joins-well}
-use borrow.Author.Needs.{needs}
 use Rattle.assembly.proofs.join_fault.Statement.{statement}
 use Rattle.assembly.proofs.join_fault.Tie as tie
 

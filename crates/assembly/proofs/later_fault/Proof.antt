@@ -11,7 +11,6 @@ use Rattle.block.specs.Faults.{inside}
 use Rattle.assembly.specs.declared.BlockAt.{BlockAt}
 use Rattle.assembly.specs.declared.Placement.{Placement}
 use Rattle.assembly.proofs.Faults.{no-parent, has-parent}
-use borrow.Author.Needs.{needs}
 use Rattle.assembly.proofs.later_fault.Statement.{statement}
 use Rattle.assembly.proofs.later_fault.Tie as tie
 

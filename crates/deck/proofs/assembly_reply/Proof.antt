@@ -16,7 +16,6 @@ use Rattle.assembly.proofs.Faults.{place-few}
 use Rattle.deck.specs.Deck.{placementPlace, assemblyReplyAt}
 use Rattle.deck.specs.Said.{movedReply}
 use Rattle.deck.proofs.Turns.{moved-said}
-use borrow.Author.Needs.{needs}
 use Rattle.deck.proofs.assembly_reply.Statement.{statement}
 use Rattle.deck.proofs.assembly_reply.Tie as tie
 

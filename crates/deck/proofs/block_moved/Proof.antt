@@ -6,7 +6,6 @@ use Rattle.block.specs.Read.{refusal}
 use Rattle.block.specs.declared.Reply.the-variants.{Refused}
 use Rattle.deck.specs.Deck.{blockPlace}
 use Rattle.deck.specs.Said.{movedReply}
-use borrow.Author.Needs.{needs}
 use Rattle.deck.proofs.block_moved.Statement.{statement}
 use Rattle.deck.proofs.block_moved.Tie as tie
 

@@ -8,7 +8,6 @@ use Rattle.block.specs.declared.Refusal.{Refusal}
 use Rattle.deck.specs.Deck.{deckReply}
 use Rattle.deck.specs.declared.Form.the-variants.{Composed, Judged}
 use Rattle.deck.proofs.Parts.{deck-stopped, held, in-composed, in-judged, in-neither, part-at}
-use borrow.Author.Needs.{needs}
 use Rattle.deck.proofs.block_part.Statement.{statement}
 use Rattle.deck.proofs.block_part.Tie as tie
 

@@ -12,7 +12,6 @@ use Rattle.assembly.specs.declared.BlockAt.{BlockAt}
 use Rattle.deck.specs.Deck.{mostBlocks, blockAt, blockPlace}
 use Rattle.deck.specs.Said.{movedReply}
 use Rattle.deck.proofs.Turns.{unfit, number-unfit, number-fit, moved-said}
-use borrow.Author.Needs.{needs}
 use Rattle.deck.proofs.block_reply.Statement.{statement}
 use Rattle.deck.proofs.block_reply.Tie as tie
 

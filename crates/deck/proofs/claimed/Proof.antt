@@ -5,7 +5,6 @@ use native.Mathlib.Omega.{arith}
 use borrow.Author.Needs.{needs}
 use Rattle.records.proofs.Numbers.{past}
 use Rattle.deck.specs.Molecule.{fieldsAt, claimedAt}
-use borrow.Author.Needs.{needs}
 use Rattle.deck.proofs.claimed.Statement.{statement}
 use Rattle.deck.proofs.claimed.Tie as tie
 

@@ -7,7 +7,6 @@ use borrow.Author.Tests.{eq-eqb, ne-eqb}
 use borrow.Author.Needs.{needs}
 use Rattle.assembly.specs.Book.{used, isNumbered}
 use Rattle.assembly.specs.declared.BlockAt.{BlockAt}
-use borrow.Author.Needs.{needs}
 use Rattle.deck.proofs.is_unfit.Statement.{statement}
 use Rattle.deck.proofs.is_unfit.Tie as tie
 

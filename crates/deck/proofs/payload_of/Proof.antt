@@ -10,7 +10,6 @@ use Rattle.assembly.specs.Book.{isNumbered, used}
 use Rattle.assembly.specs.declared.BlockAt.{BlockAt}
 use Rattle.deck.specs.Deck.{Span}
 use Rattle.deck.proofs.Parts.{no-payload, has-payload, part-at}
-use borrow.Author.Needs.{needs}
 use Rattle.deck.proofs.payload_of.Statement.{statement}
 use Rattle.deck.proofs.payload_of.Tie as tie
 

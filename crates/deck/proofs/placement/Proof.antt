@@ -4,7 +4,6 @@ use mathlib.Core.List.{List}
 use mathlib.Core.Path.{ap, _∙_}
 use borrow.Author.Needs.{needs}
 use Rattle.assembly.specs.Placements.{placementAt}
-use borrow.Author.Needs.{needs}
 use Rattle.deck.proofs.placement.Statement.{statement}
 use Rattle.deck.proofs.placement.Tie as tie
 

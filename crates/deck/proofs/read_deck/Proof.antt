@@ -16,7 +16,6 @@ use Rattle.deck.specs.Kept.{kept}
 use Rattle.deck.specs.declared.DeckRead.{DeckRead}
 use Rattle.deck.specs.Examples.{too-long}
 use Rattle.deck.proofs.Parts.{bad-blocks, bad-assembly, bad-sheet, whole-deck, deck-ended, deck-stopped, table-blocks}
-use borrow.Author.Needs.{needs}
 use Rattle.deck.proofs.read_deck.Statement.{statement}
 use Rattle.deck.proofs.read_deck.Tie as tie
 

@@ -12,7 +12,6 @@ use Rattle.deck.specs.Deck.{sheetKinds, endReply, sheetReply}
 use Rattle.deck.specs.declared.Form.{Form}
 use Rattle.deck.proofs.Turns.{once}
 use Rattle.deck.proofs.Parts.{composed-end, no-sheet, sheet-end}
-use borrow.Author.Needs.{needs}
 use Rattle.deck.proofs.sheet_reply.Statement.{statement}
 use Rattle.deck.proofs.sheet_reply.Tie as tie
 

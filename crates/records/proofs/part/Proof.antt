@@ -7,7 +7,6 @@ use borrow.Author.Needs.{needs}
 use denote.Ref.{ptr}
 use Rattle.records.specs.Bytes.{part}
 use Rattle.records.proofs.Numbers.{part-none, part-rest}
-use borrow.Author.Needs.{needs}
 use Rattle.records.proofs.part.Statement.{statement}
 use Rattle.records.proofs.part.Tie as tie
 

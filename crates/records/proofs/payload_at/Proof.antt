@@ -4,7 +4,6 @@ use native.Mathlib.Omega.{arith}
 use borrow.Author.Needs.{needs}
 use Rattle.records.specs.Records.{lengthAt}
 use Rattle.records.proofs.Numbers.{past-end}
-use borrow.Author.Needs.{needs}
 use Rattle.records.proofs.payload_at.Statement.{statement}
 use Rattle.records.proofs.payload_at.Tie as tie
 
