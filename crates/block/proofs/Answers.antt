@@ -7,7 +7,7 @@ use Rattle.graph.specs.Graph.{distance}
 use Rattle.block.specs.Read.{Read, refused, read, _then_, refuseIf, refusal}
 use Rattle.block.specs.Chain.{not-read}
 use Rattle.block.specs.Block.{mostAtoms, isOutside, graphOf, blockReply}
-use Rattle.block.specs.Rows.{rowOf, rowsOf, rowReply, saidRow}
+use Rattle.block.specs.Rows.{rowOf, rowsOf, emptyRow, rowReply, saidRow}
 use Rattle.block.specs.Index.{indicesReply, saidIndices, vertexOf, vertexReply, saidVertex, distanceReply, saidDistance, pairsOf, pairsReply, saidPairs}
 use Rattle.block.specs.Sums.{entry, pairEntry, indicesBy, countsBy, vertexBy}
 use Rattle.block.specs.Faults.{inside}
@@ -22,7 +22,7 @@ use Rattle.block.specs.declared.Around.the-variants as around
 use Rattle.block.specs.declared.Apart.the-variants as apart
 use Rattle.block.specs.declared.Pairs.{Pairs}
 use Rattle.block.specs.declared.OneRow.{OneRow}
-use Rattle.block.proofs.Filling.{emptyRow, no-row}
+use Rattle.block.proofs.Filling.{no-row}
 use Rattle.block.proofs.Replies.{not-fine}
 
 said-out : (m : Read (List ℕ)) (r : Refusal) → reply.Refused r ≡ saidRow m .reply → m ≡ refused r

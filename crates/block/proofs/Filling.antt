@@ -11,7 +11,7 @@ use borrow.Author.Tests.{lt-ltb, ne-eqb}
 use Rattle.graph.specs.Graph.{Within}
 use Rattle.block.specs.Read.{refused, read, refusal}
 use Rattle.block.specs.Block.{mostAtoms, isOutside, graphOf, blockReply}
-use Rattle.block.specs.Rows.{table, rowOf, noRow, saidRow, rowReply, rowsOf}
+use Rattle.block.specs.Rows.{table, rowOf, noRow, emptyRow, saidRow, rowReply, rowsOf}
 use Rattle.block.specs.Tables.{length-table, getD-table}
 use Rattle.block.specs.Told.{row-read}
 use Rattle.block.specs.declared.Refusal.{Refusal}
@@ -23,9 +23,6 @@ pub record Filled (n : ℕ) (xs : List ℕ) (all : List (List ℕ)) (i : ℕ) : 
   pub size : length all ≡ mostAtoms
   pub done : (k : ℕ) → k < i → getD all k [] ≡ rowOf (graphOf n xs) (suc k)
   pub rest : (k : ℕ) → i ≤ k → k < mostAtoms → getD all k [] ≡ noRow
-
-abbrev pub emptyRow : List ℕ
-emptyRow = replicate mostAtoms 0
 
 abbrev pub emptyRows : List (List ℕ)
 emptyRows = replicate mostAtoms emptyRow

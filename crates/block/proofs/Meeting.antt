@@ -219,5 +219,5 @@ module _ (g : Graph) (near : List ℕ) (i : ℕ) where
                 rw (lt-ltb j (g .atoms) h) (subst (λ (x : ℕ). getD row x 0 ≡ distance g i (suc j)) e (entry-is c (suc j) (omega arith)))
             at j (no h) = rw (le-ltb j (g .atoms) (omega arith)) (R .behind j (omega arith))
 
-        pub run-end : Searched g i (record { row = row; rest = rest })
-        run-end = record { whole = whole; apart = apart; row = row-is }
+        pub run-end : Searched g i row rest
+        run-end = record { whole = whole; apart = apart; far = row-is }

@@ -7,7 +7,6 @@ use mathlib.Core.Path.{_≡_}
 use Rattle.graph.specs.Graph.{Graph, Within, connected}
 use Rattle.block.specs.Rows.{rowOf}
 use Rattle.block.specs.Near.{Lists}
-use Rattle.block.specs.declared.Found.{Found}
 
 -- a search from atom i over the neighbours of the n atoms of a graph
 pub record Task (g : Graph) (near : List ℕ) (n i : ℕ) : Type 0 where
@@ -16,7 +15,7 @@ pub record Task (g : Graph) (near : List ℕ) (n i : ℕ) : Type 0 where
   pub start : Within (g .atoms) i
 
 -- it leaves no atom exactly where the graph is connected, and then its row is that of the distances
-pub record Searched (g : Graph) (i : ℕ) (r : Found) : Type 0 where
-  pub whole : r .rest ≡ 0 → connected g ≡ true
-  pub apart : r .rest ≢ 0 → connected g ≡ false
-  pub row : connected g ≡ true → r .row ≡ rowOf g i
+pub record Searched (g : Graph) (i : ℕ) (row : List ℕ) (rest : ℕ) : Type 0 where
+  pub whole : rest ≡ 0 → connected g ≡ true
+  pub apart : rest ≢ 0 → connected g ≡ false
+  pub far : connected g ≡ true → row ≡ rowOf g i

@@ -3,6 +3,7 @@ use Prim.Native.Nat.{ℕ, zero, suc}
 use mathlib.Core.Bool.{cond}
 use mathlib.Core.List.{List, [], _∷_}
 use lib.Dec.{ltb}
+use lib.ListN.{replicate}
 use Rattle.graph.specs.Graph.{Graph, distance}
 use Rattle.block.specs.Read.{Read, refused, read, _then_, refuseIf}
 use Rattle.block.specs.Block.{mostAtoms, graphOf, isOutside, blockReply}
@@ -20,6 +21,9 @@ rowOf g i = table mostAtoms (λ j. cond (ltb j (g .atoms)) (distance g i (suc j)
 
 unfoldable pub noRow : List ℕ
 noRow = table mostAtoms (λ j. 0)
+
+abbrev pub emptyRow : List ℕ
+emptyRow = replicate mostAtoms 0
 
 -- the row of one atom: 18 at place 0 where there is none
 unfoldable pub rowReply : ℕ → List ℕ → ℕ → Read (List ℕ)

@@ -92,12 +92,6 @@ struct Built {
     pub near: Neighbours,
 }
 
-// A search from one atom: the distances found, and the set of the atoms that were not met.
-struct Found {
-    pub row: DistanceRow,
-    pub rest: u64,
-}
-
 // What some distances add up to: the even ones and the odd ones, how many there are of each, and how many are 1, 2 and 3.
 struct Tally {
     pub even: u64,
@@ -186,8 +180,8 @@ pub fn row(n: usize, bonds: &[u8], i: usize) -> OneRow
             row: [0u8; ATOMS],
         };
     }
-    let found = search::from_atom(&admitted.near, n, i);
-    let row = found.row;
+    let mut row = [0u8; ATOMS];
+    search::from_atom(&admitted.near, n, i, &mut row);
     OneRow { reply, row }
 }
 

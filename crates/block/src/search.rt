@@ -1,7 +1,6 @@
 // Distances by search, level by level: a set of atoms is one number.
 use super::ATOMS;
 use super::DistanceMatrix;
-use super::Found;
 use super::Neighbours;
 ghost use mathlib.Core.Path.{_≡_};
 ghost use mathlib.Core.List.{List};
@@ -9,7 +8,7 @@ ghost use Prim.Native.Nat.{ℕ};
 ghost use Rattle.graph.specs.Graph.{Graph, Within, connected as isConnected};
 ghost use Rattle.graph.specs.Sets.{firsts};
 ghost use Rattle.block.specs.Block.{mostAtoms, graphOf};
-ghost use Rattle.block.specs.Rows.{rowsOf};
+ghost use Rattle.block.specs.Rows.{emptyRow, rowsOf};
 ghost use Rattle.block.specs.Near.{Ready};
 ghost use Rattle.block.specs.Found.{Task, Searched};
 
@@ -21,12 +20,12 @@ fn all(n: usize) -> u64
     u64::MAX >> (ATOMS - n)
 }
 
-// The search from atom i. The atoms of level wait until their neighbours were looked at, which go into next; rest is not met yet.
-pub(crate) fn from_atom(near: &Neighbours, n: usize, i: usize) -> Found
-    requires { ⌜ ((g : Graph) × Task g (now near) n i) ⌝ }
-    ensures { λ r. ⌜ ((g : Graph) → Task g (now (near .entry)) n i → Searched g i r) ⌝ }
+// The search from atom i: it fills an empty row with the distances, and gives the set of the atoms that were not met. The atoms of level wait
+// until their neighbours were looked at, which go into next; rest is not met yet.
+pub(crate) fn from_atom(near: &Neighbours, n: usize, i: usize, row: &mut [u8]) -> u64
+    requires { ⌜ ((g : Graph) × Task g (now near) n i) × (now row ≡ emptyRow) ⌝ }
+    ensures { λ r. ⌜ ((g : Graph) → Task g (now (near .entry)) n i → Searched g i (now (row .exit)) r) ⌝ }
 {
-    let mut row = [0u8; ATOMS];
     let mut level = 1u64 << (i - 1);
     let mut rest = all(n) ^ level;
     let mut next = 0u64;
@@ -43,7 +42,7 @@ pub(crate) fn from_atom(near: &Neighbours, n: usize, i: usize) -> Found
             d += 1;
         }
     }
-    Found { row, rest }
+    rest
 }
 
 // Whether every pair of n atoms has a path.
@@ -51,8 +50,8 @@ pub(crate) fn connected(near: &Neighbours, n: usize) -> bool
     requires { ⌜ ((xs : List ℕ) × Task (graphOf n xs) (now near) n 1) ⌝ }
     ensures { λ r. ⌜ ((xs : List ℕ) → Task (graphOf n xs) (now (near .entry)) n 1 → r ≡ isConnected (graphOf n xs)) ⌝ }
 {
-    let found = from_atom(near, n, 1);
-    found.rest == 0
+    let mut row = [0u8; ATOMS];
+    from_atom(near, n, 1, &mut row) == 0
 }
 
 // The rows of a block of n atoms, filled one by one.
@@ -63,9 +62,7 @@ pub(crate) fn from_all(near: &Neighbours, n: usize) -> DistanceMatrix
     let mut all = [[0u8; ATOMS]; ATOMS];
     let mut i = 0;
     while i < n {
-        let found = from_atom(near, n, i + 1);
-        let row = found.row;
-        all[i] = row;
+        from_atom(near, n, i + 1, &mut all[i]);
         i += 1;
     }
     all

@@ -41,14 +41,17 @@ atom c = inside _ _ (sym (c .before .outside .ensures) ∙ c .if1 .left)
 task : (c : tie.Else1) → let s = c .before .before .before .before .before .before .args in Task (graphOf (s .n) (s .bonds .now)) (c .before .before .before .before .admit .result .near) (s .n) (s .i)
 task c = record { lists = ready (c .before .before) .lists; size = refl; start = atom c }
 
+slice-aggregate-from-atom : tie.Need-slice-aggregate-from-atom
+slice-aggregate-from-atom c = search needs
+
 from-atom-requires : tie.Need-from-atom-requires
-from-atom-requires c κs = (_, task (c .before .before))
+from-atom-requires c κs = ((_, task (c .before .before .before)), refl)
 
 returns-3 : tie.Need-returns-3
 returns-3 c =
-    let d = c .before .before .before .before in
+    let d = c .before .before .before .before .before in
     let f = ready (d .before .before) .fine in
-    row-fine _ _ _ _ f (atom d) (d .before .before .enum-told .given .1) (c .before .from-atom .ensures _ (task d) .row (passed _ _ f .whole))
+    row-fine _ _ _ _ f (atom d) (d .before .before .enum-told .given .1) (c .before .from-atom .ensures _ (task d) .far (passed _ _ f .whole))
 
 pub row-spec : {M : Type 1} → statement M
 row-spec =
@@ -60,5 +63,6 @@ row-spec =
     returns
     outside-requires
     returns-2
+    slice-aggregate-from-atom
     from-atom-requires
     returns-3)

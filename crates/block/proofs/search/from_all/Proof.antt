@@ -1,12 +1,12 @@
 use Prim.Native.Nat.{ℕ, _≤_, _-_}
 use mathlib.Core.List.{List}
-use mathlib.Core.Path.{_≡_, refl}
+use mathlib.Core.Path.{_≡_, refl, sym, _∙_}
 use native.Mathlib.Numerals.{add-one}
 use native.Mathlib.Omega.{arith}
 use Rattle.block.specs.Block.{graphOf, mostAtoms}
 use Rattle.block.specs.Near.{Ready}
 use Rattle.block.specs.Told.{passed}
-use Rattle.block.proofs.Filling.{Filled, fill-start, fill-next, fill-end}
+use Rattle.block.proofs.Filling.{Filled, no-row, fill-start, fill-next, fill-end}
 use Rattle.block.proofs.search.from_all.Statement.{statement}
 use Rattle.block.proofs.search.from_all.Tie as tie
 
@@ -22,16 +22,18 @@ loop-holds c = (omega arith, c .pre .1 .lists .small, λ xs R. fill-start _ xs)
 add-from-atom : tie.Need-add-from-atom Inv-loop μ-loop
 add-from-atom c = omega arith
 
+mul-from-atom : tie.Need-mul-from-atom Inv-loop μ-loop
+mul-from-atom c = omega arith
+
+index-1-from-atom : tie.Need-index-1-from-atom Inv-loop μ-loop
+index-1-from-atom c = omega arith
+
 from-atom-requires : tie.Need-from-atom-requires Inv-loop μ-loop
 from-atom-requires c κs =
-    let s = c .before .before in
-    (graphOf (s .args .n) (s .pre .0), record { lists = s .pre .1 .lists; size = refl; start = omega arith })
-
-mul-all : tie.Need-mul-all Inv-loop μ-loop
-mul-all c = omega arith
-
-array-set-from-all : tie.Need-array-set-from-all Inv-loop μ-loop
-array-set-from-all c = omega arith
+    let s = c .before .before .before in
+    let l = c .before .before .loop in
+    let (xs, R) = s .pre in
+    ((graphOf (s .args .n) xs, record { lists = R .lists; size = refl; start = omega arith }), l .inv .2 xs R .rest (l .i) (omega arith) (omega arith) ∙ sym no-row)
 
 add-i : tie.Need-add-i Inv-loop μ-loop
 add-i c = omega arith
@@ -45,8 +47,8 @@ loop-again c =
       omega arith,
       l .inv .1,
       λ xs R.
-          let S = c .before .from-atom .ensures _ (record { lists = R .lists; size = refl; start = omega arith }) in
-          rw (add-one (l .i)) (fill-next _ xs _ (l .i) _ (omega arith) (l .inv .2 xs R) (rw (add-one (l .i)) at (S .row (passed _ xs (R .fine) .whole)))),
+          let S = c .from-atom .ensures _ (record { lists = R .lists; size = refl; start = omega arith }) in
+          rw (add-one (l .i)) (fill-next _ xs _ (l .i) _ (omega arith) (l .inv .2 xs R) (rw (add-one (l .i)) at (S .far (passed _ xs (R .fine) .whole)))),
     )
 
 returns : tie.Need-returns Inv-loop μ-loop
@@ -62,9 +64,9 @@ from-all-spec =
     μ-loop
     loop-holds
     add-from-atom
+    mul-from-atom
+    index-1-from-atom
     from-atom-requires
-    mul-all
-    array-set-from-all
     add-i
     loop-less
     loop-again

@@ -1,8 +1,8 @@
 use Prim.Native.Nat.{_+_, _*_, _%_, _^_, _<_}
-use mathlib.Core.Path.{_≡_, refl}
+use mathlib.Core.Path.{_≡_, refl, ap}
 use native.Mathlib.Omega.{arith}
 use lib.Bits.{bitOr}
-use lib.ListN.{getD}
+use lib.ListN.{length, getD}
 use lib.Pow.{pow-pos}
 use Rattle.graph.specs.Graph.{Graph, Within}
 use Rattle.graph.specs.Sets.{shifted, taken-some}
@@ -21,27 +21,27 @@ abbrev μ-loop : tie.MeasureT-loop
 -- the search starts from an atom of at most mostAtoms
 begins : (c : tie.Start Inv-loop μ-loop) → Within mostAtoms (c .args .n) × Within (c .args .n) (c .args .i)
 begins c =
-    let (g, T) = c .pre in
+    let (g, T) = c .pre .0 in
     let a = T .start in
     let e = T .size in
     (omega (arith, T .lists .small), omega arith)
 
 sub-level : tie.Need-sub-level Inv-loop μ-loop
-sub-level c = omega (arith, begins c)
+sub-level c = omega (arith, begins (c .before))
 
 shl-level : tie.Need-shl-level Inv-loop μ-loop
-shl-level c = omega (arith, begins c)
+shl-level c = omega (arith, begins (c .before))
 
 all-requires : tie.Need-all-requires Inv-loop μ-loop
-all-requires c κs = begins c .0
+all-requires c κs = begins (c .before) .0
 
 loop-holds : tie.Need-loop-holds Inv-loop μ-loop
-loop-holds c g T = (rw (shifted mostAtoms _ (shl-level (c .before)), c .all .ensures, T .size) (run-start g _ _ (T .lists) (T .start)), λ e. refl)
+loop-holds c g T = (rw (c .before .before .pre .1, shifted mostAtoms _ (shl-level (c .before)), c .all .ensures, T .size) (run-start g _ _ (T .lists) (T .start)), λ e. refl)
 
 -- in a turn some atom waits
 small-in : (c : tie.In-loop Inv-loop μ-loop) → (first (c .before .loop .level) < mostAtoms) × (c .before .loop .d < mostAtoms)
 small-in c =
-    let (g, T) = c .before .before .before .pre in
+    let (g, T) = c .before .before .before .before .pre .0 in
     let R = c .before .loop .inv g T .0 in
     (small g _ _ (T .lists) _ _ _ _ _ R (c .loop-test .taken), shallow g _ _ (T .lists) _ _ _ _ _ R (c .loop-test .taken))
 
@@ -51,8 +51,10 @@ cast-a c = omega (arith, small-in c)
 shl-level-2 : tie.Need-shl-level-2 Inv-loop μ-loop
 shl-level-2 c = small-in c .0
 
-array-write-row : tie.Need-array-write-row Inv-loop μ-loop
-array-write-row c = small-in c .0
+slice-write-row : tie.Need-slice-write-row Inv-loop μ-loop
+slice-write-row c =
+    let (g, T) = c .before .before .before .before .pre .0 in
+    omega (arith, small-in c, c .before .loop .inv g T .0 .size)
 
 mul-next : tie.Need-mul-next Inv-loop μ-loop
 mul-next c = omega (arith, small-in c)
@@ -71,7 +73,7 @@ loop-less : tie.Need-loop-less Inv-loop μ-loop
 loop-less c =
     let d = c .before .before in
     let l = d .before .loop in
-    omega (arith, taken-some (l .rest) (bitOr (l .next) (getD (d .before .before .before .args .near .now) (first (l .level)) 0)), d .loop-test .taken)
+    omega (arith, taken-some (l .rest) (bitOr (l .next) (getD (d .before .before .before .before .args .near .now) (first (l .level)) 0)), d .loop-test .taken)
 
 loop-again : tie.Need-loop-again Inv-loop μ-loop
 loop-again c g T =
@@ -81,13 +83,18 @@ loop-again c g T =
 loop-less-2 : tie.Need-loop-less-2 Inv-loop μ-loop
 loop-less-2 c =
     let d = c .before .before in
-    let (g, T) = d .before .before .before .pre in
+    let (g, T) = d .before .before .before .before .pre .0 in
     rw (bit d) (omega (arith, less g _ _ (T .lists) _ _ _ _ _ (d .before .loop .inv g T .0) (d .loop-test .taken), pow-pos (first (d .before .loop .level))))
 
 loop-again-2 : tie.Need-loop-again-2 Inv-loop μ-loop
 loop-again-2 c g T =
     let d = c .before .before in
     (rw (bit d) (run-looked g _ _ (T .lists) _ _ _ _ _ (d .before .loop .inv g T .0) (d .loop-test .taken)), λ e. absurd (c .if1 .left e))
+
+same-length : tie.Need-same-length Inv-loop μ-loop
+same-length c =
+    let (g, T) = c .before .before .before .before .pre .0 in
+    omega (arith, c .before .loop .inv g T .0 .size, ap length (c .before .before .before .before .pre .1))
 
 returns : tie.Need-returns Inv-loop μ-loop
 returns c g T = run-end g _ _ (T .lists) _ _ _ _ _ (c .before .loop .inv g T .0) (c .loop-test .left) (c .before .loop .inv g T .1 (c .loop-test .left))
@@ -104,7 +111,7 @@ from-atom-spec =
     loop-holds
     cast-a
     shl-level-2
-    array-write-row
+    slice-write-row
     mul-next
     element-copy-out-next
     add-d
@@ -112,4 +119,5 @@ from-atom-spec =
     loop-again
     loop-less-2
     loop-again-2
+    same-length
     returns)
