@@ -74,6 +74,9 @@ module _ (g : Graph) (near : List ℕ) (i : ℕ) where
         start-level false = zeros mostAtoms (i - 1)
 
     module _ (row : List ℕ) (rest level next d : ℕ) (R : Running row rest level next d) where
+      pub fits-level : level < 2 ^ mostAtoms
+      fits-level = fits-word (omega (arith, R .fits))
+
       -- some atom waits: the lowest of them is looked at
       module _ (some : level ≢ 0) where
         abbrev p : ℕ
@@ -83,7 +86,7 @@ module _ (g : Graph) (near : List ℕ) (i : ℕ) where
         u = suc p
 
         low : (p < mostAtoms) × (has level u ≡ true)
-        low = lowest mostAtoms level (omega arith) (fits-word (omega (arith, R .fits)))
+        low = lowest mostAtoms level (omega arith) fits-level
 
         pub small : p < mostAtoms
         small = low .0

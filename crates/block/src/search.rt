@@ -32,7 +32,7 @@ pub(crate) fn from_atom(near: &Neighbours, n: usize, i: usize, row: &mut [u8]) -
     let mut d = 0u8;
     while level != 0 {
         let a = u64::trailing_zeros(level) as usize;
-        level = level ^ (1u64 << a);
+        level = level & (level - 1);
         row[a] = d;
         next = next | near[a];
         if level == 0 {

@@ -9,7 +9,7 @@ use native.Mathlib.Nat.{div-eq-of-lt, mod-lt, pow-suc}
 use lib.Dec.{eqb}
 use lib.Arith.{bin-ind, digits-div, digits-mod}
 use lib.Pow.{pow-pos, pow-add, pow-lt, pow-mono, high, split, shl-exact, shr-shr, ones-split}
-use lib.Bits.{bitAnd, bitOr, bitXor, differ, and-step, or-step, xor-step, and-shr, or-shr, xor-shr, xor-add-and, and-block, and-mask, and-zero-r}
+use lib.Bits.{bitAnd, bitOr, bitXor, differ, and-step, or-step, xor-step, and-shr, or-shr, xor-shr, xor-add-and, and-block, and-mask, and-zero-r, and-self, xor-zero-r}
 use lib.Count.{trailingZeros, under}
 use borrow.Author.Tests.{eq-eqb, ne-eqb}
 use Rattle.graph.specs.Graph.{Within}
@@ -218,3 +218,40 @@ pub shifted-down : (w n : ℕ) → n ≤ w → (2 ^ w - 1) / 2 ^ (w - n) ≡ fir
 shifted-down w n l =
     let e : w ≡ n + (w - n) = omega arith in
     ap (λ (x : ℕ). (2 ^ x - 1) / 2 ^ (w - n)) e ∙ ap (λ (x : ℕ). x / 2 ^ (w - n)) (ones-split n (w - n)) ∙ high (2 ^ n - 1) (w - n) (omega (arith, pow-pos (w - n)))
+
+-- A number and the one before it have all digits in common but the lowest that is set and those below.
+pub lowest-dropped : (k m : ℕ) → 0 < m → m < 2 ^ k → bitAnd m (m - 1) ≡ bitXor m (2 ^ trailingZeros k m)
+unfolding trailingZeros
+lowest-dropped zero m l h = absurd (omega arith)
+lowest-dropped (suc k) m l h = go (trailingZeros k (m / 2)) (m % 2) refl (λ e. lowest-dropped k (m / 2) (omega arith) (omega (arith, pow-suc 2 k)))
+  where
+    go : (t d : ℕ) → m % 2 ≡ d → (m % 2 ≡ 0 → bitAnd (m / 2) (m / 2 - 1) ≡ bitXor (m / 2) (2 ^ t)) → bitAnd m (m - 1) ≡ bitXor m (2 ^ under d t)
+    go t zero e rec =
+        let q : (m - 1) / 2 ≡ m / 2 - 1 = omega arith in
+        let p : 2 ^ suc t ≡ 2 ^ t * 2 + 0 = omega (arith, pow-suc 2 t) in
+        let r : 2 ^ suc t / 2 ≡ 2 ^ t = ap (λ (x : ℕ). x / 2) p ∙ digits-div (2 ^ t) (omega arith) in
+        let s : 2 ^ suc t % 2 ≡ 0 = ap (λ (x : ℕ). x % 2) p ∙ last (2 ^ t) 0 off in
+        omega (
+          arith,
+          and-step m (m - 1),
+          xor-step m (2 ^ suc t),
+          ap (bitAnd (m / 2)) q,
+          ap (bitXor (m / 2)) r,
+          rec e,
+          ap (λ (x : ℕ). min x ((m - 1) % 2)) e,
+          ap₂ differ e s,
+        )
+    go t (suc d) e rec =
+        let o : m % 2 ≡ 1 = omega arith in
+        let q : (m - 1) / 2 ≡ m / 2 = omega arith in
+        let s : (m - 1) % 2 ≡ 0 = omega arith in
+        omega (
+          arith,
+          and-step m (m - 1),
+          xor-step m 1,
+          ap (bitAnd (m / 2)) q,
+          and-self (m / 2),
+          xor-zero-r (m / 2),
+          ap₂ min o s,
+          ap (λ (x : ℕ). differ x 1) o,
+        )

@@ -1,14 +1,14 @@
-use Prim.Native.Nat.{_+_, _*_, _%_, _^_, _<_}
+use Prim.Native.Nat.{_+_, _-_, _^_, _<_}
 use mathlib.Core.Path.{_≡_, refl, ap}
 use native.Mathlib.Omega.{arith}
-use lib.Bits.{bitOr}
+use lib.Bits.{bitAnd, bitOr, bitXor}
 use lib.ListN.{length, getD}
 use lib.Pow.{pow-pos}
 use Rattle.graph.specs.Graph.{Graph, Within}
-use Rattle.graph.specs.Sets.{shifted, taken-some}
+use Rattle.graph.specs.Sets.{shifted, taken-some, lowest-dropped}
 use Rattle.block.specs.Block.{mostAtoms}
 use Rattle.block.specs.Found.{Task}
-use Rattle.block.proofs.Meeting.{Running, first, run-start, small, shallow, less, run-looked, run-deeper, run-end}
+use Rattle.block.proofs.Meeting.{Running, first, fits-level, run-start, small, shallow, less, run-looked, run-deeper, run-end}
 use Rattle.block.proofs.search.from_atom.Statement.{statement}
 use Rattle.block.proofs.search.from_atom.Tie as tie
 
@@ -48,8 +48,8 @@ small-in c =
 cast-a : tie.Need-cast-a Inv-loop μ-loop
 cast-a c = omega (arith, small-in c)
 
-shl-level-2 : tie.Need-shl-level-2 Inv-loop μ-loop
-shl-level-2 c = small-in c .0
+sub-level-2 : tie.Need-sub-level-2 Inv-loop μ-loop
+sub-level-2 c = omega (arith, c .loop-test .taken)
 
 slice-write-row : tie.Need-slice-write-row Inv-loop μ-loop
 slice-write-row c =
@@ -65,9 +65,11 @@ element-copy-out-next c = small-in c .0
 add-d : tie.Need-add-d Inv-loop μ-loop
 add-d c = omega (arith, small-in (c .before .before))
 
--- the set of that atom alone
-bit : (c : tie.In-loop Inv-loop μ-loop) → 1 * 2 ^ first (c .before .loop .level) % 2 ^ mostAtoms ≡ 2 ^ first (c .before .loop .level)
-bit c = shifted mostAtoms _ (small-in c .0)
+-- that atom is taken out
+out : (c : tie.In-loop Inv-loop μ-loop) → let l = c .before .loop in bitAnd (l .level) (l .level - 1) ≡ bitXor (l .level) (2 ^ first (l .level))
+out c =
+    let (g, T) = c .before .before .before .before .pre .0 in
+    lowest-dropped mostAtoms _ (omega (arith, c .loop-test .taken)) (fits-level g _ _ (T .lists) _ _ _ _ _ (c .before .loop .inv g T .0))
 
 loop-less : tie.Need-loop-less Inv-loop μ-loop
 loop-less c =
@@ -78,18 +80,18 @@ loop-less c =
 loop-again : tie.Need-loop-again Inv-loop μ-loop
 loop-again c g T =
     let d = c .before .before in
-    (run-deeper g _ _ (T .lists) _ _ _ _ _ (run-looked g _ _ (T .lists) _ _ _ _ _ (d .before .loop .inv g T .0) (d .loop-test .taken)) (rw (bit d) at (c .if1 .taken)), λ e. refl)
+    (run-deeper g _ _ (T .lists) _ _ _ _ _ (run-looked g _ _ (T .lists) _ _ _ _ _ (d .before .loop .inv g T .0) (d .loop-test .taken)) (rw (out d) at (c .if1 .taken)), λ e. refl)
 
 loop-less-2 : tie.Need-loop-less-2 Inv-loop μ-loop
 loop-less-2 c =
     let d = c .before .before in
     let (g, T) = d .before .before .before .before .pre .0 in
-    rw (bit d) (omega (arith, less g _ _ (T .lists) _ _ _ _ _ (d .before .loop .inv g T .0) (d .loop-test .taken), pow-pos (first (d .before .loop .level))))
+    rw (out d) (omega (arith, less g _ _ (T .lists) _ _ _ _ _ (d .before .loop .inv g T .0) (d .loop-test .taken), pow-pos (first (d .before .loop .level))))
 
 loop-again-2 : tie.Need-loop-again-2 Inv-loop μ-loop
 loop-again-2 c g T =
     let d = c .before .before in
-    (rw (bit d) (run-looked g _ _ (T .lists) _ _ _ _ _ (d .before .loop .inv g T .0) (d .loop-test .taken)), λ e. absurd (c .if1 .left e))
+    (rw (out d) (run-looked g _ _ (T .lists) _ _ _ _ _ (d .before .loop .inv g T .0) (d .loop-test .taken)), λ e. absurd (c .if1 .left e))
 
 same-length : tie.Need-same-length Inv-loop μ-loop
 same-length c =
@@ -110,7 +112,7 @@ from-atom-spec =
     all-requires
     loop-holds
     cast-a
-    shl-level-2
+    sub-level-2
     slice-write-row
     mul-next
     element-copy-out-next
