@@ -19,7 +19,7 @@ use Rattle.graph.specs.Sets.{has, alone, firsts, has-and, has-or, has-xor, has-
 use Rattle.graph.specs.Search.{State, Seen, Looks, Deepens, begin, depth-below, looked, deepened, met-distance, unmet-walk}
 use Rattle.block.specs.Block.{mostAtoms}
 use Rattle.block.specs.Rows.{table, rowOf}
-use Rattle.block.specs.Near.{around, Lists}
+use Rattle.block.specs.Near.{around, Shows}
 use Rattle.block.specs.Found.{Searched}
 use Rattle.block.specs.Tables.{length-table, getD-table}
 use Rattle.block.proofs.Reading.{zeros}
@@ -34,7 +34,7 @@ view row rest level next d = record {
   depth = d;
 }
 
-pub sound : {g : Graph} {near : List ℕ} → Lists g near → Sound g
+pub sound : {g : Graph} {near : List ℕ} → Shows g near → Sound g
 sound D = record { ends = λ v w e. D .ends v w e .0 }
 
 -- the lowest atom of a set
@@ -48,7 +48,7 @@ module _ (g : Graph) (near : List ℕ) (i : ℕ) where
     pub fits : rest + level < 2 ^ g .atoms
     pub seen : Seen g i (view row rest level next d)
 
-  module _ (D : Lists g near) where
+  module _ (D : Shows g near) where
     fits-word : {m : ℕ} → m < 2 ^ g .atoms → m < 2 ^ mostAtoms
     fits-word l = omega (arith, grow)
       where

@@ -14,7 +14,7 @@ use Rattle.graph.specs.Sets.{has, has-none}
 use Rattle.graph.specs.Bonds.{any-out, any-head, any-tail, any-none}
 use Rattle.block.specs.Read.{refused, read, _then_, refuseFor, refusal}
 use Rattle.block.specs.Block.{limit, mostAtoms, bondsOf, graphOf, bondFault, bondsReply}
-use Rattle.block.specs.Near.{counted, putting, counting, Draws, Holds, Lists}
+use Rattle.block.specs.Near.{counted, putting, counting, Draws, Holds, Shows}
 use Rattle.block.specs.Faults.{Faultless, faultless}
 use Rattle.block.proofs.Listing.{same-test, put-holds, room-one, room-two}
 
@@ -141,6 +141,6 @@ module _ (n : ℕ) (xs : List ℕ) (k : ℕ) (near count : List ℕ) (A : Reads 
   whole u v = same-test (anyJoins (before xs k) u v) (anyJoins (bondsOf xs) u v) (A .passed u v)
       (λ j. ⊎-elim (λ x. x) (λ x. absurd (any-none u v (rw (rest-none xs k last) at x))) (A .parts u v j))
 
-  pub reads-drawn : Lists (graphOf n xs) near
+  pub reads-drawn : Shows (graphOf n xs) near
   unfolding bonded
   reads-drawn = subst (λ (R : ℕ → ℕ → Bool). Draws n R near) (fun-ext (λ u. fun-ext (λ v. whole u v))) (A .holds .draws)

@@ -59,6 +59,6 @@ module _ (n : ℕ) (xs : List ℕ) where
         pub reply-apart : Fine ≡ saidBlock (bondsReply n [] (bondsOf xs)) → connected (graphOf n xs) ≡ false → replies (Refused (refusal 7 0))
         reply-apart e c = rw (reply-bonds, said-fine (bondsReply n [] (bondsOf xs)) e, c)
 
--- a refused block has no lists to give
+-- a refused block has no neighbours to give
 pub admit-refused : (n : ℕ) (xs : List ℕ) (b : Built) (f : Refusal) → b .reply ≡ Refused f → Refused f ≡ saidBlock (blockReply n xs) → Admitting n xs b
 admit-refused n xs b f e r = record { replied = e ∙ r; ready = λ q. absurd (not-fine (sym e ∙ q)) }

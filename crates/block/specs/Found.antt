@@ -6,11 +6,11 @@ use mathlib.Core.Logic.{_≢_}
 use mathlib.Core.Path.{_≡_}
 use Rattle.graph.specs.Graph.{Graph, Within, connected}
 use Rattle.block.specs.Rows.{rowOf}
-use Rattle.block.specs.Near.{Lists}
+use Rattle.block.specs.Near.{Shows}
 
 -- a search from atom i over the neighbours of the n atoms of a graph
 pub record Task (g : Graph) (near : List ℕ) (n i : ℕ) : Type 0 where
-  pub lists : Lists g near
+  pub shown : Shows g near
   pub size : n ≡ g .atoms
   pub start : Within (g .atoms) i
 

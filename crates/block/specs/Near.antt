@@ -40,18 +40,18 @@ pub record Holds (n : ℕ) (bs : List Bond) (near count : List ℕ) : Type 0 whe
   pub degrees : (u : ℕ) → Within n u → counted count u ≡ degree bs u
 
 -- the neighbours are those of a graph
-abbrev pub Lists : Graph → List ℕ → Type 0
-Lists g near = Draws (g .atoms) (bonded g) near
+abbrev pub Shows : Graph → List ℕ → Type 0
+Shows g near = Draws (g .atoms) (bonded g) near
 
 -- the neighbours are those of a block that is fine
 pub record Ready (n : ℕ) (xs : List ℕ) (near : List ℕ) : Type 0 where
   pub fine : blockReply n xs ≡ read tt
-  pub lists : Lists (graphOf n xs) near
+  pub shown : Shows (graphOf n xs) near
 
 -- what reading the bonds gives: the reply to them and, where they are fine, the neighbours
 pub record Reading (n : ℕ) (xs : List ℕ) (r : Built) : Type 0 where
   pub replied : r .reply ≡ saidBlock (bondsReply n [] (bondsOf xs))
-  pub drawn : r .reply ≡ Fine → Lists (graphOf n xs) (r .near)
+  pub drawn : r .reply ≡ Fine → Shows (graphOf n xs) (r .near)
 
 -- what a block gives: the reply to it and, where it is fine, the neighbours
 pub record Admitting (n : ℕ) (xs : List ℕ) (r : Built) : Type 0 where

@@ -8,7 +8,7 @@ ghost use Rattle.block.specs.Index.{indicesReply, saidIndices, vertexRep
 ghost use Rattle.block.specs.Sums.{entry, pairEntry, indicesBy, vertexBy};
 ghost use Rattle.block.specs.Near.{Admitting};
 
-mod lists;
+mod bonding;
 mod search;
 mod totals;
 
@@ -117,7 +117,7 @@ fn refused(number: usize) -> Built
 fn admit(n: usize, bonds: &[u8]) -> Built
     ensures { λ r. ⌜ Admitting n (now (bonds .entry)) r ⌝ }
 {
-    if lists::outside(ATOMS, n) {
+    if bonding::outside(ATOMS, n) {
         return refused(1);
     }
     if bonds.len() % 2 != 0 {
@@ -126,7 +126,7 @@ fn admit(n: usize, bonds: &[u8]) -> Built
     if bonds.len() > BYTES {
         return refused(2);
     }
-    let built = lists::build(n, bonds);
+    let built = bonding::build(n, bonds);
     let reply = built.reply;
     let Reply::Fine = reply else {
         return built;
@@ -171,7 +171,7 @@ pub fn row(n: usize, bonds: &[u8], i: usize) -> OneRow
             row: [0u8; ATOMS],
         };
     };
-    if lists::outside(n, i) {
+    if bonding::outside(n, i) {
         return OneRow {
             reply: Reply::Refused(Refusal {
                 number: 18,
@@ -252,7 +252,7 @@ pub fn distance(n: usize, bonds: &[u8], i: usize, j: usize) -> Apart
     match reply {
         Reply::Refused(refusal) => Apart::Refused(refusal),
         Reply::Fine => {
-            if lists::outside(n, j) {
+            if bonding::outside(n, j) {
                 return Apart::Refused(Refusal {
                     number: 18,
                     place: 0,

@@ -62,7 +62,7 @@ returns-4 c =
     let e = c .enum-told2 .given .1 in
     admit-refused _ _ _ _ e (reply-fault _ _ (sized (d .before .before)) (paired (d .before)) (few d) _ (sym e ∙ c .before .before .build .ensures .replied))
 
--- the bonds are fine, and their lists are drawn
+-- the bonds are fine, and the neighbours are drawn
 fine : (c : tie.After-enum-told) → let s = c .before .before .before .before .before .before .before .before .args in Fine ≡ saidBlock (bondsReply (s .n) [] (bondsOf (s .bonds .now)))
 fine c = sym (c .enum-told .given .1) ∙ c .before .before .build .ensures .replied
 
@@ -70,7 +70,7 @@ task : (c : tie.After-enum-told) → let s = c .before .before .before .before .
 task c =
     let d = c .before .before .before in
     let w : Within mostAtoms (d .before .before .before .before .before .args .n) = inside mostAtoms _ (sized (d .before .before)) in
-    record { lists = c .before .before .build .ensures .drawn (c .enum-told .given .1); size = refl; start = omega arith }
+    record { shown = c .before .before .build .ensures .drawn (c .enum-told .given .1); size = refl; start = omega arith }
 
 connected-requires : tie.Need-connected-requires
 connected-requires c κs = (c .before .before .before .before .before .before .before .before .before .before .args .bonds .now, task (c .before .before))
@@ -83,7 +83,7 @@ returns-5 c =
     let t = c .before .before .before .before in
     let d = t .before .before .before in
     let r = reply-fine _ _ (sized (d .before .before)) (paired (d .before)) (few d) (fine t) (sym (c .before .connected .ensures _ (task t)) ∙ c .if4 .taken) in
-    record { replied = t .enum-told .given .1 ∙ r; ready = λ e. record { fine = said-fine _ r; lists = task t .lists } }
+    record { replied = t .enum-told .given .1 ∙ r; ready = λ e. record { fine = said-fine _ r; shown = task t .shown } }
 
 returns-6 : tie.Need-returns-6
 returns-6 c =

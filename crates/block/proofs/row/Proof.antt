@@ -39,7 +39,7 @@ atom : (c : tie.Else1) → let s = c .before .before .before .before .before .be
 atom c = inside _ _ (sym (c .before .outside .ensures) ∙ c .if1 .left)
 
 task : (c : tie.Else1) → let s = c .before .before .before .before .before .before .args in Task (graphOf (s .n) (s .bonds .now)) (c .before .before .before .before .admit .result .near) (s .n) (s .i)
-task c = record { lists = ready (c .before .before) .lists; size = refl; start = atom c }
+task c = record { shown = ready (c .before .before) .shown; size = refl; start = atom c }
 
 slice-aggregate-from-atom : tie.Need-slice-aggregate-from-atom
 slice-aggregate-from-atom c = search needs

@@ -17,7 +17,7 @@ abbrev μ-loop : tie.MeasureT-loop
 μ-loop near n all₀ i₀ all i = n - i
 
 loop-holds : tie.Need-loop-holds Inv-loop μ-loop
-loop-holds c = (omega arith, c .pre .1 .lists .small, λ xs R. fill-start _ xs)
+loop-holds c = (omega arith, c .pre .1 .shown .small, λ xs R. fill-start _ xs)
 
 add-from-atom : tie.Need-add-from-atom Inv-loop μ-loop
 add-from-atom c = omega arith
@@ -33,7 +33,7 @@ from-atom-requires c κs =
     let s = c .before .before .before in
     let l = c .before .before .loop in
     let (xs, R) = s .pre in
-    ((graphOf (s .args .n) xs, record { lists = R .lists; size = refl; start = omega arith }), l .inv .2 xs R .rest (l .i) (omega arith) (omega arith) ∙ sym no-row)
+    ((graphOf (s .args .n) xs, record { shown = R .shown; size = refl; start = omega arith }), l .inv .2 xs R .rest (l .i) (omega arith) (omega arith) ∙ sym no-row)
 
 add-i : tie.Need-add-i Inv-loop μ-loop
 add-i c = omega arith
@@ -47,7 +47,7 @@ loop-again c =
       omega arith,
       l .inv .1,
       λ xs R.
-          let S = c .from-atom .ensures _ (record { lists = R .lists; size = refl; start = omega arith }) in
+          let S = c .from-atom .ensures _ (record { shown = R .shown; size = refl; start = omega arith }) in
           rw (add-one (l .i)) (fill-next _ xs _ (l .i) _ (omega arith) (l .inv .2 xs R) (rw (add-one (l .i)) at (S .far (passed _ xs (R .fine) .whole)))),
     )
 

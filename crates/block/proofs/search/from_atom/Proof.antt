@@ -24,7 +24,7 @@ begins c =
     let (g, T) = c .pre .0 in
     let a = T .start in
     let e = T .size in
-    (omega (arith, T .lists .small), omega arith)
+    (omega (arith, T .shown .small), omega arith)
 
 sub-level : tie.Need-sub-level Inv-loop μ-loop
 sub-level c = omega (arith, begins (c .before))
@@ -36,14 +36,14 @@ all-requires : tie.Need-all-requires Inv-loop μ-loop
 all-requires c κs = begins (c .before) .0
 
 loop-holds : tie.Need-loop-holds Inv-loop μ-loop
-loop-holds c g T = (rw (c .before .before .pre .1, shifted mostAtoms _ (shl-level (c .before)), c .all .ensures, T .size) (run-start g _ _ (T .lists) (T .start)), λ e. refl)
+loop-holds c g T = (rw (c .before .before .pre .1, shifted mostAtoms _ (shl-level (c .before)), c .all .ensures, T .size) (run-start g _ _ (T .shown) (T .start)), λ e. refl)
 
 -- in a turn some atom waits
 small-in : (c : tie.In-loop Inv-loop μ-loop) → (first (c .before .loop .level) < mostAtoms) × (c .before .loop .d < mostAtoms)
 small-in c =
     let (g, T) = c .before .before .before .before .pre .0 in
     let R = c .before .loop .inv g T .0 in
-    (small g _ _ (T .lists) _ _ _ _ _ R (c .loop-test .taken), shallow g _ _ (T .lists) _ _ _ _ _ R (c .loop-test .taken))
+    (small g _ _ (T .shown) _ _ _ _ _ R (c .loop-test .taken), shallow g _ _ (T .shown) _ _ _ _ _ R (c .loop-test .taken))
 
 cast-a : tie.Need-cast-a Inv-loop μ-loop
 cast-a c = omega (arith, small-in c)
@@ -69,7 +69,7 @@ add-d c = omega (arith, small-in (c .before .before))
 out : (c : tie.In-loop Inv-loop μ-loop) → let l = c .before .loop in bitAnd (l .level) (l .level - 1) ≡ bitXor (l .level) (2 ^ first (l .level))
 out c =
     let (g, T) = c .before .before .before .before .pre .0 in
-    lowest-dropped mostAtoms _ (omega (arith, c .loop-test .taken)) (fits-level g _ _ (T .lists) _ _ _ _ _ (c .before .loop .inv g T .0))
+    lowest-dropped mostAtoms _ (omega (arith, c .loop-test .taken)) (fits-level g _ _ (T .shown) _ _ _ _ _ (c .before .loop .inv g T .0))
 
 loop-less : tie.Need-loop-less Inv-loop μ-loop
 loop-less c =
@@ -80,18 +80,18 @@ loop-less c =
 loop-again : tie.Need-loop-again Inv-loop μ-loop
 loop-again c g T =
     let d = c .before .before in
-    (run-deeper g _ _ (T .lists) _ _ _ _ _ (run-looked g _ _ (T .lists) _ _ _ _ _ (d .before .loop .inv g T .0) (d .loop-test .taken)) (rw (out d) at (c .if1 .taken)), λ e. refl)
+    (run-deeper g _ _ (T .shown) _ _ _ _ _ (run-looked g _ _ (T .shown) _ _ _ _ _ (d .before .loop .inv g T .0) (d .loop-test .taken)) (rw (out d) at (c .if1 .taken)), λ e. refl)
 
 loop-less-2 : tie.Need-loop-less-2 Inv-loop μ-loop
 loop-less-2 c =
     let d = c .before .before in
     let (g, T) = d .before .before .before .before .pre .0 in
-    rw (out d) (omega (arith, less g _ _ (T .lists) _ _ _ _ _ (d .before .loop .inv g T .0) (d .loop-test .taken), pow-pos (first (d .before .loop .level))))
+    rw (out d) (omega (arith, less g _ _ (T .shown) _ _ _ _ _ (d .before .loop .inv g T .0) (d .loop-test .taken), pow-pos (first (d .before .loop .level))))
 
 loop-again-2 : tie.Need-loop-again-2 Inv-loop μ-loop
 loop-again-2 c g T =
     let d = c .before .before in
-    (rw (out d) (run-looked g _ _ (T .lists) _ _ _ _ _ (d .before .loop .inv g T .0) (d .loop-test .taken)), λ e. absurd (c .if1 .left e))
+    (rw (out d) (run-looked g _ _ (T .shown) _ _ _ _ _ (d .before .loop .inv g T .0) (d .loop-test .taken)), λ e. absurd (c .if1 .left e))
 
 same-length : tie.Need-same-length Inv-loop μ-loop
 same-length c =
@@ -99,7 +99,7 @@ same-length c =
     omega (arith, c .before .loop .inv g T .0 .size, ap length (c .before .before .before .before .pre .1))
 
 returns : tie.Need-returns Inv-loop μ-loop
-returns c g T = run-end g _ _ (T .lists) _ _ _ _ _ (c .before .loop .inv g T .0) (c .loop-test .left) (c .before .loop .inv g T .1 (c .loop-test .left))
+returns c g T = run-end g _ _ (T .shown) _ _ _ _ _ (c .before .loop .inv g T .0) (c .loop-test .left) (c .before .loop .inv g T .1 (c .loop-test .left))
 
 pub from-atom-spec : {M : Type 1} → statement M
 from-atom-spec =
