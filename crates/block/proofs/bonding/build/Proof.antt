@@ -8,8 +8,8 @@ use Rattle.block.specs.Block.{limit, mostAtoms, bondFault, saidBlock}
 use Rattle.block.specs.Near.{counted, counting}
 use Rattle.block.proofs.Reading.{Reads, bondAt, before, reads-start, reads-fault, reads-next, reads-fine, reads-drawn, put-first, put-second}
 use Rattle.block.proofs.Replies.{not-fine}
-use Rattle.block.proofs.shown.build.Statement.{statement}
-use Rattle.block.proofs.shown.build.Tie as tie
+use Rattle.block.proofs.bonding.build.Statement.{statement}
+use Rattle.block.proofs.bonding.build.Tie as tie
 
 abbrev Inv-loop : tie.InvT-loop
 Inv-loop n bonds near₀ count₀ m k₀ near count k = (k ≤ m) × Reads n bonds k near count

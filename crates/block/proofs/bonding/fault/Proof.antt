@@ -11,8 +11,8 @@ use Rattle.block.specs.Block.{isOutside}
 use Rattle.block.specs.Near.{around, Holds}
 use Rattle.block.specs.Faults.{inside, three, three′, four, five, six, six′, none}
 use Rattle.block.proofs.Listing.{full, room}
-use Rattle.block.proofs.shown.fault.Statement.{statement}
-use Rattle.block.proofs.shown.fault.Tie as tie
+use Rattle.block.proofs.bonding.fault.Statement.{statement}
+use Rattle.block.proofs.bonding.fault.Tie as tie
 
 outside-requires : tie.Need-outside-requires
 outside-requires c κs = search needs

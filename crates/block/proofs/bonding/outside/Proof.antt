@@ -1,6 +1,6 @@
 use borrow.Author.Tests.{eq-eqb, ne-eqb}
-use Rattle.block.proofs.shown.outside.Statement.{statement}
-use Rattle.block.proofs.shown.outside.Tie as tie
+use Rattle.block.proofs.bonding.outside.Statement.{statement}
+use Rattle.block.proofs.bonding.outside.Tie as tie
 
 returns : tie.Need-returns
 returns c = simp (eq-eqb _ _ (c .if1 .taken))
