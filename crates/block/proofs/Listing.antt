@@ -1,8 +1,8 @@
 -- What the neighbours say of a relation, and what stays true as a bond joins them. Assumes nothing.
 use Prim.Native.Nat.{ℕ, _+_, _-_, _≤_, _<_}
-use mathlib.Core.Bool.{Bool, true, false, _&&_, _||_, cond}
+use mathlib.Core.Bool.{Bool, true, false, _&&_, _||_, cond, or-false}
 use mathlib.Core.List.{List, _∷_}
-use mathlib.Core.Logic.{_⊎_, inl, inr, ⊎-elim, ⊎-map, _≢_}
+use mathlib.Core.Logic.{_⊎_, inl, inr, ⊎-elim}
 use mathlib.Core.Path.{_≡_, refl, sym, ap, subst, subst⁻¹, subst₂, _∙_}
 use native.Mathlib.Decide.{ℕ-discrete}
 use native.Mathlib.Omega.{arith}
@@ -51,7 +51,7 @@ module _ (n : ℕ) (R S : ℕ → ℕ → Bool) (near : List ℕ) (D : Draws n R
         ∙ rw (D .drawn a w wa ww, has-alone b w (wb .low) (ww .low), more u w, eq-eqb u a e, e) refl
     | no ne ↦
         ap (λ (x : ℕ). has x w) (getD-set-other near (a - 1) (u - 1) (bitOr (around near a) (alone b)) 0 (omega arith))
-        ∙ rw (D .drawn u w wu ww, more u w, ne-eqb u a ne, mathlib.Core.Bool.or-false (R u w)) refl
+        ∙ rw (D .drawn u w wu ww, more u w, ne-eqb u a ne, or-false (R u w)) refl
   ]
 
   pub put-draws : Draws n S (putting near a b)
@@ -99,8 +99,12 @@ module _ (n : ℕ) (bs : List Bond) (near count : List ℕ) (H : Holds n bs near
     draws = put-draws n half (anyJoins (bond a b ∷ bs)) (putting near a b) once-draws b a (F .two) (F .one) both-ways;
     places = length-set (counting count a) (b - 1) _ ∙ length-set count (a - 1) _ ∙ H .places;
     degrees = λ u w.
-        omega (arith, counted-put n (counting count a) b u (rw length-set (omega (arith, H .draws .small, H .places))) (F .two) w,
-        counted-put n count a u (omega (arith, H .draws .small, H .places)) (F .one) w, H .degrees u w);
+        omega (
+          arith,
+          counted-put n (counting count a) b u (rw length-set (omega (arith, H .draws .small, H .places))) (F .two) w,
+          counted-put n count a u (omega (arith, H .draws .small, H .places)) (F .one) w,
+          H .degrees u w,
+        );
   }
 
   pub room-one : counted count a < limit

@@ -1,10 +1,11 @@
 -- A search whose sets of atoms are numbers: what holds while it runs, whatever array holds what. Assumes nothing.
 use Prim.Native.Nat.{ℕ, suc, _+_, _-_, _^_, _≤_, _<_}
-use mathlib.Core.Bool.{Bool, true, false, not, _&&_, _||_, cond, false≢true}
+use mathlib.Core.Bool.{Bool, true, false, not, _&&_, _||_, cond, and-true, false≢true}
 use mathlib.Core.List.{List}
 use mathlib.Core.Logic.{_≢_}
 use mathlib.Core.Path.{_≡_, refl, sym, ap, subst, subst⁻¹, _∙_}
 use native.Mathlib.Omega.{arith}
+use native.Mathlib.Numerals.{add-one}
 use native.Mathlib.Decide.{ℕ-discrete, decLt}
 use lib.Dec.{eqb, ltb}
 use lib.Bits.{bitAnd, bitOr, bitXor}
@@ -13,13 +14,13 @@ use lib.ListN.{length, getD, set, length-set, replicate}
 use lib.Pow.{pow-pos, pow-mono}
 use lib.Seq.{getD-set-same, getD-set-other, ext-getD}
 use borrow.Author.Tests.{eq-eqb, ne-eqb, lt-ltb, le-ltb}
-use Rattle.graph.specs.Graph.{Graph, Within, Sound, bonded, connected, distance, allAtoms}
+use Rattle.graph.specs.Graph.{Graph, Within, Sound, Walk, bonded, connected, distance}
 use Rattle.graph.specs.Connected.{connected-from, unconnected, connected-molecule}
 use Rattle.graph.specs.Sets.{has, alone, firsts, has-and, has-or, has-xor, has-none, has-alone, has-firsts, beyond, lowest, taken-one, taken-some}
-use Rattle.graph.specs.Search.{State, Seen, Looks, Deepens, begin, depth-below, looked, deepened, met-distance, unmet-walk}
+use Rattle.graph.specs.Search.{State, Seen, begin, depth-below, looked, deepened, met-distance, unmet-walk}
 use Rattle.block.specs.Block.{mostAtoms}
 use Rattle.block.specs.Rows.{table, rowOf}
-use Rattle.block.specs.Near.{around, Shows}
+use Rattle.block.specs.Near.{Shows}
 use Rattle.block.specs.Found.{Searched}
 use Rattle.block.specs.Tables.{length-table, getD-table}
 use Rattle.block.proofs.Reading.{zeros}
@@ -128,7 +129,7 @@ module _ (g : Graph) (near : List ℕ) (i : ℕ) where
               let q : v - 1 ≡ p = omega arith in
               rw (waits-then v b, eq-eqb v u e, e, low .1) (subst⁻¹ (λ (x : ℕ). getD (set row p d) x 0 ≡ d) (omega arith) (getD-set-same row p d 0 (omega (arith, R .size, small))))
           | no ne ↦
-              rw (waits-then v b, ne-eqb v u ne, mathlib.Core.Bool.and-true (has level v))
+              rw (waits-then v b, ne-eqb v u ne, and-true (has level v))
               (ap (cond (has level v) d) (getD-set-other row p (v - 1) d 0 (omega arith)))
         ]
 
@@ -159,8 +160,8 @@ module _ (g : Graph) (near : List ℕ) (i : ℕ) where
               met = λ v b. ap not (has-xor rest (bitAnd next rest) v) ∙ rw (has-and next rest v) (met-then (has rest v) (has next v));
               waits = λ v b. has-and next rest v ∙ ap (λ (t : Bool). has next v && t) (sym (not-not (has rest v)));
               near = λ v b. has-none v;
-              level = λ v b. rw (quiet v b, native.Mathlib.Numerals.add-one d) refl;
-              depth = native.Mathlib.Numerals.add-one d;
+              level = λ v b. rw (quiet v b, add-one d) refl;
+              depth = add-one d;
             });
       }
         where
@@ -182,7 +183,7 @@ module _ (g : Graph) (near : List ℕ) (i : ℕ) where
         over : (v : ℕ) → Within (g .atoms) v → has next v ≡ false
         over v b = ap (λ (x : ℕ). has x v) ended ∙ has-none v
 
-        left-out : (j : ℕ) → has rest j ≡ true → (k : ℕ) → Rattle.graph.specs.Graph.Walk g i j k → ⊥
+        left-out : (j : ℕ) → has rest j ≡ true → (k : ℕ) → Walk g i j k → ⊥
         left-out j h = unmet-walk g i (sound D) s (R .seen) quiet over j (ap not h)
 
         whole : rest ≡ 0 → connected g ≡ true

@@ -1,7 +1,7 @@
 // What is counted from an atom, and how it grows when another molecule is joined.
 use block::Vertex;
 ghost use mathlib.Core.Path.{_≡_};
-ghost use Prim.Native.Nat.{ℕ, _+_, _*_, _-_, _^_, _≤_, _<_};
+ghost use Prim.Native.Nat.{ℕ, _+_, _*_, _-_, _^_, _<_};
 ghost use Rattle.graph.specs.Graph.{isAt};
 ghost use Rattle.graph.specs.Rules.{Grown};
 ghost use Rattle.compose.specs.Counted.{Counts, Adds, Below};

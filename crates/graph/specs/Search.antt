@@ -112,8 +112,10 @@ module _ (g : Graph) (i : ℕ) where
           let c = sound .ends v x b in
           let d = far-end sound v x b in
           elim (ℕ-discrete v u) [
-            | yes e ↦ inr (L .near x d ∙ found x (subst (λ (y : ℕ). bonded g y x ≡ true) e b),
-                L .level v c ∙ ap (s .level) e ∙ S .front u a w .1 ∙ sym (L .depth))
+            | yes e ↦ inr (
+              L .near x d ∙ found x (subst (λ (y : ℕ). bonded g y x ≡ true) e b),
+              L .level v c ∙ ap (s .level) e ∙ S .front u a w .1 ∙ sym (L .depth),
+            )
             | no ne ↦
                 ⊎-elim
                 (λ (m, h). inl (L .met x d ∙ m, omega (arith, L .level x d, L .level v c)))
@@ -166,8 +168,8 @@ module _ (g : Graph) (i : ℕ) where
             ⊎-elim
             (λ (x, y). let (p, q) = kept w d x in inl (p, omega (arith, kept v c m .1)))
             (λ (x, y). ⊎-elim (λ z. let (p, q) = kept w d z in inl (p, omega (arith, kept v c m .1, S .deepest w d z)))
-                (λ (z, n). let (p, q) = fresh w d z n in inl (p, omega (arith, kept v c m .1)))
-                (split w x))
+            (λ (z, n). let (p, q) = fresh w d z n in inl (p, omega (arith, kept v c m .1)))
+            (split w x))
             (S .passed v w m (quiet v c) b))
             (λ (m, n). absurd (false≢true (sym l ∙ fresh-waits v c m n)))
             (view v c k);

@@ -141,7 +141,7 @@ has-firsts n v w = same (digit (firsts n) v) on (go (n - v) (v - 1) (omega arith
     go j p e =
         let q : 2 ^ suc j - 1 ≡ (2 ^ j - 1) * 2 + 1 = omega (arith, pow-suc 2 j, pow-pos j) in
         let f : (2 ^ n - 1) / 2 ^ p ≡ 2 ^ suc j - 1 =
-            ap (λ (z : ℕ). (2 ^ z - 1) / 2 ^ p) e ∙ ap (λ (z : ℕ). z / 2 ^ p) (ones-split (suc j) p) ∙ high (2 ^ suc j - 1) p (omega (arith, pow-pos p)) in
+        ap (λ (z : ℕ). (2 ^ z - 1) / 2 ^ p) e ∙ ap (λ (z : ℕ). z / 2 ^ p) (ones-split (suc j) p) ∙ high (2 ^ suc j - 1) p (omega (arith, pow-pos p)) in
         ap (λ (z : ℕ). z % 2) (f ∙ q) ∙ last (2 ^ j - 1) 1 on
 
 -- a number below 2 ^ n has no atom above n

@@ -1,12 +1,12 @@
 -- No atom has more neighbours than ends of bonds. Assumes nothing.
 use Prim.Native.Nat.{ℕ, zero, suc, _+_, _≤_}
 use mathlib.Core.Bool.{Bool, true, false, _&&_, _||_, cond}
-use mathlib.Core.List.{List, [], _∷_}
+use mathlib.Core.List.{List, _∷_}
 use mathlib.Core.Path.{_≡_, refl, sym, _∙_, ap}
 use native.Mathlib.Omega.{arith}
 use borrow.Author.Tests.{eqb-true, eqb-false, ne-eqb}
 use lib.Dec.{eqb}
-use Rattle.graph.specs.Graph.{Graph, Bond, Within, Molecule, sum, joins, anyJoins, bonded, degree, distance}
+use Rattle.graph.specs.Graph.{Bond, Within, Molecule, sum, joins, anyJoins, bonded, degree, distance}
 use Rattle.graph.specs.Distance.{distance-self}
 use Rattle.graph.specs.Sums.{wider, last, sum-add, sum-const, sum-none, sum-pick}
 use Rattle.paths.specs.Choices.{cond-and, cond-swap}

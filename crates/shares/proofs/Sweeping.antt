@@ -10,7 +10,7 @@ use borrow.Author.Tests.{eqb-true, eqb-false, ltb-true, ltb-false}
 use lib.Dec.{eqb, ltb}
 use lib.ListN.{length, getD, set}
 use lib.Seq.{getD-set-same, getD-set-other}
-use Rattle.graph.specs.Graph.{Within, sum}
+use Rattle.graph.specs.Graph.{Within}
 use Rattle.graph.specs.Sums.{sum-cong, sum-min}
 use Rattle.block.specs.Block.{mostAtoms, limit}
 use Rattle.shares.specs.Work.{at, there, fromSeats, Ordered, Rule, Holds}

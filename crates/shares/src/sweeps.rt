@@ -6,7 +6,7 @@ use super::SIDES;
 use block::ATOMS;
 use block::LIMIT;
 ghost use mathlib.Core.Path.{_≡_};
-ghost use mathlib.Core.Bool.{Bool, cond, _&&_};
+ghost use mathlib.Core.Bool.{Bool};
 ghost use mathlib.Core.List.{List};
 ghost use Prim.Native.Nat.{ℕ, suc, _+_, _-_, min, _<_, _≤_};
 ghost use lib.Dec.{eqb};

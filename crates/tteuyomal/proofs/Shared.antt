@@ -7,12 +7,12 @@ use native.Mathlib.Omega.{arith}
 use borrow.Author.Tests.{lt-ltb, le-ltb}
 use lib.ListN.{length, set}
 use Rattle.block.specs.Read.{Read, refused, read, _then_, refuseIf, refusal}
-use Rattle.block.specs.Block.{graphOf, blockReply}
+use Rattle.block.specs.Block.{blockReply}
 use Rattle.block.specs.declared.Refusal.{Refusal}
 use Rattle.shares.specs.declared.Shares.{Shares}
 use Rattle.shares.specs.declared.Shares.the-variants as answer
 use Rattle.shares.specs.Reply.{sharesReply, saidShares, filled, sharesEntries}
-use Rattle.tteuyomal.specs.Convention.{code, coded, over, after}
+use Rattle.tteuyomal.specs.Convention.{code, coded, over}
 use Rattle.tteuyomal.specs.Replies.{thenNine, unlentReply, contributionsReply, Contributed}
 
 abbrev pub toldShares : Shares → Read ℕ

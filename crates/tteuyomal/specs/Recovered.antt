@@ -1,6 +1,6 @@
 -- What the one number of a reply tells: its kind, and the refusal's number and place or the first wrong field. Assumes nothing.
 use Prim.Native.Nat.{ℕ, _+_, _*_, _/_, _%_, _<_}
-use mathlib.Core.Path.{_≡_, ap, _∙_}
+use mathlib.Core.Path.{_≡_}
 use native.Mathlib.Omega.{arith}
 use native.Mathlib.Nat.{mod-eq-of-lt}
 use Rattle.block.specs.declared.Refusal.{Refusal}

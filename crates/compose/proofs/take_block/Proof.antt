@@ -1,12 +1,11 @@
 -- `compose::take_block` meets its contract. Assumes nothing.
 use Prim.Native.Nat.{ℕ, min}
 use mathlib.Core.List.{List}
-use mathlib.Core.Path.{_≡_, _∙_, ap, subst}
+use mathlib.Core.Path.{_∙_, ap, subst}
 use borrow.Author.Needs.{needs}
 use Rattle.block.specs.Block.{mostAtoms}
 use Rattle.block.specs.Rows.{rowsOf}
 use Rattle.block.specs.Sums.{pairEntry, indicesBy}
-use Rattle.assembly.specs.Book.{bondBytes}
 use Rattle.compose.specs.Tables.{Copied}
 use Rattle.compose.proofs.take_block.Statement.{statement}
 use Rattle.compose.proofs.take_block.Tie as tie

@@ -1,12 +1,12 @@
 -- `answered` meets its contract: each return is one way through the definition.
-use Prim.Native.Nat.{min, _≤_}
+use Prim.Native.Nat.{_≤_}
 use mathlib.Core.Path.{_≡_, sym, _∙_, ap}
 use native.Mathlib.Omega.{arith}
 use borrow.Author.Needs.{needs}
 use Rattle.paths.specs.Paths.{denominator}
 use Rattle.block.specs.Block.{bondsOf, graphOf}
 use Rattle.shares.specs.Reply.{most, saidShares}
-use Rattle.shares.specs.Work.{cap, Given}
+use Rattle.shares.specs.Work.{Given}
 use Rattle.shares.specs.declared.Shares.the-variants.{Denominator}
 use Rattle.shares.proofs.Blocks.{few, few-bonds, given, whole, nothing}
 use Rattle.shares.proofs.Entries.{filled-as}

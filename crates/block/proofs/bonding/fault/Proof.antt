@@ -8,7 +8,7 @@ use borrow.Author.Tests.{eq-eqb, ne-eqb}
 use Rattle.graph.specs.Graph.{Bond, Within, anyJoins}
 use Rattle.graph.specs.Sets.{has-yes, has-not}
 use Rattle.block.specs.Block.{isOutside}
-use Rattle.block.specs.Near.{around, Holds}
+use Rattle.block.specs.Near.{Holds}
 use Rattle.block.specs.Faults.{inside, three, three′, four, five, six, six′, none}
 use Rattle.block.proofs.Listing.{full, room}
 use Rattle.block.proofs.bonding.fault.Statement.{statement}

@@ -1,6 +1,6 @@
 -- `compose::joints::begun` meets its contract. Assumes nothing.
 use Prim.Native.Nat.{ℕ, _-_, _<_}
-use mathlib.Core.Path.{_≡_, sym, subst}
+use mathlib.Core.Path.{sym, subst}
 use native.Mathlib.Omega.{arith}
 use lib.Dec.{lit<}
 use Rattle.graph.specs.Graph.{Graph}

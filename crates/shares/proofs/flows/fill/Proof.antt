@@ -1,6 +1,6 @@
 -- `fill` meets its contract: D and the entries have what the starts passed give, and what is above the most stays above.
-use Prim.Native.Nat.{_+_, _-_, min, _≤_}
-use mathlib.Core.Path.{_≡_, refl, _∙_}
+use Prim.Native.Nat.{_-_, min, _≤_}
+use mathlib.Core.Path.{_≡_, refl}
 use native.Mathlib.Omega.{arith}
 use borrow.Author.Needs.{needs}
 use lib.ListN.{length}

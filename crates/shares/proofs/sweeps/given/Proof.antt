@@ -1,5 +1,4 @@
 -- `given` meets its contract: the entry read is that of the definition.
-use Prim.Native.Nat.{ℕ, _+_}
 use mathlib.Core.Path.{ap}
 use Rattle.shares.specs.Work.{there}
 use native.Mathlib.Omega.{arith}

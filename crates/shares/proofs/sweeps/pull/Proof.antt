@@ -3,7 +3,6 @@ use Prim.Native.Nat.{_+_, _*_, _-_, _≤_}
 use mathlib.Core.Path.{_≡_, refl}
 use native.Mathlib.Omega.{arith}
 use native.Mathlib.Numerals.{add-one}
-use borrow.Author.Needs.{needs}
 use Rattle.graph.specs.Graph.{sum}
 use Rattle.block.specs.Block.{limit}
 use Rattle.shares.specs.Work.{full, at, there, fromSeats}
