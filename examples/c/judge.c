@@ -1,4 +1,5 @@
-/* Judges the deck on standard input. From the root of the repository, after `rt staticlib tteuyomal`:
+/* Judges the deck on standard input; the exit status is 0 for accepted, 1 for differs, 2 for the rest.
+ * From the root of the repository, after `rt staticlib tteuyomal`:
  *     gcc -O2 -Iinclude examples/c/judge.c target/staticlib/libtteuyomal.a -o target/judge-c
  *     target/judge-c < DECK
  */
@@ -13,11 +14,12 @@ int main(void)
         return perror("judge"), 2;
     tteuyomal_reply reply = tteuyomal_judge(deck, length);
     unsigned long long where = tteuyomal_where(reply);
+    int status = 0;
     if (tteuyomal_is_refusal(reply))
-        printf("refused %u at %llu\n", tteuyomal_what(reply), where);
+        status = 2, printf("refused %u at %llu\n", tteuyomal_what(reply), where);
     else if (tteuyomal_what(reply) == TTEUYOMAL_DIFFERS)
-        printf("differs %llu\n", where);
+        status = 1, printf("differs %llu\n", where);
     else
         printf("accepted\n");
-    return reply == TTEUYOMAL_FINE ? 0 : 1;
+    return fflush(stdout) == 0 ? status : 2;
 }

@@ -1,0 +1,34 @@
+"""The header is C and C++ as the compilers have them with all warnings, and declares just what the archive has."""
+
+import re
+import subprocess
+import unittest
+
+from common import ARCHIVE, HEADER, text
+
+WARNINGS = ["-Wall", "-Wextra", "-Wpedantic", "-Wconversion", "-Wshadow", "-Wundef", "-Werror", "-fsyntax-only"]
+CALLER = '#include "tteuyomal.h"\nint main(void) { return tteuyomal_is_refusal(0) + (int)tteuyomal_where(0) + (int)tteuyomal_what(0); }\n'
+
+
+class Header(unittest.TestCase):
+    def compiles(self, *command):
+        run = subprocess.run(
+            [*command, *WARNINGS, "-I", HEADER.rsplit("/", 1)[0], "-"], input=CALLER, capture_output=True, text=True
+        )
+        self.assertEqual((run.returncode, run.stderr), (0, ""))
+
+    def test_c(self):
+        for standard in ("c99", "c11", "c17"):
+            with self.subTest(standard):
+                self.compiles("gcc", f"-std={standard}", "-Wstrict-prototypes", "-x", "c")
+
+    def test_cxx(self):
+        for standard in ("c++11", "c++17"):
+            with self.subTest(standard):
+                self.compiles("g++", f"-std={standard}", "-x", "c++")
+
+    def test_declares_what_the_archive_has(self):
+        listed = subprocess.run(["nm", "--defined-only", "-g", ARCHIVE], capture_output=True, text=True, check=True).stdout
+        there = set(re.findall(r"^[0-9a-f]+ T (tteuyomal_\w+)$", listed, re.M))
+        declared = set(re.findall(r"^(?:tteuyomal_reply|uint64_t) (tteuyomal_\w+)\(", text("include", "tteuyomal.h"), re.M))
+        self.assertEqual(declared, there)
