@@ -7,11 +7,10 @@ use native.Mathlib.Omega.{arith}
 use borrow.Author.Tests.{eq-eqb, ne-eqb}
 use Rattle.graph.specs.Graph.{Graph}
 use Rattle.graph.specs.Assembly.{Join}
-use Rattle.block.specs.Read.{refused, read, refusal, refuseFor}
-use Rattle.block.specs.Block.{isOutside}
-use Rattle.block.specs.Chain.{not-read}
+use Rattle.reply.specs.Read.{refused, read, refusal, refuseFor, isOutside}
+use Rattle.reply.specs.Chain.{not-read}
 use Rattle.block.specs.Faults.{inside}
-use Rattle.block.specs.declared.Refusal.{Refusal}
+use Rattle.reply.specs.declared.Refusal.{Refusal}
 use Rattle.assembly.specs.Book.{Book}
 use Rattle.assembly.specs.Placements.{mostPlacements, placementCount, placementAt, isFull, firstFault, parentFault, joinFault, joinOn, graphOn, laterFault, fault, placedReply, assemblyReply}
 use Rattle.assembly.specs.declared.Placement.{Placement}

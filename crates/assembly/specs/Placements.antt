@@ -5,8 +5,8 @@ use mathlib.Core.List.{List}
 use lib.Dec.{eqb, leb}
 use Rattle.graph.specs.Graph.{Graph, degree, sum}
 use Rattle.graph.specs.Assembly.{Join}
-use Rattle.block.specs.Read.{Read, read, _then_, refuseIf, refuseFor}
-use Rattle.block.specs.Block.{limit, isOutside}
+use Rattle.reply.specs.Read.{Read, read, _then_, refuseIf, refuseFor, isOutside}
+use Rattle.block.specs.Block.{limit}
 use Rattle.records.specs.Bytes.{byteAt, le16}
 use Rattle.records.specs.Records.{assemblyKind}
 use Rattle.assembly.specs.Book.{Book}

@@ -12,10 +12,10 @@ use lib.Dec.{eqb}
 use Rattle.graph.specs.Graph.{Graph, Within, Molecule, degree}
 use Rattle.graph.specs.Assembly.{Join, atomOf, written, Stands, Assembled, Placed}
 use Rattle.graph.specs.Climb.{sooner}
-use Rattle.block.specs.Read.{read, refuseIf, refuseFor}
-use Rattle.block.specs.Block.{limit, isOutside}
-use Rattle.block.specs.Chain.{then-read, if-read, for-read}
-use Rattle.block.specs.Faults.{neither, inside}
+use Rattle.reply.specs.Read.{read, refuseIf, refuseFor, isOutside}
+use Rattle.reply.specs.Chain.{then-read, if-read, for-read, neither}
+use Rattle.block.specs.Block.{limit}
+use Rattle.block.specs.Faults.{inside}
 use Rattle.assembly.specs.Book.{Book}
 use Rattle.assembly.specs.Placements.{mostPlacements, placementCount, placementAt, joinOf, joinOn, joinEnds, bondsOn, isFull, parentFault, joinFault, graphOn, laterFault, fault, placedReply, assemblyReply}
 use Rattle.assembly.specs.Degrees.{joins-zero, joins-suc, joins-none, degree-is}

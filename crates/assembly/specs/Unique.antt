@@ -5,11 +5,12 @@ use mathlib.Core.List.{List}
 use mathlib.Core.Path.{_≡_}
 use lib.ListN.{take}
 use denote.Ref.{RefT, ptr, now}
-use Rattle.block.specs.Block.{isOutside, saidBlock}
-use Rattle.block.specs.declared.Reply.{Reply}
+use Rattle.reply.specs.Read.{saidReply}
+use Rattle.reply.specs.Chain.{unique}
+use Rattle.reply.specs.declared.Reply.{Reply}
 use Rattle.records.specs.Bytes.{PartOf}
 use Rattle.records.specs.Records.{blockKind}
-use Rattle.records.specs.Unique.{unique, unique-part}
+use Rattle.records.specs.Unique.{unique-part}
 use Rattle.assembly.specs.Book.{find, isNumbered, bookOf}
 use Rattle.assembly.specs.Placements.{placementAt, assemblyReply}
 use Rattle.assembly.specs.declared.BlockAt.{BlockAt}
@@ -21,14 +22,11 @@ unique-find-block blocks count number r s = unique
 pub unique-is-numbered : (b : BlockAt) (number : ℕ) (r s : Bool) → r ≡ isNumbered b number → s ≡ isNumbered b number → r ≡ s
 unique-is-numbered b number r s = unique
 
-pub unique-is-outside : (n v : ℕ) (r s : Bool) → r ≡ isOutside n v → s ≡ isOutside n v → r ≡ s
-unique-is-outside n v r s = unique
-
 pub unique-bonds-part : (s : RefT (List ℕ)) (b : BlockAt) (q r : RefT (List ℕ)) → PartOf s (b .start + blockKind .fixed) (blockKind .item * b .bonds) q → PartOf s (b .start + blockKind .fixed) (blockKind .item * b .bonds) r → (now q ≡ now r) × (ptr q ≡ ptr r)
 unique-bonds-part s b q r = unique-part
 
 pub unique-placement-at : (xs : List ℕ) (k : ℕ) (r s : Placement) → r ≡ placementAt xs k → s ≡ placementAt xs k → r ≡ s
 unique-placement-at xs k r s = unique
 
-pub unique-check : (d : List ℕ) (blocks : List BlockAt) (count : ℕ) (xs : List ℕ) (r s : Reply) → r ≡ saidBlock (assemblyReply (bookOf d (take count blocks)) xs) → s ≡ saidBlock (assemblyReply (bookOf d (take count blocks)) xs) → r ≡ s
+pub unique-check : (d : List ℕ) (blocks : List BlockAt) (count : ℕ) (xs : List ℕ) (r s : Reply) → r ≡ saidReply (assemblyReply (bookOf d (take count blocks)) xs) → s ≡ saidReply (assemblyReply (bookOf d (take count blocks)) xs) → r ≡ s
 unique-check d blocks count xs r s = unique

@@ -4,19 +4,21 @@ ghost use mathlib.Core.Bool.{_&&_, cond};
 ghost use Prim.Native.Nat.{_+_, _*_, _-_, _<_, _≤_};
 ghost use lib.ListN.{length, take};
 ghost use Rattle.graph.specs.Graph.{degree};
-ghost use Rattle.block.specs.Block.{bondsOf, isOutside, saidBlock};
+ghost use Rattle.reply.specs.Read.{saidReply};
+ghost use Rattle.block.specs.Block.{bondsOf};
 ghost use Rattle.records.specs.Bytes.{PartOf};
 ghost use Rattle.records.specs.Records.{blockKind};
 ghost use Rattle.assembly.specs.Book.{find, isNumbered, blockGraph, bookOf};
 ghost use Rattle.assembly.specs.Placements.{placementAt, joinsOn, joinOn, isFull, mostPlacements, firstFault, parentFault, joinFault, laterFault, fault, assemblyReply};
 use block::LIMIT;
-use block::Refusal;
-use block::Reply;
 use records::ASSEMBLY;
 use records::BLOCK;
 use records::byte_at;
 use records::le16_at;
 use records::part;
+use reply::Refusal;
+use reply::Reply;
+use reply::is_outside;
 
 // The most blocks of a book, and the most placements.
 pub const BLOCKS: usize = 16;
@@ -117,16 +119,6 @@ pub fn placement_at(xs: &[u8], k: usize) -> Placement
         site: byte_at(xs, at + 4),
         own: byte_at(xs, at + 5),
     }
-}
-
-// 0 or above n.
-pub fn is_outside(n: usize, v: usize) -> bool
-    ensures { λ r. ⌜ r ≡ isOutside n v ⌝ }
-{
-    if v == 0 {
-        return true;
-    }
-    n < v
 }
 
 // 1 where both hold.
@@ -258,7 +250,7 @@ fn fault_of(d: &[u8], blocks: BlockTable, count: usize, xs: &[u8], k: usize) -> 
 
 // Refusals 15 to 19 of an assembly's payload, over the first `count` blocks, which stand in d.
 pub fn check(d: &[u8], blocks: BlockTable, count: usize, xs: &[u8]) -> Reply
-    ensures { λ r. ⌜ r ≡ saidBlock (assemblyReply (bookOf (now (d .entry)) (take count blocks)) (now (xs .entry))) ⌝ }
+    ensures { λ r. ⌜ r ≡ saidReply (assemblyReply (bookOf (now (d .entry)) (take count blocks)) (now (xs .entry))) ⌝ }
 {
     let p = le16_at(xs, 0) as usize;
     if is_outside(PLACEMENTS, p) {

@@ -4,17 +4,17 @@ use mathlib.Core.Bool.{Bool, true, false}
 use mathlib.Core.List.{List}
 use mathlib.Core.Path.{_≡_, refl, sym, ap, _∙_}
 use Rattle.graph.specs.Graph.{distance}
-use Rattle.block.specs.Read.{Read, refused, read, _then_, refuseIf, refusal}
-use Rattle.block.specs.Chain.{not-read}
-use Rattle.block.specs.Block.{mostAtoms, isOutside, graphOf, blockReply}
+use Rattle.reply.specs.Read.{Read, refused, read, _then_, refuseIf, refusal, isOutside}
+use Rattle.reply.specs.Chain.{not-read}
+use Rattle.block.specs.Block.{mostAtoms, graphOf, blockReply}
 use Rattle.block.specs.Rows.{rowOf, rowsOf, emptyRow, rowReply, saidRow}
 use Rattle.block.specs.Index.{indicesReply, saidIndices, vertexOf, vertexReply, saidVertex, distanceReply, saidDistance, pairsOf, pairsReply, saidPairs}
 use Rattle.block.specs.Sums.{entry, pairEntry, indicesBy, countsBy, vertexBy}
 use Rattle.block.specs.Faults.{inside}
 use Rattle.block.specs.Told.{entry-at}
 use Rattle.block.specs.Measures.{all-atoms, indices-are, counts-are, vertex-is}
-use Rattle.block.specs.declared.Refusal.{Refusal}
-use Rattle.block.specs.declared.Reply.the-variants as reply
+use Rattle.reply.specs.declared.Refusal.{Refusal}
+use Rattle.reply.specs.declared.Reply.the-variants as reply
 use Rattle.block.specs.declared.Indices.{Indices}
 use Rattle.block.specs.declared.Measured.the-variants as measured
 use Rattle.block.specs.declared.Vertex.{Vertex}

@@ -9,13 +9,13 @@ use lib.ListN.{length, getD, set, length-set, replicate, getD-replicate}
 use lib.Seq.{getD-set-same, getD-set-other, ext-getD}
 use borrow.Author.Tests.{lt-ltb, ne-eqb}
 use Rattle.graph.specs.Graph.{Within}
-use Rattle.block.specs.Read.{refused, read, refusal}
-use Rattle.block.specs.Block.{mostAtoms, isOutside, graphOf, blockReply}
+use Rattle.reply.specs.Read.{refused, read, refusal, isOutside}
+use Rattle.block.specs.Block.{mostAtoms, graphOf, blockReply}
 use Rattle.block.specs.Rows.{table, rowOf, noRow, emptyRow, saidRow, rowReply, rowsOf}
 use Rattle.block.specs.Tables.{length-table, getD-table}
 use Rattle.block.specs.Told.{row-read}
-use Rattle.block.specs.declared.Refusal.{Refusal}
-use Rattle.block.specs.declared.Reply.the-variants.{Fine, Refused}
+use Rattle.reply.specs.declared.Refusal.{Refusal}
+use Rattle.reply.specs.declared.Reply.the-variants.{Fine, Refused}
 use Rattle.block.specs.declared.OneRow.{OneRow}
 
 -- the first i rows are filled

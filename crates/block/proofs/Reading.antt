@@ -12,7 +12,7 @@ use lib.Seq.{drop-cons}
 use Rattle.graph.specs.Graph.{Bond, bond, Within, anyJoins, bonded, degree}
 use Rattle.graph.specs.Sets.{has, has-none}
 use Rattle.graph.specs.Bonds.{any-out, any-head, any-tail, any-none}
-use Rattle.block.specs.Read.{refused, read, _then_, refuseFor, refusal}
+use Rattle.reply.specs.Read.{refused, read, _then_, refuseFor, refusal}
 use Rattle.block.specs.Block.{limit, mostAtoms, bondsOf, graphOf, bondFault, bondsReply}
 use Rattle.block.specs.Near.{counted, putting, counting, Draws, Holds, Shows}
 use Rattle.block.specs.Faults.{Faultless, faultless}

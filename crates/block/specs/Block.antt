@@ -1,13 +1,11 @@
 -- A block: what its bytes say, and its refusals 1 to 7 in document 01's order. A place is the bond's number from 1, or 0.
 use Prim.Native.Nat.{ℕ, suc, _*_, _%_}
-use mathlib.Core.Bool.{Bool, _||_, not, cond}
+use mathlib.Core.Bool.{_||_, not, cond}
 use mathlib.Core.List.{List, [], _∷_}
 use lib.Dec.{eqb, leb, ltb}
 use lib.ListN.{length}
 use Rattle.graph.specs.Graph.{Graph, Bond, bond, anyJoins, connected, degree}
-use Rattle.block.specs.Read.{Read, refused, read, _then_, refuseIf, refuseFor}
-use Rattle.block.specs.declared.Reply.{Reply}
-use Rattle.block.specs.declared.Reply.the-variants.{Fine, Refused}
+use Rattle.reply.specs.Read.{Read, read, _then_, refuseIf, refuseFor, isOutside}
 
 -- the most atoms of a block, the most bonds of an atom, and the most bytes that the bonds take: two bytes a bond, which is one of the bonds of two atoms
 abbrev pub mostAtoms : ℕ
@@ -28,10 +26,6 @@ bondsOf (a ∷ (b ∷ xs)) = bond a b ∷ bondsOf xs
 abbrev pub graphOf : ℕ → List ℕ → Graph
 graphOf n xs = record { atoms = n; bonds = bondsOf xs }
 
--- 0 or above n
-abbrev pub isOutside : ℕ → ℕ → Bool
-isOutside n v = eqb v 0 || ltb n v
-
 -- the refusal number of a bond that is listed after others, or 0
 unfoldable pub bondFault : ℕ → List Bond → Bond → ℕ
 bondFault n before b =
@@ -51,8 +45,3 @@ blockReply n xs =
     refuseIf (not (eqb (length xs % 2) 0) || ltb mostBytes (length xs)) 2 0 then λ _.
     bondsReply n [] (bondsOf xs) then λ _.
     refuseIf (not (connected (graphOf n xs))) 7 0
-
--- how the code says it
-abbrev pub saidBlock : Read (Unit {0}) → Reply
-saidBlock (refused r) = Refused r
-saidBlock (read u) = Fine

@@ -4,7 +4,7 @@ use mathlib.Core.List.{List, [], _∷_}
 use mathlib.Core.Path.{_≡_, refl}
 use lib.ListN.{replicate}
 use Rattle.graph.specs.Graph.{joins, anyJoins, bonded, anyAtom, reaches, firstFrom, distance, allAtoms, connected, degree, sum, sumPairs, evenOf, oddOf, evenOne, oddOne, isAt, total, vertex}
-use Rattle.block.specs.Read.{refused, read, refusal}
+use Rattle.reply.specs.Read.{refused, read, refusal}
 use Rattle.block.specs.Block.{mostAtoms, limit, mostBytes, bondsOf, bondFault, bondsReply, blockReply}
 use Rattle.block.specs.Index.{indicesOf, indicesReply, vertexOf, vertexReply, distanceReply}
 

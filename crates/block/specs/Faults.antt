@@ -1,17 +1,15 @@
 -- The refusal number of a bond, test by test. Assumes nothing.
 use Prim.Native.Nat.{ℕ, _≤_, _<_}
-use mathlib.Core.Bool.{Bool, true, false, _||_, cond, true≢false}
+use mathlib.Core.Bool.{Bool, true, false, _||_, cond}
 use mathlib.Core.List.{List}
 use mathlib.Core.Path.{_≡_, refl}
 use lib.Dec.{eqb, leb, ltb}
 use native.Mathlib.Omega.{arith}
 use borrow.Author.Tests.{eqb-false, ltb-false, leb-false}
 use Rattle.graph.specs.Graph.{Bond, bond, Within, anyJoins, degree}
-use Rattle.block.specs.Block.{limit, isOutside, bondFault}
-
-pub neither : (p q : Bool) → (p || q) ≡ false → (p ≡ false) × (q ≡ false)
-neither true q e = absurd (true≢false e)
-neither false q e = (refl, e)
+use Rattle.reply.specs.Read.{isOutside}
+use Rattle.reply.specs.Chain.{neither}
+use Rattle.block.specs.Block.{limit, bondFault}
 
 pub inside : (n v : ℕ) → isOutside n v ≡ false → Within n v
 inside n v e =

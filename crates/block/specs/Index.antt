@@ -2,10 +2,10 @@
 use Prim.Native.Nat.{ℕ}
 use mathlib.Core.List.{List}
 use Rattle.graph.specs.Graph.{Graph, distance, wiener, evenPart, oddPart, polarity, pairsAt, vertexSum, vertexEven, vertexOdd, evenCount, oddCount, countAt}
-use Rattle.block.specs.Read.{Read, refused, read, _then_, refuseIf}
-use Rattle.block.specs.Block.{mostAtoms, graphOf, isOutside, blockReply}
+use Rattle.reply.specs.Read.{Read, refused, read, _then_, refuseIf, isOutside}
+use Rattle.block.specs.Block.{mostAtoms, graphOf, blockReply}
 use Rattle.block.specs.Rows.{table, noRow}
-use Rattle.block.specs.declared.Reply.the-variants as reply
+use Rattle.reply.specs.declared.Reply.the-variants as reply
 use Rattle.block.specs.declared.Indices.{Indices}
 use Rattle.block.specs.declared.Measured.{Measured}
 use Rattle.block.specs.declared.Measured.the-variants as measured

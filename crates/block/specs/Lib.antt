@@ -1,5 +1,4 @@
 -- What a block is told.
-pub mod Read
 pub mod Block
 pub mod Rows
 pub mod Index
@@ -7,7 +6,6 @@ pub mod Sums
 pub mod Near
 pub mod Found
 pub mod Tally
-pub mod Chain
 pub mod Faults
 pub mod Tables
 pub mod Told

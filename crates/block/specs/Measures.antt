@@ -6,7 +6,7 @@ use native.Mathlib.Omega.{arith}
 use Rattle.graph.specs.Graph.{Graph, sum, sumPairs, total, vertex, itself, evenOf, oddOf, evenOne, oddOne, isAt}
 use Rattle.graph.specs.Distance.{distance-sym}
 use Rattle.graph.specs.Sums.{sum-cong, sumPairs-cong}
-use Rattle.block.specs.Read.{read}
+use Rattle.reply.specs.Read.{read}
 use Rattle.block.specs.Block.{mostAtoms, graphOf, blockReply}
 use Rattle.block.specs.Rows.{table, rowOf, rowsOf}
 use Rattle.block.specs.Index.{indicesOf, vertexOf, pairsOf}

@@ -7,10 +7,10 @@ use lib.Bits.{bitOr}
 use lib.ListN.{length, getD, set}
 use Rattle.graph.specs.Graph.{Graph, Bond, Within, anyJoins, bonded, degree}
 use Rattle.graph.specs.Sets.{has, alone}
-use Rattle.block.specs.Read.{read}
-use Rattle.block.specs.Block.{mostAtoms, bondsOf, graphOf, bondsReply, blockReply, saidBlock}
+use Rattle.reply.specs.Read.{read, saidReply}
+use Rattle.block.specs.Block.{mostAtoms, bondsOf, graphOf, bondsReply, blockReply}
 use Rattle.block.specs.declared.Built.{Built}
-use Rattle.block.specs.declared.Reply.the-variants.{Fine}
+use Rattle.reply.specs.declared.Reply.the-variants.{Fine}
 
 -- the neighbours of atom u, and how many bonds it has
 abbrev pub around : List ℕ → ℕ → ℕ
@@ -50,10 +50,10 @@ pub record Ready (n : ℕ) (xs : List ℕ) (near : List ℕ) : Type 0 where
 
 -- what reading the bonds gives: the reply to them and, where they are fine, the neighbours
 pub record Reading (n : ℕ) (xs : List ℕ) (r : Built) : Type 0 where
-  pub replied : r .reply ≡ saidBlock (bondsReply n [] (bondsOf xs))
+  pub replied : r .reply ≡ saidReply (bondsReply n [] (bondsOf xs))
   pub drawn : r .reply ≡ Fine → Shows (graphOf n xs) (r .near)
 
 -- what a block gives: the reply to it and, where it is fine, the neighbours
 pub record Admitting (n : ℕ) (xs : List ℕ) (r : Built) : Type 0 where
-  pub replied : r .reply ≡ saidBlock (blockReply n xs)
+  pub replied : r .reply ≡ saidReply (blockReply n xs)
   pub ready : r .reply ≡ Fine → Ready n xs (r .near)

@@ -5,10 +5,10 @@ use mathlib.Core.List.{List, [], _∷_}
 use lib.Dec.{ltb}
 use lib.ListN.{replicate}
 use Rattle.graph.specs.Graph.{Graph, distance}
-use Rattle.block.specs.Read.{Read, refused, read, _then_, refuseIf}
-use Rattle.block.specs.Block.{mostAtoms, graphOf, isOutside, blockReply}
+use Rattle.reply.specs.Read.{Read, refused, read, _then_, refuseIf, isOutside}
+use Rattle.block.specs.Block.{mostAtoms, graphOf, blockReply}
 use Rattle.block.specs.declared.OneRow.{OneRow}
-use Rattle.block.specs.declared.Reply.the-variants.{Fine, Refused}
+use Rattle.reply.specs.declared.Reply.the-variants.{Fine, Refused}
 
 -- f 0 to f (n - 1)
 unfoldable pub table : {A : Type 0} → ℕ → (ℕ → A) → List A

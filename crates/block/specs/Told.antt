@@ -13,13 +13,13 @@ use Rattle.graph.specs.Graph.{Bond, Within, Sound, Molecule, anyJoins, bonded, 
 use Rattle.graph.specs.Bonds.{Joins, any-out, any-head, any-tail, any-none, bonded-sym}
 use Rattle.graph.specs.Connected.{connected-molecule}
 use Rattle.graph.specs.Distance.{not-true}
-use Rattle.block.specs.Read.{Read, refused, read, _then_, refuseIf, refuseFor, refusal}
-use Rattle.block.specs.Chain.{not-read, then-read, if-read, for-read}
-use Rattle.block.specs.Block.{mostAtoms, mostBytes, limit, isOutside, bondsOf, graphOf, bondFault, bondsReply, blockReply}
+use Rattle.reply.specs.Read.{Read, refused, read, _then_, refuseIf, refuseFor, refusal, isOutside}
+use Rattle.reply.specs.Chain.{not-read, then-read, if-read, for-read}
+use Rattle.block.specs.Block.{mostAtoms, mostBytes, limit, bondsOf, graphOf, bondFault, bondsReply, blockReply}
 use Rattle.block.specs.Rows.{rowOf, rowReply, saidRow, rowsOf}
 use Rattle.block.specs.Faults.{inside, Faultless, faultless}
 use Rattle.block.specs.Tables.{getD-table}
-use Rattle.block.specs.declared.Refusal.{Refusal}
+use Rattle.reply.specs.declared.Refusal.{Refusal}
 
 -- a bond joins two atoms of 1 to n that none of the bonds bs joins
 pub record NewBond (n : ℕ) (b : Bond) (bs : List Bond) : Type 0 where

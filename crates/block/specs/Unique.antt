@@ -1,12 +1,14 @@
 -- Each promise determines the reply: two replies that satisfy it are equal. Assumes nothing.
 use Prim.Native.Nat.{ℕ, min}
 use mathlib.Core.List.{List}
-use mathlib.Core.Path.{_≡_, sym, _∙_}
-use Rattle.block.specs.Block.{mostAtoms, blockReply, saidBlock}
+use mathlib.Core.Path.{_≡_}
+use Rattle.reply.specs.Read.{saidReply}
+use Rattle.reply.specs.Chain.{unique}
+use Rattle.block.specs.Block.{mostAtoms, blockReply}
 use Rattle.block.specs.Rows.{rowsOf, rowReply, saidRow}
 use Rattle.block.specs.Index.{indicesReply, saidIndices, vertexReply, saidVertex, distanceReply, saidDistance, pairsReply, saidPairs}
 use Rattle.block.specs.Sums.{entry, pairEntry, indicesBy, vertexBy}
-use Rattle.block.specs.declared.Reply.{Reply}
+use Rattle.reply.specs.declared.Reply.{Reply}
 use Rattle.block.specs.declared.OneRow.{OneRow}
 use Rattle.block.specs.declared.Indices.{Indices}
 use Rattle.block.specs.declared.Measured.{Measured}
@@ -15,11 +17,8 @@ use Rattle.block.specs.declared.Around.{Around}
 use Rattle.block.specs.declared.Apart.{Apart}
 use Rattle.block.specs.declared.Pairs.{Pairs}
 
-unique : {A : Type 0} {r s t : A} → r ≡ t → s ≡ t → r ≡ s
-unique p q = p ∙ sym q
-
 module _ (n : ℕ) (xs : List ℕ) where
-  pub unique-check : (r s : Reply) → r ≡ saidBlock (blockReply n xs) → s ≡ saidBlock (blockReply n xs) → r ≡ s
+  pub unique-check : (r s : Reply) → r ≡ saidReply (blockReply n xs) → s ≡ saidReply (blockReply n xs) → r ≡ s
   unique-check r s = unique
 
   pub unique-rows : (r s : List (List ℕ)) → r ≡ rowsOf n xs → s ≡ rowsOf n xs → r ≡ s

@@ -3,21 +3,15 @@ use super::ATOMS;
 use super::Built;
 use super::LIMIT;
 use super::Neighbours;
-use super::Refusal;
-use super::Reply;
+use reply::Refusal;
+use reply::Reply;
+use reply::is_outside;
 ghost use mathlib.Core.Path.{_≡_};
 ghost use mathlib.Core.List.{List};
 ghost use Prim.Native.Nat.{_≤_};
 ghost use Rattle.graph.specs.Graph.{Bond, bond};
-ghost use Rattle.block.specs.Block.{mostAtoms, isOutside, bondFault};
+ghost use Rattle.block.specs.Block.{mostAtoms, bondFault};
 ghost use Rattle.block.specs.Near.{Holds, Reading};
-
-// Whether v is none of the atoms 1 to n.
-pub(crate) fn outside(n: usize, v: usize) -> bool
-    ensures { λ r. ⌜ r ≡ isOutside n v ⌝ }
-{
-    v == 0 || v > n
-}
 
 // The refusal number of the bond a-b after those that were read, or 0.
 fn fault(n: usize, near: &Neighbours, count: &[u8; ATOMS], a: u8, b: u8) -> usize
@@ -26,10 +20,10 @@ fn fault(n: usize, near: &Neighbours, count: &[u8; ATOMS], a: u8, b: u8) -> usiz
 {
     let u = a as usize;
     let v = b as usize;
-    if outside(n, u) {
+    if is_outside(n, u) {
         return 3;
     }
-    if outside(n, v) {
+    if is_outside(n, v) {
         return 3;
     }
     if u == v {

@@ -1,8 +1,8 @@
 // One block: its refusals 1 to 7, its distances, indices and vertex sums.
 ghost use mathlib.Core.Path.{_≡_};
 ghost use Prim.Native.Nat.{min};
-ghost use Rattle.block.specs.Read.{refusal};
-ghost use Rattle.block.specs.Block.{mostAtoms, blockReply, saidBlock};
+ghost use Rattle.reply.specs.Read.{refusal, saidReply};
+ghost use Rattle.block.specs.Block.{mostAtoms, blockReply};
 ghost use Rattle.block.specs.Rows.{rowsOf, rowReply, saidRow};
 ghost use Rattle.block.specs.Index.{indicesReply, saidIndices, vertexReply, saidVertex, distanceReply, saidDistance, pairsReply, saidPairs};
 ghost use Rattle.block.specs.Sums.{entry, pairEntry, indicesBy, vertexBy};
@@ -11,6 +11,11 @@ ghost use Rattle.block.specs.Near.{Admitting};
 mod bonding;
 mod search;
 mod totals;
+
+use reply::Refusal;
+use reply::Reply;
+use reply::is_outside;
+use reply::wide;
 
 // The most atoms of a block, the most bonds of an atom, and the most bytes that a block's bonds take.
 pub const ATOMS: usize = 64;
@@ -23,18 +28,6 @@ pub const BYTES: usize = ATOMS * LIMIT;
 pub type DistanceRow = [u8; ATOMS];
 
 pub type DistanceMatrix = [DistanceRow; ATOMS];
-
-// What is wrong, by document 01's number, and where.
-pub struct Refusal {
-    pub number: usize,
-    pub place: usize,
-}
-
-// A block is fine, or refused.
-pub enum Reply {
-    Fine,
-    Refused(Refusal),
-}
 
 // The distances from one atom, that to atom j at j - 1; all 0 where the reply is a refusal.
 pub struct OneRow {
@@ -117,7 +110,7 @@ fn refused(number: usize) -> Built
 fn admit(n: usize, bonds: &[u8]) -> Built
     ensures { λ r. ⌜ Admitting n (now (bonds .entry)) r ⌝ }
 {
-    if bonding::outside(ATOMS, n) {
+    if is_outside(ATOMS, n) {
         return refused(1);
     }
     if bonds.len() % 2 != 0 {
@@ -140,7 +133,7 @@ fn admit(n: usize, bonds: &[u8]) -> Built
 
 // Whether a block is refused, with which number and where: the bond's number from 1, or 0.
 pub fn check(n: usize, bonds: &[u8]) -> Reply
-    ensures { λ r. ⌜ r ≡ saidBlock (blockReply n (now (bonds .entry))) ⌝ }
+    ensures { λ r. ⌜ r ≡ saidReply (blockReply n (now (bonds .entry))) ⌝ }
 {
     let admitted = admit(n, bonds);
     admitted.reply
@@ -171,7 +164,7 @@ pub fn row(n: usize, bonds: &[u8], i: usize) -> OneRow
             row: [0u8; ATOMS],
         };
     };
-    if bonding::outside(n, i) {
+    if is_outside(n, i) {
         return OneRow {
             reply: Reply::Refused(Refusal {
                 number: 18,
@@ -252,14 +245,14 @@ pub fn distance(n: usize, bonds: &[u8], i: usize, j: usize) -> Apart
     match reply {
         Reply::Refused(refusal) => Apart::Refused(refusal),
         Reply::Fine => {
-            if bonding::outside(n, j) {
+            if is_outside(n, j) {
                 return Apart::Refused(Refusal {
                     number: 18,
                     place: 0,
                 });
             }
             let row = seen.row;
-            let d = totals::wide(row[j - 1]);
+            let d = wide(row[j - 1]);
             Apart::Of(d)
         }
     }

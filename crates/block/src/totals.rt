@@ -3,18 +3,12 @@ use super::ATOMS;
 use super::DistanceMatrix;
 use super::DistanceRow;
 use super::Tally;
+use reply::wide;
 ghost use mathlib.Core.Path.{_≡_};
 ghost use Prim.Native.Nat.{min, _*_, _≤_};
 ghost use Rattle.block.specs.Block.{mostAtoms};
 ghost use Rattle.block.specs.Sums.{pairEntry, countsBy};
 ghost use Rattle.block.specs.Tally.{Tallied, Counts, Counted};
-
-// A byte as a number, with its bound.
-pub(crate) fn wide(x: u8) -> u64
-    ensures { λ r. ⌜ (r ≡ x) × (r ≤ 255) ⌝ }
-{
-    x as u64
-}
 
 // The first k entries of a row.
 pub(crate) fn along(row: &DistanceRow, k: usize) -> Tally

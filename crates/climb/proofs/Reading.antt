@@ -6,11 +6,11 @@ use mathlib.Core.Path.{_≡_, sym, _∙_, ap}
 use native.Mathlib.Omega.{arith}
 use borrow.Author.Tests.{ne-eqb, le-ltb}
 use Rattle.graph.specs.Graph.{Within, distance}
-use Rattle.block.specs.Read.{Read, refused, read, refusal}
-use Rattle.block.specs.Block.{graphOf, isOutside, blockReply}
+use Rattle.reply.specs.Read.{Read, refused, read, refusal, isOutside}
+use Rattle.block.specs.Block.{graphOf, blockReply}
 use Rattle.block.specs.Index.{distanceReply, saidDistance}
-use Rattle.block.specs.declared.Refusal.{Refusal}
-use Rattle.block.specs.declared.Reply.the-variants.{Fine}
+use Rattle.reply.specs.declared.Refusal.{Refusal}
+use Rattle.reply.specs.declared.Reply.the-variants.{Fine}
 use Rattle.block.specs.declared.Apart.{Apart}
 use Rattle.block.specs.declared.Apart.the-variants as apart
 use Rattle.assembly.specs.Book.{find, bondBytes, bookOf}

@@ -11,8 +11,10 @@ use Rattle.graph.specs.Assembly.{Placed, written}
 use Rattle.graph.specs.Bounds.{atoms-most}
 use Rattle.graph.specs.Climb.{apart, apart-same, apart-later, climbed, placed-within, written-molecule}
 use Rattle.graph.specs.Distance.{distance-below, distance-sym}
-use Rattle.block.specs.Block.{mostAtoms, isOutside}
-use Rattle.block.specs.Faults.{neither, inside}
+use Rattle.reply.specs.Read.{isOutside}
+use Rattle.reply.specs.Chain.{neither}
+use Rattle.block.specs.Block.{mostAtoms}
+use Rattle.block.specs.Faults.{inside}
 use Rattle.records.specs.Records.{payloadAt}
 use Rattle.assembly.specs.declared.Placement.{Placement}
 use Rattle.assembly.specs.Placements.{mostPlacements, placementAt, joinOf}

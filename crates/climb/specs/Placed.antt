@@ -5,8 +5,7 @@ use mathlib.Core.Bool.{Bool, _||_}
 use mathlib.Core.List.{List}
 use Rattle.graph.specs.Graph.{distance}
 use Rattle.graph.specs.Assembly.{atomOf}
-use Rattle.block.specs.Read.{Read, read, _then_, refuseIf}
-use Rattle.block.specs.Block.{isOutside}
+use Rattle.reply.specs.Read.{Read, read, _then_, refuseIf, isOutside}
 use Rattle.deck.specs.Deck.{Deck, deckReply}
 use Rattle.deck.specs.Molecule.{graphAt, moleculeOf}
 use Rattle.deck.specs.declared.Form.the-variants.{Composed}

@@ -9,8 +9,9 @@ ghost use Rattle.climb.specs.Placed.{isMissing, placedReply};
 ghost use Rattle.climb.specs.Pairs.{deckOf, between, Pair};
 use assembly::BlockAt;
 use block::Apart;
-use block::Refusal;
-use block::Reply;
+use reply::Refusal;
+use reply::Reply;
+use reply::is_outside;
 use deck::Form;
 use deck::Layout;
 
@@ -28,11 +29,11 @@ fn block_of(d: &[u8], deck: Layout, k: usize) -> BlockAt
 fn is_missing(d: &[u8], deck: Layout, k: usize, i: usize) -> bool
     ensures { λ r. ⌜ r ≡ isMissing (now (d .entry)) (deckOf deck) k i ⌝ }
 {
-    if assembly::is_outside(deck.placements, k) {
+    if is_outside(deck.placements, k) {
         return true;
     }
     let b = block_of(d, deck, k);
-    assembly::is_outside(b.atoms as usize, i)
+    is_outside(b.atoms as usize, i)
 }
 
 // The distance of atoms i and j of placement number k.

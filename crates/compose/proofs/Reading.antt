@@ -7,11 +7,11 @@ use lib.ListN.{length, take}
 use lib.Seq.{take-at}
 use Rattle.graph.specs.Graph.{Graph, Within}
 use Rattle.graph.specs.Assembly.{Join, joined, atomOf, written, Assembled}
-use Rattle.block.specs.Read.{Read, refused, read}
+use Rattle.reply.specs.Read.{Read, refused, read}
 use Rattle.block.specs.Index.{indicesOf, saidIndices}
-use Rattle.block.specs.declared.Refusal.{Refusal}
+use Rattle.reply.specs.declared.Refusal.{Refusal}
 use Rattle.block.specs.declared.Indices.{Indices}
-use Rattle.block.specs.declared.Reply.the-variants as reply
+use Rattle.reply.specs.declared.Reply.the-variants as reply
 use Rattle.block.specs.declared.Measured.the-variants as measured
 use Rattle.records.specs.Records.{payloadAt}
 use Rattle.assembly.specs.Book.{find, blockGraph, bookOf}

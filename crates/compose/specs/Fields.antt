@@ -1,7 +1,7 @@
 -- The five fields of a deck: those of the one graph with every atom and bond written out, or the deck's refusal.
 use mathlib.Core.List.{List}
 use Prim.Native.Nat.{ℕ}
-use Rattle.block.specs.Read.{Read, read, _then_}
+use Rattle.reply.specs.Read.{Read, read, _then_}
 use Rattle.block.specs.Index.{indicesOf}
 use Rattle.block.specs.declared.Indices.{Indices}
 use Rattle.deck.specs.Deck.{deckReply}

@@ -5,7 +5,7 @@ use mathlib.Core.Path.{_≡_}
 use lib.ListN.{take}
 use Rattle.graph.specs.Graph.{Graph, Within}
 use Rattle.graph.specs.Assembly.{Assembled}
-use Rattle.block.specs.Read.{read}
+use Rattle.reply.specs.Read.{read}
 use Rattle.block.specs.Block.{blockReply}
 use Rattle.assembly.specs.Book.{find, bondBytes, blockGraph}
 use Rattle.assembly.specs.Placements.{mostPlacements, placementAt}

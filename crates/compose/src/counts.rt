@@ -13,12 +13,6 @@ pub(crate) fn times(a: u64, b: u64) -> u64
     a * b
 }
 
-pub(crate) fn wide(d: u8) -> u64
-    ensures { λ r. ⌜ (r ≡ d) × (r < 256) ⌝ }
-{
-    d as u64
-}
-
 // 1 if d is k, else 0.
 fn is_at(k: u64, d: u64) -> u64
     ensures { λ r. ⌜ (r ≡ isAt k d) × (r < 2) ⌝ }

@@ -1,6 +1,5 @@
 // The joins of an assembly: how far their atoms are apart, and what is counted from both ends of each.
 use super::counts::grown;
-use super::counts::wide;
 use super::kept::CountRows;
 use super::kept::NumberRows;
 use super::kept::counts_at;
@@ -12,6 +11,7 @@ use super::links::SITE;
 use block::ATOMS;
 use block::Vertex;
 use block::around_row;
+use reply::wide;
 ghost use mathlib.Core.Path.{_≡_};
 ghost use Prim.Native.Nat.{ℕ, _+_, _*_, _-_, _<_, min};
 ghost use Rattle.graph.specs.Graph.{Graph, Within};

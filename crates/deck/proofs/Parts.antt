@@ -7,9 +7,9 @@ use native.Mathlib.Omega.{arith}
 use borrow.Author.Tests.{lt-ltb, le-ltb}
 use lib.ListN.{length, take}
 use lib.Seq.{take-append-seam}
-use Rattle.block.specs.Read.{Read, refused, read, refusal}
-use Rattle.block.specs.declared.Refusal.{Refusal}
-use Rattle.block.specs.declared.Reply.the-variants.{Fine, Refused}
+use Rattle.reply.specs.Read.{Read, refused, read, refusal}
+use Rattle.reply.specs.declared.Refusal.{Refusal}
+use Rattle.reply.specs.declared.Reply.the-variants.{Fine, Refused}
 use denote.Ref.{RefT}
 use Rattle.records.specs.Bytes.{PartOf}
 use Rattle.records.specs.Records.{blockKind, assemblyKind, endAt, recordReply}

@@ -9,9 +9,9 @@ use borrow.Author.Tests.{eq-eqb, ne-eqb}
 use lib.Dec.{eqb, leb}
 use lib.ListN.{length, take, drop, set, replicate, take-append-drop}
 use lib.Seq.{length-take-le, take-suc-set, drop-set-lt, drop-drop}
-use Rattle.block.specs.Read.{Read, refused, read, refusal}
-use Rattle.block.specs.Block.{blockReply, saidBlock}
-use Rattle.block.specs.declared.Refusal.{Refusal}
+use Rattle.reply.specs.Read.{Read, refused, read, refusal, saidReply}
+use Rattle.block.specs.Block.{blockReply}
+use Rattle.reply.specs.declared.Refusal.{Refusal}
 use Rattle.records.specs.Records.{blockKind, kindAt, endAt, kindReply, recordReply}
 use Rattle.records.specs.declared.Kind.{Kind}
 use Rattle.assembly.specs.Book.{noBlock, used, bondBytes}
@@ -33,7 +33,7 @@ pub second : (done : List BlockAt) (last : Kind) (d : List ℕ) (at : ℕ)
 second [] last d at = once blockKind d at
 second (b ∷ bs) last d at = rw (ne-eqb (length (b ∷ bs)) 0 (omega arith))
 
-pub moved-said : (place : Refusal → ℕ) (x : Read (Unit {0})) → movedReply place (saidBlock x) ≡ saidBlock (moved place x)
+pub moved-said : (place : Refusal → ℕ) (x : Read (Unit {0})) → movedReply place (saidReply x) ≡ saidReply (moved place x)
 moved-said place (refused r) = refl
 moved-said place (read u) = refl
 

@@ -5,8 +5,8 @@ use mathlib.Core.List.{List, [], _∷_, _++_}
 use mathlib.Core.Path.{_≡_, refl}
 use lib.Dec.{eqb, leb, ltb}
 use lib.ListN.{length}
-use Rattle.block.specs.declared.Refusal.{Refusal}
-use Rattle.block.specs.Read.{Read, refused, read, _then_, refuseIf, refusal}
+use Rattle.reply.specs.declared.Refusal.{Refusal}
+use Rattle.reply.specs.Read.{Read, refused, read, _then_, refuseIf, refusal}
 use Rattle.block.specs.Block.{blockReply}
 use Rattle.records.specs.Bytes.{le16, part}
 use Rattle.records.specs.declared.Kind.{Kind}

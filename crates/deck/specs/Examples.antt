@@ -6,7 +6,7 @@ use lib.ListN.{length, replicate}
 use borrow.Author.Tests.{lt-ltb}
 use Rattle.graph.specs.Graph.{joins, anyJoins, bonded, anyAtom, reaches, firstFrom, distance, allAtoms, connected, degree, sum, sumPairs, evenOf, oddOf, isAt, total}
 use Rattle.graph.specs.Assembly.{shifted, joined, startAt, written}
-use Rattle.block.specs.Read.{Read, refused, read, refusal}
+use Rattle.reply.specs.Read.{Read, refused, read, refusal}
 use Rattle.block.specs.Block.{mostAtoms, limit, mostBytes, bondsOf, bondFault, bondsReply, blockReply}
 use Rattle.block.specs.Index.{indicesOf}
 use Rattle.records.specs.Bytes.{little}

@@ -10,9 +10,9 @@ use lib.Dec.{eqb, leb}
 use lib.ListN.{length, length-append}
 use Rattle.graph.specs.Graph.{Graph}
 use Rattle.graph.specs.Assembly.{Join, written}
-use Rattle.block.specs.Read.{read, _then_, refuseIf}
+use Rattle.reply.specs.Read.{read, _then_, refuseIf}
+use Rattle.reply.specs.Chain.{not-read, then-read, if-read}
 use Rattle.block.specs.Block.{graphOf, blockReply}
-use Rattle.block.specs.Chain.{not-read, then-read, if-read}
 use Rattle.records.specs.Bytes.{le16}
 use Rattle.records.specs.Records.{headBytes, blockKind, assemblyKind, sheetKind, lengthAt, kindAt, endAt, payloadAt, wanted, kindReply, lengthReply, recordReply}
 use Rattle.records.specs.Taken.{taken}

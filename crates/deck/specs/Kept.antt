@@ -8,11 +8,10 @@ use native.Mathlib.Omega.{arith}
 use borrow.Author.Tests.{eqb-true, eqb-false, leb-false}
 use lib.Dec.{eqb, leb}
 use lib.ListN.{length, length-append}
-use Rattle.block.specs.Read.{Read, refused, read, _then_, refuseIf}
+use Rattle.reply.specs.Read.{Read, refused, read, _then_, refuseIf}
+use Rattle.reply.specs.Chain.{not-read, then-read, if-read, neither}
 use Rattle.block.specs.Block.{blockReply}
-use Rattle.block.specs.Chain.{not-read, then-read, if-read}
-use Rattle.block.specs.Faults.{neither}
-use Rattle.block.specs.declared.Refusal.{Refusal}
+use Rattle.reply.specs.declared.Refusal.{Refusal}
 use Rattle.records.specs.Records.{blockKind, lengthAt, kindAt, endAt, wanted, recordReply}
 use Rattle.records.specs.Taken.{taken, of-first, of-other, of-one}
 use Rattle.records.specs.declared.Kind.{Kind}

@@ -10,8 +10,8 @@ use lib.Dec.{eqb}
 use lib.ListN.{length, take, drop, getD, length-take, length-drop}
 use Rattle.graph.specs.Bonds.{both, both-true}
 use Rattle.graph.specs.Distance as distance
-use Rattle.block.specs.Read.{Read, refused, read}
-use Rattle.block.specs.Chain.{not-read}
+use Rattle.reply.specs.Read.{Read, refused, read}
+use Rattle.reply.specs.Chain.{not-read}
 use Rattle.records.specs.Bytes.{part}
 use Rattle.records.specs.Records.{blockKind}
 use Rattle.assembly.specs.Book.{noBlock, find, isNumbered, used}

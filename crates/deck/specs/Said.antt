@@ -2,10 +2,10 @@
 use Prim.Native.Nat.{ℕ}
 use mathlib.Core.List.{List, [], _++_}
 use lib.ListN.{length, drop, replicate}
-use Rattle.block.specs.Read.{Read, refused, read, refusal}
-use Rattle.block.specs.declared.Refusal.{Refusal}
-use Rattle.block.specs.declared.Reply.{Reply}
-use Rattle.block.specs.declared.Reply.the-variants.{Fine, Refused}
+use Rattle.reply.specs.Read.{Read, refused, read, refusal}
+use Rattle.reply.specs.declared.Refusal.{Refusal}
+use Rattle.reply.specs.declared.Reply.{Reply}
+use Rattle.reply.specs.declared.Reply.the-variants.{Fine, Refused}
 use Rattle.records.specs.Records.{payloadAt, endAt}
 use Rattle.assembly.specs.Placements.{placementCount}
 use Rattle.assembly.specs.declared.BlockAt.{BlockAt}

@@ -10,9 +10,9 @@ use lib.ListN.{length}
 use Rattle.graph.specs.Graph.{Within, degree}
 use Rattle.graph.specs.Assembly.{atomOf, Assembled, Placed}
 use Rattle.graph.specs.Bonds.{both}
-use Rattle.block.specs.Read.{read, _then_, refuseIf}
+use Rattle.reply.specs.Read.{read, _then_, refuseIf}
+use Rattle.reply.specs.Chain.{then-read, if-read}
 use Rattle.block.specs.Block.{mostAtoms, limit}
-use Rattle.block.specs.Chain.{then-read, if-read}
 use Rattle.block.specs.Told as told
 use Rattle.records.specs.Records.{assemblyKind, payloadAt}
 use Rattle.assembly.specs.Book.{find, isNumbered, used, bookOf}

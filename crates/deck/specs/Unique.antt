@@ -6,7 +6,8 @@ use denote.Ref.{RefT, ptr, now}
 use Rattle.block.specs.declared.Indices.{Indices}
 use Rattle.records.specs.Bytes.{PartOf}
 use Rattle.records.specs.Records.{payloadAt}
-use Rattle.records.specs.Unique.{unique, unique-part}
+use Rattle.reply.specs.Chain.{unique}
+use Rattle.records.specs.Unique.{unique-part}
 use Rattle.assembly.specs.Placements.{placementAt}
 use Rattle.assembly.specs.declared.Placement.{Placement}
 use Rattle.deck.specs.Deck.{deckReply, blockSpan}

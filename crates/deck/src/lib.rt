@@ -4,7 +4,7 @@ ghost use mathlib.Core.Bool.{_||_, cond};
 ghost use Prim.Native.Nat.{_+_, _≤_};
 ghost use lib.Dec.{eqb, leb};
 ghost use lib.ListN.{length, take};
-ghost use Rattle.block.specs.Block.{saidBlock};
+ghost use Rattle.reply.specs.Read.{saidReply};
 ghost use Rattle.records.specs.Bytes.{PartOf};
 ghost use Rattle.records.specs.Records.{blockKind, payloadAt};
 ghost use Rattle.assembly.specs.Book.{used};
@@ -21,8 +21,8 @@ use assembly::NO_BLOCK;
 use assembly::PLACEMENT_BYTES;
 use assembly::Placement;
 use block::Indices;
-use block::Refusal;
-use block::Reply;
+use reply::Refusal;
+use reply::Reply;
 use records::ASSEMBLY;
 use records::BLOCK;
 use records::HEAD;
@@ -120,7 +120,7 @@ fn is_unfit(blocks: BlockTable, count: usize, number: usize) -> bool
 // Refusal 14 and the block's own of the record at a place, after the first `count` blocks.
 fn block_reply(d: &[u8], at: usize, b: BlockAt, blocks: BlockTable, count: usize) -> Reply
     requires { ⌜ (count ≤ mostBlocks) × (b ≡ blockAt (now d) at) ⌝ }
-    ensures { λ r. ⌜ r ≡ saidBlock (blockReplyAt (now (d .entry)) at (take count blocks)) ⌝ }
+    ensures { λ r. ⌜ r ≡ saidReply (blockReplyAt (now (d .entry)) at (take count blocks)) ⌝ }
 {
     if is_unfit(blocks, count, b.number as usize) {
         return Reply::Refused(Refusal {
@@ -204,7 +204,7 @@ fn read_blocks(d: &[u8], last: Kind) -> DeckRead
 // Refusals 15 to 19 of the assembly record at a place, over the first `count` blocks.
 fn assembly_reply(d: &[u8], at: usize, blocks: BlockTable, count: usize) -> Reply
     requires { ⌜ at ≤ longestDeck ⌝ }
-    ensures { λ r. ⌜ r ≡ saidBlock (assemblyReplyAt (now (d .entry)) (take count blocks) at) ⌝ }
+    ensures { λ r. ⌜ r ≡ saidReply (assemblyReplyAt (now (d .entry)) (take count blocks) at) ⌝ }
 {
     let xs = payload_at(d, at);
     let reply = assembly::check(d, blocks, count, xs);
@@ -219,7 +219,7 @@ fn assembly_reply(d: &[u8], at: usize, blocks: BlockTable, count: usize) -> Repl
 
 // After the last record nothing follows.
 fn end_reply(d: &[u8], at: usize) -> Reply
-    ensures { λ r. ⌜ r ≡ saidBlock (endReply (now (d .entry)) at) ⌝ }
+    ensures { λ r. ⌜ r ≡ saidReply (endReply (now (d .entry)) at) ⌝ }
 {
     if at < d.len() {
         return Reply::Refused(Refusal {
@@ -232,7 +232,7 @@ fn end_reply(d: &[u8], at: usize) -> Reply
 
 // What follows the assembly: in a deck to be judged a sheet, and then nothing.
 fn sheet_reply(form: Form, d: &[u8], at: usize) -> Reply
-    ensures { λ r. ⌜ r ≡ saidBlock (sheetReply form (now (d .entry)) at) ⌝ }
+    ensures { λ r. ⌜ r ≡ saidReply (sheetReply form (now (d .entry)) at) ⌝ }
 {
     let Form::Judged = form else {
         return end_reply(d, at);

@@ -1,6 +1,6 @@
 -- Worked examples, computed from the definitions.
 use mathlib.Core.Path.{_≡_, refl}
-use Rattle.block.specs.Read.{refusal}
+use Rattle.reply.specs.Read.{refusal}
 use Rattle.block.specs.declared.Measured.the-variants as measured
 use Rattle.molecule.specs.declared.Verdict.the-variants as verdict
 use Rattle.line.specs.Text.{ascii, decimalIn, decimal, indicesText, refusalText, measuredText, differsText, verdictText, unreadText}

@@ -7,7 +7,7 @@ use mathlib.Core.Bool.{true, false}
 use mathlib.Core.List.{List, [], _∷_, _++_}
 use lib.Dec.{ltb}
 use lib.ListN.{length, replicate}
-use Rattle.block.specs.declared.Refusal.{Refusal}
+use Rattle.reply.specs.declared.Refusal.{Refusal}
 use Rattle.block.specs.declared.Indices.{Indices}
 use Rattle.block.specs.declared.Measured.{Measured}
 use Rattle.block.specs.declared.Measured.the-variants as measured

@@ -9,7 +9,7 @@ ghost use Rattle.line.specs.Label.{labelReply, labelled};
 ghost use Rattle.line.specs.Put.{Put, Adds};
 use block::Indices;
 use block::Measured;
-use block::Refusal;
+use reply::Refusal;
 use deck::Form;
 use molecule::Verdict;
 

@@ -5,11 +5,11 @@ use mathlib.Core.Path.{_≡_, refl, sym, _∙_, ap}
 use native.Mathlib.Omega.{arith}
 use borrow.Author.Tests.{lt-ltb, le-ltb, ltb-false}
 use lib.ListN.{length}
-use Rattle.block.specs.Read.{Read, refused, read, _then_, refusal}
-use Rattle.block.specs.Chain.{then-read, if-read}
+use Rattle.reply.specs.Read.{Read, refused, read, _then_, refusal}
+use Rattle.reply.specs.Chain.{then-read, if-read}
 use Rattle.block.specs.Index.{indicesOf, saidIndices}
 use Rattle.block.specs.declared.Indices.{Indices}
-use Rattle.block.specs.declared.Refusal.{Refusal}
+use Rattle.reply.specs.declared.Refusal.{Refusal}
 use Rattle.block.specs.declared.Measured.the-variants as measured
 use Rattle.records.specs.Records.{sheetKind, endAt, recordReply}
 use Rattle.records.specs.Taken.{taken, of-one, of-first}

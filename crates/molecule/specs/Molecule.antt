@@ -3,7 +3,7 @@ use Prim.Native.Nat.{ℕ, zero, suc}
 use mathlib.Core.List.{List}
 use lib.Dec.{ltb}
 use lib.ListN.{length}
-use Rattle.block.specs.Read.{Read, refused, read, _then_, refuseIf}
+use Rattle.reply.specs.Read.{Read, refused, read, _then_, refuseIf}
 use Rattle.block.specs.declared.Indices.{Indices}
 use Rattle.deck.specs.Deck.{longestDeck, deckReply}
 use Rattle.deck.specs.Molecule.{fieldsOf, sheetOf, claimedAt, moleculeOf}

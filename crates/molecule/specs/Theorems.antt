@@ -10,8 +10,8 @@ use lib.ListN.{length, take}
 use lib.Seq.{take-at}
 use Rattle.graph.specs.Climb.{written-molecule}
 use Rattle.graph.specs.Bounds.{atoms-most}
-use Rattle.block.specs.Read.{Read, refused, read, refuseIf}
-use Rattle.block.specs.Chain.{then-read, if-read}
+use Rattle.reply.specs.Read.{Read, refused, read, refuseIf}
+use Rattle.reply.specs.Chain.{then-read, if-read}
 use Rattle.block.specs.Block.{mostAtoms}
 use Rattle.block.specs.Index.{indicesOf, saidIndices}
 use Rattle.block.specs.declared.Indices.{Indices}

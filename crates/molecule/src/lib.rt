@@ -1,7 +1,7 @@
 // The judge: composing a deck's sheet, writing it, and judging one that somebody else wrote.
 use block::Indices;
 use block::Measured;
-use block::Refusal;
+use reply::Refusal;
 use compose::fields;
 use deck::Form;
 use deck::LONGEST;
@@ -11,7 +11,7 @@ use sheets::first_wrong;
 use sheets::put_sheet;
 ghost use mathlib.Core.Path.{_≡_};
 ghost use lib.ListN.{length};
-ghost use Rattle.block.specs.Read.{read};
+ghost use Rattle.reply.specs.Read.{read};
 ghost use Rattle.block.specs.Index.{saidIndices};
 ghost use Rattle.deck.specs.Molecule.{fieldsOf};
 ghost use Rattle.deck.specs.declared.Form.the-variants.{Composed};

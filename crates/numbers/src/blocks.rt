@@ -5,7 +5,7 @@ use crate::row::FAR;
 use crate::row::Row;
 use crate::row::STAYS;
 use crate::told;
-use block::Reply;
+use reply::Reply;
 use poly::Answer;
 use poly::Values;
 use shares::Shares;

@@ -4,7 +4,7 @@ use crate::row::STAYS;
 use block::Apart;
 use block::Around;
 use block::Measured;
-use block::Refusal;
+use reply::Refusal;
 use shares::Shares;
 
 // A refusal's number and place, or so many values; behind them the entries that stay.
@@ -105,15 +105,11 @@ pub fn entries_are(out: &[u64], row: Row, asked: usize) -> bool {
     row.left(asked) <= out.len()
 }
 
-fn wide(byte: u8) -> u64 {
-    byte as u64
-}
-
 // The same of bytes, where one number is what is asked.
 pub fn bytes_are(out: &[u8], row: Row) -> bool {
     let mut i = 0;
     while i < out.len() {
-        if wide(out[i]) != row.at(1, i) {
+        if reply::wide(out[i]) != row.at(1, i) {
             return false;
         }
         i += 1;

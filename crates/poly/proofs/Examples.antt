@@ -6,7 +6,7 @@ use mathlib.Core.List.{List, [], _∷_}
 use lib.IntN.{pos, negsuc}
 use lib.Ieee.{Float, nan, fin}
 use Rattle.graph.specs.Graph.{joins, anyJoins, bonded, anyAtom, reaches, firstFrom, distance, allAtoms, connected, degree, sum, sumPairs, isAt, total}
-use Rattle.block.specs.Read.{Read, refused, read, refusal}
+use Rattle.reply.specs.Read.{Read, refused, read, refusal}
 use Rattle.block.specs.Block.{bondsOf, bondFault, bondsReply, blockReply}
 use Rattle.poly.specs.Poly.{half, unusable, ofParity, horner, value, valuesOf, valuesReply, polynomialReply, zeroF, oneF}
 use Rattle.poly.specs.declared.Values.{Values}

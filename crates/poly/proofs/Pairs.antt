@@ -5,12 +5,12 @@ use mathlib.Core.List.{List}
 use native.Mathlib.Omega.{arith}
 use lib.Ieee.{Float}
 use Rattle.graph.specs.Graph.{pairsAt}
-use Rattle.block.specs.Read.{Read, refused, read, _then_}
+use Rattle.reply.specs.Read.{Read, refused, read, _then_}
 use Rattle.block.specs.Block.{graphOf, blockReply}
 use Rattle.block.specs.Index.{pairsOf, pairsReply, saidPairs}
-use Rattle.block.specs.declared.Refusal.{Refusal}
+use Rattle.reply.specs.declared.Refusal.{Refusal}
 use Rattle.block.specs.declared.Pairs.{Pairs}
-use Rattle.block.specs.declared.Reply.the-variants as reply
+use Rattle.reply.specs.declared.Reply.the-variants as reply
 use Rattle.poly.specs.Poly.{counted, valuesReply, polynomialReply, saidPolynomial}
 use Rattle.poly.specs.declared.Values.{Values}
 use Rattle.poly.specs.declared.Answer.the-variants as answer

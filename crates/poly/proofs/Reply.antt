@@ -9,7 +9,7 @@ use lib.Ieee.Fits.{and-i}
 use lib.Ieee.Exact.{HasValue}
 use lib.Ieee.Scale.{finite}
 use Rattle.graph.specs.Graph.{Graph, pairsAt}
-use Rattle.block.specs.Read.{Read, refused, read, _then_, refuseIf}
+use Rattle.reply.specs.Read.{Read, refused, read, _then_, refuseIf}
 use Rattle.block.specs.Block.{mostAtoms, graphOf, blockReply}
 use Rattle.block.specs.Told.{few-atoms}
 use Rattle.poly.specs.Poly.{half, unusable, value, valuesOf, valuesReply, polynomialReply, saidPolynomial}

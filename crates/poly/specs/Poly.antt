@@ -7,7 +7,7 @@ use lib.ListN.{getD}
 use lib.IntN.{pos, negsuc}
 use lib.Ieee.{Float, fin, binary64, add, mul, lt, eq, isNan, ofInt}
 use Rattle.graph.specs.Graph.{pairsAt}
-use Rattle.block.specs.Read.{Read, refused, read, _then_, refuseIf}
+use Rattle.reply.specs.Read.{Read, refused, read, _then_, refuseIf}
 use Rattle.block.specs.Block.{mostAtoms, graphOf, blockReply}
 use Rattle.poly.specs.declared.Values.{Values}
 use Rattle.poly.specs.declared.Answer.{Answer}

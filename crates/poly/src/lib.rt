@@ -2,8 +2,8 @@
 ghost use mathlib.Core.Path.{_≡_};
 ghost use Rattle.poly.specs.Poly.{counted, value, valuesReply, polynomialReply, saidPolynomial};
 use block::ATOMS;
-use block::Refusal;
-use block::Reply;
+use reply::Refusal;
+use reply::Reply;
 
 // The even and the odd value, kept together.
 pub struct Values {

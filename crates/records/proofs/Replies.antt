@@ -4,7 +4,7 @@ use mathlib.Core.List.{List, [], _∷_}
 use mathlib.Core.Path.{_≡_}
 use borrow.Author.Tests.{eq-eqb, ne-eqb, lt-ltb, le-ltb}
 use lib.ListN.{length}
-use Rattle.block.specs.Read.{refused, read, refusal}
+use Rattle.reply.specs.Read.{refused, read, refusal}
 use Rattle.records.specs.Records.{lengthAt, kindAt, endAt, wanted, kindReply, lengthReply, recordReply}
 use Rattle.records.specs.declared.Kind.{Kind}
 

@@ -8,8 +8,8 @@ use borrow.Author.Tests.{eq-eqb, le-ltb}
 use lib.Dec.{eqb}
 use lib.ListN.{length, take, drop, getD, length-append, length-drop, List·getD-append}
 use lib.Seq.{take-append-le, drop-append-le, getD-append-add}
-use Rattle.block.specs.Read.{Read, read}
-use Rattle.block.specs.Chain.{not-read}
+use Rattle.reply.specs.Read.{Read, read}
+use Rattle.reply.specs.Chain.{not-read}
 use Rattle.records.specs.Bytes.{little, part}
 use Rattle.records.specs.Records.{headBytes, lengthAt, kindAt, endAt, payloadAt, wanted, kindReply, lengthReply, recordReply}
 use Rattle.records.specs.Taken.{taken}

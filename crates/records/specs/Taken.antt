@@ -1,28 +1,15 @@
 -- What holds of a record that is taken. Assumes nothing.
 use Prim.Native.Nat.{ℕ, _≤_}
 use mathlib.Core.List.{List, [], _∷_}
-use mathlib.Core.Path.{_≡_, refl}
-use native.Mathlib.Omega.{arith}
+use mathlib.Core.Path.{_≡_}
 use native.Mathlib.Decide.{ℕ-discrete}
 use borrow.Author.Tests.{eq-eqb, ne-eqb, eqb-true, ltb-false, not-false}
 use lib.Dec.{eqb, ltb}
 use lib.ListN.{length}
-use Rattle.block.specs.Read.{Read, refused, read, refuseIf}
-use Rattle.block.specs.Block.{saidBlock}
-use Rattle.block.specs.Chain.{not-read, then-read, if-read}
-use Rattle.block.specs.declared.Refusal.{Refusal}
-use Rattle.block.specs.declared.Reply.the-variants.{Fine, Refused}
+use Rattle.reply.specs.Read.{read, refuseIf}
+use Rattle.reply.specs.Chain.{not-read, then-read, if-read}
 use Rattle.records.specs.Records.{lengthAt, kindAt, endAt, wanted, kindReply, lengthReply, recordReply}
 use Rattle.records.specs.declared.Kind.{Kind}
-
--- what the code's reply says of the answer
-pub fine-read : (x : Read (Unit {0})) → saidBlock x ≡ Fine → x ≡ read tt
-fine-read (refused r) e = let z : _≡_ {A = ℕ} 0 1 = cc in absurd (omega arith)
-fine-read (read u) e = refl
-
-pub refused-read : (x : Read (Unit {0})) (r : Refusal) → saidBlock x ≡ Refused r → x ≡ refused r
-refused-read (refused q) r e = cc
-refused-read (read u) r e = let z : _≡_ {A = ℕ} 0 1 = cc in absurd (omega arith)
 
 -- it lies within the list, and is of a kind that may stand there and of that kind's length
 pub record Taken (kinds : List Kind) (d : List ℕ) (at : ℕ) : Type 0 where

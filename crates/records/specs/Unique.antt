@@ -1,16 +1,14 @@
 -- Each promise determines the reply: two replies that satisfy it are equal, and two parts hold the same bytes at the same place. Assumes nothing.
 use Prim.Native.Nat.{ℕ, _+_}
 use mathlib.Core.List.{List, [], _∷_}
-use mathlib.Core.Path.{_≡_, sym, _∙_}
+use mathlib.Core.Path.{_≡_}
 use denote.Ref.{RefT, ptr, now}
-use Rattle.block.specs.Block.{saidBlock}
-use Rattle.block.specs.declared.Reply.{Reply}
+use Rattle.reply.specs.Read.{saidReply}
+use Rattle.reply.specs.Chain.{unique}
+use Rattle.reply.specs.declared.Reply.{Reply}
 use Rattle.records.specs.Bytes.{byteAt, little, PartOf}
 use Rattle.records.specs.Records.{lengthAt, recordReply}
 use Rattle.records.specs.declared.Kind.{Kind}
-
-pub unique : {A : Type 0} {r s t : A} → r ≡ t → s ≡ t → r ≡ s
-unique p q = p ∙ sym q
 
 pub unique-part : {s : RefT (List ℕ)} {from len : ℕ} {q r : RefT (List ℕ)} → PartOf s from len q → PartOf s from len r → (now q ≡ now r) × (ptr q ≡ ptr r)
 unique-part p q = (unique (p .bytes) (q .bytes), unique (p .place) (q .place))
@@ -23,7 +21,7 @@ module _ (d : List ℕ) (at : ℕ) where
   pub unique-little : (k r s : ℕ) → r ≡ little k d at → s ≡ little k d at → r ≡ s
   unique-little k r s = unique
 
-  pub unique-record-at : (a b : Kind) (r s : Reply) → r ≡ saidBlock (recordReply (a ∷ b ∷ []) d at) → s ≡ saidBlock (recordReply (a ∷ b ∷ []) d at) → r ≡ s
+  pub unique-record-at : (a b : Kind) (r s : Reply) → r ≡ saidReply (recordReply (a ∷ b ∷ []) d at) → s ≡ saidReply (recordReply (a ∷ b ∷ []) d at) → r ≡ s
   unique-record-at a b r s = unique
 
 pub unique-payload-at : (s : RefT (List ℕ)) (at : ℕ) (q r : RefT (List ℕ)) → PartOf s (at + 4) (lengthAt (now s) at) q → PartOf s (at + 4) (lengthAt (now s) at) r → (now q ≡ now r) × (ptr q ≡ ptr r)

@@ -3,11 +3,11 @@ ghost use mathlib.Core.Path.{_≡_};
 ghost use mathlib.Core.List.{[], _∷_};
 ghost use Prim.Native.Nat.{_+_, _≤_};
 ghost use lib.ListN.{length};
-ghost use Rattle.block.specs.Block.{saidBlock};
+ghost use Rattle.reply.specs.Read.{saidReply};
 ghost use Rattle.records.specs.Bytes.{byteAt, little, le16, PartOf};
 ghost use Rattle.records.specs.Records.{headBytes, lengthAt, lengthReply, recordReply};
-use block::Refusal;
-use block::Reply;
+use reply::Refusal;
+use reply::Reply;
 
 // The bytes of a record's head: payload length and kind.
 pub const HEAD: usize = 4;
@@ -105,7 +105,7 @@ pub fn payload_at(d: &[u8], at: usize) -> &[u8]
 // Refusal 13 of the record at a place, which is of a kind.
 fn length_reply(d: &[u8], at: usize, k: Kind) -> Reply
     requires { ⌜ at + headBytes ≤ length (now d) ⌝ }
-    ensures { λ r. ⌜ r ≡ saidBlock (lengthReply k (now (d .entry)) at) ⌝ }
+    ensures { λ r. ⌜ r ≡ saidReply (lengthReply k (now (d .entry)) at) ⌝ }
 {
     let items = le16_at(d, at + HEAD + (k.count as usize)) as usize;
     if (le16_at(d, at) as usize) != (k.fixed as usize) + (k.item as usize) * items {
@@ -119,7 +119,7 @@ fn length_reply(d: &[u8], at: usize, k: Kind) -> Reply
 
 // Refusals 11, 12 and 13 of the record at a place where two kinds may stand.
 pub fn record_at(d: &[u8], at: usize, a: Kind, b: Kind) -> Reply
-    ensures { λ r. ⌜ r ≡ saidBlock (recordReply (a ∷ b ∷ []) (now (d .entry)) at) ⌝ }
+    ensures { λ r. ⌜ r ≡ saidReply (recordReply (a ∷ b ∷ []) (now (d .entry)) at) ⌝ }
 {
     if d.len() < at {
         return Reply::Refused(Refusal {

@@ -9,9 +9,9 @@ use lib.Dec.{eqb, ltb}
 use lib.ListN.{length, getD, replicate}
 use Rattle.graph.specs.Graph.{distance, sum}
 use Rattle.paths.specs.Notions.{Plain, lcmStarts}
-use Rattle.block.specs.Read.{read}
+use Rattle.reply.specs.Read.{read}
+use Rattle.reply.specs.Chain.{neither}
 use Rattle.block.specs.Block.{mostAtoms, mostBytes, bondsOf, graphOf, blockReply}
-use Rattle.block.specs.Faults.{neither}
 use Rattle.block.specs.Rows.{rowsOf}
 use Rattle.block.specs.Told.{passed, few-atoms, molecule, each-bond, distance-at}
 use Rattle.shares.specs.Work.{listOf, beside, Shows, Listed, Few, Given, Whole, Sofar}

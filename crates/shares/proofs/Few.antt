@@ -10,7 +10,7 @@ use Rattle.graph.specs.Graph.{Bond, Within, Molecule, sum, joins, anyJoins, bon
 use Rattle.graph.specs.Distance.{distance-self}
 use Rattle.graph.specs.Sums.{wider, last, sum-add, sum-const, sum-none, sum-pick}
 use Rattle.paths.specs.Choices.{cond-and, cond-swap}
-use Rattle.block.specs.Read.{read}
+use Rattle.reply.specs.Read.{read}
 use Rattle.block.specs.Block.{limit, bondsOf, graphOf, blockReply}
 use Rattle.block.specs.Told.{NewBond, few-bonds, each-bond, molecule}
 use Rattle.shares.specs.Work.{beside, Listed}

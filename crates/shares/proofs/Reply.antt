@@ -12,11 +12,11 @@ use Rattle.graph.specs.Graph.{Bond, wiener}
 use Rattle.paths.specs.Paths.{denominator, share}
 use Rattle.paths.specs.Notions.{sumBonds}
 use Rattle.paths.specs.Uses.{shares-total}
-use Rattle.block.specs.Read.{refused, read, refuseIf, refusal}
+use Rattle.reply.specs.Read.{refused, read, refuseIf, refusal}
+use Rattle.reply.specs.Chain.{then-read}
 use Rattle.block.specs.Block.{bondsOf, graphOf, blockReply}
-use Rattle.block.specs.Chain.{then-read}
 use Rattle.block.specs.Told.{molecule}
-use Rattle.block.specs.declared.Refusal.{Refusal}
+use Rattle.reply.specs.declared.Refusal.{Refusal}
 use Rattle.shares.specs.Reply.{most, sharesReply, saidShares, filled, sharesEntries}
 use Rattle.shares.specs.Work.{bondAt, Filled}
 use Rattle.shares.specs.declared.Shares.{Shares}

@@ -5,7 +5,7 @@ use lib.Dec.{ltb}
 use lib.ListN.{length, drop}
 use Rattle.graph.specs.Graph.{Graph}
 use Rattle.paths.specs.Paths.{denominator, share}
-use Rattle.block.specs.Read.{Read, refused, read, _then_, refuseIf}
+use Rattle.reply.specs.Read.{Read, refused, read, _then_, refuseIf}
 use Rattle.block.specs.Block.{bondsOf, graphOf, blockReply}
 use Rattle.shares.specs.declared.Shares.{Shares}
 use Rattle.shares.specs.declared.Shares.the-variants.{Refused, Denominator}

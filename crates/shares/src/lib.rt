@@ -3,14 +3,14 @@ ghost use mathlib.Core.Path.{_≡_};
 ghost use Prim.Native.Nat.{ℕ, suc, _<_, _≤_};
 ghost use lib.Dec.{eqb};
 ghost use lib.ListN.{length};
-ghost use Rattle.block.specs.Read.{read, refusal};
+ghost use Rattle.reply.specs.Read.{read, refusal};
 ghost use Rattle.block.specs.Block.{mostAtoms, blockReply};
 ghost use Rattle.shares.specs.Reply.{sharesReply, saidShares, sharesEntries};
 ghost use Rattle.shares.specs.Work.{listOf, Shows, Listed};
 use block::ATOMS;
 use block::BYTES;
-use block::Refusal;
-use block::Reply;
+use reply::Refusal;
+use reply::Reply;
 
 mod common;
 mod flows;

@@ -9,7 +9,7 @@ use borrow.Author.Tests.{eq-eqb, eqb-true}
 use lib.Dec.{eqb, lit<}
 use lib.ListN.{length, getD, drop, length-append}
 use lib.Seq.{getD-drop, drop-drop, drop-append-seam}
-use Rattle.block.specs.Read.{read}
+use Rattle.reply.specs.Read.{read}
 use Rattle.block.specs.declared.Indices.{Indices}
 use Rattle.records.specs.Bytes.{byteAt, little}
 use Rattle.records.specs.Records.{headBytes, sheetKind}

@@ -5,12 +5,11 @@ use mathlib.Core.Path.{_≡_, refl, sym, _∙_, ap}
 use native.Mathlib.Omega.{arith}
 use borrow.Author.Tests.{lt-ltb, le-ltb}
 use lib.ListN.{length, set}
-use Rattle.block.specs.Read.{Read, refused, read}
-use Rattle.block.specs.Block.{saidBlock}
+use Rattle.reply.specs.Read.{Read, refused, read, saidReply}
 use Rattle.block.specs.Index.{saidIndices, saidVertex, saidDistance}
-use Rattle.block.specs.declared.Refusal.{Refusal}
-use Rattle.block.specs.declared.Reply.{Reply}
-use Rattle.block.specs.declared.Reply.the-variants as reply
+use Rattle.reply.specs.declared.Refusal.{Refusal}
+use Rattle.reply.specs.declared.Reply.{Reply}
+use Rattle.reply.specs.declared.Reply.the-variants as reply
 use Rattle.block.specs.declared.Indices.{Indices}
 use Rattle.block.specs.declared.Measured.{Measured}
 use Rattle.block.specs.declared.Measured.the-variants as measured
@@ -54,7 +53,7 @@ abbrev pub writtenCode : Written → ℕ
 writtenCode (written.Refused r) = code r
 writtenCode written.Sheet = 0
 
-pub block-told : (a : Reply) (R : Read (Unit {0})) → a ≡ saidBlock R → toldBlock a ≡ R
+pub block-told : (a : Reply) (R : Read (Unit {0})) → a ≡ saidReply R → toldBlock a ≡ R
 block-told a (refused r) e = ap toldBlock e
 block-told a (read tt) e = ap toldBlock e
 

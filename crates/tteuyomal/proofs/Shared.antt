@@ -6,9 +6,9 @@ use mathlib.Core.Path.{_≡_, refl, sym, _∙_, ap}
 use native.Mathlib.Omega.{arith}
 use borrow.Author.Tests.{lt-ltb, le-ltb}
 use lib.ListN.{length, set}
-use Rattle.block.specs.Read.{Read, refused, read, _then_, refuseIf, refusal}
+use Rattle.reply.specs.Read.{Read, refused, read, _then_, refuseIf, refusal}
 use Rattle.block.specs.Block.{blockReply}
-use Rattle.block.specs.declared.Refusal.{Refusal}
+use Rattle.reply.specs.declared.Refusal.{Refusal}
 use Rattle.shares.specs.declared.Shares.{Shares}
 use Rattle.shares.specs.declared.Shares.the-variants as answer
 use Rattle.shares.specs.Reply.{sharesReply, saidShares, filled, sharesEntries}

@@ -5,8 +5,8 @@ use Prim.Native.Nat.{ℕ, _+_, _*_, _%_, _^_}
 use mathlib.Core.List.{List, _++_}
 use lib.Dec.{ltb}
 use lib.ListN.{length, drop}
-use Rattle.block.specs.Read.{Read, refused, read, _then_, refuseIf}
-use Rattle.block.specs.declared.Refusal.{Refusal}
+use Rattle.reply.specs.Read.{Read, refused, read, _then_, refuseIf}
+use Rattle.reply.specs.declared.Refusal.{Refusal}
 use Rattle.molecule.specs.declared.Verdict.{Verdict}
 use Rattle.molecule.specs.declared.Verdict.the-variants as verdict
 

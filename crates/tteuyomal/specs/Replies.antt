@@ -4,7 +4,7 @@ use mathlib.Core.Path.{_≡_}
 use lib.Dec.{ltb}
 use lib.ListN.{length}
 use mathlib.Core.List.{List, [], _∷_}
-use Rattle.block.specs.Read.{Read, refused, read, _then_, refuseIf, refusal}
+use Rattle.reply.specs.Read.{Read, refused, read, _then_, refuseIf, refusal}
 use Rattle.block.specs.Block.{graphOf, blockReply}
 use Rattle.shares.specs.Reply.{sharesReply, filled}
 use Rattle.tteuyomal.specs.Convention.{coded, after}

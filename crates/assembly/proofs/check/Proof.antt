@@ -5,9 +5,8 @@ use native.Mathlib.Numerals.{add-one}
 use native.Mathlib.Omega.{arith}
 use borrow.Author.Needs.{needs}
 use lib.ListN.{take}
-use Rattle.block.specs.Read.{refusal}
-use Rattle.block.specs.Block.{isOutside, saidBlock}
-use Rattle.block.specs.declared.Reply.the-variants.{Refused}
+use Rattle.reply.specs.Read.{refusal, isOutside, saidReply}
+use Rattle.reply.specs.declared.Reply.the-variants.{Refused}
 use Rattle.assembly.specs.Book.{Book, bookOf}
 use Rattle.assembly.specs.Placements.{mostPlacements, placementCount, placementAt, placedReply, assemblyReply}
 use Rattle.block.specs.Faults.{inside}
@@ -48,7 +47,7 @@ is-outside-requires : tie.Need-is-outside-requires Inv-loop μ-loop
 is-outside-requires c κs = search needs
 
 returns : tie.Need-returns Inv-loop μ-loop
-returns c = let s = c .before .before .before .before .before in ap saidBlock (sym (count-outside (book s) (s .args .xs .now) (sym (outside-is (c .before)) ∙ c .if1 .taken)))
+returns c = let s = c .before .before .before .before .before in ap saidReply (sym (count-outside (book s) (s .args .xs .now) (sym (outside-is (c .before)) ∙ c .if1 .taken)))
 
 loop-holds : tie.Need-loop-holds Inv-loop μ-loop
 loop-holds c = let s = c .before .before .before .before .before in
@@ -66,7 +65,7 @@ returns-2 c = let l = c .before .before .before in let s = l .before .before .be
     let placed = placementAt (s .args .xs .now) in
     let f = c .before .fault-of .ensures in
     ap₂ (λ (n p : ℕ). Refused (refusal n p)) f (add-one k)
-    ∙ ap saidBlock (sym (left (c .before .before) ∙ faulty (book s) placed k (l .before .before .before .le16-at .result - (k + 1)) (λ e. c .if2 .taken (f ∙ e))))
+    ∙ ap saidReply (sym (left (c .before .before) ∙ faulty (book s) placed k (l .before .before .before .le16-at .result - (k + 1)) (λ e. c .if2 .taken (f ∙ e))))
 
 loop-less : tie.Need-loop-less Inv-loop μ-loop
 loop-less c = search needs
@@ -80,7 +79,7 @@ loop-again c = let l = c .before .before .before in let s = l .before .before .b
 returns-3 : tie.Need-returns-3 Inv-loop μ-loop
 returns-3 c = let l = c .before in let s = l .before .before .before .before .before .before in let k = l .loop .k in
     let e : l .before .before .before .le16-at .result - k ≡ 0 = omega arith in
-    ap saidBlock (sym (l .loop .inv .1 ∙ ap (placedReply (book s) (placementAt (s .args .xs .now)) k) e ∙ none-left (book s) (placementAt (s .args .xs .now)) k))
+    ap saidReply (sym (l .loop .inv .1 ∙ ap (placedReply (book s) (placementAt (s .args .xs .now)) k) e ∙ none-left (book s) (placementAt (s .args .xs .now)) k))
 
 pub check-spec : {M : Type 1} → statement M
 check-spec =

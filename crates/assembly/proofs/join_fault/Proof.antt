@@ -5,7 +5,7 @@ use mathlib.Core.Path.{_≡_, sym, ap, _∙_}
 use native.Mathlib.Numerals.{add-one}
 use borrow.Author.Needs.{needs}
 use Rattle.graph.specs.Assembly.{Join}
-use Rattle.block.specs.Block.{isOutside}
+use Rattle.reply.specs.Read.{isOutside}
 use Rattle.assembly.specs.Book.{blockGraph}
 use Rattle.assembly.specs.Placements.{placementAt, joinOf, joinOn, isFull}
 use Rattle.assembly.specs.declared.Placement.{Placement}

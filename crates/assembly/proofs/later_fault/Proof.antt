@@ -4,7 +4,7 @@ use mathlib.Core.List.{List}
 use mathlib.Core.Path.{_≡_, sym, ap, ap₂, _∙_}
 use lib.ListN.{take}
 use borrow.Author.Needs.{needs}
-use Rattle.block.specs.Block.{isOutside}
+use Rattle.reply.specs.Read.{isOutside}
 use Rattle.assembly.specs.Book.{find, blockGraph, bookOf}
 use Rattle.assembly.specs.Placements.{placementAt, joinOn, parentFault, joinFault}
 use Rattle.block.specs.Faults.{inside}

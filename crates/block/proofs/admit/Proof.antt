@@ -8,26 +8,27 @@ use native.Mathlib.Omega.{arith}
 use borrow.Author.Needs.{needs}
 use borrow.Author.Tests.{eq-eqb, ne-eqb, lt-ltb, le-ltb}
 use Rattle.graph.specs.Graph.{Within}
-use Rattle.block.specs.Block.{mostAtoms, mostBytes, isOutside, graphOf, bondsOf, bondsReply, saidBlock}
+use Rattle.reply.specs.Read.{isOutside, saidReply}
+use Rattle.block.specs.Block.{mostAtoms, mostBytes, graphOf, bondsOf, bondsReply}
 use Rattle.block.specs.Found.{Task}
 use Rattle.block.specs.Faults.{inside}
-use Rattle.block.specs.declared.Reply.the-variants.{Fine}
+use Rattle.reply.specs.declared.Reply.the-variants.{Fine}
 use Rattle.block.proofs.Replies.{said-fine, reply-one, reply-odd, reply-long, reply-fault, reply-fine, reply-apart, admit-refused}
 use Rattle.block.proofs.admit.Statement.{statement}
 use Rattle.block.proofs.admit.Tie as tie
 
-outside-requires : tie.Need-outside-requires
-outside-requires c κs = search needs
+is-outside-requires : tie.Need-is-outside-requires
+is-outside-requires c κs = search needs
 
 refused-requires : tie.Need-refused-requires
 refused-requires c κs = search needs
 
 returns : tie.Need-returns
-returns c = admit-refused _ _ _ _ (c .refused .ensures) (reply-one _ _ (sym (c .before .before .outside .ensures) ∙ c .before .if1 .taken))
+returns c = admit-refused _ _ _ _ (c .refused .ensures) (reply-one _ _ (sym (c .before .before .is-outside .ensures) ∙ c .before .if1 .taken))
 
 -- what has passed at each place: the atom count, the number of bytes
 sized : (c : tie.Else1) → isOutside mostAtoms (c .before .before .before .args .n) ≡ false
-sized c = sym (c .before .outside .ensures) ∙ c .if1 .left
+sized c = sym (c .before .is-outside .ensures) ∙ c .if1 .left
 
 refused-requires-2 : tie.Need-refused-requires-2
 refused-requires-2 c κs = search needs
@@ -63,7 +64,7 @@ returns-4 c =
     admit-refused _ _ _ _ e (reply-fault _ _ (sized (d .before .before)) (paired (d .before)) (few d) _ (sym e ∙ c .before .before .build .ensures .replied))
 
 -- the bonds are fine, and the neighbours are drawn
-fine : (c : tie.After-enum-told) → let s = c .before .before .before .before .before .before .before .before .args in Fine ≡ saidBlock (bondsReply (s .n) [] (bondsOf (s .bonds .now)))
+fine : (c : tie.After-enum-told) → let s = c .before .before .before .before .before .before .before .before .args in Fine ≡ saidReply (bondsReply (s .n) [] (bondsOf (s .bonds .now)))
 fine c = sym (c .enum-told .given .1) ∙ c .before .before .build .ensures .replied
 
 task : (c : tie.After-enum-told) → let s = c .before .before .before .before .before .before .before .before .args in Task (graphOf (s .n) (s .bonds .now)) (c .before .before .build .result .near) (s .n) 1
@@ -96,7 +97,7 @@ pub admit-spec : {M : Type 1} → statement M
 admit-spec =
     tie.close
     (tie.spec
-    outside-requires
+    is-outside-requires
     refused-requires
     returns
     refused-requires-2

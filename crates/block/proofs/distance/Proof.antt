@@ -3,7 +3,8 @@ use mathlib.Core.Path.{_≡_, sym, _∙_}
 use native.Mathlib.Omega.{arith}
 use borrow.Author.Needs.{needs}
 use Rattle.graph.specs.Graph.{Within}
-use Rattle.block.specs.Block.{mostAtoms, isOutside}
+use Rattle.reply.specs.Read.{isOutside}
+use Rattle.block.specs.Block.{mostAtoms}
 use Rattle.block.specs.Faults.{inside}
 use Rattle.block.specs.Told.{few-atoms}
 use Rattle.block.proofs.Answers.{seen, distance-refused, distance-outside, distance-fine}
@@ -19,15 +20,15 @@ enum-known-reply c = search needs
 enum-told : tie.Need-enum-told
 enum-told c = search needs
 
-outside-requires : tie.Need-outside-requires
-outside-requires c κs = search needs
+is-outside-requires : tie.Need-is-outside-requires
+is-outside-requires c κs = search needs
 
 returns : tie.Need-returns
-returns c = distance-outside _ _ _ _ (c .before .before .before .before .row .ensures) (c .before .before .enum-told .given .1) _ (sym (c .before .outside .ensures) ∙ c .if1 .taken)
+returns c = distance-outside _ _ _ _ (c .before .before .before .before .row .ensures) (c .before .before .enum-told .given .1) _ (sym (c .before .is-outside .ensures) ∙ c .if1 .taken)
 
 -- j is an atom of the block, whose atoms are few
 inner : (c : tie.Else1) → let s = c .before .before .before .before .before .before .args in isOutside (s .n) (s .j) ≡ false
-inner c = sym (c .before .outside .ensures) ∙ c .if1 .left
+inner c = sym (c .before .is-outside .ensures) ∙ c .if1 .left
 
 small : (c : tie.Else1) → let s = c .before .before .before .before .before .before .args in Within (s .n) (s .j) × Within mostAtoms (s .n)
 small c =
@@ -58,7 +59,7 @@ distance-spec =
     row-requires
     enum-known-reply
     enum-told
-    outside-requires
+    is-outside-requires
     returns
     sub-wide
     array-read-wide

@@ -25,18 +25,18 @@ returns c =
     let e = c .enum-told2 .given .1 in
     row-refused _ _ _ _ _ (said-refused _ _ (sym e ∙ c .before .before .admit .ensures .replied)) e refl
 
-outside-requires : tie.Need-outside-requires
-outside-requires c κs = search needs
+is-outside-requires : tie.Need-is-outside-requires
+is-outside-requires c κs = search needs
 
 -- the block is fine, and i is one of its atoms
 ready : (c : tie.After-enum-told) → let s = c .before .before .before .before .args in Ready (s .n) (s .bonds .now) (c .before .before .admit .result .near)
 ready c = c .before .before .admit .ensures .ready (c .enum-told .given .1)
 
 returns-2 : tie.Need-returns-2
-returns-2 c = row-outside _ _ _ _ (ready (c .before .before) .fine) (sym (c .before .outside .ensures) ∙ c .if1 .taken) refl refl
+returns-2 c = row-outside _ _ _ _ (ready (c .before .before) .fine) (sym (c .before .is-outside .ensures) ∙ c .if1 .taken) refl refl
 
 atom : (c : tie.Else1) → let s = c .before .before .before .before .before .before .args in Within (s .n) (s .i)
-atom c = inside _ _ (sym (c .before .outside .ensures) ∙ c .if1 .left)
+atom c = inside _ _ (sym (c .before .is-outside .ensures) ∙ c .if1 .left)
 
 task : (c : tie.Else1) → let s = c .before .before .before .before .before .before .args in Task (graphOf (s .n) (s .bonds .now)) (c .before .before .before .before .admit .result .near) (s .n) (s .i)
 task c = record { shown = ready (c .before .before) .shown; size = refl; start = atom c }
@@ -61,7 +61,7 @@ row-spec =
     enum-told
     enum-told-2
     returns
-    outside-requires
+    is-outside-requires
     returns-2
     slice-aggregate-from-atom
     from-atom-requires

@@ -1,7 +1,7 @@
 -- `compose::fields` meets its contract. Assumes nothing.
 use mathlib.Core.Path.{_≡_, sym, _∙_, ap}
 use borrow.Author.Needs.{needs}
-use Rattle.block.specs.Read.{read}
+use Rattle.reply.specs.Read.{read}
 use Rattle.deck.specs.Deck.{Deck, deckReply}
 use Rattle.deck.specs.Said.{layoutOf}
 use Rattle.deck.specs.declared.DeckRead.{DeckRead}

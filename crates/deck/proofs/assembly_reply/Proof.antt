@@ -4,11 +4,10 @@ use mathlib.Core.List.{List}
 use mathlib.Core.Path.{_≡_, sym, ap, _∙_}
 use lib.ListN.{take}
 use borrow.Author.Needs.{needs}
-use Rattle.block.specs.Read.{refusal}
-use Rattle.block.specs.Block.{saidBlock}
-use Rattle.block.specs.declared.Reply.the-variants.{Refused}
+use Rattle.reply.specs.Read.{refusal, saidReply}
+use Rattle.reply.specs.Chain.{refused-read}
+use Rattle.reply.specs.declared.Reply.the-variants.{Refused}
 use Rattle.records.specs.Records.{payloadAt}
-use Rattle.records.specs.Taken.{refused-read}
 use Rattle.assembly.specs.Book.{bookOf}
 use Rattle.assembly.specs.Placements.{assemblyReply}
 use Rattle.assembly.specs.declared.BlockAt.{BlockAt}
@@ -22,8 +21,8 @@ use Rattle.deck.proofs.assembly_reply.Tie as tie
 abbrev blocks : tie.Start → List BlockAt
 blocks s = take (s .args .count) (s .args .blocks)
 
-check-is : (c : tie.After-check) → let s = c .before .before .before in c .check .result ≡ saidBlock (assemblyReply (bookOf (s .args .d .now) (blocks s)) (payloadAt (s .args .d .now) (s .args .at)))
-check-is c = let s = c .before .before .before in c .check .ensures ∙ ap (λ (xs : List ℕ). saidBlock (assemblyReply (bookOf (s .args .d .now) (blocks s)) xs)) (c .before .payload-at .ensures .bytes)
+check-is : (c : tie.After-check) → let s = c .before .before .before in c .check .result ≡ saidReply (assemblyReply (bookOf (s .args .d .now) (blocks s)) (payloadAt (s .args .d .now) (s .args .at)))
+check-is c = let s = c .before .before .before in c .check .ensures ∙ ap (λ (xs : List ℕ). saidReply (assemblyReply (bookOf (s .args .d .now) (blocks s)) xs)) (c .before .payload-at .ensures .bytes)
 
 payload-at-requires : tie.Need-payload-at-requires
 payload-at-requires c κs = search needs

@@ -2,8 +2,8 @@
 use Prim.Native.Nat.{ℕ}
 use mathlib.Core.Path.{sym, ap, _∙_}
 use borrow.Author.Needs.{needs}
-use Rattle.block.specs.Read.{refusal}
-use Rattle.block.specs.declared.Reply.the-variants.{Refused}
+use Rattle.reply.specs.Read.{refusal}
+use Rattle.reply.specs.declared.Reply.the-variants.{Refused}
 use Rattle.deck.specs.Deck.{blockPlace}
 use Rattle.deck.specs.Said.{movedReply}
 use Rattle.deck.proofs.block_moved.Statement.{statement}

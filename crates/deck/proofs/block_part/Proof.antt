@@ -3,8 +3,8 @@ use Prim.Native.Nat.{ℕ}
 use mathlib.Core.List.{List}
 use mathlib.Core.Path.{_≡_, sym, _∙_}
 use borrow.Author.Needs.{needs}
-use Rattle.block.specs.Read.{refused}
-use Rattle.block.specs.declared.Refusal.{Refusal}
+use Rattle.reply.specs.Read.{refused}
+use Rattle.reply.specs.declared.Refusal.{Refusal}
 use Rattle.deck.specs.Deck.{deckReply}
 use Rattle.deck.specs.declared.Form.the-variants.{Composed, Judged}
 use Rattle.deck.proofs.Parts.{deck-stopped, held, in-composed, in-judged, in-neither, part-at}

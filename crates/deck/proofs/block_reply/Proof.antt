@@ -6,7 +6,8 @@ use mathlib.Core.Path.{_≡_, sym, ap, _∙_}
 use lib.Dec.{eqb, leb}
 use lib.ListN.{length, take}
 use borrow.Author.Needs.{needs}
-use Rattle.block.specs.Block.{blockReply, saidBlock}
+use Rattle.reply.specs.Read.{saidReply}
+use Rattle.block.specs.Block.{blockReply}
 use Rattle.assembly.specs.Book.{used, bondBytes}
 use Rattle.assembly.specs.declared.BlockAt.{BlockAt}
 use Rattle.deck.specs.Deck.{mostBlocks, blockAt, blockPlace}
@@ -29,7 +30,7 @@ is-unfit-requires : tie.Need-is-unfit-requires
 is-unfit-requires c κs = search needs
 
 returns : tie.Need-returns
-returns c = let s = c .before .before .before .before in ap saidBlock (sym (number-unfit (s .args .d .now) (s .args .at) (done s) (sym (unfit-is (c .before)) ∙ c .if1 .taken)))
+returns c = let s = c .before .before .before .before in ap saidReply (sym (number-unfit (s .args .d .now) (s .args .at) (done s) (sym (unfit-is (c .before)) ∙ c .if1 .taken)))
 
 bonds-part-requires : tie.Need-bonds-part-requires
 bonds-part-requires c κs = search needs
@@ -47,9 +48,9 @@ returns-2 : tie.Need-returns-2
 returns-2 c = let s = c .before .before .before .before .before .before .before .before in
     let d = s .args .d .now in
     c .block-moved .ensures
-    ∙ ap (movedReply (blockPlace (s .args .at))) (c .before .check .ensures ∙ ap (λ (xs : List ℕ). saidBlock (blockReply (s .args .b .atoms) xs)) (c .before .before .before .bonds-part .ensures .bytes) ∙ ap (λ (b : BlockAt). saidBlock (blockReply (b .atoms) (bondBytes d b))) (s .pre .1))
+    ∙ ap (movedReply (blockPlace (s .args .at))) (c .before .check .ensures ∙ ap (λ (xs : List ℕ). saidReply (blockReply (s .args .b .atoms) xs)) (c .before .before .before .bonds-part .ensures .bytes) ∙ ap (λ (b : BlockAt). saidReply (blockReply (b .atoms) (bondBytes d b))) (s .pre .1))
     ∙ moved-said (blockPlace (s .args .at)) (blockReply (blockAt d (s .args .at) .atoms) (bondBytes d (blockAt d (s .args .at))))
-    ∙ ap saidBlock (sym (number-fit d (s .args .at) (done s) (sym (unfit-is (c .before .before .before .before .before)) ∙ c .before .before .before .before .if1 .left)))
+    ∙ ap saidReply (sym (number-fit d (s .args .at) (done s) (sym (unfit-is (c .before .before .before .before .before)) ∙ c .before .before .before .before .if1 .left)))
 
 pub block-reply-spec : {M : Type 1} → statement M
 block-reply-spec =

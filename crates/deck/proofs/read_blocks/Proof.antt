@@ -8,10 +8,10 @@ use borrow.Author.Needs.{needs}
 use lib.Dec.{eqb}
 use lib.ListN.{length, take, drop, replicate, length-set}
 use lib.Seq.{length-take-le}
-use Rattle.block.specs.Read.{read}
-use Rattle.block.specs.Block.{saidBlock}
+use Rattle.reply.specs.Read.{read, saidReply}
+use Rattle.reply.specs.Chain.{fine-read, refused-read}
 use Rattle.records.specs.Records.{blockKind, kindAt, endAt, recordReply}
-use Rattle.records.specs.Taken.{fine-read, refused-read, taken}
+use Rattle.records.specs.Taken.{taken}
 use Rattle.records.specs.declared.Kind.{Kind}
 use Rattle.assembly.specs.Book.{noBlock}
 use Rattle.assembly.specs.declared.BlockAt.{BlockAt}
@@ -48,11 +48,11 @@ left l =
     l .loop .inv .3 ∙ ap (λ (k : ℕ). blocksFrom k (last l) (deck l) (l .loop .next) (done l)) e
 
 -- what the record is told
-record-is : (c : tie.After-record-at Inv-loop μ-loop) → let l = c .before .before in c .record-at .result ≡ saidBlock (recordReply (kindsAfter (done l) (last l)) (deck l) (l .loop .next))
+record-is : (c : tie.After-record-at Inv-loop μ-loop) → let l = c .before .before in c .record-at .result ≡ saidReply (recordReply (kindsAfter (done l) (last l)) (deck l) (l .loop .next))
 record-is c = let l = c .before .before in
     c .record-at .ensures
-    ∙ ap (λ (k : Kind). saidBlock (recordReply (blockKind ∷ k ∷ []) (deck l) (l .loop .next))) (c .before .second-kind .ensures ∙ ap (λ (n : ℕ). cond (eqb n 0) blockKind (last l)) (sym (counted l)))
-    ∙ ap saidBlock (second (done l) (last l) (deck l) (l .loop .next))
+    ∙ ap (λ (k : Kind). saidReply (recordReply (blockKind ∷ k ∷ []) (deck l) (l .loop .next))) (c .before .second-kind .ensures ∙ ap (λ (n : ℕ). cond (eqb n 0) blockKind (last l)) (sym (counted l)))
+    ∙ ap saidReply (second (done l) (last l) (deck l) (l .loop .next))
 
 record-fine : (c : tie.After-enum-told Inv-loop μ-loop) → let l = c .before .before .before .before in recordReply (kindsAfter (done l) (last l)) (deck l) (l .loop .next) ≡ read tt
 record-fine c = fine-read _ (sym (record-is (c .before .before)) ∙ c .enum-told .given .1)
@@ -64,7 +64,7 @@ record-whole c = let l = c .before .before .before .before in taken (deck l) (l 
 is-block : (c : tie.Else1 Inv-loop μ-loop) → let l = c .before .before .before .before .before .before .before in kindAt (deck l) (l .loop .next) ≡ 1
 is-block c = sym (c .before .before .le16-at .ensures) ∙ c .if1 .left
 
-block-is : (c : tie.After-block-reply Inv-loop μ-loop) → let l = c .before .before .before .before .before .before .before .before .before in c .block-reply .result ≡ saidBlock (blockReplyAt (deck l) (l .loop .next) (done l))
+block-is : (c : tie.After-block-reply Inv-loop μ-loop) → let l = c .before .before .before .before .before .before .before .before .before in c .block-reply .result ≡ saidReply (blockReplyAt (deck l) (l .loop .next) (done l))
 block-is c = c .block-reply .ensures
 
 block-fine : (c : tie.After-enum-told3 Inv-loop μ-loop) → let l = c .before .before .before .before .before .before .before .before .before .before .before in blockReplyAt (deck l) (l .loop .next) (done l) ≡ read tt

@@ -5,10 +5,10 @@ use mathlib.Core.Path.{_≡_, sym, ap, ap₂, _∙_}
 use native.Mathlib.Omega.{arith}
 use lib.ListN.{length}
 use borrow.Author.Needs.{needs}
-use Rattle.block.specs.Read.{read}
-use Rattle.block.specs.Block.{saidBlock}
+use Rattle.reply.specs.Read.{read, saidReply}
+use Rattle.reply.specs.Chain.{fine-read, refused-read}
 use Rattle.records.specs.Records.{assemblyKind}
-use Rattle.records.specs.Taken.{fine-read, refused-read, taken}
+use Rattle.records.specs.Taken.{taken}
 use Rattle.assembly.specs.declared.BlockAt.{BlockAt}
 use Rattle.deck.specs.Deck.{longestDeck, Deck, blocksReply, assemblyReplyAt, sheetReply}
 use Rattle.deck.specs.Said.{refusedDeck, saidDeck}
@@ -29,21 +29,21 @@ blocks c = let r = c .before .before .read-blocks in deck-ended (blocksReply ass
 short : (c : tie.Else1) → length (deck (c .before .before)) ≤ longestDeck
 short c = c .if1 .left
 
-assembly-is : (c : tie.After-assembly-reply) → let k = blocks (c .before .before .before) .0 in c .assembly-reply .result ≡ saidBlock (assemblyReplyAt (deck (c .before .before .before .before .before .before .before .before)) (k .blocks) (k .assembly))
+assembly-is : (c : tie.After-assembly-reply) → let k = blocks (c .before .before .before) .0 in c .assembly-reply .result ≡ saidReply (assemblyReplyAt (deck (c .before .before .before .before .before .before .before .before)) (k .blocks) (k .assembly))
 assembly-is c =
     let (k, e, r) = blocks (c .before .before .before) in
     let res = c .before .before .before .before .before .read-blocks .result in
     c .assembly-reply .ensures
-    ∙ ap₂ (λ (bs : List BlockAt) (at : ℕ). saidBlock (assemblyReplyAt (deck (c .before .before .before .before .before .before .before .before)) bs at)) (table-blocks k res r) (ap (λ (x : DeckRead). x .layout .assembly) r)
+    ∙ ap₂ (λ (bs : List BlockAt) (at : ℕ). saidReply (assemblyReplyAt (deck (c .before .before .before .before .before .before .before .before)) bs at)) (table-blocks k res r) (ap (λ (x : DeckRead). x .layout .assembly) r)
 
 assembly-fine : (c : tie.After-enum-told3) → let k = blocks (c .before .before .before .before .before) .0 in assemblyReplyAt (deck (c .before .before .before .before .before .before .before .before .before .before)) (k .blocks) (k .assembly) ≡ read tt
 assembly-fine c = fine-read _ (sym (assembly-is (c .before .before)) ∙ c .enum-told3 .given .1)
 
-sheet-is : (c : tie.After-sheet-reply) → let k = blocks (c .before .before .before .before .before .before) .0 in let s = c .before .before .before .before .before .before .before .before .before .before .before in c .sheet-reply .result ≡ saidBlock (sheetReply (s .args .form) (deck s) (k .sheet))
+sheet-is : (c : tie.After-sheet-reply) → let k = blocks (c .before .before .before .before .before .before) .0 in let s = c .before .before .before .before .before .before .before .before .before .before .before in c .sheet-reply .result ≡ saidReply (sheetReply (s .args .form) (deck s) (k .sheet))
 sheet-is c =
     let (k, e, r) = blocks (c .before .before .before .before .before .before) in
     let s = c .before .before .before .before .before .before .before .before .before .before .before in
-    c .sheet-reply .ensures ∙ ap (λ (x : DeckRead). saidBlock (sheetReply (s .args .form) (deck s) (x .layout .sheet))) r
+    c .sheet-reply .ensures ∙ ap (λ (x : DeckRead). saidReply (sheetReply (s .args .form) (deck s) (x .layout .sheet))) r
 
 deck-refused-requires : tie.Need-deck-refused-requires
 deck-refused-requires c κs = search needs

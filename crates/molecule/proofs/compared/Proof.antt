@@ -2,7 +2,7 @@
 use mathlib.Core.Path.{_∙_, ap}
 use borrow.Author.Needs.{needs}
 use Prim.Native.Nat.{ℕ}
-use Rattle.block.specs.Read.{read}
+use Rattle.reply.specs.Read.{read}
 use Rattle.molecule.specs.Molecule.{saidVerdict}
 use Rattle.molecule.proofs.Judging.{accepts, differs}
 use Rattle.molecule.proofs.compared.Statement.{statement}

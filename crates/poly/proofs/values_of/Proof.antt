@@ -4,7 +4,7 @@ use mathlib.Core.Path.{_≡_, refl, ap₂, _∙_}
 use mathlib.Core.Bool.{Bool, true, false, not, _&&_}
 use lib.Ieee.{Float, ofBits, lt, le}
 use borrow.Author.Needs.{needs}
-use Rattle.block.specs.Read.{read, _then_, refuseIf}
+use Rattle.reply.specs.Read.{read, _then_, refuseIf}
 use Rattle.poly.specs.declared.Answer.{Answer}
 use Rattle.poly.specs.Poly.{zeroF, oneF, counted, valuesOf, valuesReply, saidPolynomial}
 use Rattle.poly.proofs.Usable.{two-tests}

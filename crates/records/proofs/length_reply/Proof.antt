@@ -3,7 +3,7 @@ use Prim.Native.Nat.{ℕ, _+_, _*_, _≤_}
 use mathlib.Core.Path.{_≡_, sym, ap, _∙_}
 use native.Mathlib.Omega.{arith}
 use borrow.Author.Needs.{needs}
-use Rattle.block.specs.Block.{saidBlock}
+use Rattle.reply.specs.Read.{saidReply}
 use Rattle.records.specs.Records.{wanted}
 use Rattle.records.proofs.Numbers.{product}
 use Rattle.records.proofs.Replies.{length-wrong, length-right}
@@ -55,11 +55,11 @@ add-if1 c = omega (arith, items c)
 
 returns : tie.Need-returns
 returns c = let a = c .before .before .before .before .before .before .before .args in
-    ap saidBlock (sym (length-wrong (a .k) (a .d .now) (a .at) (λ e. c .if1 .taken (c .before .before .before .le16-at2 .ensures ∙ e ∙ sym (asked (c .before))))))
+    ap saidReply (sym (length-wrong (a .k) (a .d .now) (a .at) (λ e. c .if1 .taken (c .before .before .before .le16-at2 .ensures ∙ e ∙ sym (asked (c .before))))))
 
 returns-2 : tie.Need-returns-2
 returns-2 c = let a = c .before .before .before .before .before .before .before .args in
-    ap saidBlock (sym (length-right (a .k) (a .d .now) (a .at) (sym (c .before .before .before .le16-at2 .ensures) ∙ c .if1 .left ∙ asked (c .before))))
+    ap saidReply (sym (length-right (a .k) (a .d .now) (a .at) (sym (c .before .before .before .le16-at2 .ensures) ∙ c .if1 .left ∙ asked (c .before))))
 
 pub length-reply-spec : {M : Type 1} → statement M
 length-reply-spec =

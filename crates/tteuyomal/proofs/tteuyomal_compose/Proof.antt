@@ -2,7 +2,7 @@
 use mathlib.Core.Path.{sym, _∙_, ap}
 use denote.Ref.{now}
 use borrow.Author.Needs.{needs}
-use Rattle.block.specs.Read.{Read, read, _then_}
+use Rattle.reply.specs.Read.{Read, read, _then_}
 use Rattle.block.specs.declared.Indices.{Indices}
 use Rattle.deck.specs.Molecule.{fieldsOf}
 use Rattle.deck.specs.declared.Form.the-variants.{Composed}

@@ -5,7 +5,7 @@ use Rattle.climb.specs.Placed.{placedReply}
 use mathlib.Core.Path.{sym, _∙_, ap}
 use denote.Ref.{now}
 use borrow.Author.Needs.{needs}
-use Rattle.block.specs.Read.{Read, read, _then_}
+use Rattle.reply.specs.Read.{Read, read, _then_}
 use Rattle.tteuyomal.proofs.Laws.{toldDistance, distance-told, lent-refused, lent-read}
 use Rattle.tteuyomal.proofs.tteuyomal_placed_distance.Statement.{statement}
 use Rattle.tteuyomal.proofs.tteuyomal_placed_distance.Tie as tie

@@ -2,7 +2,7 @@
 use mathlib.Core.Path.{sym, _∙_, ap}
 use denote.Ref.{now}
 use borrow.Author.Needs.{needs}
-use Rattle.block.specs.Read.{Read}
+use Rattle.reply.specs.Read.{Read}
 use Rattle.block.specs.Block.{blockReply}
 use Rattle.tteuyomal.specs.Convention.{coded}
 use Rattle.tteuyomal.specs.Replies.{thenNine}

@@ -4,7 +4,8 @@ use native.Mathlib.Numerals.{add-one}
 use native.Mathlib.Omega.{arith}
 use Rattle.graph.specs.Graph.{Within}
 use Rattle.graph.specs.Sets.{shifted}
-use Rattle.block.specs.Block.{limit, mostAtoms, bondFault, saidBlock}
+use Rattle.reply.specs.Read.{saidReply}
+use Rattle.block.specs.Block.{limit, mostAtoms, bondFault}
 use Rattle.block.specs.Near.{counted, counting}
 use Rattle.block.proofs.Reading.{Reads, bondAt, before, reads-start, reads-fault, reads-next, reads-fine, reads-drawn, put-first, put-second}
 use Rattle.block.proofs.Replies.{not-fine}
@@ -45,7 +46,7 @@ returns : tie.Need-returns Inv-loop μ-loop
 returns c =
     let l = c .before .before .before .before .before .before .before .loop in
     let e = reads-fault _ _ _ _ _ (l .inv .1) (omega arith) (c .before .fault .result) (c .if1 .taken) (c .before .fault .ensures _ (l .inv .1 .holds)) in
-    record { replied = sym (ap saidBlock e); drawn = λ f. absurd (not-fine f) }
+    record { replied = sym (ap saidReply e); drawn = λ f. absurd (not-fine f) }
 
 -- the bond has no fault, so it joins the neighbours: there is room at both ends, and one bond more is read
 free : (c : tie.Else1 Inv-loop μ-loop) → let l = c .before .before .before .before .before .before .before .loop in let s = c .before .before .before .before .before .before .before .before .before .args in bondFault (s .n) (before (s .bonds .now) (l .k)) (bondAt (s .bonds .now) (l .k)) ≡ 0
@@ -133,7 +134,7 @@ loop-again c = (
 returns-2 : tie.Need-returns-2 Inv-loop μ-loop
 returns-2 c =
     let R = c .before .loop .inv .1 in
-    record { replied = sym (ap saidBlock (reads-fine _ _ _ _ _ R (omega arith))); drawn = λ e. reads-drawn _ _ _ _ _ R (omega arith) }
+    record { replied = sym (ap saidReply (reads-fine _ _ _ _ _ R (omega arith))); drawn = λ e. reads-drawn _ _ _ _ _ R (omega arith) }
 
 pub build-spec : {M : Type 1} → statement M
 build-spec =

@@ -7,31 +7,31 @@ use borrow.Author.Needs.{needs}
 use borrow.Author.Tests.{eq-eqb, ne-eqb}
 use Rattle.graph.specs.Graph.{Bond, Within, anyJoins}
 use Rattle.graph.specs.Sets.{has-yes, has-not}
-use Rattle.block.specs.Block.{isOutside}
+use Rattle.reply.specs.Read.{isOutside}
 use Rattle.block.specs.Near.{Holds}
 use Rattle.block.specs.Faults.{inside, three, three′, four, five, six, six′, none}
 use Rattle.block.proofs.Listing.{full, room}
 use Rattle.block.proofs.bonding.fault.Statement.{statement}
 use Rattle.block.proofs.bonding.fault.Tie as tie
 
-outside-requires : tie.Need-outside-requires
-outside-requires c κs = search needs
+is-outside-requires : tie.Need-is-outside-requires
+is-outside-requires c κs = search needs
 
 returns : tie.Need-returns
-returns c bs H = three _ _ _ _ (sym (c .before .outside .ensures) ∙ c .if1 .taken)
+returns c bs H = three _ _ _ _ (sym (c .before .is-outside .ensures) ∙ c .if1 .taken)
 
-outside-requires-2 : tie.Need-outside-requires-2
-outside-requires-2 c κs = search needs
+is-outside-requires-2 : tie.Need-is-outside-requires-2
+is-outside-requires-2 c κs = search needs
 
 -- what has passed at each place: the first end, the second end, that they differ, that the bond is new
 one : (c : tie.Else1) → let s = c .before .before .args in isOutside (s .n) (s .a) ≡ false
-one c = sym (c .before .outside .ensures) ∙ c .if1 .left
+one c = sym (c .before .is-outside .ensures) ∙ c .if1 .left
 
 returns-2 : tie.Need-returns-2
-returns-2 c bs H = three′ _ _ _ _ (one (c .before .before)) (sym (c .before .outside2 .ensures) ∙ c .if2 .taken)
+returns-2 c bs H = three′ _ _ _ _ (one (c .before .before)) (sym (c .before .is-outside2 .ensures) ∙ c .if2 .taken)
 
 two : (c : tie.Else2) → let s = c .before .before .before .before .args in isOutside (s .n) (s .b) ≡ false
-two c = sym (c .before .outside2 .ensures) ∙ c .if2 .left
+two c = sym (c .before .is-outside2 .ensures) ∙ c .if2 .left
 
 one-in : (c : tie.Else2) → let s = c .before .before .before .before .args in Within (s .n) (s .a)
 one-in c = inside _ _ (one (c .before .before))
@@ -110,9 +110,9 @@ pub fault-spec : {M : Type 1} → statement M
 fault-spec =
     tie.close
     (tie.spec
-    outside-requires
+    is-outside-requires
     returns
-    outside-requires-2
+    is-outside-requires-2
     returns-2
     returns-3
     sub-if4

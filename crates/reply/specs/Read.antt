@@ -1,7 +1,10 @@
--- An answer that is a refusal or a value. A refusing definition is a chain of such answers, in the order of document 01.
+-- Definitions. An answer that is a refusal or a value. A refusing definition is a chain of such answers, in the order of the rules.
 use Prim.Native.Nat.{ℕ, zero, suc}
-use mathlib.Core.Bool.{Bool, true, false}
-use Rattle.block.specs.declared.Refusal.{Refusal}
+use mathlib.Core.Bool.{Bool, true, false, _||_}
+use lib.Dec.{eqb, ltb}
+use Rattle.reply.specs.declared.Refusal.{Refusal}
+use Rattle.reply.specs.declared.Reply.{Reply}
+use Rattle.reply.specs.declared.Reply.the-variants.{Fine, Refused}
 
 abbrev pub refusal : ℕ → ℕ → Refusal
 refusal n p = record { number = n; place = p }
@@ -25,3 +28,12 @@ refuseIf false n p = read tt
 abbrev pub refuseFor : ℕ → ℕ → Read (Unit {0})
 refuseFor zero p = read tt
 refuseFor (suc n) p = refused (refusal (suc n) p)
+
+-- 0 or above n
+abbrev pub isOutside : ℕ → ℕ → Bool
+isOutside n v = eqb v 0 || ltb n v
+
+-- how the code says a refusal or none
+abbrev pub saidReply : Read (Unit {0}) → Reply
+saidReply (refused r) = Refused r
+saidReply (read u) = Fine

@@ -1,0 +1,48 @@
+-- Laws. What a chain of answers tells when it was read to its end, and that a promise which is an equation leaves one answer. Assumes nothing.
+use Prim.Native.Nat.{ℕ, zero, suc}
+use mathlib.Core.Bool.{Bool, true, false, _||_, true≢false}
+use mathlib.Core.Path.{_≡_, refl, sym, _∙_}
+use native.Mathlib.Omega.{arith}
+use Rattle.reply.specs.Read.{Read, refused, read, _then_, refuseIf, refuseFor, isOutside, saidReply}
+use Rattle.reply.specs.declared.Refusal.{Refusal}
+use Rattle.reply.specs.declared.Reply.the-variants.{Fine, Refused}
+
+pub not-read : {A : Type 0} {r : Refusal} {a : A} → refused r ≡ read a → ⊥
+not-read e = let z : _≡_ {A = ℕ} 0 1 = cc in omega arith
+
+-- what is read at the end was read at each step
+pub then-read : {A B : Type 0} (m : Read A) (f : A → Read B) {b : B} → (m then f) ≡ read b → (a : A) × (m ≡ read a) × (f a ≡ read b)
+then-read (refused r) f e = absurd (not-read e)
+then-read (read a) f e = (a, refl, e)
+
+pub if-read : {u : Unit {0}} (t : Bool) (n p : ℕ) → refuseIf t n p ≡ read u → t ≡ false
+if-read true n p e = absurd (not-read e)
+if-read false n p e = refl
+
+pub for-read : {u : Unit {0}} (f p : ℕ) → refuseFor f p ≡ read u → f ≡ 0
+for-read zero p e = refl
+for-read (suc f) p e = absurd (not-read e)
+
+-- of two tests neither holds where their "or" does not
+pub neither : (p q : Bool) → (p || q) ≡ false → (p ≡ false) × (q ≡ false)
+neither true q e = absurd (true≢false e)
+neither false q e = (refl, e)
+
+-- what the code's reply says of the answer
+pub fine-read : (x : Read (Unit {0})) → saidReply x ≡ Fine → x ≡ read tt
+fine-read (refused r) e = let z : _≡_ {A = ℕ} 0 1 = cc in absurd (omega arith)
+fine-read (read u) e = refl
+
+pub refused-read : (x : Read (Unit {0})) (r : Refusal) → saidReply x ≡ Refused r → x ≡ refused r
+refused-read (refused q) r e = cc
+refused-read (read u) r e = let z : _≡_ {A = ℕ} 0 1 = cc in absurd (omega arith)
+
+-- two answers that are both what a promise says are equal
+pub unique : {A : Type 0} {r s t : A} → r ≡ t → s ≡ t → r ≡ s
+unique p q = p ∙ sym q
+
+pub unique-is-outside : (n v : ℕ) (r s : Bool) → r ≡ isOutside n v → s ≡ isOutside n v → r ≡ s
+unique-is-outside n v r s = unique
+
+pub unique-wide : (x r s : ℕ) → r ≡ x → s ≡ x → r ≡ s
+unique-wide x r s = unique
