@@ -1,11 +1,20 @@
 # What callers in other languages use, made from the proved library.
+#   make python                 the Python package with its shared object: python/, for `pip install ./python`
+#   make install PREFIX=/usr    header, archive, shared object and pkg-config file
+#   make test                   the tests of what stands around the library
+VERSION := 1.0.0
+PREFIX ?= /usr/local
+DESTDIR ?=
+
 STATIC := target/staticlib/libtteuyomal.a
 SHARED := target/staticlib/libtteuyomal.so
+PACKED := python/tteuyomal/libtteuyomal.so
 PROVED := crates.txt $(shell find crates -name '*.rt' -o -name '*.antt')
 
-.PHONY: shared test
+.PHONY: shared python install test
 
 shared: $(SHARED)
+python: $(PACKED)
 
 # the archive is proved again when a source is newer
 $(STATIC): $(PROVED)
@@ -13,8 +22,20 @@ $(STATIC): $(PROVED)
 
 # the whole archive as one shared object
 $(SHARED): $(STATIC)
-	$(CC) -shared -o $@ -Wl,--whole-archive $< -Wl,--no-whole-archive
+	$(CC) -shared -o $@ -Wl,-soname,libtteuyomal.so.1 -Wl,--whole-archive $< -Wl,--no-whole-archive
 
-# what stands around the library: header, examples, Python
-test: shared
+$(PACKED): $(SHARED)
+	cp $< $@
+
+install: $(SHARED)
+	install -d $(DESTDIR)$(PREFIX)/include $(DESTDIR)$(PREFIX)/lib/pkgconfig
+	install -m 644 include/tteuyomal.h $(DESTDIR)$(PREFIX)/include/
+	install -m 644 $(STATIC) $(DESTDIR)$(PREFIX)/lib/
+	install -m 755 $(SHARED) $(DESTDIR)$(PREFIX)/lib/libtteuyomal.so.1
+	ln -sf libtteuyomal.so.1 $(DESTDIR)$(PREFIX)/lib/libtteuyomal.so
+	printf '%s\n' 'prefix=$(PREFIX)' 'libdir=$${prefix}/lib' 'includedir=$${prefix}/include' '' 'Name: tteuyomal' \
+	    'Description: distance numbers of molecules, and a judge of the sheets that give them' 'Version: $(VERSION)' \
+	    'Cflags: -I$${includedir}' 'Libs: -L$${libdir} -ltteuyomal' > $(DESTDIR)$(PREFIX)/lib/pkgconfig/tteuyomal.pc
+
+test: python
 	tests/run

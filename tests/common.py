@@ -7,9 +7,9 @@ import sys
 ROOT = os.path.dirname(os.path.dirname(os.path.abspath(__file__)))
 HEADER = os.path.join(ROOT, "include", "tteuyomal.h")
 ARCHIVE = os.path.join(ROOT, "target", "staticlib", "libtteuyomal.a")
-BINDINGS = os.path.join(ROOT, "bindings", "python")
+PYTHON = os.path.join(ROOT, "python")
 
-sys.path.insert(0, BINDINGS)
+sys.path.insert(0, PYTHON)
 
 
 def text(*path):

@@ -6,7 +6,7 @@ import subprocess
 import sys
 import unittest
 
-from common import FORTY, JUDGED, ROOT, text
+from common import JUDGED, PYTHON, ROOT, text
 
 WARNED = {"gcc": ["-Wall", "-Wextra", "-Wpedantic", "-Werror"], "rustc": ["-D", "warnings"]}
 
@@ -38,18 +38,18 @@ class Examples(unittest.TestCase):
         self.judges("examples", "rust", "judge.rs")
 
     def test_python(self):
-        script = os.path.join(ROOT, "bindings", "python", "example.py")
-        run = subprocess.run([sys.executable, script], capture_output=True, text=True)
+        script = os.path.join(ROOT, "examples", "python", "judge.py")
+        run = subprocess.run([sys.executable, script], capture_output=True, text=True, env=os.environ | {"PYTHONPATH": PYTHON})
         self.assertEqual((run.returncode, run.stderr), (0, ""))
         self.assertEqual(
             run.stdout.splitlines(),
             [
-                "fields Fields(atoms=9, w=87, even=40, odd=47, polarity=9)",
+                "worked out: atoms 9 W 87 even 40 odd 47 polarity 9",
                 "from atom 4 of the ring of 6 to atom 2 of the ring of 3: 5",
                 "with its own sheet: accepted",
-                "with a wrong W: the first wrong field is 2",
-                f"without a sheet: refused 11 at {len(FORTY) + 16}: "
-                "a record is cut off, the deck ends early, or bytes follow its last record",
+                "with a wrong W: differs 2",
+                "without a sheet: refused 11 at 56",
+                "a verdict is true only where the sheet was accepted",
                 "each bond of the ring of 6 gives ['9/2', '9/2', '9/2', '9/2', '9/2', '9/2']",
             ],
         )

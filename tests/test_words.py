@@ -23,9 +23,9 @@ class Words(unittest.TestCase):
         self.assertTrue(all(1 <= number <= 253 for number in words))
 
     def test_python(self):
-        import tteuyomal
+        from tteuyomal import library
 
-        self.assertEqual(tteuyomal.WORDS, header_words())
+        self.assertEqual(library.WORDS, header_words())
 
     def test_readme(self):
         rows = re.findall(r"^\| (\d+) \| (.*?) \|$", text("README.md"), re.M)

@@ -1,0 +1,46 @@
+"""Tteuyomal: a judge of molecular sheets that needs no reference file.
+
+    from tteuyomal import Block, Deck, Placement, judge
+
+    ring = Block(6, [(1, 2), (2, 3), (3, 4), (4, 5), (5, 6), (6, 1)])
+    deck = Deck({1: ring}, [Placement(1), Placement(1, parent=1, parent_atom=1, atom=1)])
+    deck.compose()                      # the fields that the library works out
+    judge(deck.with_sheet())            # true only for accepted
+
+All numbers and verdicts come from the proved library, through `tteuyomal.library` (one function for each C function).
+"""
+
+from .decks import (
+    Block,
+    Deck,
+    Placement,
+    Sheet,
+    Verdict,
+    compose,
+    contributions,
+    judge,
+    judge_many,
+    measure,
+    values,
+)
+from .library import NotThere, Refused
+from .library import version as library_version
+
+__version__ = "1.0.0"
+
+__all__ = [
+    "Block",
+    "Deck",
+    "NotThere",
+    "Placement",
+    "Refused",
+    "Sheet",
+    "Verdict",
+    "compose",
+    "contributions",
+    "judge",
+    "judge_many",
+    "library_version",
+    "measure",
+    "values",
+]

@@ -1,0 +1,392 @@
+"""The command `tteuyomal`. Exit statuses: 0 where all is well and something was asked about, 1 where a sheet differs, 2 where
+something is refused or can't be read or written, or where nothing was given; the greater wins."""
+
+from __future__ import annotations
+
+import argparse
+import contextlib
+import datetime
+import functools
+import os
+import shutil
+import signal
+import sys
+import tempfile
+from collections.abc import Callable, Iterable, Iterator
+from typing import IO, Any, NoReturn
+
+from . import __version__, board, decks, decktext, drawing, explain, files, judging, library, measuring, notice, work
+from .files import Found
+from .judging import Judged, Tally
+from .library import NotThere, Refused
+
+INTERRUPTED = 130
+
+
+class Stop(Exception):
+    """The command can't go on; what is wrong is said and the exit status is 2."""
+
+
+# ---- what the processes do with a batch of files ----
+
+
+def judge_batch(batch: list[Found], as_json: bool) -> tuple[str, dict[str, int]]:
+    """The lines of some files, and how many of each verdict there are."""
+    tally = Tally()
+    lines = []
+    for found in batch:
+        judged = judging.judge_file(found, fields=as_json)
+        tally.add(judged.word)
+        lines.append(judged.json() if as_json else judged.line())
+    return "\n".join(lines) + "\n", tally.counts
+
+
+def sheet_batch(batch: list[Found], six: bool, as_json: bool) -> list[tuple[str, bool]]:
+    """The line of each file, and whether its deck was worked out."""
+    return [_sheet_line(found, six, as_json) for found in batch]
+
+
+def measure_batch(batch: list[Found], form: str, as_json: bool) -> list[tuple[str, bool]]:
+    """The line of each file, and whether it was measured."""
+    return [measuring.measure_file(found, form, as_json) for found in batch]
+
+
+def board_batch(batch: list[Found], folder: str) -> list[board.Row]:
+    """The rows of some decks on the board."""
+    return [board.row(judging.judge_file(found), folder) for found in batch]
+
+
+def notice_batch(batch: list[Found], folder: str) -> list[tuple[str, str]]:
+    """The verdict and the line of some decks in a notice."""
+    judged = [judging.judge_file(found, fields=False) for found in batch]
+    return [(one.word, notice.row(one, folder)) for one in judged]
+
+
+def _sheet_line(found: Found, six: bool, as_json: bool) -> tuple[str, bool]:
+    import json
+
+    name = files.shown(found.name)
+    said: dict[str, Any] = {"file": name, "sha256": None}
+    try:
+        data, said["sha256"] = files.read(found)
+        fields = judging.worked_out(data, 6 if six else 5)
+    except files.Unread as fault:
+        return (json.dumps(said | {"fault": str(fault)}) if as_json else f"{name}: cannot be read"), False
+    except Refused as refusal:
+        told = {"number": refusal.number, "place": refusal.place, "words": refusal.words}
+        line = f"{name}: refused {refusal.number} at {refusal.place}"
+        return (json.dumps(said | {"refusal": told}) if as_json else line), False
+    line = f"{name}: {decks.Sheet(*fields)}"
+    return (json.dumps(said | {"worked_out": judging.named(fields)}) if as_json else line), True
+
+
+# ---- the commands ----
+
+
+def judge(options: argparse.Namespace, out: Output) -> int:
+    """Lines or objects, one a deck."""
+    tally = Tally()
+    progress = work.Progress("decks")
+    function = functools.partial(judge_batch, as_json=options.json)
+    if options.dask:
+        from . import fleet
+
+        answers = fleet.over(options.dask, options.paths, function)
+    else:
+        answers = work.over(function, files.find(options.paths), _jobs(options))
+    with contextlib.closing(answers):
+        for lines, counts in answers:
+            out.write(lines)
+            tally.add_all(counts)
+            progress.add(sum(counts.values()))
+    progress.end(str(tally))
+    if not tally.total:
+        complain("no deck was judged")
+    return tally.status
+
+
+def explain_deck(options: argparse.Namespace, out: Output) -> int:
+    """A deck in words."""
+    judged = judging.judge_file(Found(options.deck))
+    if judged.word == judging.UNREAD:
+        raise Stop(f"{files.shown(options.deck)}: cannot be read: {judged.fault}")
+    out.write("\n".join(explain.explained(judged)) + "\n")
+    return judged.status
+
+
+def sheet(options: argparse.Namespace, out: Output) -> int:
+    """The fields of decks without a sheet; or the deck with its sheet, in another file."""
+    if options.append is not None:
+        return _append(options)
+    return _lines(functools.partial(sheet_batch, six=options.six, as_json=options.json), options, out, "decks")
+
+
+def _append(options: argparse.Namespace) -> int:
+    if len(options.paths) != 1:
+        raise Stop("--append takes one deck")
+    (path,) = options.paths
+    files.apart(options.append, [path])
+    try:
+        data = files.read(Found(path)).data
+        record = library.write_six(data) if options.six else library.write_sheet(data)
+    except (files.Unread, Refused) as fault:
+        raise Stop(f"{files.shown(path)}: {fault}") from None
+    with files.written(options.append) as file:
+        file.write(data + record)
+    return 0
+
+
+def measure(options: argparse.Namespace, out: Output) -> int:
+    """Every index of molfiles and neighbour texts."""
+    return _lines(functools.partial(measure_batch, form=options.form, as_json=options.json), options, out, "files")
+
+
+def _lines(function: Callable[[list[Found]], list[tuple[str, bool]]], options: argparse.Namespace, out: Output, what: str) -> int:
+    """The lines of all files; 0 only if there was one and each was answered."""
+    progress = work.Progress(what)
+    count, good = 0, True
+    for answer in work.over(function, files.find(options.paths), _jobs(options), size=100):
+        out.write("".join(f"{line}\n" for line, _ in answer))
+        good = good and all(fine for _, fine in answer)
+        count += len(answer)
+        progress.add(len(answer))
+    progress.end(f"{count} {what}")
+    if not count:
+        complain("no file was given")
+    return 0 if good and count else 2
+
+
+def make_deck(options: argparse.Namespace, out: Output) -> int:
+    """A deck from its text."""
+    try:
+        with open(options.text, encoding="utf-8") as file:
+            text = file.read()
+        folder = os.path.dirname(options.text)
+        files.apart(options.output, [options.text, *decktext.named_files(text, folder)])
+        data = decktext.made(text, folder)
+    except (decktext.BadText, Refused, UnicodeDecodeError) as fault:
+        raise Stop(f"{files.shown(options.text)}: {fault}") from None
+    with files.written(options.output) as file:
+        file.write(data)
+    return 0
+
+
+def show(options: argparse.Namespace, out: Output) -> int:
+    """The text of a deck."""
+    try:
+        data = files.read(Found(options.deck), files.LONGEST).data
+    except files.Unread as fault:
+        raise Stop(f"{files.shown(options.deck)}: cannot be read: {fault}") from None
+    if len(data) > files.LONGEST:
+        raise Stop(f"{files.shown(options.deck)}: {Refused(20, 0)}")
+    out.write(decktext.shown(data))
+    return 0
+
+
+def write_board(options: argparse.Namespace, out: Output) -> int:
+    """The board of a folder."""
+    tally = Tally()
+    now = _now()
+    with contextlib.ExitStack() as parts:
+        rows = {word: parts.enter_context(_spool()) for word in judging.WORDS}
+        for row in _rows(functools.partial(board_batch, folder=options.folder), options):
+            tally.add(row.word)
+            picture = drawing.svg(row.data) if row.data and tally.counts[row.word] <= board.DRAWN else ""
+            rows[row.word].write(row.html(picture).encode("utf-8"))
+        with files.written(options.output) as file:
+            _put(file, board.head(tally, options.folder, library.version(), now))
+            for word in board.ORDER:
+                _copy(rows[word], file)
+            _put(file, [board.tail()])
+    return _ended(tally)
+
+
+def write_notice(options: argparse.Namespace, out: Output) -> int:
+    """The notice of a folder."""
+    tally = Tally()
+    now = _now()
+    with _spool() as rows:
+        for word, line in _rows(functools.partial(notice_batch, folder=options.folder), options):
+            tally.add(word)
+            rows.write(line.encode("utf-8"))
+        with files.written(options.output) as file:
+            _put(file, notice.head(tally, library.version(), now))
+            _copy(rows, file)
+    return _ended(tally)
+
+
+def _rows(function: Callable[[list[Found]], list[Any]], options: argparse.Namespace) -> Iterator[Any]:
+    """The rows of a folder's decks, with the progress shown."""
+    if not os.path.isdir(options.folder):
+        raise Stop(f"{files.shown(options.folder)} is no folder")
+    files.apart(options.output, [options.folder])
+    progress = work.Progress("decks")
+    for answer in work.over(function, files.find([options.folder]), _jobs(options)):
+        yield from answer
+        progress.add(len(answer))
+    progress.end(f"{progress.done} decks")
+
+
+def _ended(tally: Tally) -> int:
+    if not tally.total:
+        complain("no deck was found, so nothing was judged")
+    return tally.status
+
+
+def _spool() -> Any:
+    return tempfile.SpooledTemporaryFile(1 << 20)
+
+
+def _put(file: IO[bytes], parts: Iterable[str]) -> None:
+    for part in parts:
+        file.write(part.encode("utf-8"))
+
+
+def _copy(part: Any, file: IO[bytes]) -> None:
+    part.seek(0)
+    shutil.copyfileobj(part, file)
+
+
+def _now() -> datetime.datetime:
+    return datetime.datetime.now(datetime.timezone.utc)
+
+
+def _jobs(options: argparse.Namespace) -> int:
+    """How many processes work. Standard input is read by this one."""
+    return 1 if "-" in getattr(options, "paths", []) else options.jobs
+
+
+# ---- the command line ----
+
+
+class Output:
+    """Standard output. A line that can't be written ends the command, and its exit status is not 0."""
+
+    def __init__(self) -> None:
+        self.file = sys.stdout
+        self.encoding = getattr(sys.stdout, "encoding", None) or "utf-8"
+
+    def write(self, text: str) -> None:
+        """Writes some lines."""
+        data = text.encode(self.encoding, "backslashreplace")
+        buffer = getattr(self.file, "buffer", None)
+        if buffer is None:
+            self.file.write(text)
+        else:
+            buffer.write(data)
+
+    def flush(self) -> None:
+        """Hands everything over; raises OSError where that can't be done."""
+        self.file.flush()
+
+
+def complain(text: str) -> None:
+    """Says on standard error what is wrong."""
+    with contextlib.suppress(OSError, ValueError):
+        print(f"tteuyomal: {text}", file=sys.stderr)
+
+
+def _parser() -> argparse.ArgumentParser:
+    parser = argparse.ArgumentParser(
+        prog="tteuyomal",
+        description="Judges the sheets of molecular decks by working the numbers out. Exit status: 0 all well, 1 a sheet differs, "
+        "2 something is refused or can't be read or written, or nothing was given.",
+    )
+    parser.add_argument("--version", action="version", version=f"tteuyomal {__version__}, library {library.version()}")
+    commands = parser.add_subparsers(required=True, metavar="COMMAND")
+
+    def command(name: str, function: Callable[[argparse.Namespace, Output], int], words: str) -> argparse.ArgumentParser:
+        one = commands.add_parser(name, help=words, description=words)
+        one.set_defaults(function=function)
+        return one
+
+    def common(one: argparse.ArgumentParser, paths: str = "") -> None:
+        if paths:
+            one.add_argument("paths", nargs="*", metavar="PATH", help=paths)
+            one.add_argument("--json", action="store_true", help="one JSON object a line")
+        one.add_argument("-j", dest="jobs", type=_count, default=work.cores(), metavar="N", help="so many processes")
+
+    one = command("judge", judge, "judge decks: a line each")
+    common(one, "decks, or folders of decks; - is standard input")
+    one.add_argument("--dask", metavar="ADDRESS", help="judge on the workers of a Dask scheduler, as tcp://host:8786")
+
+    one = command("explain", explain_deck, "a deck in words: what it holds, what is claimed, what is worked out, what is wrong")
+    one.add_argument("deck", metavar="DECK")
+
+    one = command("sheet", sheet, "work out the fields of decks without a sheet")
+    common(one, "decks without a sheet, or folders of them; - is standard input")
+    one.add_argument("--six", action="store_true", help="with the largest distance, the sixth field")
+    one.add_argument("--append", metavar="FILE", help="write the one deck with its sheet to this other file")
+
+    one = command("measure", measure, "every index of molfiles and neighbour texts")
+    common(one, "molfiles or neighbour texts, or folders of them; - is standard input")
+    one.add_argument("--as", dest="form", choices=("auto", "molfile", "neighbours"), default="auto", help="what the files are")
+
+    one = command("deck", make_deck, "make a deck from a text that names its blocks, placements and claimed fields")
+    one.add_argument("text", metavar="FILE.toml")
+    one.add_argument("-o", dest="output", required=True, metavar="DECK")
+
+    one = command("show", show, "print the text that a deck is made from")
+    one.add_argument("deck", metavar="DECK")
+
+    for name, function, words in (
+        ("board", write_board, "write the board of a folder's decks: one file of HTML"),
+        ("notice", write_notice, "write the notice of a folder's decks: a text for the clerk"),
+    ):
+        one = command(name, function, words)
+        one.add_argument("folder", metavar="FOLDER")
+        one.add_argument("-o", dest="output", required=True, metavar="FILE")
+        common(one)
+    return parser
+
+
+def _count(word: str) -> int:
+    number = int(word)
+    if not 1 <= number <= 1024:
+        raise argparse.ArgumentTypeError("from 1 to 1024")
+    return number
+
+
+def _terminated(*_: Any) -> NoReturn:
+    raise SystemExit(143)
+
+
+def main(words: list[str] | None = None) -> int:
+    """Runs the command and answers its exit status."""
+    with contextlib.suppress(ValueError):  # not in the main thread
+        signal.signal(signal.SIGTERM, _terminated)
+    out = Output()
+    try:
+        options = _parser().parse_args(words)
+        status = _run(options, out)
+        out.flush()
+        return status
+    except BrokenPipeError:  # who read the lines has gone
+        _close_output()
+        return 2
+    except OSError as fault:
+        _close_output()
+        complain(str(fault))
+        return 2
+    except KeyboardInterrupt:
+        _close_output()
+        return INTERRUPTED
+
+
+def _run(options: argparse.Namespace, out: Output) -> int:
+    try:
+        status: int = options.function(options, out)
+        return status
+    except (Stop, NotThere, files.OverInput) as fault:
+        out.flush()
+        complain(str(fault))
+        return 2
+
+
+def _close_output() -> None:
+    """What could not be written is let go, so that ending the process tries it no second time."""
+    with contextlib.suppress(OSError):
+        os.dup2(os.open(os.devnull, os.O_WRONLY), 1)
+
+
+__all__ = ["Judged", "main"]

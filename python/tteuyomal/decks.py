@@ -1,0 +1,334 @@
+"""Blocks, placements, sheets and decks as values. Each asks the library; nothing is worked out or judged here."""
+
+from __future__ import annotations
+
+import struct
+from collections.abc import Iterable, Iterator, Mapping
+from dataclasses import dataclass
+from typing import Any, NamedTuple
+
+from . import library
+from .library import Contributions, Fields, Refused, Sets, Szeged, Values, Vertex
+
+BLOCK, ASSEMBLY, SHEET, SIX = 1, 2, 3, 4  # kinds of records
+FIELD_NAMES = library.SHEET_NAMES
+
+
+@dataclass(frozen=True)
+class Block:
+    """A molecular graph: so many atoms, numbered from 1, and bonds as pairs of atom numbers.
+
+    A block that the rules refuse can be made; what is asked of it raises `Refused`.
+    """
+
+    atoms: int
+    bonds: tuple[tuple[int, int], ...]
+
+    def __init__(self, atoms: int, bonds: Iterable[tuple[int, int]] = ()) -> None:
+        pairs = tuple((first, second) for _, first, second in library._pairs(bonds))
+        object.__setattr__(self, "atoms", atoms)
+        object.__setattr__(self, "bonds", pairs)
+
+    @classmethod
+    def from_molfile(cls, text: bytes | str) -> Block:
+        """The block of a V2000 molfile's text, without its hydrogens (those with one bond, to an atom that is no H)."""
+        return cls(*library.read_molfile(_encoded(text)))
+
+    @classmethod
+    def from_neighbours(cls, text: bytes | str) -> Block:
+        """The block of a neighbour text: the atom count, then for each atom its label, its neighbours and a 0, and a last 0."""
+        return cls(*library.read_neighbours(_encoded(text)))
+
+    @classmethod
+    def from_rdkit(cls, mol: Any) -> Block:
+        """The block of an RDKit molecule. A hydrogen is left out by the molfile rule: an H with exactly one bond, to an atom that
+        is no H; the others keep their order."""
+        atoms = list(mol.GetAtoms())
+        kept = [atom.GetIdx() for atom in atoms if not _left_out(atom)]
+        numbers = {index: number for number, index in enumerate(kept, 1)}
+        ends = ((bond.GetBeginAtomIdx(), bond.GetEndAtomIdx()) for bond in mol.GetBonds())
+        return cls(len(kept), ((numbers[a], numbers[b]) for a, b in ends if a in numbers and b in numbers))
+
+    def check(self) -> None:
+        """Raises `Refused` unless the block is good."""
+        library.check_block(self.atoms, self.bonds)
+
+    def measure(self) -> Sheet:
+        """Atom count, W, even part, odd part, polarity."""
+        return Sheet(*library.indices(self.atoms, self.bonds))
+
+    def vertex(self, atom: int) -> Vertex:
+        """The sums and counts of one atom's distances."""
+        return library.vertex(self.atoms, self.bonds, atom)
+
+    def contributions(self) -> Contributions:
+        """The common denominator D, and for each bond D times its contribution to W."""
+        return library.contributions(self.atoms, self.bonds)
+
+    def values(self, x: float) -> Values:
+        """The even and the odd polynomial value at x, above 0 and at most 1."""
+        return library.polynomial(self.atoms, self.bonds, x)
+
+    def balaban(self) -> int:
+        """Balaban's J times 10^9, rounded down."""
+        return library.balaban(self.atoms, self.bonds)
+
+    def szeged(self) -> Szeged:
+        """The Szeged index, with its terms bond by bond."""
+        return library.szeged(self.atoms, self.bonds)
+
+    def sets(self) -> Sets:
+        """The Hosoya index and the Merrifield-Simmons index of a tree."""
+        return library.count_sets(self.atoms, self.bonds)
+
+    def farthest(self, atom: int) -> int:
+        """The largest distance from an atom."""
+        return library.farthest(self.atoms, self.bonds, atom)
+
+    def molfile(self) -> bytes:
+        """The block as a V2000 molfile of carbons and single bonds."""
+        return library.write_molfile(self.atoms, self.bonds)
+
+    def neighbours(self) -> bytes:
+        """The block as a neighbour text."""
+        return library.write_neighbours(self.atoms, self.bonds)
+
+    def record(self, number: int) -> bytes:
+        """The block as a record of a deck, under a number."""
+        return library.block_record(number, self.atoms, self.bonds)
+
+
+@dataclass(frozen=True)
+class Placement:
+    """A block put in place: its number, and, for all but the first, the earlier placement, that one's atom and the own atom."""
+
+    block: int
+    parent: int = 0
+    parent_atom: int = 0
+    atom: int = 0
+
+    def numbers(self) -> tuple[int, int, int, int]:
+        """The four numbers, in the order of the record."""
+        return self.block, self.parent, self.parent_atom, self.atom
+
+
+@dataclass(frozen=True)
+class Sheet:
+    """The fields that a sheet claims, or that were worked out. With a largest distance it is a sheet of kind 4."""
+
+    atoms: int
+    w: int
+    even: int
+    odd: int
+    polarity: int
+    largest: int | None = None
+
+    def fields(self) -> tuple[int, ...]:
+        """The five or six fields, in order."""
+        five = (self.atoms, self.w, self.even, self.odd, self.polarity)
+        return five if self.largest is None else five + (self.largest,)
+
+    def record(self) -> bytes:
+        """The sheet as a record of a deck."""
+        return library.sheet_record(self.fields())
+
+    def __str__(self) -> str:
+        words = ("atoms", "W", "even", "odd", "polarity", "largest")
+        return " ".join(f"{word} {number}" for word, number in zip(words, self.fields()))
+
+
+class Verdict(NamedTuple):
+    """What the library says of a deck. It is true only where the sheet was accepted."""
+
+    field: int = 0
+    refusal: Refused | None = None
+
+    @property
+    def word(self) -> str:
+        """`accepted`, `differs` or `refused`."""
+        return "refused" if self.refusal else "differs" if self.field else "accepted"
+
+    def __bool__(self) -> bool:
+        return self.word == "accepted"
+
+    def __str__(self) -> str:
+        if self.refusal:
+            return f"refused {self.refusal.number} at {self.refusal.place}"
+        return f"differs {self.field}" if self.field else "accepted"
+
+
+@dataclass(frozen=True)
+class Deck:
+    """Blocks under their numbers, placements, and for a deck to be judged the sheet that somebody claims."""
+
+    blocks: tuple[tuple[int, Block], ...]
+    placements: tuple[Placement, ...]
+    sheet: Sheet | None = None
+
+    def __init__(
+        self,
+        blocks: Mapping[int, Block] | Iterable[tuple[int, Block]],
+        placements: Iterable[Placement],
+        sheet: Sheet | None = None,
+    ) -> None:
+        pairs = blocks.items() if isinstance(blocks, Mapping) else blocks
+        object.__setattr__(self, "blocks", tuple(pairs))
+        object.__setattr__(self, "placements", tuple(placements))
+        object.__setattr__(self, "sheet", sheet)
+
+    @classmethod
+    def from_bytes(cls, data: library.Bytes) -> Deck:
+        """The deck that some bytes spell; ValueError where they are not blocks, an assembly and perhaps a sheet."""
+        return _parse(library._bytes(data))
+
+    def __bytes__(self) -> bytes:
+        records = [block.record(number) for number, block in self.blocks]
+        records.append(library.assembly_record(placement.numbers() for placement in self.placements))
+        if self.sheet is not None:
+            records.append(self.sheet.record())
+        return b"".join(records)
+
+    def without_sheet(self) -> Deck:
+        """The same blocks and placements."""
+        return Deck(self.blocks, self.placements)
+
+    def with_sheet(self, sheet: Sheet | None = None) -> Deck:
+        """The same with a sheet: the one that is given, or the one that the library works out."""
+        return Deck(self.blocks, self.placements, self.compose() if sheet is None else sheet)
+
+    def judge(self) -> Verdict:
+        """The library's verdict on the sheet."""
+        return judge(bytes(self))
+
+    def compose(self) -> Sheet:
+        """The fields of the whole molecule, whatever sheet the deck has."""
+        return compose(bytes(self.without_sheet()))
+
+    def distance(self, k: int, i: int, l: int, j: int) -> int:
+        """The distance of atom i of placement k and atom j of placement l in the whole molecule."""
+        return library.placed_distance(bytes(self.without_sheet()), k, i, l, j)
+
+
+def judge(deck: Deck | library.Bytes) -> Verdict:
+    """The library's verdict on a deck with a sheet. A refusal is a verdict too: nothing is raised for it."""
+    try:
+        return Verdict(library.judge(_deck_bytes(deck)))
+    except Refused as refusal:
+        return Verdict(refusal=refusal)
+
+
+def judge_many(decks: Iterable[bytes]) -> list[Verdict]:
+    """The verdicts on many decks, each of them bytes."""
+    return [verdict_of(reply) for reply in library.judge_many(decks)]
+
+
+_ACCEPTED = Verdict()
+
+
+def verdict_of(reply: int) -> Verdict:
+    """The verdict that a reply of the C function `tteuyomal_judge` says."""
+    if reply == 0:
+        return _ACCEPTED
+    what, where = reply % 256, reply // 256
+    return Verdict(where) if what == 255 else Verdict(refusal=Refused(what, where))
+
+
+def compose(deck: Deck | library.Bytes) -> Sheet:
+    """The five fields of the molecule of a deck without a sheet; raises `Refused`."""
+    return Sheet(*library.compose(_deck_bytes(deck)))
+
+
+def measure(block: Block) -> Sheet:
+    """The five fields of a block; raises `Refused`."""
+    return block.measure()
+
+
+def contributions(block: Block) -> Contributions:
+    """The common denominator, and each bond's share of W over it; raises `Refused`."""
+    return block.contributions()
+
+
+def values(block: Block, x: float) -> Values:
+    """The even and the odd polynomial value at x; raises `Refused`."""
+    return block.values(x)
+
+
+def records(data: bytes) -> Iterator[tuple[int, int, bytes]]:
+    """The place, kind and payload of each record; ValueError, when it is come to, for one that is cut off."""
+    at = 0
+    while at < len(data):
+        if at + 4 > len(data):
+            raise ValueError(f"the record at byte {at} is cut off")
+        size, kind = struct.unpack_from("<HH", data, at)
+        if at + 4 + size > len(data):
+            raise ValueError(f"the record at byte {at} is cut off")
+        yield at, kind, data[at + 4 : at + 4 + size]
+        at += 4 + size
+
+
+def claimed(data: bytes) -> tuple[int, Sheet]:
+    """Where the last record, a sheet, stands in a deck that the library does not refuse, and what it claims."""
+    at, kind, payload = list(records(data))[-1]
+    return at, _sheet(at, kind, payload)
+
+
+def _parse(data: bytes) -> Deck:
+    blocks: list[tuple[int, Block]] = []
+    placements: tuple[Placement, ...] | None = None
+    sheet: Sheet | None = None
+    for at, kind, payload in records(data):
+        if kind == BLOCK and placements is None:
+            blocks.append(_block(at, payload))
+        elif kind == ASSEMBLY and placements is None:
+            placements = _placements(at, payload)
+        elif kind in (SHEET, SIX) and placements is not None and sheet is None:
+            sheet = _sheet(at, kind, payload)
+        else:
+            raise ValueError(f"the record at byte {at} has kind {kind}, which may not stand there")
+    if placements is None:
+        raise ValueError("there is no assembly")
+    return Deck(blocks, placements, sheet)
+
+
+def _block(at: int, payload: bytes) -> tuple[int, Block]:
+    if len(payload) < 6:
+        raise ValueError(f"the block at byte {at} has no room for its counts")
+    number, atoms, count = struct.unpack_from("<HHH", payload)
+    if len(payload) != 6 + 2 * count:
+        raise ValueError(f"the block at byte {at} has {len(payload)} bytes, which are not those of {count} bonds")
+    return number, Block(atoms, zip(payload[6::2], payload[7::2]))
+
+
+def _placements(at: int, payload: bytes) -> tuple[Placement, ...]:
+    count = struct.unpack_from("<H", payload)[0] if len(payload) >= 2 else 0
+    if len(payload) != 2 + 6 * count:
+        raise ValueError(f"the assembly at byte {at} has {len(payload)} bytes, which are not those of {count} placements")
+    return tuple(Placement(*one) for one in struct.iter_unpack("<HHBB", payload[2:]))
+
+
+def _sheet(at: int, kind: int, payload: bytes) -> Sheet:
+    form = {(SHEET, 36): "<IQQQQ", (SIX, 40): "<IQQQQI"}.get((kind, len(payload)))
+    if form is None:
+        raise ValueError(f"the record at byte {at} is no sheet")
+    return Sheet(*struct.unpack(form, payload))
+
+
+def _deck_bytes(deck: Deck | library.Bytes) -> library.Bytes:
+    return bytes(deck) if isinstance(deck, Deck) else deck
+
+
+def _encoded(text: bytes | str) -> bytes:
+    return text.encode("utf-8", "surrogateescape") if isinstance(text, str) else text
+
+
+def _left_out(atom: Any) -> bool:
+    """Whether an RDKit atom is a hydrogen that a block leaves out."""
+    if atom.GetSymbol() != "H" or atom.GetDegree() != 1:
+        return False
+    return atom.GetNeighbors()[0].GetSymbol() != "H"
+
+
+__all__ = [
+    "Block", "Contributions", "Deck", "FIELD_NAMES", "Fields", "Placement", "Refused", "Sets", "Sheet", "Szeged", "Values",
+    "Verdict", "Vertex", "claimed", "compose", "contributions", "judge", "judge_many", "measure", "records", "values", "verdict_of",
+]  # fmt: skip

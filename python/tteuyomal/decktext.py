@@ -1,0 +1,181 @@
+"""A deck as a text (TOML) that people write and read, and back.
+
+    [[block]]
+    number = 1
+    atoms = 6
+    bonds = ["1-2", "2-3", "3-4", "4-5", "5-6", "6-1"]
+
+    [[block]]
+    number = 2
+    molfile = "toluene.mol"         # or: neighbours = "toluene.txt"
+
+    [[placement]]
+    block = 1
+
+    [[placement]]
+    block = 2
+    parent = 1
+    parent_atom = 4
+    atom = 1
+
+    [sheet]
+    atoms = 13
+    W = 252
+    even = 124
+    odd = 128
+    polarity = 16
+
+A sheet with `largest` is one of kind 4. Bytes that are no deck in this form are told as `bytes = "0C00.."`, so that every file
+has a text, and `made(shown(data))` is `data` for all bytes.
+"""
+
+from __future__ import annotations
+
+import os
+import tomllib
+from collections.abc import Callable, Iterator
+from typing import Any
+
+from .decks import Block, Deck, Placement, Sheet
+
+_SHEET_KEYS = ("atoms", "W", "even", "odd", "polarity", "largest")
+_BLOCK_KEYS = {"number", "atoms", "bonds", "molfile", "neighbours"}
+_PLACEMENT_KEYS = {"block", "parent", "parent_atom", "atom"}
+
+
+class BadText(ValueError):
+    """A text that is no deck, with what is wrong."""
+
+
+def shown(data: bytes) -> str:
+    """The text of a deck."""
+    try:
+        text = "\n".join(_tables(Deck.from_bytes(data)))
+        if made(text) == data:
+            return text
+    except ValueError:
+        pass
+    return f'# no deck of blocks, one assembly and at most one sheet: all its bytes\nbytes = "{data.hex()}"\n'
+
+
+def _tables(deck: Deck) -> Iterator[str]:
+    for number, block in deck.blocks:
+        bonds = ", ".join(f'"{first}-{second}"' for first, second in block.bonds)
+        yield f"[[block]]\nnumber = {number}\natoms = {block.atoms}\nbonds = [{bonds}]\n"
+    for placement in deck.placements:
+        lines = [f"block = {placement.block}"]
+        if placement.numbers()[1:] != (0, 0, 0):
+            lines += [f"parent = {placement.parent}", f"parent_atom = {placement.parent_atom}", f"atom = {placement.atom}"]
+        yield "\n".join(["[[placement]]", *lines, ""])
+    if deck.sheet is not None:
+        yield "\n".join(["[sheet]", *(f"{key} = {n}" for key, n in zip(_SHEET_KEYS, deck.sheet.fields())), ""])
+
+
+def made(text: str, folder: str = ".", reader: Callable[[str], bytes] | None = None) -> bytes:
+    """The bytes of the deck that a text tells; molfiles and neighbour texts that it names stand in the folder. Raises `BadText`, or
+    `Refused` where the library refuses a molfile."""
+    try:
+        tables = tomllib.loads(text)
+    except tomllib.TOMLDecodeError as fault:
+        raise BadText(str(fault)) from None
+    if "bytes" in tables:
+        return _raw(tables)
+    _known(tables, {"block", "placement", "sheet"}, "the text")
+    read = reader or (lambda name: _file(os.path.join(folder, name)))
+    blocks = [_block(table, place, read) for place, table in enumerate(_list(tables, "block"), 1)]
+    placements = [_placement(table, place) for place, table in enumerate(_list(tables, "placement"), 1)]
+    try:
+        return bytes(Deck(blocks, placements, _sheet(tables)))
+    except (TypeError, ValueError) as fault:
+        raise BadText(str(fault)) from None
+
+
+def named_files(text: str, folder: str) -> list[str]:
+    """The files that a text names."""
+    try:
+        tables = _list(tomllib.loads(text), "block")
+    except (tomllib.TOMLDecodeError, BadText):
+        return []
+    return [os.path.join(folder, str(table[key])) for table in tables for key in ("molfile", "neighbours") if key in table]
+
+
+def _file(path: str) -> bytes:
+    with open(path, "rb") as file:
+        return file.read()
+
+
+def _raw(tables: dict[str, Any]) -> bytes:
+    _known(tables, {"bytes"}, "a text with `bytes`")
+    try:
+        return bytes.fromhex(tables["bytes"])
+    except (TypeError, ValueError):
+        raise BadText("`bytes` is no text of hexadecimal digits, two a byte") from None
+
+
+def _known(table: dict[str, Any], keys: set[str], what: str) -> None:
+    for key in table:
+        if key not in keys:
+            raise BadText(f"{what} has `{key}`, which is none of {', '.join(sorted(keys))}")
+
+
+def _list(tables: dict[str, Any], key: str) -> list[dict[str, Any]]:
+    found = tables.get(key, [])
+    if not isinstance(found, list) or not all(isinstance(table, dict) for table in found):
+        raise BadText(f"`{key}` is no list of tables: write [[{key}]]")
+    return found
+
+
+def _number(table: dict[str, Any], key: str, what: str, default: int | None = None) -> int:
+    value = table.get(key, default)
+    if not isinstance(value, int) or isinstance(value, bool):
+        raise BadText(f"{what} has no whole number `{key}`")
+    return value
+
+
+def _block(table: dict[str, Any], place: int, read: Callable[[str], bytes]) -> tuple[int, Block]:
+    what = f"block {place} of the text"
+    _known(table, _BLOCK_KEYS, what)
+    number = _number(table, "number", what)
+    named = [key for key in ("molfile", "neighbours") if key in table]
+    if not named:
+        return number, Block(_number(table, "atoms", what), _bonds(table, what))
+    if len(named) > 1 or "bonds" in table or "atoms" in table:
+        raise BadText(f"{what} has more than one of bonds, molfile and neighbours")
+    make = Block.from_molfile if named == ["molfile"] else Block.from_neighbours
+    name = table[named[0]]
+    if not isinstance(name, str):
+        raise BadText(f"{what}: `{named[0]}` is no name of a file")
+    return number, make(read(name))
+
+
+def _bonds(table: dict[str, Any], what: str) -> list[tuple[int, int]]:
+    bonds = table.get("bonds", [])
+    if not isinstance(bonds, list):
+        raise BadText(f'{what}: `bonds` is no list, as ["1-2", "2-3"]')
+    return [_bond(bond, f"{what}, bond {place}") for place, bond in enumerate(bonds, 1)]
+
+
+def _bond(bond: Any, what: str) -> tuple[int, int]:
+    ends = bond.split("-") if isinstance(bond, str) else bond
+    try:
+        first, second = (int(end) for end in ends)
+    except (TypeError, ValueError):
+        raise BadText(f'{what} is no pair of atom numbers, as "1-2": {bond!r}') from None
+    return first, second
+
+
+def _placement(table: dict[str, Any], place: int) -> Placement:
+    what = f"placement {place} of the text"
+    _known(table, _PLACEMENT_KEYS, what)
+    return Placement(_number(table, "block", what), *(_number(table, key, what, 0) for key in ("parent", "parent_atom", "atom")))
+
+
+def _sheet(tables: dict[str, Any]) -> Sheet | None:
+    if "sheet" not in tables:
+        return None
+    table = tables["sheet"]
+    if not isinstance(table, dict):
+        raise BadText("`sheet` is no table: write [sheet]")
+    _known(table, set(_SHEET_KEYS), "the sheet")
+    five = [_number(table, key, "the sheet") for key in _SHEET_KEYS[:5]]
+    return Sheet(*five, _number(table, "largest", "the sheet") if "largest" in table else None)

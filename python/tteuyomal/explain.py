@@ -1,0 +1,141 @@
+"""A deck in words: its blocks and placements, what is claimed against what is worked out, and a refusal with what it means."""
+
+from __future__ import annotations
+
+import struct
+from collections.abc import Iterator
+
+from . import files, judging
+from .decks import ASSEMBLY, BLOCK, FIELD_NAMES, SHEET, SIX, Placement
+from .judging import ACCEPTED, REFUSED, Judged
+from .library import Refused
+
+KIND_NAMES = {BLOCK: "a block", ASSEMBLY: "the assembly", SHEET: "a sheet", SIX: "a sheet of six fields", 5: "a library"}
+
+
+def explained(judged: Judged) -> Iterator[str]:
+    """The lines of one deck."""
+    yield f"{files.shown(judged.name)}: {judged.size} bytes, SHA-256 {judged.sha256}"
+    yield ""
+    yield from _records(judged.data)
+    yield ""
+    if judged.word == REFUSED:
+        yield from _refusal(judged)
+    else:
+        yield from _fields(judged.claimed, judged.worked)
+        yield ""
+        yield _verdict(judged)
+
+
+def _verdict(judged: Judged) -> str:
+    if judged.word == ACCEPTED:
+        return "accepted: every field that is claimed is the one that the library works out from this deck."
+    others = [FIELD_NAMES[k] for k in judged.wrong() if k + 1 != judged.field]
+    also = f"; wrong too: {', '.join(others)}" if others else ""
+    return f"differs {judged.field}: the first wrong field is {FIELD_NAMES[judged.field - 1]}{also}."
+
+
+def _fields(claimed: tuple[int, ...], worked: tuple[int, ...]) -> Iterator[str]:
+    yield f"{'':<18}{'claimed':>22}{'worked out':>22}"
+    for name, claim, number in zip(FIELD_NAMES, claimed, worked):
+        yield f"{name:<18}{claim:>22}{number:>22}{'' if claim == number else '   wrong'}"
+
+
+def _records(data: bytes) -> Iterator[str]:
+    """Each record as far as it can be read."""
+    at = 0
+    while at + 4 <= len(data):
+        size, kind = struct.unpack_from("<HH", data, at)
+        payload = data[at + 4 : at + 4 + size]
+        yield f"byte {at}: {KIND_NAMES.get(kind, f'kind {kind}, which no record has')}, {size} bytes of payload"
+        if len(payload) < size:
+            yield f"  cut off: the deck ends at byte {len(data)}"
+        yield from (f"  {line}" for line in _contents(kind, payload))
+        at += 4 + size
+    if at < len(data):
+        yield f"byte {at}: {len(data) - at} bytes, too few for a record's head"
+
+
+def _contents(kind: int, payload: bytes) -> Iterator[str]:
+    if kind == BLOCK and len(payload) >= 6:
+        number, atoms, count = struct.unpack_from("<HHH", payload)
+        yield f"block {number}: {atoms} atoms, {count} bonds"
+        pairs = list(zip(payload[6::2], payload[7::2]))
+        for row in range(0, len(pairs), 16):
+            yield " ".join(f"{first}-{second}" for first, second in pairs[row : row + 16])
+    elif kind == ASSEMBLY and len(payload) >= 2:
+        yield f"{struct.unpack_from('<H', payload)[0]} placements"
+        whole = payload[2 : 2 + (len(payload) - 2) // 6 * 6]
+        for place, numbers in enumerate(struct.iter_unpack("<HHBB", whole), 1):
+            yield _placement(place, Placement(*numbers))
+
+
+def _placement(place: int, one: Placement) -> str:
+    if one.numbers()[1:] == (0, 0, 0):
+        return f"placement {place}: block {one.block}"
+    joined = f"its atom {one.atom} bonded to atom {one.parent_atom} of placement {one.parent}"
+    return f"placement {place}: block {one.block}, {joined}"
+
+
+def _refusal(judged: Judged) -> Iterator[str]:
+    yield f"refused {judged.number} at {judged.place}: {judged.words}."
+    yield from where(judged.data, judged.number, judged.place)
+    if judged.number == 11 and judged.place == judged.size:
+        yield from _unclaimed(judged.data)
+
+
+def _unclaimed(data: bytes) -> Iterator[str]:
+    """What the library works out for a deck that is whole but for its sheet."""
+    try:
+        worked = judging.worked_out(data)
+    except Refused:
+        return
+    yield ""
+    yield "The deck has no sheet, so there is nothing to judge. The library works out:"
+    yield from (f"  {name:<18}{number:>22}" for name, number in zip(FIELD_NAMES, worked))
+
+
+def where(data: bytes, number: int, place: int) -> Iterator[str]:
+    """What a place means, and the bytes around it."""
+    if number in (8, 9, 10, 20):
+        return
+    if place >= len(data):
+        yield f"Byte {place} is the deck's end."
+    else:
+        yield f"Byte {place} is {_at(data, place)}."
+    yield from _around(data, place)
+
+
+def _at(data: bytes, place: int) -> str:
+    at = 0
+    while at + 4 <= len(data):
+        size, kind = struct.unpack_from("<HH", data, at)
+        if place < at + 4 + size:
+            return _inside(data[at + 4 : at + 4 + size], kind, at, place)
+        at += 4 + size
+    return "where a record should begin" if at == place else f"in the bytes after the last record, which begin at {at}"
+
+
+def _inside(payload: bytes, kind: int, at: int, place: int) -> str:
+    """What stands at a place of the record that begins at byte `at`."""
+    name = KIND_NAMES.get(kind, f"a record of kind {kind}")
+    if kind == BLOCK and len(payload) >= 6:
+        name = f"block {struct.unpack_from('<H', payload)[0]}"
+        bond = (place - at - 10) // 2
+        if place >= at + 10 and len(payload) >= 8 + 2 * bond:
+            return f"in bond {bond + 1} of {name}, {payload[6 + 2 * bond]}-{payload[7 + 2 * bond]} (the record begins at byte {at})"
+    if kind == ASSEMBLY and place >= at + 6 and len(payload) >= 8 + (place - at - 6) // 6 * 6:
+        one = (place - at - 6) // 6
+        numbers = struct.unpack_from("<HHBB", payload, 2 + 6 * one)
+        return f"in {_placement(one + 1, Placement(*numbers))} (the record begins at byte {at})"
+    return f"the first byte of the record of {name}" if place == at else f"in the record of {name} that begins at byte {at}"
+
+
+def _around(data: bytes, place: int) -> Iterator[str]:
+    """Sixteen bytes before the place and sixteen from it on; the place is marked."""
+    first = max(0, min(place, len(data)) - 16)
+    part = data[first : place + 16]
+    marks = [f"[{byte:02X}]" if first + k == place else f" {byte:02X} " for k, byte in enumerate(part)]
+    if place >= len(data):
+        marks.append("[end]")
+    yield f"  bytes from {first}: {''.join(marks)}"

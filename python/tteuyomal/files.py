@@ -1,0 +1,175 @@
+"""Files and folders: which files there are, their bytes, names that can be printed, and outputs that are whole or not there."""
+
+from __future__ import annotations
+
+import contextlib
+import hashlib
+import heapq
+import os
+import stat
+import sys
+import tempfile
+from collections.abc import Iterable, Iterator
+from typing import IO, Any, NamedTuple
+
+LONGEST = 32768  # bytes of a deck; a longer one is refused whatever its bytes are
+_HELD = 200_000  # names of one folder that are held at a time
+
+
+class Unread(Exception):
+    """A file that could not be read, with the reason."""
+
+
+class Found(NamedTuple):
+    """A file to be read, or the reason why it can't be."""
+
+    name: str
+    fault: str = ""
+
+
+class Contents(NamedTuple):
+    """The front of a file, up to one byte more than the longest deck, and the SHA-256 of all of it."""
+
+    data: bytes
+    sha256: str
+
+
+def find(paths: Iterable[str]) -> Iterator[Found]:
+    """The files that are named, and every file in the folders that are named, in the order of their names. Nothing is passed
+    over in silence: what is no file and no folder is handed on with a fault. `-` is standard input."""
+    for path in paths:
+        if path != "-" and os.path.isdir(path):
+            yield from _within(path)
+        else:
+            yield Found(path)
+
+
+def _within(folder: str) -> Iterator[Found]:
+    try:
+        for name in _names(folder):
+            path = os.path.join(folder, name)
+            yield from _entry(path)
+    except OSError as fault:
+        yield Found(folder, reason(fault))
+
+
+def _entry(path: str) -> Iterator[Found]:
+    try:
+        mode = os.stat(path).st_mode
+    except OSError as fault:
+        yield Found(path, reason(fault))
+        return
+    if stat.S_ISDIR(mode) and os.path.islink(path):
+        yield Found(path, "a link to a folder")
+    elif stat.S_ISDIR(mode):
+        yield from _within(path)
+    elif stat.S_ISREG(mode):
+        yield Found(path)
+    else:
+        yield Found(path, "no file")
+
+
+def _names(folder: str) -> Iterator[str]:
+    """The names in a folder in order, however many: no more than `_HELD` of them are held at a time."""
+    last: str | None = None
+    while True:
+        with os.scandir(folder) as entries:
+            later = (entry.name for entry in entries if last is None or entry.name > last)
+            part = heapq.nsmallest(_HELD, later)
+        yield from part
+        if len(part) < _HELD:
+            return
+        last = part[-1]
+
+
+def read(found: Found, most: int = LONGEST) -> Contents:
+    """The bytes that are judged, one more than `most` at most, with the SHA-256 of the whole; raises `Unread`."""
+    if found.fault:
+        raise Unread(found.fault)
+    try:
+        if found.name == "-":
+            return _contents(sys.stdin.buffer, most)
+        with open(found.name, "rb", buffering=0) as file:
+            return _contents(file, most)
+    except (OSError, ValueError) as fault:
+        raise Unread(reason(fault)) from None
+
+
+def _contents(file: Any, most: int) -> Contents:
+    data = file.read(most + 1) or b""
+    while len(data) <= most:
+        more = file.read(most + 1 - len(data))
+        if not more:
+            break
+        data += more
+    digest = hashlib.sha256(data)
+    if len(data) > most:  # too long already; the rest is read for its SHA-256 alone
+        while more := file.read(1 << 20):
+            digest.update(more)
+    return Contents(data, digest.hexdigest())
+
+
+def reason(fault: Exception) -> str:
+    """Why, in the system's words and without the name."""
+    return (getattr(fault, "strerror", None) or str(fault) or "unknown fault").lower()
+
+
+def shown(name: str) -> str:
+    """A name as it is printed: on one line, and never as bytes that a terminal or a reader of lines would take for something else."""
+    if name.isprintable():
+        return name
+    return "".join(letter if letter.isprintable() and letter != "\\" else _escaped(letter) for letter in name)
+
+
+def _escaped(letter: str) -> str:
+    if 0xDC80 <= ord(letter) <= 0xDCFF:  # a byte that is no UTF-8
+        return f"\\x{ord(letter) - 0xDC00:02x}"
+    return letter.encode("unicode_escape").decode("ascii") if letter != "\\" else "\\\\"
+
+
+class OverInput(Exception):
+    """An output that would stand where an input stands."""
+
+
+def apart(output: str, inputs: Iterable[str]) -> None:
+    """Raises `OverInput` where the output is one of the inputs, by whatever name or link, or stands in a folder that is one."""
+    for path in inputs:
+        if path != "-" and os.path.exists(path):
+            if os.path.exists(output) and os.path.samefile(path, output):
+                raise OverInput(f"{shown(output)} is an input: the output must be another file")
+            if os.path.isdir(path) and _holds(path, output):
+                raise OverInput(f"{shown(output)} would stand among the decks of {shown(path)}: write it elsewhere")
+
+
+def _holds(folder: str, output: str) -> bool:
+    folder, output = os.path.realpath(folder), os.path.realpath(output)
+    return os.path.commonpath([folder, output]) == folder
+
+
+@contextlib.contextmanager
+def written(path: str) -> Iterator[IO[bytes]]:
+    """A file to write to. It gets its name when all is written; after a fault or an interrupt nothing of it is left, and what
+    stood under the name before stands there still."""
+    folder, name = os.path.split(os.path.abspath(path))
+    handle, part = tempfile.mkstemp(prefix=f".{name[:80]}.", suffix=".part", dir=folder)
+    try:
+        with os.fdopen(handle, "wb") as file:
+            yield file
+            file.flush()
+            os.fchmod(file.fileno(), _mode(path))
+            os.fsync(file.fileno())
+        os.replace(part, path)
+    except BaseException:
+        with contextlib.suppress(OSError):
+            os.unlink(part)
+        raise
+
+
+def _mode(path: str) -> int:
+    """The rights of the file that is replaced, or those that a new one gets."""
+    try:
+        return stat.S_IMODE(os.stat(path).st_mode)
+    except OSError:
+        mask = os.umask(0)
+        os.umask(mask)
+        return 0o666 & ~mask

@@ -1,0 +1,146 @@
+"""A file judged: the verdict of the library, what the sheet claims and what the library works out."""
+
+from __future__ import annotations
+
+import json
+import os
+from typing import Any, NamedTuple
+
+from . import decks, files, library
+from .decks import FIELD_NAMES, Sheet, Verdict
+from .files import Found, Unread
+from .library import Refused
+
+ACCEPTED, DIFFERS, REFUSED, UNREAD = "accepted", "differs", "refused", "cannot be read"
+WORDS = (ACCEPTED, DIFFERS, REFUSED, UNREAD)
+STATUS = {ACCEPTED: 0, DIFFERS: 1, REFUSED: 2, UNREAD: 2}
+NONE_JUDGED = 2  # the exit status where there was no deck
+
+
+class Judged(NamedTuple):
+    """What came out for one file. `claimed` and `worked` are there where the deck was not refused."""
+
+    name: str
+    word: str
+    sha256: str = ""
+    size: int = 0
+    field: int = 0
+    number: int = 0
+    place: int = 0
+    fault: str = ""
+    claimed: tuple[int, ...] = ()
+    worked: tuple[int, ...] = ()
+    data: bytes = b""
+
+    @property
+    def status(self) -> int:
+        """The exit status that this file asks for."""
+        return STATUS[self.word]
+
+    @property
+    def words(self) -> str:
+        """What the refusal's number says."""
+        return Refused(self.number, self.place).words if self.word == REFUSED else ""
+
+    def verdict(self) -> str:
+        """The verdict as it stands in a line."""
+        if self.word == DIFFERS:
+            return f"differs {self.field}"
+        if self.word == REFUSED:
+            return f"refused {self.number} at {self.place}"
+        return self.word
+
+    def line(self) -> str:
+        """The line of this file."""
+        return f"{files.shown(self.name)}: {self.verdict()}"
+
+    def wrong(self) -> list[int]:
+        """The places, from 0, of the fields that are claimed wrongly."""
+        return [k for k, (claim, number) in enumerate(zip(self.claimed, self.worked)) if claim != number]
+
+    def json(self) -> str:
+        """One object on one line."""
+        said: dict[str, Any] = {"file": files.shown(self.name), "sha256": self.sha256 or None, "verdict": self.word}
+        if not self.name.isprintable():
+            said["file_bytes"] = os.fsencode(self.name).hex()
+        if self.word == DIFFERS:
+            said["field"] = self.field
+        if self.claimed:
+            said["claimed"] = named(self.claimed)
+            said["worked_out"] = named(self.worked)
+        if self.word == REFUSED:
+            said["refusal"] = {"number": self.number, "place": self.place, "words": self.words}
+        if self.fault:
+            said["fault"] = self.fault
+        return json.dumps(said)
+
+
+JSON_NAMES = ("atoms", "w", "even", "odd", "polarity", "largest")
+
+
+def named(fields: tuple[int, ...]) -> dict[str, int]:
+    """The fields under their names."""
+    return dict(zip(JSON_NAMES, fields))
+
+
+def judge_file(found: Found, fields: bool = True) -> Judged:
+    """Reads and judges one file. Without `fields` only the verdict is asked for."""
+    try:
+        data, sha256 = files.read(found)
+    except Unread as fault:
+        return Judged(found.name, UNREAD, fault=str(fault))
+    return judge_bytes(found.name, data, sha256, fields)
+
+
+def judge_bytes(name: str, data: bytes, sha256: str, fields: bool = True) -> Judged:
+    """Judges a deck that was read."""
+    reply = library.judge_reply(data)
+    what, where = reply % 256, reply // 256
+    if what not in (0, 255):
+        return Judged(name, REFUSED, sha256, len(data), number=what, place=where, data=data)
+    word, field = (ACCEPTED, 0) if what == 0 else (DIFFERS, where)
+    if not fields:
+        return Judged(name, word, sha256, len(data), field, data=data)
+    at, sheet = decks.claimed(data)
+    worked = worked_out(data[:at], len(sheet.fields()))
+    return Judged(name, word, sha256, len(data), field, claimed=sheet.fields(), worked=worked, data=data)
+
+
+def worked_out(deck: bytes, count: int = 5) -> tuple[int, ...]:
+    """The five or six fields of a deck without a sheet, as the library works them out; raises `Refused`."""
+    return tuple(library.compose_six(deck) if count == 6 else library.compose(deck))
+
+
+class Tally:
+    """How many of each verdict there were, and the exit status that they make together."""
+
+    def __init__(self) -> None:
+        self.counts = dict.fromkeys(WORDS, 0)
+
+    def add(self, word: str, count: int = 1) -> None:
+        """Counts a verdict."""
+        self.counts[word] += count
+
+    def add_all(self, counts: dict[str, int]) -> None:
+        """Counts what another tally has."""
+        for word, count in counts.items():
+            self.counts[word] += count
+
+    @property
+    def total(self) -> int:
+        """How many files there were."""
+        return sum(self.counts.values())
+
+    @property
+    def status(self) -> int:
+        """0 only if there was a deck and every one was read and accepted; the greater wins."""
+        return max((STATUS[word] for word, count in self.counts.items() if count), default=NONE_JUDGED)
+
+    def __str__(self) -> str:
+        if not self.total:
+            return "no deck was judged"
+        kinds = ", ".join(f"{count} {word}" for word, count in self.counts.items() if count)
+        return f"{self.total} {'deck' if self.total == 1 else 'decks'}: {kinds}"
+
+
+__all__ = ["FIELD_NAMES", "Judged", "Sheet", "Tally", "Verdict", "judge_bytes", "judge_file", "named", "worked_out"]

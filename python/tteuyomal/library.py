@@ -1,0 +1,484 @@
+"""The C functions of the proved library, one Python function each, over `ctypes`. No number is worked out here.
+
+The shared object stands beside this file (`make python` puts it there); the environment variable TTEUYOMAL_SO names another one.
+A refusal is raised as `Refused`, with its number and place. What each function refuses, and in what order, stands in
+include/tteuyomal.h.
+
+A deck is bytes, or any iterable of bytes. Bonds are pairs of atom numbers, or the bond bytes themselves. A number too
+large for C gets the refusal that the rules have for it; what no rule speaks of (a negative number, a bond that is no
+pair, a number that a record has no room for) is a ValueError, and what is no number a TypeError.
+
+To add a function of the library: its row of arguments below (`_name = _function(..)`), a wrapper, and its refusals' words.
+"""
+
+from __future__ import annotations
+
+import ctypes
+import math
+import numbers
+import operator
+import os
+import struct
+from collections.abc import Iterable
+from ctypes import c_char_p, c_double, c_size_t, c_uint8, c_uint64
+from typing import Any, NamedTuple
+
+Bonds = Iterable[tuple[int, int]] | bytes
+Bytes = Iterable[int]
+
+
+class Fields(NamedTuple):
+    """The five fields of a block or of a deck's molecule."""
+
+    atoms: int
+    w: int
+    even: int
+    odd: int
+    polarity: int
+
+
+class Six(NamedTuple):
+    """The five fields and the largest distance."""
+
+    atoms: int
+    w: int
+    even: int
+    odd: int
+    polarity: int
+    largest: int
+
+
+class Vertex(NamedTuple):
+    """An atom's sum of distances, its even and odd part, the atoms at even and odd distance, at distance 1 and at 2."""
+
+    sum: int
+    even: int
+    odd: int
+    even_count: int
+    odd_count: int
+    ones: int
+    twos: int
+
+
+class Contributions(NamedTuple):
+    """The common denominator D, and for each bond D times its contribution to W."""
+
+    denominator: int
+    shares: list[int]
+
+
+class Values(NamedTuple):
+    """The even and the odd polynomial value."""
+
+    even: float
+    odd: float
+
+
+class Szeged(NamedTuple):
+    """The Szeged index, and its terms bond by bond."""
+
+    index: int
+    terms: list[int]
+
+
+class Sets(NamedTuple):
+    """How many sets of bonds share no atom (Hosoya), and of atoms have no bond (Merrifield and Simmons)."""
+
+    bonds: int
+    atoms: int
+
+
+class ReadBlock(NamedTuple):
+    """A block that was read from a text: the atom count, and pairs of atom numbers."""
+
+    atoms: int
+    bonds: list[tuple[int, int]]
+
+
+# The words of the refusals in include/tteuyomal.h, by number; tests/test_words.py holds them together.
+WORDS = {
+    1: "the atom count is 0 or above 64",
+    2: "the bond bytes are odd in number, or more than 256",
+    3: "a bond end is 0 or above the atom count",
+    4: "both ends are the same atom",
+    5: "the bond was listed before, either way round",
+    6: "the bond is an atom's fifth",
+    7: "some pair of atoms has no path",
+    8: "the common denominator is above 1,000,000",
+    9: "a lent output is too short",
+    10: "x is 0, negative, above 1 or a NaN",
+    11: "a record is cut off, the deck ends early, or bytes follow its last record",
+    12: "a kind that may not stand there",
+    13: "a payload length that is not its kind's",
+    14: "a block number that is 0 or used before, or a 17th block",
+    15: "the placement count is 0 or above 32",
+    16: "the placement's block is not in the deck",
+    17: "a first placement with a join, or a parent that is 0 or not earlier",
+    18: "a join atom is 0 or above its block's atom count; at place 0: no such placement or atom as was asked about",
+    19: "the join is some atom's fifth bond, earlier joins counted",
+    20: "the deck is longer than 32,768 bytes",
+}
+
+
+class Refused(Exception):
+    """The library refused: `number` says why, `place` says where."""
+
+    def __init__(self, number: int, place: int) -> None:
+        super().__init__(number, place)
+        self.number = number
+        self.place = place
+
+    def __eq__(self, other: object) -> bool:
+        return isinstance(other, Refused) and self.args == other.args
+
+    def __hash__(self) -> int:
+        return hash(self.args)
+
+    @property
+    def words(self) -> str:
+        """What the number says."""
+        return WORDS.get(self.number, "no words for this number")
+
+    def __str__(self) -> str:
+        return f"refused {self.number} at {self.place}: {self.words}"
+
+
+class NotThere(Exception):
+    """The shared object has no such function: it is older than this package."""
+
+
+SHARED_OBJECT = os.environ.get("TTEUYOMAL_SO") or os.path.join(os.path.dirname(os.path.abspath(__file__)), "libtteuyomal.so")
+
+
+def _load() -> ctypes.CDLL:
+    try:
+        return ctypes.CDLL(SHARED_OBJECT)
+    except OSError as fault:
+        raise ImportError(f"the library can't be loaded ({fault}); `make python` in the repository puts it there") from fault
+
+
+_library = _load()
+_NUMBERS = [ctypes.POINTER(c_uint64), c_size_t]
+_BYTES = [ctypes.POINTER(c_uint8), c_size_t]
+_DECK = [c_char_p, c_size_t]
+_BLOCK = [c_size_t, c_char_p, c_size_t]
+_TEXT = [c_char_p, c_size_t]
+
+
+def _function(name: str, arguments: list[Any]) -> Any:
+    try:
+        function = getattr(_library, "tteuyomal_" + name)
+    except AttributeError:
+
+        def missing(*_: Any) -> int:
+            raise NotThere(f"this library has no tteuyomal_{name}")
+
+        return missing
+    function.argtypes = arguments
+    function.restype = c_uint64
+    return function
+
+
+def has(name: str) -> bool:
+    """Whether the library has the C function `tteuyomal_` and this name."""
+    return hasattr(_library, "tteuyomal_" + name)
+
+
+_version = _function("version", [])
+_judge = _function("judge", _DECK)
+_write_sheet = _function("write_sheet", _DECK + _BYTES)
+_compose = _function("compose", _DECK + _NUMBERS)
+_placed_distance = _function("placed_distance", _DECK + 4 * [c_size_t] + _NUMBERS)
+_check_block = _function("check_block", _BLOCK)
+_indices = _function("indices", _BLOCK + _NUMBERS)
+_vertex = _function("vertex", _BLOCK + [c_size_t] + _NUMBERS)
+_contributions = _function("contributions", _BLOCK + _NUMBERS + _NUMBERS)
+_polynomial = _function("polynomial", _BLOCK + [c_double, ctypes.POINTER(c_double), c_size_t])
+
+
+def _told(reply: int) -> int:
+    """0 for fine, the first wrong field where a sheet differs; a refusal is raised."""
+    what, where = reply % 256, reply // 256
+    if what == 255:
+        return where
+    if what != 0:
+        raise Refused(what, where)
+    return 0
+
+
+def _numbers(function: Any, inputs: list[Any], count: int) -> list[int]:
+    """Calls with room for so many numbers, and hands them back."""
+    out = (c_uint64 * count)()
+    _told(function(*inputs, out, count))
+    return list(out)
+
+
+def _whole(number: int, what: str, most: int) -> int:
+    """A number that is handed over. One above `most` becomes it: the rules refuse both alike, wherever this is used."""
+    number = operator.index(number)
+    if number < 0:
+        raise ValueError(f"{what} is negative: {number}")
+    return min(number, most)
+
+
+def _size(number: int, what: str) -> int:
+    return _whole(number, what, 2**64 - 1)
+
+
+def _exactly(number: int, what: str, most: int) -> int:
+    """A number that stands in a record, where there is room up to `most`."""
+    number = operator.index(number)
+    if not 0 <= number <= most:
+        raise ValueError(f"{what} is not from 0 to {most}: {number}")
+    return number
+
+
+def _float(x: float) -> float:
+    if not isinstance(x, numbers.Real):
+        raise TypeError(f"x is no real number: {x!r}")
+    try:
+        return float(x)
+    except OverflowError:  # above 1, or negative, and no float holds it: the infinity on its side is refused alike
+        return math.inf if x > 0 else -math.inf
+
+
+def _bytes(data: Bytes, what: str = "a deck") -> bytes:
+    if type(data) is bytes:
+        return data
+    try:
+        view = memoryview(data)  # type: ignore[arg-type]
+    except TypeError:
+        return bytes(iter(data))  # not bytes(40), which is 40 zeros
+    if view.itemsize != 1:
+        raise TypeError(f"{what} is made of bytes, not of entries of {view.itemsize} bytes")
+    return view.tobytes()
+
+
+def _lent(data: Bytes, what: str = "a deck") -> list[Any]:
+    data = _bytes(data, what)
+    return [data, len(data)]
+
+
+def _pairs(bonds: Iterable[tuple[int, int]]) -> Iterable[tuple[int, int, int]]:
+    """The ends of each bond, with what is said of a bond that is no pair."""
+    for place, bond in enumerate(bonds, 1):
+        try:
+            first, second = bond
+        except (TypeError, ValueError):
+            raise ValueError(f"bond {place} is no pair of atom numbers: {bond!r}") from None
+        yield place, first, second
+
+
+def _bond_bytes(bonds: Bonds) -> bytes:
+    """Two bytes a bond. An atom number above 255 becomes 255: no block has either, and 3 is said in its turn."""
+    if isinstance(bonds, (bytes, bytearray, memoryview)):
+        return _bytes(bonds, "a list of bonds")
+    ends = bytearray()
+    for place, first, second in _pairs(bonds):
+        ends += bytes(_whole(end, f"an end of bond {place}", 255) for end in (first, second))
+    return bytes(ends)
+
+
+def _block(atoms: int, bonds: Bonds) -> list[Any]:
+    ends = _bond_bytes(bonds)
+    return [_size(atoms, "the atom count"), ends, len(ends)]
+
+
+def _record(kind: int, payload: bytes) -> bytes:
+    return struct.pack("<HH", _exactly(len(payload), "the payload's length", 65535), kind) + payload
+
+
+def block_record(number: int, atoms: int, bonds: Iterable[tuple[int, int]]) -> bytes:
+    """A block's record; `bonds` are pairs of atom numbers from 1."""
+    ends = bytearray()
+    for place, first, second in _pairs(bonds):
+        ends += bytes(_exactly(end, f"an end of bond {place}", 255) for end in (first, second))
+    head = (number, "the block number"), (atoms, "the atom count"), (len(ends) // 2, "the number of bonds")
+    return _record(1, struct.pack("<HHH", *(_exactly(n, what, 65535) for n, what in head)) + ends)
+
+
+def assembly_record(placements: Iterable[Iterable[int]]) -> bytes:
+    """An assembly's record; each placement is (block number, parent placement, parent's atom, own atom)."""
+    names = ("block number", 65535), ("parent", 65535), ("parent's atom", 255), ("own atom", 255)
+    rows = []
+    for place, one in enumerate(placements, 1):
+        one = tuple(one)
+        if len(one) != 4:
+            raise ValueError(f"placement {place} is not four numbers: {one!r}")
+        checked = (_exactly(n, f"the {name} of placement {place}", most) for n, (name, most) in zip(one, names))
+        rows.append(struct.pack("<HHBB", *checked))
+    return _record(2, struct.pack("<H", _exactly(len(rows), "the placement count", 65535)) + b"".join(rows))
+
+
+SHEET_NAMES = ("atoms", "W", "even part", "odd part", "polarity", "largest distance")
+
+
+def sheet_record(fields: Iterable[int]) -> bytes:
+    """A sheet's record of kind 3 from five fields, or of kind 4 from six."""
+    fields = tuple(fields)
+    form = {5: "<IQQQQ", 6: "<IQQQQI"}.get(len(fields))
+    if form is None:
+        raise ValueError(f"a sheet has five or six fields, not {len(fields)}")
+    widths = [2**32 - 1 if letter == "I" else 2**64 - 1 for letter in form[1:]]
+    checked = [_exactly(n, name, most) for n, name, most in zip(fields, SHEET_NAMES, widths)]
+    return _record(3 if len(fields) == 5 else 4, struct.pack(form, *checked))
+
+
+def version() -> str:
+    """The library's version: the three numbers of `tteuyomal_version`."""
+    if not has("version"):
+        return "unnumbered"
+    number = _version()
+    return f"{number // 1_000_000}.{number // 1_000 % 1_000}.{number % 1_000}"
+
+
+def judge(deck: Bytes) -> int:
+    """0 when the sheet that ends the deck is right, else its first wrong field, from 1."""
+    return _told(_judge(*_lent(deck)))
+
+
+def judge_reply(deck: bytes) -> int:
+    """The reply as C has it: 0 accepted, 255 + 256 k where field k is the first wrong one, else the refusal's number + 256 times
+    its place."""
+    return _judge(deck, len(deck))
+
+
+def judge_many(decks: Iterable[bytes]) -> list[int]:
+    """The replies as C has them for many decks, each of them `bytes`."""
+    judged = _judge
+    return [judged(deck, len(deck)) for deck in decks]
+
+
+def write_sheet(deck: Bytes) -> bytes:
+    """The sheet of a deck without one: the 40 bytes to put behind it."""
+    out = (c_uint8 * 40)()
+    _told(_write_sheet(*_lent(deck), out, 40))
+    return bytes(out)
+
+
+def compose(deck: Bytes) -> Fields:
+    """The five fields of a deck without a sheet."""
+    return Fields(*_numbers(_compose, _lent(deck), 5))
+
+
+def placed_distance(deck: Bytes, k: int, i: int, l: int, j: int) -> int:
+    """The distance of atom i of placement k and atom j of placement l."""
+    asked = [_size(number, "a placement or atom") for number in (k, i, l, j)]
+    return _numbers(_placed_distance, _lent(deck) + asked, 1)[0]
+
+
+def check_block(atoms: int, bonds: Bonds) -> None:
+    """Raises `Refused` unless the block is good."""
+    _told(_check_block(*_block(atoms, bonds)))
+
+
+def indices(atoms: int, bonds: Bonds) -> Fields:
+    """The five fields of a block."""
+    return Fields(*_numbers(_indices, _block(atoms, bonds), 5))
+
+
+def vertex(atoms: int, bonds: Bonds, atom: int) -> Vertex:
+    """The seven numbers of one atom of a block."""
+    return Vertex(*_numbers(_vertex, _block(atoms, bonds) + [_size(atom, "an atom")], 7))
+
+
+def contributions(atoms: int, bonds: Bonds) -> Contributions:
+    """D, and for each bond the whole number D times its contribution to W."""
+    block = _block(atoms, bonds)
+    room = block[2] // 2
+    shares, denominator = (c_uint64 * room)(), (c_uint64 * 1)()
+    _told(_contributions(*block, shares, room, denominator, 1))
+    return Contributions(denominator[0], list(shares))
+
+
+def polynomial(atoms: int, bonds: Bonds, x: float) -> Values:
+    """The even and the odd polynomial value at x."""
+    values = (c_double * 2)()
+    _told(_polynomial(*_block(atoms, bonds), _float(x), values, 2))
+    return Values(*values)
+
+
+# ---- functions of requests; each needs a library that has it ----
+
+_balaban = _function("balaban", _BLOCK + _NUMBERS)
+_szeged = _function("szeged", _BLOCK + _NUMBERS + _NUMBERS)
+_count_sets = _function("count_sets", _BLOCK + _NUMBERS)
+_farthest = _function("farthest", _BLOCK + [c_size_t] + _NUMBERS)
+_write_six = _function("write_six", _DECK + _BYTES)
+_compose_six = _function("compose_six", _DECK + _NUMBERS)
+_read_molfile = _function("read_molfile", _TEXT + _BYTES + _NUMBERS)
+_write_molfile = _function("write_molfile", _BLOCK + _BYTES + _NUMBERS)
+_read_neighbours = _function("read_neighbours", _TEXT + _BYTES + _NUMBERS)
+_write_neighbours = _function("write_neighbours", _BLOCK + _BYTES + _NUMBERS)
+
+_TEXT_ROOM = 16384  # more than any block's text has
+_BOND_ROOM = 512  # more than any block's bonds have
+
+
+def balaban(atoms: int, bonds: Bonds) -> int:
+    """Balaban's J times 10^9, rounded down."""
+    return _numbers(_balaban, _block(atoms, bonds), 1)[0]
+
+
+def szeged(atoms: int, bonds: Bonds) -> Szeged:
+    """The Szeged index with its terms, one a bond in list order."""
+    block = _block(atoms, bonds)
+    room = block[2] // 2
+    terms, index = (c_uint64 * room)(), (c_uint64 * 1)()
+    _told(_szeged(*block, terms, room, index, 1))
+    return Szeged(index[0], list(terms))
+
+
+def count_sets(atoms: int, bonds: Bonds) -> Sets:
+    """The Hosoya index and the Merrifield-Simmons index of a tree."""
+    return Sets(*_numbers(_count_sets, _block(atoms, bonds), 2))
+
+
+def farthest(atoms: int, bonds: Bonds, atom: int) -> int:
+    """The largest distance from one atom of a block."""
+    return _numbers(_farthest, _block(atoms, bonds) + [_size(atom, "an atom")], 1)[0]
+
+
+def write_six(deck: Bytes) -> bytes:
+    """The sheet of kind 4 of a deck without one: the 44 bytes to put behind it."""
+    out = (c_uint8 * 44)()
+    _told(_write_six(*_lent(deck), out, 44))
+    return bytes(out)
+
+
+def compose_six(deck: Bytes) -> Six:
+    """The five fields of a deck without a sheet, and the largest distance."""
+    return Six(*_numbers(_compose_six, _lent(deck), 6))
+
+
+def _read_text(function: Any, text: Bytes) -> ReadBlock:
+    bonds, counts = (c_uint8 * _BOND_ROOM)(), (c_uint64 * 2)()
+    _told(function(*_lent(text, "a text"), bonds, _BOND_ROOM, counts, 2))
+    ends = bytes(bonds)[: 2 * counts[1]]
+    return ReadBlock(counts[0], list(zip(ends[::2], ends[1::2])))
+
+
+def _write_text(function: Any, atoms: int, bonds: Bonds) -> bytes:
+    text, length = (c_uint8 * _TEXT_ROOM)(), (c_uint64 * 1)()
+    _told(function(*_block(atoms, bonds), text, _TEXT_ROOM, length, 1))
+    return bytes(text)[: length[0]]
+
+
+def read_molfile(text: Bytes) -> ReadBlock:
+    """The block of a V2000 molfile: an H with one bond, to an atom that is no H, is left out."""
+    return _read_text(_read_molfile, text)
+
+
+def write_molfile(atoms: int, bonds: Bonds) -> bytes:
+    """A block as a V2000 molfile of carbons and single bonds."""
+    return _write_text(_write_molfile, atoms, bonds)
+
+
+def read_neighbours(text: Bytes) -> ReadBlock:
+    """The block of a neighbour text."""
+    return _read_text(_read_neighbours, text)
+
+
+def write_neighbours(atoms: int, bonds: Bonds) -> bytes:
+    """A block as a neighbour text."""
+    return _write_text(_write_neighbours, atoms, bonds)

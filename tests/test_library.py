@@ -1,0 +1,136 @@
+"""The functions of tteuyomal.library: answers, refusals, and numbers of every size."""
+
+import pickle
+import unittest
+
+from common import FORTY, JUDGED, RIGHT, RING
+
+from tteuyomal import library
+from tteuyomal.library import Refused
+
+
+class Refusals(unittest.TestCase):
+    def refuses(self, number, place, function, *arguments):
+        with self.assertRaises(Refused) as caught:
+            function(*arguments)
+        self.assertEqual((caught.exception.number, caught.exception.place), (number, place))
+
+    def test_numbers_outside_64_bits(self):
+        for atoms in (65, 2**32 + 6, 2**63, 2**64, 2**64 + 6, 10**40):
+            with self.subTest(atoms):
+                self.refuses(1, 0, library.check_block, atoms, RING)
+                self.refuses(1, 0, library.indices, atoms, RING)
+                self.refuses(1, 0, library.contributions, atoms, RING)
+                self.refuses(1, 0, library.polynomial, atoms, RING, 0.5)
+        for atom in (0, 7, 2**64, 2**64 + 1):
+            with self.subTest(atom):
+                self.refuses(18, 0, library.vertex, 6, RING, atom)
+                for asked in ((atom, 1, 1, 1), (1, atom, 1, 1), (1, 1, atom, 1), (1, 1, 1, atom)):
+                    self.refuses(18, 0, library.placed_distance, FORTY, *asked)
+
+    def test_atom_numbers_above_a_byte(self):
+        for end in (7, 255, 256, 257, 2**64 + 1):
+            with self.subTest(end):
+                self.refuses(3, 2, library.check_block, 6, [(1, 2), (end, 3)])
+                self.refuses(3, 2, library.indices, 6, [(1, 2), (3, end)])
+        self.refuses(4, 1, library.check_block, 6, [(2, 2), (256, 257)])
+
+    def test_negative_numbers(self):
+        for call in (
+            lambda: library.check_block(-1, RING),
+            lambda: library.indices(-(2**64) + 6, RING),
+            lambda: library.indices(6, [(1, -1)]),
+            lambda: library.vertex(6, RING, -1),
+            lambda: library.placed_distance(FORTY, 1, -1, 1, 1),
+        ):
+            with self.assertRaisesRegex(ValueError, "negative"):
+                call()
+
+    def test_a_bond_that_is_no_pair(self):
+        for bond in [(1,), (1, 2, 3), (), 5, None]:
+            with self.subTest(bond), self.assertRaisesRegex(ValueError, "bond 2 is no pair"):
+                library.check_block(6, [(1, 2), bond])
+            with self.subTest(bond), self.assertRaisesRegex(ValueError, "bond 2 is no pair"):
+                library.block_record(1, 6, [(1, 2), bond])
+
+    def test_what_is_no_number(self):
+        for call in (
+            lambda: library.check_block(6.0, RING),
+            lambda: library.check_block("6", RING),
+            lambda: library.check_block(6, [("1", 2)]),
+            lambda: library.check_block(6, [(1, 2.0)]),
+            lambda: library.polynomial(6, RING, "0.5"),
+            lambda: library.polynomial(6, RING, 1j),
+        ):
+            self.assertRaises(TypeError, call)
+
+    def test_records_have_room_for_so_much(self):
+        for call in (
+            lambda: library.block_record(65536, 6, RING),
+            lambda: library.block_record(-1, 6, RING),
+            lambda: library.block_record(1, 65536, RING),
+            lambda: library.block_record(1, 6, [(1, 256)]),
+            lambda: library.block_record(1, 6, [(1, 2)] * 40000),
+            lambda: library.assembly_record([(1, 0, 0, 256)]),
+            lambda: library.assembly_record([(65536, 0, 0, 0)]),
+            lambda: library.assembly_record([(1, 0, 0)]),
+            lambda: library.assembly_record([(1, 0, 0, 0)] * 20000),
+        ):
+            self.assertRaises(ValueError, call)
+
+    def test_x(self):
+        for x in (0, -0.0, -1, 1.5, float("nan"), float("inf"), 10**400, -(10**400)):
+            with self.subTest(x):
+                self.refuses(10, 0, library.polynomial, 6, RING, x)
+        self.assertEqual(library.polynomial(6, RING, 1), (6.0, 9.0))
+
+    def test_a_deck_is_bytes(self):
+        for deck in (40, 0, None, "accepted", [256], 4.0):
+            with self.subTest(deck):
+                self.assertRaises(ValueError if deck == [256] else TypeError, library.judge, deck)
+        whole = FORTY + RIGHT
+        for deck in (whole, bytearray(whole), memoryview(whole), list(whole), iter(whole)):
+            self.assertEqual(library.judge(deck), 0)
+        self.assertRaises(TypeError, library.judge, memoryview(whole).cast("Q"))
+
+    def test_pickled(self):
+        again = pickle.loads(pickle.dumps(Refused(5, 30)))
+        self.assertEqual((again.number, again.place, str(again)), (5, 30, str(Refused(5, 30))))
+        self.assertIn("listed before", str(again))
+        self.assertIn("no words", str(Refused(253, 0)))
+
+
+class Answers(unittest.TestCase):
+    def test_verdicts(self):
+        for deck, line in JUDGED:
+            with self.subTest(line):
+                try:
+                    field = library.judge(deck)
+                    said = f"differs {field}" if field else "accepted"
+                except Refused as refusal:
+                    said = f"refused {refusal.number} at {refusal.place}"
+                self.assertEqual(said, line)
+
+    def test_generators(self):
+        ring = lambda: ((a, a % 6 + 1) for a in range(1, 7))
+        places = (one for one in [(1, 0, 0, 0), (1, 1, 1, 1)])
+        self.assertEqual(library.block_record(1, 6, ring()) + library.assembly_record(places), FORTY)
+        self.assertIsNone(library.check_block(6, ring()))
+        self.assertEqual(library.indices(6, ring()), (6, 27, 12, 15, 3))
+        self.assertEqual(library.contributions(6, ring()), (2, [9] * 6))
+        self.assertEqual(library.vertex(6, ring(), 1), (9, 4, 5, 3, 3, 2, 2))
+
+    def test_bond_bytes(self):
+        self.assertEqual(library.indices(6, FORTY[10:22]), (6, 27, 12, 15, 3))
+        with self.assertRaises(Refused) as caught:
+            library.contributions(6, FORTY[10:21])
+        self.assertEqual((caught.exception.number, caught.exception.place), (2, 0))
+
+    def test_one_atom(self):
+        self.assertEqual(library.indices(1, []), (1, 0, 0, 0, 0))
+        self.assertEqual(library.contributions(1, iter(())), (1, []))
+
+    def test_decks(self):
+        self.assertEqual(library.compose(FORTY), (12, 198, 96, 102, 14))
+        self.assertEqual(library.write_sheet(FORTY), RIGHT)
+        self.assertEqual(library.placed_distance(FORTY, 1, 4, 2, 4), 7)

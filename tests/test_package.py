@@ -1,0 +1,133 @@
+"""The package: blocks, decks, sheets and verdicts as values; and what `pip install` and `make install` put in place."""
+
+import os
+import pickle
+import shutil
+import subprocess
+import sys
+import tempfile
+import unittest
+
+from common import FORTY, HEADER, JUDGED, PYTHON, RIGHT, RING, ROOT, sheet
+
+import tteuyomal
+from tteuyomal import Block, Deck, NotThere, Placement, Refused, Sheet, Verdict, library
+
+RING_OF_6 = Block(6, RING)
+TWO_RINGS = Deck({1: RING_OF_6}, [Placement(1), Placement(1, parent=1, parent_atom=1, atom=1)])
+
+
+class Values(unittest.TestCase):
+    def test_deck_is_its_bytes(self):
+        self.assertEqual(bytes(TWO_RINGS), FORTY)
+        self.assertEqual(Deck.from_bytes(FORTY), TWO_RINGS)
+        whole = TWO_RINGS.with_sheet()
+        self.assertEqual(bytes(whole), FORTY + RIGHT)
+        self.assertEqual(Deck.from_bytes(FORTY + RIGHT), whole)
+        self.assertEqual(whole.without_sheet(), TWO_RINGS)
+
+    def test_sheets(self):
+        self.assertEqual(TWO_RINGS.compose(), Sheet(12, 198, 96, 102, 14))
+        self.assertEqual(Sheet(12, 198, 96, 102, 14).record(), RIGHT)
+        six = Sheet(12, 198, 96, 102, 14, 7).record()
+        self.assertEqual((len(six), six[:4], six[-4:]), (44, bytes([40, 0, 4, 0]), bytes([7, 0, 0, 0])))
+        self.assertEqual(str(TWO_RINGS.compose()), "atoms 12 W 198 even 96 odd 102 polarity 14")
+        for wrong in (Sheet(2**32, 0, 0, 0, 0), Sheet(1, 2**64, 0, 0, 0), Sheet(1, -1, 0, 0, 0)):
+            self.assertRaises(ValueError, wrong.record)
+
+    def test_verdicts(self):
+        for data, line in JUDGED:
+            with self.subTest(line):
+                verdict = tteuyomal.judge(data)
+                self.assertEqual(str(verdict), line)
+                self.assertEqual(bool(verdict), line == "accepted")
+                self.assertEqual(tteuyomal.judge_many([data]), [verdict])
+        self.assertEqual(tteuyomal.judge(TWO_RINGS.with_sheet()), Verdict())
+        self.assertEqual(tteuyomal.judge(TWO_RINGS).refusal, Refused(11, 40))
+        self.assertEqual(pickle.loads(pickle.dumps(tteuyomal.judge(FORTY))), tteuyomal.judge(FORTY))
+
+    def test_bytes_that_are_no_deck(self):
+        for data in (b"", FORTY[:-1], FORTY[22:] * 2, RIGHT, FORTY + RIGHT + RIGHT, bytes(3), FORTY[:22]):
+            self.assertRaises(ValueError, Deck.from_bytes, data)
+        self.assertEqual(Deck.from_bytes(FORTY + sheet(1, 2, 3, 4, 5)).sheet, Sheet(1, 2, 3, 4, 5))
+
+    def test_blocks(self):
+        self.assertEqual(RING_OF_6.measure(), Sheet(6, 27, 12, 15, 3))
+        self.assertEqual(tteuyomal.measure(RING_OF_6), RING_OF_6.measure())
+        self.assertEqual(tteuyomal.contributions(RING_OF_6), (2, [9] * 6))
+        self.assertEqual(tteuyomal.values(RING_OF_6, 1), (6.0, 9.0))
+        self.assertEqual(RING_OF_6.vertex(1).sum, 9)
+        self.assertEqual(TWO_RINGS.distance(1, 4, 2, 4), 7)
+        self.assertEqual(Block(6, iter(RING)), RING_OF_6)
+        self.assertRaises(ValueError, Block, 6, [(1, 2, 3)])
+        self.assertRaises(Refused, Block(2).measure)
+        RING_OF_6.check()
+
+    def test_a_function_that_the_library_has_not(self):
+        with self.assertRaisesRegex(NotThere, "tteuyomal_no_such"):
+            library._function("no_such", [])()
+        self.assertFalse(library.has("no_such"))
+
+
+class Rdkit(unittest.TestCase):
+    def test_block_from_rdkit(self):
+        try:
+            from rdkit import Chem
+        except ImportError:
+            self.skipTest("RDKit is not there (Debian: python3-rdkit, for /usr/bin/python3)")
+        for smiles, fields in (("c1ccccc1", (6, 27, 12, 15, 3)), ("C", (1, 0, 0, 0, 0)), ("Cc1ccccc1", (7, 42, 20, 22, 5))):
+            for mol in (Chem.MolFromSmiles(smiles), Chem.AddHs(Chem.MolFromSmiles(smiles))):
+                self.assertEqual(Block.from_rdkit(mol).measure().fields(), fields)
+        self.assertEqual(Block.from_rdkit(Chem.MolFromSmiles("[H][H]")), Block(2, [(1, 2)]))
+        self.assertEqual(Block.from_rdkit(Chem.MolFromSmiles("[2H]C", sanitize=False)).atoms, 1)
+
+
+class Installed(unittest.TestCase):
+    def setUp(self):
+        folder = tempfile.TemporaryDirectory()
+        self.addCleanup(folder.cleanup)
+        self.folder = folder.name
+
+    def runs(self, *command, **more):
+        run = subprocess.run(command, capture_output=True, text=True, **more)
+        self.assertEqual(run.returncode, 0, run.stdout + run.stderr)
+        return run.stdout
+
+    def test_make_install(self):
+        shared = os.path.join(ROOT, "target", "staticlib", "libtteuyomal.so")
+        if not os.path.exists(shared):
+            self.skipTest("no shared object")
+        self.runs("make", "-s", "-o", "target/staticlib/libtteuyomal.so", "install", f"PREFIX={self.folder}", cwd=ROOT)
+        found = sorted(os.path.relpath(os.path.join(place, one), self.folder) for place, _, all in os.walk(self.folder) for one in all)
+        self.assertEqual(
+            found,
+            [
+                "include/tteuyomal.h",
+                "lib/libtteuyomal.a",
+                "lib/libtteuyomal.so",
+                "lib/libtteuyomal.so.1",
+                "lib/pkgconfig/tteuyomal.pc",
+            ],
+        )
+        flags = ["-I" + os.path.dirname(HEADER), "-L" + os.path.join(self.folder, "lib"), "-ltteuyomal"]
+        if shutil.which("pkg-config"):
+            asked = self.runs("pkg-config", "--cflags", "--libs", "tteuyomal", env=os.environ | {"PKG_CONFIG_PATH": self.folder + "/lib/pkgconfig"})
+            self.assertEqual(asked.split(), [f"-I{self.folder}/include", f"-L{self.folder}/lib", "-ltteuyomal"])
+            flags = asked.split()
+        program = os.path.join(self.folder, "judge")
+        self.runs("gcc", os.path.join(ROOT, "examples", "c", "judge.c"), *flags, "-o", program)
+        run = subprocess.run([program], input=FORTY + RIGHT, capture_output=True, env={"LD_LIBRARY_PATH": self.folder + "/lib"})
+        self.assertEqual((run.returncode, run.stdout), (0, b"accepted\n"))
+
+    def test_pip_install(self):
+        """With no index to ask: the builder needs nothing but Python and pip."""
+        if subprocess.run([sys.executable, "-m", "pip", "--version"], capture_output=True).returncode != 0:
+            self.skipTest("no pip")
+        quiet = os.environ | {"PIP_NO_INDEX": "1", "PIP_DISABLE_PIP_VERSION_CHECK": "1"}
+        self.runs(sys.executable, "-m", "pip", "install", "--quiet", "--target", self.folder, PYTHON, env=quiet)
+        there = os.environ | {"PYTHONPATH": self.folder}
+        code = "import tteuyomal; print(tteuyomal.__file__, tteuyomal.measure(tteuyomal.Block(2, [(1, 2)])))"
+        where, said = self.runs(sys.executable, "-c", code, env=there, cwd=self.folder).split(maxsplit=1)
+        self.assertTrue(where.startswith(self.folder), where)
+        self.assertEqual(said, "atoms 2 W 1 even 0 odd 1 polarity 0\n")
+        self.assertIn("library", self.runs(os.path.join(self.folder, "bin", "tteuyomal"), "--version", env=there))
