@@ -1,26 +1,50 @@
 -- Little-endian numbers past the end and in halves, and parts of a list that ends early. Assumes nothing.
-use Prim.Native.Nat.{ℕ, zero, suc, _+_, _*_, _-_, _<_, _≤_, min}
+use Prim.Native.Nat.{ℕ, zero, suc, _+_, _*_, _-_, _^_, _<_, _≤_, min}
 use mathlib.Core.List.{List, []}
-use mathlib.Core.Path.{_≡_, refl, sym, _∙_, ap}
-use native.Mathlib.Nat.{mul-le-mul}
+use mathlib.Core.Path.{_≡_, refl, sym, _∙_, ap, ap₂}
+use native.Mathlib.Nat.{mul-le-mul, pow-suc, pow-le-pow-right, zero-lt-suc}
 use native.Mathlib.Omega.{arith}
-use lib.ListN.{length, take, drop, List·getD-eq-default, drop-of-length-le, length-drop}
+use lib.Dec.{lit<}
+use lib.ListN.{length, getD, take, drop, List·getD-eq-default, drop-of-length-le, length-drop}
 use lib.Seq.{take-all, take-nil}
 use denote.Ref.{RefT, ptr, now}
-use Rattle.records.specs.Bytes.{little, le16, part, PartOf}
+use Rattle.records.specs.Bytes.{little, part, PartOf}
 
 pub past : (k : ℕ) (d : List ℕ) (at : ℕ) → length d ≤ at → little k d at ≡ 0
 unfolding little
 past zero d at h = refl
 past (suc k) d at h = omega (arith, List·getD-eq-default d 0 h, past k d (at + 1) (omega arith))
 
-pub four : (d : List ℕ) (at : ℕ) → little 4 d at ≡ le16 d at + 65536 * le16 d (at + 2)
-unfolding little
-four d at = let p : at + 1 + 1 ≡ at + 2 = omega arith in rw p (omega arith)
+-- The number n of the last bytes of w, those from k on, which is below 256 to the power of how many they are. It begins as 0 of none, and the byte
+-- before them makes one more; eight bytes fit 64 bits.
+pub record Last (d : List ℕ) (at w k n : ℕ) : Type 0 where
+  pub few : w ≤ 8
+  pub left : k ≤ w
+  pub value : n ≡ little (w - k) d (at + k)
+  pub small : n < 256 ^ (w - k)
 
-pub eight : (d : List ℕ) (at : ℕ) → little 8 d at ≡ little 4 d at + 4294967296 * little 4 d (at + 4)
-unfolding little
-eight d at = let p : at + 1 + 1 + 1 + 1 ≡ at + 4 = omega arith in rw p (omega arith)
+module _ {d : List ℕ} {at w : ℕ} where
+  pub none-yet : w ≤ 8 → Last d at w w 0
+  unfolding little
+  none-yet h = let e : w - w ≡ 0 = omega arith in record { few = h; left = omega arith; value = rw e; small = rw e (lit< tt) }
+
+  pub room : {k n : ℕ} → 0 < k → Last d at w k n → n < 2 ^ 56
+  room {k} {n} p l = let m : 256 ^ (w - k) ≤ 256 ^ 7 = let s : w - k ≤ 7 = omega (arith, l .few, l .left) in pow-le-pow-right (zero-lt-suc 255) s in omega (arith, l .small, m)
+
+  pub one-before : {k n : ℕ} (b : ℕ) → 0 < k → b ≡ getD d (at + (k - 1)) 0 → b ≤ 255 → Last d at w k n → Last d at w (k - 1) (256 * n + b)
+  unfolding little
+  one-before {k} {n} b p q s l =
+      let e : w - (k - 1) ≡ suc (w - k) = omega (arith, l .left) in
+      let f : at + (k - 1) + 1 ≡ at + k = omega arith in
+      record {
+        few = l .few;
+        left = omega (arith, l .left);
+        value = rw (e, f) (omega (arith, l .value, q));
+        small = rw (e, pow-suc) (omega (arith, l .small, s));
+      }
+
+  pub all-read : {n : ℕ} → Last d at w 0 n → n ≡ little w d at
+  all-read l = let e : at + 0 ≡ at = omega arith in let f : w - 0 ≡ w = omega arith in l .value ∙ ap₂ (λ (k a : ℕ). little k d a) f e
 
 -- a product of two numbers of two bytes
 pub product : (x y : ℕ) → x < 65536 → y < 65536 → x * y ≤ 65535 * 65535

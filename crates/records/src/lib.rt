@@ -1,13 +1,14 @@
 // Bytes, little-endian numbers and records: refusals 11 to 13.
 ghost use mathlib.Core.Path.{_≡_};
 ghost use mathlib.Core.List.{[], _∷_};
-ghost use Prim.Native.Nat.{_+_, _≤_};
+ghost use Prim.Native.Nat.{_+_, _≤_, min};
 ghost use lib.ListN.{length};
 ghost use Rattle.reply.specs.Read.{saidReply};
 ghost use Rattle.records.specs.Bytes.{byteAt, little, le16, PartOf};
 ghost use Rattle.records.specs.Records.{headBytes, lengthAt, lengthReply, recordReply};
 use reply::Refusal;
 use reply::Reply;
+use reply::wide;
 
 // The bytes of a record's head: payload length and kind.
 pub const HEAD: usize = 4;
@@ -49,7 +50,7 @@ pub fn byte_at(d: &[u8], at: usize) -> u8
     if at < d.len() { d[at] } else { 0 }
 }
 
-// The little-endian numbers of two, four and eight bytes at a place.
+// The little-endian number of two bytes at a place.
 pub fn le16_at(d: &[u8], at: usize) -> u16
     ensures { λ r. ⌜ r ≡ le16 (now (d .entry)) at ⌝ }
 {
@@ -59,22 +60,26 @@ pub fn le16_at(d: &[u8], at: usize) -> u16
     0
 }
 
-pub fn le32_at(d: &[u8], at: usize) -> u32
-    ensures { λ r. ⌜ r ≡ little 4 (now (d .entry)) at ⌝ }
+fn up_to_eight(width: usize) -> usize
+    ensures { λ r. ⌜ r ≡ min width 8 ⌝ }
 {
-    if at < d.len() {
-        return (le16_at(d, at) as u32) + 65536 * (le16_at(d, at + 2) as u32);
-    }
-    0
+    if width < 8 { width } else { 8 }
 }
 
-pub fn le64_at(d: &[u8], at: usize) -> u64
-    ensures { λ r. ⌜ r ≡ little 8 (now (d .entry)) at ⌝ }
+// The little-endian number of some bytes at a place, at most eight of them: the last byte first, which weighs most.
+pub fn little_at(d: &[u8], at: usize, width: usize) -> u64
+    ensures { λ r. ⌜ r ≡ little (min width 8) (now (d .entry)) at ⌝ }
 {
-    if at < d.len() {
-        return (le32_at(d, at) as u64) + 4294967296 * (le32_at(d, at + 4) as u64);
+    if d.len() <= at {
+        return 0;
     }
-    0
+    let mut n: u64 = 0;
+    let mut k = up_to_eight(width);
+    while 0 < k {
+        k -= 1;
+        n = 256 * n + wide(byte_at(d, at + k));
+    }
+    n
 }
 
 // The len bytes from a place on, fewer where the slice ends.

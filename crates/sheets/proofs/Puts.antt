@@ -1,17 +1,19 @@
--- Bytes stored one after the other: a number's, and a record's field by field. Assumes nothing.
-use Prim.Native.Nat.{ℕ, suc, _+_, _-_, _/_, _%_, _≤_, _<_}
-use mathlib.Core.List.{List, [], _∷_, _++_}
-use mathlib.Core.Path.{_≡_, sym, _∙_, ap}
+-- Laws. Bytes stored one after the other: a number's, and a record's field by field. Assumes nothing.
+use Prim.Native.Nat.{ℕ, zero, suc, _+_, _-_, _/_, _%_, _≤_, _<_, min}
+use mathlib.Core.List.{List, [], _∷_, _++_, append-nil}
+use mathlib.Core.Path.{_≡_, refl, sym, _∙_, ap, ap₂}
 use native.Mathlib.Nat.{add-zero}
 use native.Mathlib.Numerals.{add-one}
 use native.Mathlib.Omega.{arith}
-use borrow.Author.Tests.{lt-ltb, le-ltb}
-use lib.ListN.{length, set, take, drop}
-use lib.Seq.{sets, sets-eq}
+use borrow.Author.Tests.{lt-ltb, le-ltb, eq-eqb, ne-eqb}
+use lib.ListN.{length, getD, set, take, drop, replicate, length-set, drop-of-length-le}
+use lib.Seq.{sets, sets-eq, length-sets, drop-cons}
 use Rattle.block.specs.declared.Indices.{Indices}
+use Rattle.records.specs.Bytes.{little}
 use Rattle.records.specs.Records.{sheetKind}
-use Rattle.deck.specs.Molecule.{widths, fieldsOf}
-use Rattle.sheets.specs.Sheets.{littleBytes, fieldBytes, sheetRecord, sheetBytes, sheetPut}
+use Rattle.records.proofs.Numbers.{past}
+use Rattle.sheets.specs.Sheets.{widths, fieldsOf, fieldsAt, littleBytes, fieldBytes, sheetRecord, sheetBytes, sheetPut, firstWrong}
+use Rattle.sheets.specs.Along.{total, Narrow}
 use Rattle.sheets.specs.Back.{length-little, length-sheet}
 
 -- a byte is stored, and then the rest; at the end nothing is left
@@ -29,25 +31,101 @@ sets-more l i (x ∷ xs) ys =
     let e : suc i + length xs ≡ i + suc (length xs) = omega arith in
     sets-more (set l i x) (suc i) xs ys ∙ ap (λ (n : ℕ). sets (sets (set l i x) (suc i) xs) n ys) e
 
+length-fields : (ws d : List ℕ) (at : ℕ) → length (fieldsAt ws d at) ≡ length ws
+unfolding fieldsAt
+length-fields [] d at = refl
+length-fields (w ∷ ws) d at = ap suc (length-fields ws d (at + w))
+
 -- a field is put, and then the rest
 one-field : (a b : List ℕ) (at w x : ℕ) (ws xs : List ℕ) → b ≡ sets a at (littleBytes w x) → sets a at (fieldBytes (w ∷ ws) (x ∷ xs)) ≡ sets b (at + w) (fieldBytes ws xs)
 unfolding fieldBytes
 one-field a b at w x ws xs e = rw e (sets-more a at (littleBytes w x) (fieldBytes ws xs) ∙ ap (λ (n : ℕ). sets (sets a at (littleBytes w x)) (at + n) (fieldBytes ws xs)) (length-little w x))
 
--- the head and the five fields, put one after the other
-pub seven-fields : (x : Indices) (o o₁ o₂ o₃ o₄ o₅ o₆ o₇ : List ℕ)
-    → o₁ ≡ sets o 0 (littleBytes 2 (sheetKind .fixed)) → o₂ ≡ sets o₁ 2 (littleBytes 2 (sheetKind .number)) → o₃ ≡ sets o₂ 4 (littleBytes 4 (x .atoms))
-    → o₄ ≡ sets o₃ 8 (littleBytes 8 (x .w)) → o₅ ≡ sets o₄ 16 (littleBytes 8 (x .even)) → o₆ ≡ sets o₅ 24 (littleBytes 8 (x .odd)) → o₇ ≡ sets o₆ 32 (littleBytes 8 (x .polarity))
-    → sets o 0 (sheetRecord (fieldsOf x)) ≡ o₇
-unfolding sheetRecord fieldsOf fieldBytes
-seven-fields x o o₁ o₂ o₃ o₄ o₅ o₆ o₇ a b c d e f g =
-    one-field o o₁ 0 2 (sheetKind .fixed) (2 ∷ widths) (sheetKind .number ∷ fieldsOf x) a
-    ∙ one-field o₁ o₂ 2 2 (sheetKind .number) widths (fieldsOf x) b
-    ∙ one-field o₂ o₃ 4 4 (x .atoms) (8 ∷ 8 ∷ 8 ∷ 8 ∷ []) (x .w ∷ x .even ∷ x .odd ∷ x .polarity ∷ []) c
-    ∙ one-field o₃ o₄ 8 8 (x .w) (8 ∷ 8 ∷ 8 ∷ []) (x .even ∷ x .odd ∷ x .polarity ∷ []) d
-    ∙ one-field o₄ o₅ 16 8 (x .even) (8 ∷ 8 ∷ []) (x .odd ∷ x .polarity ∷ []) e
-    ∙ one-field o₅ o₆ 24 8 (x .odd) (8 ∷ []) (x .polarity ∷ []) f
-    ∙ one-field o₆ o₇ 32 8 (x .polarity) [] [] g
+-- Along a list of widths: what was put before i, and what is left from there.
+pub record Putting (ws xs out₀ : List ℕ) (from i at : ℕ) (out : List ℕ) : Type 0 where
+  pub more : sets out₀ from (fieldBytes ws xs) ≡ sets out at (fieldBytes (drop i ws) (drop i xs))
+  pub room : at + total (drop i ws) ≤ length out₀
+  pub same : length out ≡ length out₀
+
+module _ {ws xs out₀ : List ℕ} {from : ℕ} where
+  pub put-none : from + total ws ≤ length out₀ → Putting ws xs out₀ from 0 from out₀
+  put-none h = record { more = refl; room = h; same = refl }
+
+  module _ {i at : ℕ} {out : List ℕ} where
+    pub put-room : i < length ws → Putting ws xs out₀ from i at out → at + getD ws i 0 ≤ length out
+    unfolding total
+    put-room l p = omega (arith, rw (drop-cons ws i 0 l) at (p .room), p .same)
+
+    pub put-one : (next : List ℕ) → i < length ws → length xs ≡ length ws → next ≡ sets out at (littleBytes (getD ws i 0) (getD xs i 0)) → Putting ws xs out₀ from i at out
+        → Putting ws xs out₀ from (i + 1) (at + getD ws i 0) next
+    unfolding total
+    put-one next l e q p =
+        let w = getD ws i 0 in
+        let x = getD xs i 0 in
+        record {
+          more = rw (add-one i) (p .more ∙ ap₂ (λ (vs ys : List ℕ). sets out at (fieldBytes vs ys)) (drop-cons ws i 0 l) (drop-cons xs i 0 (omega arith)) ∙ one-field out next at w x (drop (suc i) ws) (drop (suc i) xs) q);
+          room = rw (add-one i) (omega (arith, rw (drop-cons ws i 0 l) at (p .room)));
+          same = rw q (length-sets out at (littleBytes w x) ∙ p .same);
+        }
+
+    pub put-all : length ws ≤ i → Putting ws xs out₀ from i at out → out ≡ sets out₀ from (fieldBytes ws xs)
+    unfolding fieldBytes
+    put-all h p = sym (p .more ∙ ap (λ (vs : List ℕ). sets out at (fieldBytes vs (drop i xs))) (drop-of-length-le ws {i = i} h))
+
+-- And of reading.
+pub fields-past : (ws d : List ℕ) (at : ℕ) → length d ≤ at → fieldsAt ws d at ≡ replicate (length ws) 0
+unfolding fieldsAt
+fields-past [] d at h = refl
+fields-past (w ∷ ws) d at h = ap₂ (λ (y : ℕ) (ys : List ℕ). y ∷ ys) (past w d at h) (fields-past ws d (at + w) (omega arith))
+
+pub record Reading (ws d out₀ : List ℕ) (from i at : ℕ) (out : List ℕ) : Type 0 where
+  pub more : sets out₀ 0 (fieldsAt ws d from) ≡ sets out i (fieldsAt (drop i ws) d at)
+  pub narrow : Narrow (drop i ws)
+  pub room : at + total (drop i ws) ≤ from + total ws
+  pub same : length out ≡ length out₀
+
+module _ {ws d out₀ : List ℕ} {from : ℕ} where
+  pub read-none : Narrow ws → Reading ws d out₀ from 0 from out₀
+  read-none h = record { more = refl; narrow = h; room = omega arith; same = refl }
+
+  module _ {i at : ℕ} {out : List ℕ} where
+    pub read-room : i < length ws → Reading ws d out₀ from i at out → at + getD ws i 0 ≤ from + total ws
+    unfolding total
+    read-room l p = omega (arith, rw (drop-cons ws i 0 l) at (p .room))
+
+    pub read-one : (n : ℕ) → i < length ws → n ≡ little (min (getD ws i 0) 8) d at → Reading ws d out₀ from i at out
+        → Reading ws d out₀ from (i + 1) (at + getD ws i 0) (set out i n)
+    unfolding total Narrow fieldsAt
+    read-one n l q p =
+        let w = getD ws i 0 in
+        let c = drop-cons ws i 0 l in
+        let a = rw c at (p .narrow) in
+        let e : min w 8 ≡ w = omega (arith, a .0) in
+        record {
+          more = rw (add-one i) (p .more ∙ ap (λ (vs : List ℕ). sets out i (fieldsAt vs d at)) c ∙ ap (λ (m : ℕ). sets (set out i m) (suc i) (fieldsAt (drop (suc i) ws) d (at + w))) (sym (q ∙ ap (λ (k : ℕ). little k d at) e)));
+          narrow = rw (add-one i) (a .1);
+          room = rw (add-one i) (omega (arith, rw c at (p .room)));
+          same = length-set out i n ∙ p .same;
+        }
+
+    pub read-all : length ws ≤ i → length out₀ ≡ length ws → Reading ws d out₀ from i at out → out ≡ fieldsAt ws d from
+    unfolding fieldsAt
+    read-all h e p =
+        let n = length-fields ws d from in
+        sym (
+          sym (sets-eq (fieldsAt ws d from) out₀ 0 (omega (arith, n)) ∙ ap (λ (xs : List ℕ). fieldsAt ws d from ++ xs) (drop-of-length-le out₀ {i = 0 + length (fieldsAt ws d from)} (omega (arith, n))) ∙ append-nil (fieldsAt ws d from))
+          ∙ p .more
+          ∙ ap (λ (vs : List ℕ). sets out i (fieldsAt vs d at)) (drop-of-length-le ws {i = i} h)
+        )
+
+-- the head, and then the fields
+pub head-first : (o o₁ : List ℕ) (n k : ℕ) (xs : List ℕ) → o₁ ≡ sets o 0 (fieldBytes (2 ∷ 2 ∷ []) (n ∷ k ∷ [])) → sets o 0 (fieldBytes (2 ∷ 2 ∷ widths) (n ∷ k ∷ xs)) ≡ sets o₁ 4 (fieldBytes widths xs)
+unfolding fieldBytes
+head-first o o₁ n k xs e =
+    let mid = sets o 0 (littleBytes 2 n) in
+    let last = sets mid 2 (littleBytes 2 k) in
+    let f : o₁ ≡ last = e ∙ one-field o mid 0 2 n (2 ∷ []) (k ∷ []) refl ∙ one-field mid last 2 2 k [] [] refl in
+    one-field o mid 0 2 n (2 ∷ widths) (k ∷ xs) refl ∙ one-field mid o₁ 2 2 k widths xs f
 
 pub whole : (out after : List ℕ) (x : Indices) → sheetBytes ≤ length out → sets out 0 (sheetRecord (fieldsOf x)) ≡ after → after ≡ sheetPut out (fieldsOf x)
 unfolding sheetPut
@@ -55,6 +133,27 @@ whole out after x h e =
     let r = sheetRecord (fieldsOf x) in
     rw (le-ltb (length out) sheetBytes h) (sym e ∙ sets-eq r out 0 (omega (arith, length-sheet x)) ∙ ap (λ (n : ℕ). take 0 out ++ r ++ drop (0 + n) out) (length-sheet x))
 
+-- the head and the fields, put one after the other
+pub head-and-fields : (o o₁ o₂ ws xs : List ℕ) (x : Indices) → sheetBytes ≤ length o → o₁ ≡ sets o 0 (fieldBytes (2 ∷ 2 ∷ []) (sheetKind .fixed ∷ sheetKind .number ∷ []))
+    → ws ≡ widths → xs ≡ fieldsOf x → o₂ ≡ sets o₁ 4 (fieldBytes ws xs) → o₂ ≡ sheetPut o (fieldsOf x)
+unfolding sheetRecord
+head-and-fields o o₁ o₂ ws xs x h a b c d =
+    whole o o₂ x h (head-first o o₁ (sheetKind .fixed) (sheetKind .number) (fieldsOf x) a ∙ sym (d ∙ ap₂ (λ (vs ys : List ℕ). sets o₁ 4 (fieldBytes vs ys)) b c))
+
 pub too-short : (out : List ℕ) (xs : List ℕ) → length out < sheetBytes → out ≡ sheetPut out xs
 unfolding sheetPut
 too-short out xs h = rw (lt-ltb (length out) sheetBytes h)
+
+-- two lists of fields compared from i on: they differ there, or later, or nowhere
+module _ (xs ys : List ℕ) (i : ℕ) where
+  pub wrong-here : i < length xs → length xs ≡ length ys → (getD xs i 0 ≡ getD ys i 0 → ⊥) → firstWrong (suc i) (drop i xs) (drop i ys) ≡ i + 1
+  unfolding firstWrong
+  wrong-here l e n = rw (drop-cons xs i 0 l, drop-cons ys i 0 (omega arith), ne-eqb (getD xs i 0) (getD ys i 0) n) (sym (add-one i))
+
+  pub wrong-later : i < length xs → length xs ≡ length ys → getD xs i 0 ≡ getD ys i 0 → firstWrong (suc i) (drop i xs) (drop i ys) ≡ firstWrong (suc (i + 1)) (drop (i + 1) xs) (drop (i + 1) ys)
+  unfolding firstWrong
+  wrong-later l e s = rw (drop-cons xs i 0 l, drop-cons ys i 0 (omega arith), eq-eqb (getD xs i 0) (getD ys i 0) s, add-one i)
+
+  pub wrong-nowhere : length xs ≤ i → length xs ≡ length ys → firstWrong (suc i) (drop i xs) (drop i ys) ≡ 0
+  unfolding firstWrong
+  wrong-nowhere h e = rw (drop-of-length-le xs {i = i} h, drop-of-length-le ys {i = i} (omega arith))

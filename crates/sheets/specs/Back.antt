@@ -1,4 +1,4 @@
--- What is written is read back: a sheet's record behind a deck that composes is taken, and claims the fields that were written. Two sheets differ in no field exactly when they are equal. Assumes nothing.
+-- Laws. What is written is read back, and two sheets differ in no field exactly when they are equal. Assumes nothing.
 use Prim.Native.Nat.{ℕ, zero, suc, _+_, _/_, _%_, _^_, _≤_, _<_}
 use mathlib.Core.Bool.{Bool, true, false, cond}
 use mathlib.Core.List.{List, [], _∷_, _++_, append-assoc, append-nil}
@@ -9,20 +9,22 @@ use borrow.Author.Tests.{eq-eqb, eqb-true}
 use lib.Dec.{eqb, lit<}
 use lib.ListN.{length, getD, drop, length-append}
 use lib.Seq.{getD-drop, drop-drop, drop-append-seam}
-use Rattle.reply.specs.Read.{read}
 use Rattle.block.specs.declared.Indices.{Indices}
 use Rattle.records.specs.Bytes.{byteAt, little}
-use Rattle.records.specs.Records.{headBytes, sheetKind}
-use Rattle.deck.specs.Deck.{longestDeck, Deck, deckReply}
-use Rattle.deck.specs.Followed.{IsSheet, followed, claims}
-use Rattle.deck.specs.declared.Form.the-variants.{Composed, Judged}
-use Rattle.deck.specs.Molecule.{widths, fieldsOf, fieldsAt, claimedAt, saidFields}
-use Rattle.sheets.specs.Sheets.{littleBytes, fieldBytes, sheetRecord, sheetBytes, firstWrong}
+use Rattle.records.specs.Records.{sheetKind}
+use Rattle.records.specs.Longer.{little-behind}
+use Rattle.sheets.specs.Sheets.{widths, fieldsOf, fieldsAt, claimedAt, saidFields, littleBytes, fieldBytes, sheetRecord, sheetBytes, firstWrong}
+use Rattle.sheets.specs.Along.{total}
 
 pub length-little : (k n : ℕ) → length (littleBytes k n) ≡ k
 unfolding littleBytes
 length-little zero n = refl
 length-little (suc k) n = ap suc (length-little k (n / 256))
+
+-- the widths are a sheet's payload
+pub widths-fill : total widths ≡ sheetKind .fixed
+unfolding total
+widths-fill = refl
 
 pub length-sheet : (x : Indices) → length (sheetRecord (fieldsOf x)) ≡ sheetBytes
 unfolding sheetRecord fieldsOf fieldBytes
@@ -65,33 +67,25 @@ fields-back (w ∷ ws) (x ∷ xs) d at cs f e =
     (little-back w x d at (fieldBytes ws xs ++ cs) (f .0) q)
     (fields-back ws xs d (at + w) cs (f .1) (behind d at (littleBytes w x) (fieldBytes ws xs ++ cs) w (length-little w x) q))
 
--- The record of a sheet whose fields fit is one, says them, and may stand behind a deck.
+-- The record of a sheet whose fields fit says them.
 module _ (x : Indices) (fit : Fit widths (fieldsOf x)) where
   abbrev bytes : List ℕ
   bytes = sheetRecord (fieldsOf x)
 
   -- all that is read of it: its length, its kind, and the fields
-  read-whole : fieldsAt (2 ∷ 2 ∷ widths) bytes 0 ≡ sheetKind .fixed ∷ sheetKind .number ∷ fieldsOf x
+  pub read-whole : fieldsAt (2 ∷ 2 ∷ widths) bytes 0 ≡ sheetKind .fixed ∷ sheetKind .number ∷ fieldsOf x
   unfolding sheetRecord
   read-whole =
       let all : Fit (2 ∷ 2 ∷ widths) (sheetKind .fixed ∷ sheetKind .number ∷ fieldsOf x) = (lit< tt, (lit< tt, fit)) in
       fields-back (2 ∷ 2 ∷ widths) (sheetKind .fixed ∷ sheetKind .number ∷ fieldsOf x) bytes 0 [] all (sym (append-nil bytes))
 
-  is-sheet : IsSheet bytes
-  unfolding fieldsAt
-  is-sheet = record { size = length-sheet x; payload = ap (λ (l : List ℕ). getD l 0 0) read-whole; kind = ap (λ (l : List ℕ). getD l 1 0) read-whole }
-
-  sheet-fields : fieldsAt widths bytes headBytes ≡ fieldsOf x
-  unfolding fieldsAt
-  sheet-fields = ap (drop 2) read-whole
-
-  -- behind a deck that composes it is taken, and claims its fields
-  module _ (d : List ℕ) (k : Deck) (e : deckReply Composed d ≡ read k) where
-    pub sheet-taken : length d + sheetBytes ≤ longestDeck → deckReply Judged (d ++ bytes) ≡ read k
-    sheet-taken h = followed d k e bytes is-sheet (omega (arith, length-sheet x))
-
-    pub sheet-claimed : claimedAt (d ++ bytes) (k .sheet) ≡ fieldsOf x
-    sheet-claimed = claims d k e bytes ∙ sheet-fields
+-- bytes before a sheet do not matter
+pub fields-behind : (d s ws : List ℕ) (at : ℕ) → fieldsAt ws (d ++ s) (length d + at) ≡ fieldsAt ws s at
+unfolding fieldsAt
+fields-behind d s [] at = refl
+fields-behind d s (w ∷ ws) at =
+    let e : length d + at + w ≡ length d + (at + w) = omega arith in
+    ap₂ _∷_ (little-behind d s w at) (ap (fieldsAt ws (d ++ s)) e ∙ fields-behind d s ws (at + w))
 
 -- the code says a claimed sheet by its fields, and fields say no two sheets
 pub fields-said : (d : List ℕ) (at : ℕ) → fieldsOf (saidFields (claimedAt d at)) ≡ claimedAt d at

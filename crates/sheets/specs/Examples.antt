@@ -1,4 +1,4 @@
--- Worked examples, computed from the definitions.
+-- Laws. Worked examples, computed from the definitions.
 use mathlib.Core.List.{[], _∷_}
 use mathlib.Core.Path.{_≡_, refl}
 use Rattle.sheets.specs.Sheets.{littleBytes, fieldBytes, sheetRecord, firstWrong}

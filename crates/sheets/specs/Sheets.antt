@@ -1,12 +1,40 @@
--- The record of a sheet, byte by byte, and the first wrong field. Document 01: "Kind 3, sheet: atom count (4), W, even part, odd part, polarity
--- (8 each); 36 bytes", "All numbers are little-endian", "differs with the first wrong field, 1 to 5".
+-- Definitions. A sheet: its fields in order, the bytes that each takes, its record byte by byte, what a record claims, and the first wrong field.
+-- The rules: "Kind 3, sheet: atom count (4), W, even part, odd part, polarity (8 each); 36 bytes", "All numbers are little-endian", "differs with
+-- the first wrong field, 1 to 5".
 use Prim.Native.Nat.{ℕ, zero, suc, _+_, _/_, _%_}
 use mathlib.Core.Bool.{cond}
 use mathlib.Core.List.{List, [], _∷_, _++_}
 use lib.Dec.{eqb, ltb}
-use lib.ListN.{length, drop}
+use lib.ListN.{length, getD, drop}
+use Rattle.graph.specs.Graph.{Graph}
+use Rattle.block.specs.declared.Indices.{Indices}
+use Rattle.block.specs.Index.{indicesOf}
+use Rattle.records.specs.Bytes.{little}
 use Rattle.records.specs.Records.{headBytes, sheetKind}
-use Rattle.deck.specs.Molecule.{widths}
+
+-- the fields of a sheet, in order, and the bytes of each
+unfoldable pub fieldsOf : Indices → List ℕ
+fieldsOf x = x .atoms ∷ x .w ∷ x .even ∷ x .odd ∷ x .polarity ∷ []
+
+abbrev pub widths : List ℕ
+widths = 4 ∷ 8 ∷ 8 ∷ 8 ∷ 8 ∷ []
+
+-- the sheet of a molecule
+unfoldable pub sheetOf : Graph → List ℕ
+sheetOf g = fieldsOf (indicesOf g)
+
+-- the fields of some widths, one after the other from a place on
+unfoldable pub fieldsAt : List ℕ → List ℕ → ℕ → List ℕ
+fieldsAt [] d at = []
+fieldsAt (w ∷ ws) d at = little w d at ∷ fieldsAt ws d (at + w)
+
+-- the fields that the sheet record at a place claims
+unfoldable pub claimedAt : List ℕ → ℕ → List ℕ
+claimedAt d at = fieldsAt widths d (at + headBytes)
+
+-- how the code says five fields
+abbrev pub saidFields : List ℕ → Indices
+saidFields xs = record { atoms = getD xs 0 0; w = getD xs 1 0; even = getD xs 2 0; odd = getD xs 3 0; polarity = getD xs 4 0 }
 
 -- a number in k bytes, little-endian
 unfoldable pub littleBytes : ℕ → ℕ → List ℕ
