@@ -9,11 +9,11 @@ ghost use Rattle.climb.specs.Placed.{isMissing, placedReply};
 ghost use Rattle.climb.specs.Pairs.{deckOf, between, Pair};
 use assembly::BlockAt;
 use block::Apart;
+use deck::Form;
+use deck::Layout;
 use reply::Refusal;
 use reply::Reply;
 use reply::is_outside;
-use deck::Form;
-use deck::Layout;
 
 // The block of placement number k.
 fn block_of(d: &[u8], deck: Layout, k: usize) -> BlockAt

@@ -8,11 +8,10 @@ use lib.Seq.{take-at}
 use Rattle.graph.specs.Graph.{Graph, Within}
 use Rattle.graph.specs.Assembly.{Join, joined, atomOf, written, Assembled}
 use Rattle.reply.specs.Read.{Read, refused, read}
-use Rattle.block.specs.Index.{indicesOf, saidIndices}
+use Rattle.block.specs.Index.{indicesOf}
 use Rattle.reply.specs.declared.Refusal.{Refusal}
 use Rattle.block.specs.declared.Indices.{Indices}
 use Rattle.reply.specs.declared.Reply.the-variants as reply
-use Rattle.block.specs.declared.Measured.the-variants as measured
 use Rattle.records.specs.Records.{payloadAt}
 use Rattle.assembly.specs.Book.{find, blockGraph, bookOf}
 use Rattle.assembly.specs.Placements.{mostPlacements, placementAt, joinOf}
@@ -23,7 +22,8 @@ use Rattle.deck.specs.Sound.{whole}
 use Rattle.deck.specs.Said.{tableOf, layoutOf, saidDeck}
 use Rattle.deck.specs.declared.Form.{Form}
 use Rattle.deck.specs.declared.Layout.{Layout}
-use Rattle.compose.specs.Fields.{fieldsReply}
+use Rattle.compose.specs.Fields.{composeReply, saidComposed}
+use Rattle.compose.specs.declared.ComposeReply.the-variants as composed
 use Rattle.compose.specs.Links.{Linked}
 use Rattle.compose.specs.Joints.{link, joinsOf}
 use Rattle.compose.specs.Ready.{placedGraph, Ready}
@@ -37,13 +37,14 @@ pub told-fine : (x : Read Deck) → saidDeck x .reply ≡ reply.Fine → (k : De
 told-fine (refused q) e = absurd (let z : _≡_ {A = ℕ} 0 1 = cc in omega arith)
 told-fine (read k) e = (k, refl, refl)
 
-pub fields-refused : (form : Form) (d : List ℕ) (r : Refusal) → deckReply form d ≡ refused r → measured.Refused r ≡ saidIndices (fieldsReply form d)
-unfolding fieldsReply
+pub fields-refused : (form : Form) (d : List ℕ) (r : Refusal) → deckReply form d ≡ refused r → composed.Refused r ≡ saidComposed (composeReply form d)
+unfolding composeReply
 fields-refused form d r e = rw e
 
-pub fields-fine : (form : Form) (d : List ℕ) (k : Deck) (x : Indices) → deckReply form d ≡ read k → x ≡ indicesOf (moleculeOf d k) → measured.Of x ≡ saidIndices (fieldsReply form d)
-unfolding fieldsReply
-fields-fine form d k x e q = rw (e, q)
+pub fields-fine : (form : Form) (d : List ℕ) (k : Deck) (x : Indices) (at : ℕ) → deckReply form d ≡ read k → x ≡ indicesOf (moleculeOf d k) → at ≡ k .sheet
+    → composed.Composed (record { fields = x; sheet = at }) ≡ saidComposed (composeReply form d)
+unfolding composeReply
+fields-fine form d k x at e q p = rw (e, q, p)
 
 -- joins that agree up to the last make one molecule
 module _ (blocks : ℕ → Graph) {joins joins' : ℕ → Join} where

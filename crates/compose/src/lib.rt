@@ -14,8 +14,6 @@ use assembly::find_block;
 use assembly::placement_at;
 use block::ATOMS;
 use block::Indices;
-use block::Measured;
-use reply::Reply;
 use block::rows;
 use block::sums;
 use deck::Form;
@@ -28,6 +26,8 @@ use links::FIRST;
 use links::Links;
 use links::fill_links;
 use records::payload_at;
+use reply::Refusal;
+use reply::Reply;
 use summary::composed;
 use tables::copy_ends;
 ghost use mathlib.Core.Path.{_≡_};
@@ -37,17 +37,29 @@ ghost use Rattle.graph.specs.Assembly.{written};
 ghost use Rattle.reply.specs.Read.{read};
 ghost use Rattle.block.specs.Block.{mostAtoms};
 ghost use Rattle.block.specs.Rows.{rowsOf};
-ghost use Rattle.block.specs.Index.{indicesOf, saidIndices};
+ghost use Rattle.block.specs.Index.{indicesOf};
 ghost use Rattle.block.specs.Sums.{pairEntry, indicesBy};
 ghost use Rattle.assembly.specs.Book.{bondBytes};
 ghost use Rattle.deck.specs.Deck.{Deck, deckReply};
 ghost use Rattle.deck.specs.Molecule.{moleculeOf};
 ghost use Rattle.deck.specs.Said.{layoutOf};
 ghost use Rattle.deck.specs.declared.Form.{Form};
-ghost use Rattle.compose.specs.Fields.{fieldsReply};
+ghost use Rattle.compose.specs.Fields.{composeReply, saidComposed};
 ghost use Rattle.compose.specs.Joints.{ends, numbersOf, joinsOf};
 ghost use Rattle.compose.specs.Tables.{Ranged, Copied};
 ghost use Rattle.compose.specs.Ready.{placedBlock, placedGraph, Ready};
+
+// The five fields of a deck's molecule, and the first byte after its assembly.
+pub struct Composed {
+    pub fields: Indices,
+    pub sheet: usize,
+}
+
+// The same, or the deck's refusal.
+pub enum ComposeReply {
+    Refused(Refusal),
+    Composed(Composed),
+}
 
 // The block of the placement at index f.
 fn block_of(xs: &[u8], blocks: [BlockAt; BLOCKS], count: usize, f: usize) -> BlockAt
@@ -114,18 +126,22 @@ fn laid_out(d: &[u8], layout: Layout) -> Indices
     filled(d, xs, blocks, layout.count, placements, &links)
 }
 
-// The five fields of a deck in a form: atom count, W, even part, odd part and polarity of its molecule; or the deck's refusal.
-pub fn fields(d: &[u8], form: Form) -> Measured
-    ensures { λ r. ⌜ r ≡ saidIndices (fieldsReply form (now (d .entry))) ⌝ }
+// The five fields of a deck in a form: atom count, W, even part, odd part and polarity of its molecule, and where a sheet stands behind its
+// assembly; or the deck's refusal.
+pub fn fields(d: &[u8], form: Form) -> ComposeReply
+    ensures { λ r. ⌜ r ≡ saidComposed (composeReply form (now (d .entry))) ⌝ }
 {
     let k = read_deck(d, form);
     let reply = k.reply;
     match reply {
-        Reply::Refused(refusal) => Measured::Refused(refusal),
+        Reply::Refused(refusal) => ComposeReply::Refused(refusal),
         Reply::Fine => {
             let layout = k.layout;
-            let all = laid_out(d, layout);
-            Measured::Of(all)
+            let fields = laid_out(d, layout);
+            ComposeReply::Composed(Composed {
+                fields,
+                sheet: layout.sheet,
+            })
         }
     }
 }

@@ -6,15 +6,16 @@ use lib.ListN.{length, replicate}
 use borrow.Author.Tests.{lt-ltb}
 use Rattle.graph.specs.Graph.{joins, anyJoins, bonded, anyAtom, reaches, firstFrom, distance, allAtoms, connected, degree, sum, sumPairs, evenOf, oddOf, isAt, total}
 use Rattle.graph.specs.Assembly.{shifted, joined, startAt, written}
-use Rattle.reply.specs.Read.{Read, refused, read, refusal}
+use Rattle.reply.specs.Read.{Read, refused, read, refusal, _then_}
 use Rattle.block.specs.Block.{mostAtoms, limit, mostBytes, bondsOf, bondFault, bondsReply, blockReply}
 use Rattle.block.specs.Index.{indicesOf}
+use Rattle.block.specs.declared.Indices.{Indices}
 use Rattle.records.specs.Bytes.{little}
 use Rattle.records.specs.Records.{kindReply, lengthReply, recordReply}
 use Rattle.assembly.specs.Book.{find, bookOf}
 use Rattle.assembly.specs.Placements.{mostPlacements, placementAt, joinOf, joinEnds, joinsOn, bondsOn, firstFault, parentFault, joinFault, laterFault, fault, placedReply, assemblyReply}
 use Rattle.deck.specs.Deck.{longestDeck, mostBlocks, Deck, blockReplyAt, assemblyReplyAt, blocksFrom, blocksReply, endReply, sheetReply, deckReply, payload, blockSpan, blockPart}
-use Rattle.deck.specs.Molecule.{placedIn, graphAt, joinAt, moleculeOf, fieldsOf, sheetOf, fieldsAt, claimedAt}
+use Rattle.deck.specs.Molecule.{placedIn, graphAt, joinAt, moleculeOf}
 use Rattle.deck.specs.declared.Form.{Form}
 use Rattle.deck.specs.declared.Form.the-variants.{Composed, Judged}
 
@@ -68,13 +69,12 @@ told : Form → List ℕ → List ℕ
 unfolding said joins anyJoins bonded anyAtom reaches firstFrom distance allAtoms connected degree sum bondsOf bondFault bondsReply blockReply little kindReply lengthReply recordReply find bookOf placementAt joinOf joinEnds joinsOn bondsOn firstFault parentFault joinFault laterFault fault placedReply assemblyReply blockReplyAt assemblyReplyAt blocksFrom blocksReply endReply sheetReply deckReply
 told form d = said (deckReply form d)
 
--- the sheet of the molecule of a deck
-sheetFor : List ℕ → Read Deck → List ℕ
-sheetFor d (refused r) = []
-sheetFor d (read k) = sheetOf (moleculeOf d k)
+-- the indices of the molecule of a deck
+indicesFor : List ℕ → Read Deck → Read Indices
+indicesFor d r = r then λ k. read (indicesOf (moleculeOf d k))
 
-written-out : sheetFor document (deckReply Composed document) ≡ 12 ∷ 198 ∷ 96 ∷ 102 ∷ 14 ∷ []
-unfolding sheetFor document joins anyJoins bonded anyAtom reaches firstFrom distance allAtoms connected degree sum bondsOf bondFault bondsReply blockReply little kindReply lengthReply recordReply find bookOf placementAt joinOf joinEnds joinsOn bondsOn firstFault parentFault joinFault laterFault fault placedReply assemblyReply blockReplyAt assemblyReplyAt blocksFrom blocksReply endReply sheetReply deckReply shifted joined startAt written sumPairs evenOf oddOf isAt total indicesOf placedIn graphAt joinAt moleculeOf fieldsOf sheetOf
+written-out : indicesFor document (deckReply Composed document) ≡ read (record { atoms = 12; w = 198; even = 96; odd = 102; polarity = 14 })
+unfolding indicesFor document joins anyJoins bonded anyAtom reaches firstFrom distance allAtoms connected degree sum bondsOf bondFault bondsReply blockReply little kindReply lengthReply recordReply find bookOf placementAt joinOf joinEnds joinsOn bondsOn firstFault parentFault joinFault laterFault fault placedReply assemblyReply blockReplyAt assemblyReplyAt blocksFrom blocksReply endReply sheetReply deckReply shifted joined startAt written sumPairs evenOf oddOf isAt total indicesOf placedIn graphAt joinAt moleculeOf
 written-out = refl
 
 same-bytes : document ≡ ring ++ assembly 2 (first ++ joinTo 1 1 1)
@@ -87,10 +87,6 @@ forms :
     ≡ ([] ∷ [] ∷ (11 ∷ 40 ∷ []) ∷ (11 ∷ 40 ∷ []) ∷ (11 ∷ 0 ∷ []) ∷ [])
 unfolding told document sheet record'
 forms = refl
-
-claims : claimedAt (document ++ sheet 12 198 96 102 14) 40 ≡ 12 ∷ 198 ∷ 96 ∷ 102 ∷ 14 ∷ []
-unfolding claimedAt fieldsAt little document sheet record'
-claims = refl
 
 -- a deck that is refused, with the number and the place
 record Case : Type 0 where

@@ -24,7 +24,7 @@ use Rattle.assembly.specs.declared.BlockAt.{BlockAt}
 use Rattle.deck.specs.Deck.{longestDeck, mostBlocks, kindsAfter, Deck, blockAt, moved, blockPlace, blockReplyAt, assemblyReplyAt, blocksFrom, blocksReply, endReply, sheetReply, deckReply}
 use Rattle.deck.specs.Kept.{Each, Standing, kept, chosen, fit, stands}
 use Rattle.deck.specs.Sound.{parts}
-use Rattle.deck.specs.Molecule.{placedIn, graphAt, joinAt, moleculeOf, widths, fieldsAt, claimedAt}
+use Rattle.deck.specs.Molecule.{placedIn, graphAt, joinAt, moleculeOf}
 use Rattle.deck.specs.declared.Form.the-variants.{Composed, Judged}
 
 module _ (d s : List ℕ) where
@@ -84,13 +84,6 @@ pub record IsSheet (s : List ℕ) : Type 0 where
   pub payload : le16 s 0 ≡ sheetKind .fixed
   pub kind : le16 s 2 ≡ sheetKind .number
 
-fields-behind : (d s ws : List ℕ) (at : ℕ) → fieldsAt ws (d ++ s) (length d + at) ≡ fieldsAt ws s at
-unfolding fieldsAt
-fields-behind d s [] at = refl
-fields-behind d s (w ∷ ws) at =
-    let e : length d + at + w ≡ length d + (at + w) = omega arith in
-    ap₂ _∷_ (little-behind d s w at) (ap (fieldsAt ws (d ++ s)) e ∙ fields-behind d s ws (at + w))
-
 sheet-behind : (d s : List ℕ) → IsSheet s → sheetReply Judged (d ++ s) (length d) ≡ read tt
 unfolding sheetReply recordReply kindReply lengthReply endReply
 sheet-behind d s i =
@@ -106,8 +99,8 @@ sheet-behind d s i =
     )
 
 module _ (d : List ℕ) (k : Deck) (e : deckReply Composed d ≡ read k) where
-  -- a deck that composes ends with its assembly
-  ends : k .sheet ≡ length d
+  -- a deck that composes ends with its assembly: there a sheet would stand
+  pub ends : k .sheet ≡ length d
   unfolding sheetReply endReply
   ends =
       let p = parts Composed d k e in
@@ -129,7 +122,7 @@ module _ (d : List ℕ) (k : Deck) (e : deckReply Composed d ≡ read k) where
     payloads : payloadAt (d ++ s) (k .assembly) ≡ payloadAt d (k .assembly)
     payloads = payload-same d s (k .assembly) whole
 
-    -- the molecule is the same with anything behind the deck, and what a sheet there claims is its own
+    -- the molecule is the same with anything behind the deck
     same-graphs : graphAt (d ++ s) k ≡ graphAt d k
     unfolding graphAt placedIn
     same-graphs = ap₂ (λ (b : Book) (xs : List ℕ). graphOn b (placementAt xs)) books payloads
@@ -141,10 +134,6 @@ module _ (d : List ℕ) (k : Deck) (e : deckReply Composed d ≡ read k) where
     pub same-molecule : moleculeOf (d ++ s) k ≡ moleculeOf d k
     unfolding moleculeOf
     same-molecule = ap₂ (λ (blocks : ℕ → Graph) (joins : ℕ → Join). written blocks joins (k .placements - 1)) same-graphs same-joins
-
-    pub claims : claimedAt (d ++ s) (k .sheet) ≡ fieldsAt widths s headBytes
-    unfolding claimedAt
-    claims = ap (λ (n : ℕ). fieldsAt widths (d ++ s) (n + headBytes)) ends ∙ fields-behind d s widths headBytes
 
     -- with a sheet behind it, it is read in the form that is judged
     pub followed : IsSheet s → length d + length s ≤ longestDeck → deckReply Judged (d ++ s) ≡ read k

@@ -3,7 +3,6 @@ use Prim.Native.Nat.{ℕ}
 use mathlib.Core.List.{List}
 use mathlib.Core.Path.{_≡_}
 use denote.Ref.{RefT, ptr, now}
-use Rattle.block.specs.declared.Indices.{Indices}
 use Rattle.records.specs.Bytes.{PartOf}
 use Rattle.records.specs.Records.{payloadAt}
 use Rattle.reply.specs.Chain.{unique}
@@ -11,7 +10,6 @@ use Rattle.records.specs.Unique.{unique-part}
 use Rattle.assembly.specs.Placements.{placementAt}
 use Rattle.assembly.specs.declared.Placement.{Placement}
 use Rattle.deck.specs.Deck.{deckReply, blockSpan}
-use Rattle.deck.specs.Molecule.{claimedAt, saidFields}
 use Rattle.deck.specs.Said.{saidDeck}
 use Rattle.deck.specs.declared.DeckRead.{DeckRead}
 use Rattle.deck.specs.declared.Form.{Form}
@@ -22,9 +20,6 @@ module _ (d : List ℕ) where
 
   pub unique-placement : (at k : ℕ) (r s : Placement) → r ≡ placementAt (payloadAt d at) k → s ≡ placementAt (payloadAt d at) k → r ≡ s
   unique-placement at k r s = unique
-
-  pub unique-claimed : (at : ℕ) (r s : Indices) → r ≡ saidFields (claimedAt d at) → s ≡ saidFields (claimedAt d at) → r ≡ s
-  unique-claimed at r s = unique
 
 pub unique-block-part : (s : RefT (List ℕ)) (x : ℕ) (q r : RefT (List ℕ)) → let p = blockSpan (now s) x in PartOf s (p .from) (p .len) q → PartOf s (p .from) (p .len) r → (now q ≡ now r) × (ptr q ≡ ptr r)
 unique-block-part s x q r = unique-part

@@ -10,7 +10,6 @@ ghost use Rattle.records.specs.Records.{blockKind, payloadAt};
 ghost use Rattle.assembly.specs.Book.{used};
 ghost use Rattle.assembly.specs.Placements.{mostPlacements, placementAt};
 ghost use Rattle.deck.specs.Deck.{mostBlocks, longestDeck, blockAt, blockPlace, placementPlace, blockReplyAt, assemblyReplyAt, blocksReply, endReply, sheetReply, deckReply, payload, blockSpan};
-ghost use Rattle.deck.specs.Molecule.{claimedAt, saidFields};
 ghost use Rattle.deck.specs.Said.{refusedDeck, tabledDeck, movedReply, saidDeck};
 use assembly::BLOCK_HEAD;
 use assembly::BLOCKS;
@@ -20,20 +19,17 @@ use assembly::BlockTable;
 use assembly::NO_BLOCK;
 use assembly::PLACEMENT_BYTES;
 use assembly::Placement;
-use block::Indices;
-use reply::Refusal;
-use reply::Reply;
 use records::ASSEMBLY;
 use records::BLOCK;
 use records::HEAD;
 use records::Kind;
 use records::SHEET;
 use records::le16_at;
-use records::le32_at;
-use records::le64_at;
 use records::part;
 use records::payload_at;
 use records::record_at;
+use reply::Refusal;
+use reply::Reply;
 
 // The most bytes of a deck.
 pub const LONGEST: usize = 32768;
@@ -310,31 +306,4 @@ pub fn placement(d: &[u8], assembly: usize, k: usize) -> Placement
 {
     let xs = payload_at(d, assembly);
     assembly::placement_at(xs, k)
-}
-
-// The five fields that the sheet record at a place claims.
-pub fn claimed(d: &[u8], sheet: usize) -> Indices
-    ensures { λ r. ⌜ r ≡ saidFields (claimedAt (now (d .entry)) sheet) ⌝ }
-{
-    if d.len() < sheet {
-        return Indices {
-            atoms: 0,
-            w: 0,
-            even: 0,
-            odd: 0,
-            polarity: 0,
-        };
-    }
-    let atoms = sheet + HEAD;
-    let w = atoms + 4;
-    let even = w + 8;
-    let odd = even + 8;
-    let polarity = odd + 8;
-    Indices {
-        atoms: le32_at(d, atoms) as u64,
-        w: le64_at(d, w),
-        even: le64_at(d, even),
-        odd: le64_at(d, odd),
-        polarity: le64_at(d, polarity),
-    }
 }

@@ -9,9 +9,9 @@ ghost use Rattle.line.specs.Label.{labelReply, labelled};
 ghost use Rattle.line.specs.Put.{Put, Adds};
 use block::Indices;
 use block::Measured;
-use reply::Refusal;
 use deck::Form;
 use molecule::Verdict;
+use reply::Refusal;
 
 // The digits of the largest number, and the bytes of the longest line.
 const DIGITS: usize = 20;

@@ -1,63 +1,74 @@
 -- From the fields that are composed to what the judge and the writer are told. Assumes nothing.
-use Prim.Native.Nat.{ℕ, zero, suc, _+_, _≤_, _<_}
-use mathlib.Core.List.{List, []}
-use mathlib.Core.Path.{_≡_, refl, sym, _∙_, ap}
+use Prim.Native.Nat.{ℕ, zero, suc, _≤_, _<_}
+use mathlib.Core.List.{List}
+use mathlib.Core.Path.{_≡_, refl, sym, _∙_}
 use native.Mathlib.Omega.{arith}
-use borrow.Author.Tests.{lt-ltb, le-ltb, ltb-false}
+use borrow.Author.Tests.{lt-ltb, le-ltb}
 use lib.ListN.{length}
 use Rattle.reply.specs.Read.{Read, refused, read, _then_, refusal}
-use Rattle.reply.specs.Chain.{then-read, if-read}
 use Rattle.block.specs.Index.{indicesOf, saidIndices}
 use Rattle.block.specs.declared.Indices.{Indices}
 use Rattle.reply.specs.declared.Refusal.{Refusal}
 use Rattle.block.specs.declared.Measured.the-variants as measured
-use Rattle.records.specs.Records.{sheetKind, endAt, recordReply}
-use Rattle.records.specs.Taken.{taken, of-one, of-first}
-use Rattle.deck.specs.Deck.{longestDeck, Deck, sheetKinds, endReply, sheetReply, deckReply}
-use Rattle.deck.specs.Molecule.{fieldsOf, sheetOf, claimedAt, saidFields, moleculeOf}
-use Rattle.deck.specs.Sound.{parts}
+use Rattle.records.specs.Taken.{taken}
+use Rattle.deck.specs.Deck.{longestDeck, Deck, deckReply}
+use Rattle.deck.specs.Molecule.{moleculeOf}
 use Rattle.deck.specs.declared.Form.{Form}
 use Rattle.deck.specs.declared.Form.the-variants.{Composed, Judged}
-use Rattle.sheets.specs.Sheets.{sheetBytes, firstWrong}
+use Rattle.sheets.specs.Sheets.{fieldsOf, sheetOf, claimedAt, saidFields, sheetBytes, firstWrong}
 use Rattle.sheets.specs.Back.{fields-said}
-use Rattle.compose.specs.Fields.{fieldsReply}
+use Rattle.compose.specs.Fields.{composeReply, saidComposed, fieldsReply}
+use Rattle.compose.specs.declared.Composed.{Composed as DeckFields}
+use Rattle.compose.specs.declared.ComposeReply.the-variants as composed
 use Rattle.molecule.specs.Molecule.{judgeReply, saidVerdict, writeReply}
 use Rattle.molecule.specs.declared.Verdict.{Verdict}
 use Rattle.molecule.specs.declared.Verdict.the-variants as verdict
 
--- the composed fields, taken apart
-pub fields-refused : (form : Form) (d : List ℕ) (r : Refusal) → measured.Refused r ≡ saidIndices (fieldsReply form d) → deckReply form d ≡ refused r
-unfolding fieldsReply
-fields-refused form d r = go (deckReply form d)
+-- what is composed, taken apart
+pub composed-refused : (form : Form) (d : List ℕ) (r : Refusal) → composed.Refused r ≡ saidComposed (composeReply form d) → deckReply form d ≡ refused r
+unfolding composeReply
+composed-refused form d r = go (deckReply form d)
   where
-    go : (x : Read Deck) → measured.Refused r ≡ saidIndices (x then λ k. read (indicesOf (moleculeOf d k))) → x ≡ refused r
+    go : (x : Read Deck) → composed.Refused r ≡ saidComposed (x then λ k. read (record { fields = indicesOf (moleculeOf d k); sheet = k .sheet })) → x ≡ refused r
     go (refused q) e = cc
     go (read k) e = absurd (let z : _≡_ {A = ℕ} 0 1 = cc in omega arith)
 
-pub fields-read : (form : Form) (d : List ℕ) (x : Indices) → measured.Of x ≡ saidIndices (fieldsReply form d) → (k : Deck) × (deckReply form d ≡ read k) × (x ≡ indicesOf (moleculeOf d k))
-unfolding fieldsReply
-fields-read form d x = go (deckReply form d)
+pub composed-read : (form : Form) (d : List ℕ) (x : DeckFields) → composed.Composed x ≡ saidComposed (composeReply form d)
+    → (k : Deck) × (deckReply form d ≡ read k) × (x .fields ≡ indicesOf (moleculeOf d k)) × (x .sheet ≡ k .sheet)
+unfolding composeReply
+composed-read form d x = go (deckReply form d)
   where
-    go : (y : Read Deck) → measured.Of x ≡ saidIndices (y then λ k. read (indicesOf (moleculeOf d k))) → (k : Deck) × (y ≡ read k) × (x ≡ indicesOf (moleculeOf d k))
+    go : (y : Read Deck) → composed.Composed x ≡ saidComposed (y then λ k. read (record { fields = indicesOf (moleculeOf d k); sheet = k .sheet }))
+        → (k : Deck) × (y ≡ read k) × (x .fields ≡ indicesOf (moleculeOf d k)) × (x .sheet ≡ k .sheet)
     go (refused q) e = absurd (let z : _≡_ {A = ℕ} 0 1 = cc in omega arith)
-    go (read k) e = (k, refl, cc)
+    go (read k) e = (k, refl, cc, cc)
 
--- a sheet stands at the end of a judged deck
-pub sheet-last : (d : List ℕ) (k : Deck) → deckReply Judged d ≡ read k → k .sheet + sheetBytes ≡ length d
-unfolding sheetReply endReply
-sheet-last d k e =
-    let (u, a, b) = then-read (recordReply sheetKinds d (k .sheet)) _ (parts Judged d k e .sheet) in
-    let n = of-first d (k .sheet) sheetKind [] a (of-one d (k .sheet) sheetKind a) in
-    omega (arith, taken d (k .sheet) sheetKinds a .whole, ltb-false (endAt d (k .sheet)) (length d) (if-read _ 11 (endAt d (k .sheet)) b))
+-- the fields alone
+pub fields-refused : (form : Form) (d : List ℕ) (r : Refusal) → deckReply form d ≡ refused r → measured.Refused r ≡ saidIndices (fieldsReply form d)
+unfolding fieldsReply
+fields-refused form d r e = rw e
+
+pub fields-read : (form : Form) (d : List ℕ) (k : Deck) (x : Indices) → deckReply form d ≡ read k → x ≡ indicesOf (moleculeOf d k) → measured.Of x ≡ saidIndices (fieldsReply form d)
+unfolding fieldsReply
+fields-read form d k x e q = rw (e, q)
+
+fields-told : (form : Form) (d : List ℕ) (x : Read Indices) → saidIndices x ≡ saidIndices (fieldsReply form d) → x ≡ fieldsReply form d
+fields-told form d x = go x (fieldsReply form d)
+  where
+    go : (a b : Read Indices) → saidIndices a ≡ saidIndices b → a ≡ b
+    go (refused r) (refused s) e = cc
+    go (refused r) (read y) e = absurd (let z : _≡_ {A = ℕ} 0 1 = cc in omega arith)
+    go (read y) (refused s) e = absurd (let z : _≡_ {A = ℕ} 0 1 = cc in omega arith)
+    go (read x) (read y) e = cc
 
 pub judge-refused : (d : List ℕ) (r : Refusal) → deckReply Judged d ≡ refused r → verdict.Refused r ≡ saidVerdict (judgeReply d)
 unfolding judgeReply
 judge-refused d r e = rw e
 
-pub judge-read : (d : List ℕ) (k : Deck) (x y : Indices) (v : Verdict) → deckReply Judged d ≡ read k → x ≡ indicesOf (moleculeOf d k) → y ≡ saidFields (claimedAt d (k .sheet))
+pub judge-read : (d : List ℕ) (k : Deck) (x y : Indices) (at : ℕ) (v : Verdict) → deckReply Judged d ≡ read k → x ≡ indicesOf (moleculeOf d k) → at ≡ k .sheet → y ≡ saidFields (claimedAt d at)
     → v ≡ saidVerdict (read (firstWrong 1 (fieldsOf x) (fieldsOf y))) → v ≡ saidVerdict (judgeReply d)
 unfolding judgeReply sheetOf
-judge-read d k x y v e p q f = f ∙ rw (e, p, q, fields-said d (k .sheet))
+judge-read d k x y at v e p a q f = f ∙ rw (e, p, q, a, fields-said d (k .sheet))
 
 -- accepted where no field is wrong
 pub accepts : (n : ℕ) → n ≡ 0 → verdict.Accepted ≡ saidVerdict (read n)
@@ -81,10 +92,5 @@ module _ (d : List ℕ) (n : ℕ) where
   unfolding writeReply
   write-fields h l = rw (le-ltb longestDeck (length d) h, le-ltb n sheetBytes l)
 
-  pub write-refused : (r : Refusal) → length d ≤ longestDeck → sheetBytes ≤ n → measured.Refused r ≡ saidIndices (fieldsReply Composed d) → writeReply d n ≡ refused r
-  unfolding fieldsReply
-  write-refused r h l e = write-fields h l ∙ rw (fields-refused Composed d r e)
-
-  pub write-read : (x : Indices) → length d ≤ longestDeck → sheetBytes ≤ n → measured.Of x ≡ saidIndices (fieldsReply Composed d) → writeReply d n ≡ read x
-  unfolding fieldsReply
-  write-read x h l e = let (k, p, q) = fields-read Composed d x e in write-fields h l ∙ rw p (ap read (sym q))
+  pub write-told : (x : Read Indices) → length d ≤ longestDeck → sheetBytes ≤ n → saidIndices x ≡ saidIndices (fieldsReply Composed d) → writeReply d n ≡ x
+  write-told x h l e = write-fields h l ∙ sym (fields-told Composed d x e)

@@ -1,4 +1,4 @@
--- What a judged deck is told, and what is written into a buffer. Over the one graph with every atom and bond written out: no rule of composition.
+-- Definitions. What a judged deck is told, and what is written into a buffer. Over the one graph with every atom and bond written out: no rule of composition.
 use Prim.Native.Nat.{ℕ, zero, suc}
 use mathlib.Core.List.{List}
 use lib.Dec.{ltb}
@@ -6,9 +6,9 @@ use lib.ListN.{length}
 use Rattle.reply.specs.Read.{Read, refused, read, _then_, refuseIf}
 use Rattle.block.specs.declared.Indices.{Indices}
 use Rattle.deck.specs.Deck.{longestDeck, deckReply}
-use Rattle.deck.specs.Molecule.{fieldsOf, sheetOf, claimedAt, moleculeOf}
+use Rattle.deck.specs.Molecule.{moleculeOf}
 use Rattle.deck.specs.declared.Form.the-variants.{Composed, Judged}
-use Rattle.sheets.specs.Sheets.{sheetBytes, sheetPut, firstWrong}
+use Rattle.sheets.specs.Sheets.{fieldsOf, sheetOf, claimedAt, sheetBytes, sheetPut, firstWrong}
 use Rattle.compose.specs.Fields.{fieldsReply}
 use Rattle.molecule.specs.declared.Verdict.{Verdict}
 use Rattle.molecule.specs.declared.Verdict.the-variants as verdict

@@ -1,4 +1,4 @@
--- Demand 3: a sheet is accepted exactly when it is right, a written sheet is accepted, and each promise determines its reply and its bytes. Assumes nothing.
+-- Laws. Demand 3: a sheet is accepted exactly when it is right, a written sheet is accepted, and each promise determines its reply and its bytes. Assumes nothing.
 use Prim.Native.Nat.{ℕ, zero, suc, _+_, _-_, _≤_}
 use mathlib.Core.List.{List, _++_}
 use mathlib.Core.Logic.{_↔_}
@@ -6,7 +6,7 @@ use mathlib.Core.Path.{_≡_, refl, sym, _∙_, ap}
 use native.Mathlib.Omega.{arith}
 use borrow.Author.Tests.{le-ltb, ltb-false}
 use lib.Dec.{ltb}
-use lib.ListN.{length, take}
+use lib.ListN.{length, getD, take, drop}
 use lib.Seq.{take-at}
 use Rattle.graph.specs.Climb.{written-molecule}
 use Rattle.graph.specs.Bounds.{atoms-most}
@@ -17,13 +17,14 @@ use Rattle.block.specs.Index.{indicesOf, saidIndices}
 use Rattle.block.specs.declared.Indices.{Indices}
 use Rattle.block.specs.declared.Measured.{Measured}
 use Rattle.deck.specs.Deck.{longestDeck, Deck, deckReply}
-use Rattle.deck.specs.Molecule.{graphAt, joinAt, moleculeOf, fieldsOf, widths, sheetOf, claimedAt}
+use Rattle.deck.specs.Molecule.{graphAt, joinAt, moleculeOf}
 use Rattle.deck.specs.Sound.{whole}
-use Rattle.deck.specs.Followed.{same-molecule}
+use Rattle.deck.specs.Followed.{IsSheet, ends, same-molecule, followed}
 use Rattle.deck.specs.declared.Form.{Form}
 use Rattle.deck.specs.declared.Form.the-variants.{Composed, Judged}
-use Rattle.sheets.specs.Sheets.{sheetBytes, sheetRecord, sheetPut}
-use Rattle.sheets.specs.Back.{Fit, length-sheet, sheet-taken, sheet-claimed, none-wrong, wrong-none}
+use Rattle.records.specs.Records.{headBytes}
+use Rattle.sheets.specs.Sheets.{fieldsOf, widths, fieldsAt, sheetOf, claimedAt, sheetBytes, sheetRecord, sheetPut}
+use Rattle.sheets.specs.Back.{Fit, length-sheet, read-whole, fields-behind, none-wrong, wrong-none}
 use Rattle.compose.specs.Fields.{fieldsReply}
 use Rattle.compose.proofs.Steps.{room}
 use Rattle.molecule.specs.Molecule.{judgeReply, saidVerdict, writeReply, saidWritten, sheetOut}
@@ -53,6 +54,22 @@ fields-fit form d k e =
     let w = whole form d k e in
     let r = room (written-molecule (k .placements - 1) (w .assembled)) (omega (arith, atoms-most mostAtoms (graphAt d k) (joinAt d k) (k .placements - 1) (λ i h. w .atoms i (omega (arith, w .count)) .high), w .count)) refl in
     (omega (arith, r .atoms), (omega (arith, r .w), (omega (arith, r .even), (omega (arith, r .odd), (omega (arith, r .polarity), tt)))))
+
+-- The record of a sheet whose fields fit is one; behind a deck that composes it is taken, and claims its fields.
+module _ (x : Indices) (fit : Fit widths (fieldsOf x)) where
+  is-sheet : IsSheet (sheetRecord (fieldsOf x))
+  unfolding fieldsAt
+  is-sheet = let w = read-whole x fit in record { size = length-sheet x; payload = ap (λ (l : List ℕ). getD l 0 0) w; kind = ap (λ (l : List ℕ). getD l 1 0) w }
+
+  module _ (d : List ℕ) (k : Deck) (e : deckReply Composed d ≡ read k) where
+    sheet-taken : length d + sheetBytes ≤ longestDeck → deckReply Judged (d ++ sheetRecord (fieldsOf x)) ≡ read k
+    sheet-taken h = followed d k e (sheetRecord (fieldsOf x)) is-sheet (omega (arith, length-sheet x))
+
+    sheet-claimed : claimedAt (d ++ sheetRecord (fieldsOf x)) (k .sheet) ≡ fieldsOf x
+    unfolding claimedAt fieldsAt
+    sheet-claimed =
+        let s = sheetRecord (fieldsOf x) in
+        ap (λ (n : ℕ). fieldsAt widths (d ++ s) (n + headBytes)) (ends d k e) ∙ fields-behind d s widths headBytes ∙ ap (drop 2) (read-whole x fit)
 
 module _ (d : List ℕ) (k : Deck) (e : deckReply Composed d ≡ read k) (h : length d + sheetBytes ≤ longestDeck) where
   -- the record of the molecule's sheet, put behind its deck

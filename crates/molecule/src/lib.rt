@@ -1,21 +1,21 @@
 // The judge: composing a deck's sheet, writing it, and judging one that somebody else wrote.
 use block::Indices;
 use block::Measured;
-use reply::Refusal;
+use compose::ComposeReply;
 use compose::fields;
 use deck::Form;
 use deck::LONGEST;
-use deck::claimed;
+use reply::Refusal;
 use sheets::BYTES;
+use sheets::claimed;
 use sheets::first_wrong;
 use sheets::put_sheet;
 ghost use mathlib.Core.Path.{_≡_};
 ghost use lib.ListN.{length};
 ghost use Rattle.reply.specs.Read.{read};
 ghost use Rattle.block.specs.Index.{saidIndices};
-ghost use Rattle.deck.specs.Molecule.{fieldsOf};
 ghost use Rattle.deck.specs.declared.Form.the-variants.{Composed};
-ghost use Rattle.sheets.specs.Sheets.{firstWrong};
+ghost use Rattle.sheets.specs.Sheets.{fieldsOf, firstWrong};
 ghost use Rattle.compose.specs.Fields.{fieldsReply};
 ghost use Rattle.molecule.specs.Molecule.{judgeReply, saidVerdict, writeReply, saidWritten, sheetOut};
 
@@ -36,7 +36,14 @@ pub enum Written {
 pub fn compose(d: &[u8]) -> Measured
     ensures { λ r. ⌜ r ≡ saidIndices (fieldsReply Composed (now (d .entry))) ⌝ }
 {
-    fields(d, Form::Composed)
+    let told = fields(d, Form::Composed);
+    match told {
+        ComposeReply::Refused(refusal) => Measured::Refused(refusal),
+        ComposeReply::Composed(x) => {
+            let all = x.fields;
+            Measured::Of(all)
+        }
+    }
 }
 
 // Writes the sheet of a deck without one, a whole record of 40 bytes, into the first bytes of a buffer. A refusal writes nothing.
@@ -83,7 +90,10 @@ pub fn judge(d: &[u8]) -> Verdict
 {
     let told = fields(d, Form::Judged);
     match told {
-        Measured::Refused(refusal) => Verdict::Refused(refusal),
-        Measured::Of(all) => compared(all, claimed(d, d.len() - BYTES)),
+        ComposeReply::Refused(refusal) => Verdict::Refused(refusal),
+        ComposeReply::Composed(x) => {
+            let all = x.fields;
+            compared(all, claimed(d, x.sheet))
+        }
     }
 }

@@ -5,9 +5,9 @@ use crate::row::FAR;
 use crate::row::Row;
 use crate::row::STAYS;
 use crate::told;
-use reply::Reply;
 use poly::Answer;
 use poly::Values;
+use reply::Reply;
 use shares::Shares;
 
 fn checked(n: usize, bonds: &[u8], row: Row) -> bool {

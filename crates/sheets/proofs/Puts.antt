@@ -1,5 +1,5 @@
 -- Laws. Bytes stored one after the other: a number's, and a record's field by field. Assumes nothing.
-use Prim.Native.Nat.{ℕ, zero, suc, _+_, _-_, _/_, _%_, _≤_, _<_, min}
+use Prim.Native.Nat.{ℕ, suc, _+_, _-_, _/_, _%_, _≤_, _<_, min}
 use mathlib.Core.List.{List, [], _∷_, _++_, append-nil}
 use mathlib.Core.Path.{_≡_, refl, sym, _∙_, ap, ap₂}
 use native.Mathlib.Nat.{add-zero}
@@ -113,9 +113,9 @@ module _ {ws d out₀ : List ℕ} {from : ℕ} where
     read-all h e p =
         let n = length-fields ws d from in
         sym (
-          sym (sets-eq (fieldsAt ws d from) out₀ 0 (omega (arith, n)) ∙ ap (λ (xs : List ℕ). fieldsAt ws d from ++ xs) (drop-of-length-le out₀ {i = 0 + length (fieldsAt ws d from)} (omega (arith, n))) ∙ append-nil (fieldsAt ws d from))
-          ∙ p .more
-          ∙ ap (λ (vs : List ℕ). sets out i (fieldsAt vs d at)) (drop-of-length-le ws {i = i} h)
+        sym (sets-eq (fieldsAt ws d from) out₀ 0 (omega (arith, n)) ∙ ap (λ (xs : List ℕ). fieldsAt ws d from ++ xs) (drop-of-length-le out₀ {i = 0 + length (fieldsAt ws d from)} (omega (arith, n))) ∙ append-nil (fieldsAt ws d from))
+        ∙ p .more
+        ∙ ap (λ (vs : List ℕ). sets out i (fieldsAt vs d at)) (drop-of-length-le ws {i = i} h)
         )
 
 -- the head, and then the fields

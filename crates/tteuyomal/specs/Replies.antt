@@ -10,7 +10,7 @@ use Rattle.shares.specs.Reply.{sharesReply, filled}
 use Rattle.tteuyomal.specs.Convention.{coded, after}
 use Rattle.block.specs.Index.{indicesReply, vertexReply}
 use Rattle.block.specs.declared.Vertex.{Vertex}
-use Rattle.deck.specs.Molecule.{fieldsOf}
+use Rattle.sheets.specs.Sheets.{fieldsOf}
 use Rattle.deck.specs.declared.Form.the-variants.{Composed}
 use Rattle.compose.specs.Fields.{fieldsReply}
 use Rattle.climb.specs.Placed.{placedReply}

@@ -5,6 +5,7 @@ use Rattle.reply.specs.Read.{read}
 use Rattle.deck.specs.Deck.{Deck, deckReply}
 use Rattle.deck.specs.Said.{layoutOf}
 use Rattle.deck.specs.declared.DeckRead.{DeckRead}
+use Rattle.deck.specs.declared.Layout.{Layout}
 use Rattle.compose.proofs.Reading.{told-refused, told-fine, fields-refused, fields-fine}
 use Rattle.compose.proofs.fields.Statement.{statement}
 use Rattle.compose.proofs.fields.Tie as tie
@@ -33,7 +34,7 @@ returns : tie.Need-returns
 returns c = fields-refused _ _ _ (told-refused _ (sym (ap (λ (x : DeckRead). x .reply) (c .before .before .before .read-deck .ensures)) ∙ c .before .reply .given .1))
 
 returns-2 : tie.Need-returns-2
-returns-2 c = let (k, e, l) = fine (c .before .before) in fields-fine _ _ k _ e (c .laid-out .ensures _ k e l)
+returns-2 c = let (k, e, l) = fine (c .before .before) in fields-fine _ _ k _ _ e (c .laid-out .ensures _ k e l) (ap (λ (x : Layout). x .sheet) l)
 
 pub fields-spec : {M : Type 1} → statement M
 fields-spec = tie.close (tie.spec read-deck-requires enum-known-reply enum-told laid-out-requires returns returns-2)

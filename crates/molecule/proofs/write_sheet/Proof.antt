@@ -1,8 +1,9 @@
 -- `molecule::write_sheet` meets its contract. Assumes nothing.
 use mathlib.Core.Path.{sym, _∙_, ap}
 use borrow.Author.Needs.{needs}
+use Rattle.reply.specs.Read.{refused, read}
 use Rattle.molecule.specs.Molecule.{saidWritten, sheetOut}
-use Rattle.molecule.proofs.Judging.{write-long, write-short, write-refused, write-read}
+use Rattle.molecule.proofs.Judging.{write-long, write-short, write-told}
 use Rattle.molecule.proofs.write_sheet.Statement.{statement}
 use Rattle.molecule.proofs.write_sheet.Tie as tie
 
@@ -26,7 +27,7 @@ put-sheet-requires c κs = search needs
 
 returns-3 : tie.Need-returns-3
 returns-3 c =
-    let e = write-refused _ _ _ (c .before .before .before .before .before .if1 .left) (c .before .before .before .before .if2 .left) (sym (c .before .told .given .1) ∙ c .before .before .before .compose .ensures) in
+    let e = write-told _ _ (refused _) (c .before .before .before .before .before .if1 .left) (c .before .before .before .before .if2 .left) (sym (c .before .told .given .1) ∙ c .before .before .before .compose .ensures) in
     (sym (ap saidWritten e), sym (ap (sheetOut _) e))
 
 same-length : tie.Need-same-length
@@ -34,7 +35,7 @@ same-length c = search needs
 
 returns-4 : tie.Need-returns-4
 returns-4 c =
-    let e = write-read _ _ _ (c .before .before .before .before .before .before .before .before .before .if1 .left) (c .before .before .before .before .before .before .before .before .if2 .left) (sym (c .before .before .before .before .before .told2 .given .1) ∙ c .before .before .before .before .before .before .before .compose .ensures) in
+    let e = write-told _ _ (read _) (c .before .before .before .before .before .before .before .before .before .if1 .left) (c .before .before .before .before .before .before .before .before .if2 .left) (sym (c .before .before .before .before .before .told2 .given .1) ∙ c .before .before .before .before .before .before .before .compose .ensures) in
     (sym (ap saidWritten e), c .before .before .put-sheet .ensures ∙ sym (ap (sheetOut _) e))
 
 pub write-sheet-spec : {M : Type 1} → statement M

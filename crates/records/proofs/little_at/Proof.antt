@@ -1,11 +1,10 @@
 -- `records::little_at` meets its contract. The loop's invariant: n is the number of the bytes from k on.
-use Prim.Native.Nat.{ℕ, _<_, min}
+use Prim.Native.Nat.{_<_, min}
 use mathlib.Core.Path.{_≡_, sym, _∙_}
 use native.Mathlib.Omega.{arith}
 use borrow.Author.Needs.{needs}
 use lib.ListN.{length}
 use denote.Ref.{now}
-use Rattle.records.specs.Bytes.{little}
 use Rattle.records.proofs.Numbers.{Last, past, none-yet, room, one-before, all-read}
 use Rattle.records.proofs.little_at.Statement.{statement}
 use Rattle.records.proofs.little_at.Tie as tie
@@ -47,12 +46,12 @@ loop-less : tie.Need-loop-less Inv-loop μ-loop
 loop-less c = let t = c .before .before .loop-test .taken in omega arith
 
 loop-again : tie.Need-loop-again Inv-loop μ-loop
-loop-again c = 
+loop-again c =
     let l = c .before .before .before .loop in
     (l .inv .0, one-before (c .wide .result) (c .before .before .loop-test .taken) (c .wide .ensures .0 ∙ c .before .byte-at .ensures) (c .wide .ensures .1) (l .inv .1))
 
 returns-2 : tie.Need-returns-2 Inv-loop μ-loop
-returns-2 c = 
+returns-2 c =
     let l = c .before .loop in
     let z : l .k ≡ 0 = omega (arith, c .loop-test .left) in
     all-read (rw z at (l .inv .1))

@@ -1,6 +1,6 @@
 -- `sheets::put_fields` meets its contract. The loop's invariant: what is left to put makes of the buffer what all of it makes of the first one.
 use Prim.Native.Nat.{_-_}
-use mathlib.Core.Path.{_≡_, sym, _∙_}
+use mathlib.Core.Path.{_≡_}
 use native.Mathlib.Omega.{arith}
 use borrow.Author.Needs.{needs}
 use lib.ListN.{length}

@@ -1,6 +1,6 @@
 -- `sheets::read_fields` meets its contract. The loop's invariant: what is left to read makes of the fields what all of it makes of the first ones.
 use Prim.Native.Nat.{_+_, _-_, _^_, _<_}
-use mathlib.Core.Path.{_≡_, sym, _∙_}
+use mathlib.Core.Path.{_≡_}
 use native.Mathlib.Omega.{arith}
 use borrow.Author.Needs.{needs}
 use lib.ListN.{length}

@@ -1,6 +1,6 @@
 -- `tteuyomal::give_fields` meets its contract.
 use borrow.Author.Needs.{needs}
-use Rattle.deck.specs.Molecule.{fieldsOf}
+use Rattle.sheets.specs.Sheets.{fieldsOf}
 use Rattle.tteuyomal.proofs.give_fields.Statement.{statement}
 use Rattle.tteuyomal.proofs.give_fields.Tie as tie
 

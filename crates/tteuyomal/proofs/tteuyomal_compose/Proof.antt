@@ -4,7 +4,7 @@ use denote.Ref.{now}
 use borrow.Author.Needs.{needs}
 use Rattle.reply.specs.Read.{Read, read, _then_}
 use Rattle.block.specs.declared.Indices.{Indices}
-use Rattle.deck.specs.Molecule.{fieldsOf}
+use Rattle.sheets.specs.Sheets.{fieldsOf}
 use Rattle.deck.specs.declared.Form.the-variants.{Composed}
 use Rattle.compose.specs.Fields.{fieldsReply}
 use Rattle.tteuyomal.proofs.Laws.{toldIndices, indices-told, lent-refused, lent-read}

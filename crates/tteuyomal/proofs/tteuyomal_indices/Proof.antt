@@ -4,7 +4,7 @@ use denote.Ref.{now}
 use borrow.Author.Needs.{needs}
 use Rattle.reply.specs.Read.{Read, read, _then_}
 use Rattle.block.specs.declared.Indices.{Indices}
-use Rattle.deck.specs.Molecule.{fieldsOf}
+use Rattle.sheets.specs.Sheets.{fieldsOf}
 use Rattle.block.specs.Index.{indicesReply}
 use Rattle.tteuyomal.proofs.Laws.{toldIndices, indices-told, lent-refused, lent-read}
 use Rattle.tteuyomal.proofs.tteuyomal_indices.Statement.{statement}
