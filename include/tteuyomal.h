@@ -8,7 +8,7 @@
  *   - up to 256 KiB of stack are there.
  *
  * A BLOCK is an atom count, 1 to 64, and a list of bonds, two bytes each: the numbers of its two atoms, from 1,
- * either first. At most 128 bonds, at most 4 at an atom, and a path between any two atoms.
+ * either first. At most 192 bonds, at most 6 at an atom, and a path between any two atoms.
  *
  * A DECK is a row of records, all numbers little-endian: payload length (2 bytes), kind (2), payload.
  *   kind 1, block (1 to 16 of them): block number (2), atom count (2), bond count m (2), m bonds of 2 bytes
@@ -48,11 +48,11 @@ typedef uint64_t tteuyomal_reply;
 /* What is wrong, by number. The first refusal in a function's order is the one that is told. */
 enum tteuyomal_refusal {
     TTEUYOMAL_ATOM_COUNT = 1,       /* the atom count is 0 or above 64 */
-    TTEUYOMAL_BOND_BYTES = 2,       /* the bond bytes are odd in number, or more than 256 */
+    TTEUYOMAL_BOND_BYTES = 2,       /* the bond bytes are odd in number, or more than 384 */
     TTEUYOMAL_BOND_END = 3,         /* a bond end is 0 or above the atom count */
     TTEUYOMAL_BOND_TO_ITSELF = 4,   /* both ends are the same atom */
     TTEUYOMAL_BOND_AGAIN = 5,       /* the bond was listed before, either way round */
-    TTEUYOMAL_FIFTH_BOND = 6,       /* the bond is an atom's fifth */
+    TTEUYOMAL_BOND_OVER_LIMIT = 6,  /* the bond is one too many for an atom: its seventh */
     TTEUYOMAL_NO_PATH = 7,          /* some pair of atoms has no path */
     TTEUYOMAL_DENOMINATOR = 8,      /* the common denominator is above 1,000,000 */
     TTEUYOMAL_OUTPUT = 9,           /* a lent output is too short */
@@ -66,7 +66,7 @@ enum tteuyomal_refusal {
     TTEUYOMAL_PARENT = 17,          /* a first placement with a join, or a parent that is 0 or not earlier */
     TTEUYOMAL_ATOM = 18,            /* a join atom is 0 or above its block's atom count; at place 0: no such
                                        placement or atom as was asked about */
-    TTEUYOMAL_FIFTH_BY_JOIN = 19,   /* the join is some atom's fifth bond, earlier joins counted */
+    TTEUYOMAL_JOIN_OVER_LIMIT = 19, /* the join is one bond too many for an atom: its seventh, earlier joins counted */
     TTEUYOMAL_DECK_LENGTH = 20      /* the deck is longer than 32,768 bytes */
 };
 

@@ -98,11 +98,11 @@ class ReadBlock(NamedTuple):
 # The words of the refusals in include/tteuyomal.h, by number; tests/test_words.py holds them together.
 WORDS = {
     1: "the atom count is 0 or above 64",
-    2: "the bond bytes are odd in number, or more than 256",
+    2: "the bond bytes are odd in number, or more than 384",
     3: "a bond end is 0 or above the atom count",
     4: "both ends are the same atom",
     5: "the bond was listed before, either way round",
-    6: "the bond is an atom's fifth",
+    6: "the bond is one too many for an atom: its seventh",
     7: "some pair of atoms has no path",
     8: "the common denominator is above 1,000,000",
     9: "a lent output is too short",
@@ -115,7 +115,7 @@ WORDS = {
     16: "the placement's block is not in the deck",
     17: "a first placement with a join, or a parent that is 0 or not earlier",
     18: "a join atom is 0 or above its block's atom count; at place 0: no such placement or atom as was asked about",
-    19: "the join is some atom's fifth bond, earlier joins counted",
+    19: "the join is one bond too many for an atom: its seventh, earlier joins counted",
     20: "the deck is longer than 32,768 bytes",
 }
 

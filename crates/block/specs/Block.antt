@@ -12,7 +12,7 @@ abbrev pub mostAtoms : ℕ
 mostAtoms = 64
 
 abbrev pub limit : ℕ
-limit = 4
+limit = 6
 
 abbrev pub mostBytes : ℕ
 mostBytes = mostAtoms * limit

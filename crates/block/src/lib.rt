@@ -20,7 +20,7 @@ use reply::wide;
 // The most atoms of a block, the most bonds of an atom, and the most bytes that a block's bonds take.
 pub const ATOMS: usize = 64;
 
-pub const LIMIT: usize = 4;
+pub const LIMIT: usize = 6;
 
 pub const BYTES: usize = ATOMS * LIMIT;
 

@@ -23,7 +23,7 @@ const SEATS: usize = ATOMS + 1;
 const SIDES: usize = 2 * SEATS;
 
 // The most bonds of a block: two bytes are one.
-const BONDS: usize = BYTES / 2;
+pub const BONDS: usize = BYTES / 2;
 
 // The most that D may be, and where path counts stop.
 const MOST: u64 = 1_000_000;
