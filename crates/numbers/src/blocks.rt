@@ -8,6 +8,7 @@ use crate::told;
 use poly::Answer;
 use poly::Values;
 use reply::Reply;
+use shares::BONDS;
 use shares::Shares;
 
 fn checked(n: usize, bonds: &[u8], row: Row) -> bool {
@@ -42,8 +43,8 @@ fn contributed(n: usize, bonds: &[u8], out: &mut [u64], lent: usize) -> Shares
 
 // D or a refusal, or what stands in the buffer after that.
 fn shared(letter: u8, n: usize, bonds: &[u8], row: Row) -> bool {
-    let mut out = [STAYS; 128];
-    let lent = row.first(0, 128);
+    let mut out = [STAYS; BONDS];
+    let lent = row.first(0, BONDS);
     let reply = contributed(n, bonds, &mut out, lent);
     if letter == b'e' {
         return told::entries_are(&out, row, 1);

@@ -2,8 +2,8 @@
 ghost use Prim.Native.Nat.{_<_, _≤_};
 ghost use lib.ListN.{length};
 
-// The most numbers that a line keeps.
-pub const MOST: usize = 400;
+// The most numbers that a line keeps: a deck of the largest block and its sheet has 446.
+pub const MOST: usize = 480;
 
 // The longest deck and one byte more.
 pub const ROOM: usize = 32769;

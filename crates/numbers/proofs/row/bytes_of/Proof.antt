@@ -1,4 +1,4 @@
--- `bytes_of` is safe and ends: the lists keep their lengths, and 400 - k falls.
+-- `bytes_of` is safe and ends: the lists keep their lengths, and 480 - k falls.
 use Prim.Native.Nat.{_-_}
 use mathlib.Core.Path.{_≡_}
 use lib.ListN.{length}
@@ -7,10 +7,10 @@ use Rattle.numbers.proofs.row.bytes_of.Statement.{statement}
 use Rattle.numbers.proofs.row.bytes_of.Tie as tie
 
 abbrev Inv-loop : tie.InvT-loop
-Inv-loop values bytes₀ k₀ bytes k = (length values ≡ 400) × (length bytes ≡ 32769)
+Inv-loop values bytes₀ k₀ bytes k = (length values ≡ 480) × (length bytes ≡ 32769)
 
 abbrev μ-loop : tie.MeasureT-loop
-μ-loop values bytes₀ k₀ bytes k = 400 - k
+μ-loop values bytes₀ k₀ bytes k = 480 - k
 
 loop-holds : tie.Need-loop-holds Inv-loop μ-loop
 loop-holds c = search needs
