@@ -4,8 +4,8 @@ use crate::graph::Graph;
 use crate::refusal::{refuse, Refusal};
 
 pub const MOST_ATOMS: usize = 64;
-pub const MOST_BONDS: usize = 128;
-pub const MOST_DEGREE: usize = 4;
+pub const MOST_DEGREE: usize = 6;
+pub const MOST_BONDS: usize = MOST_ATOMS * MOST_DEGREE / 2;
 
 /// Reads a lone block: its atom count and its bonds, two bytes each. The place is the bond's number from 1, or 0.
 pub fn read_block(atoms: usize, bytes: &[u8]) -> Result<Graph, Refusal> {

@@ -3,24 +3,24 @@
 use super::plan::BlockPlan;
 use super::random::Random;
 use super::shapes;
-
-const MOST_DEGREE: usize = 4;
+use crate::block::MOST_DEGREE;
 
 /// A random good block of at most `most` atoms, its atoms numbered and its bonds listed in random order.
 pub fn random_block(random: &mut Random, most: usize) -> BlockPlan {
     let atoms = random_size(random, most);
-    let mut block = match random.below(12) {
+    let mut block = match random.below(13) {
         0 | 1 => tree(random, atoms),
         2 => shapes::path(atoms as u8),
         3 | 4 if atoms >= 3 => shapes::ring(atoms as u8),
         5 | 6 if atoms >= 3 => fused_rings(random, atoms),
         7 if atoms >= 5 => shapes::double_ring(atoms as u8),
         8 if atoms >= 4 => many_paths(random, atoms),
+        10 if atoms >= 7 => shapes::triple_ring(atoms as u8),
         3..=9 => {
             let extra = random.below(atoms);
             with_more_bonds(random, atoms, extra)
         }
-        _ => with_more_bonds(random, atoms, 2 * atoms),
+        _ => with_more_bonds(random, atoms, MOST_DEGREE * atoms),
     };
     scramble(random, &mut block);
     block
@@ -105,10 +105,11 @@ pub fn with_more_bonds(random: &mut Random, atoms: usize, extra: usize) -> Block
 
 /// Shapes whose path counts grow, so that D grows, past its limit too.
 fn many_paths(random: &mut Random, atoms: usize) -> BlockPlan {
-    match random.below(4) {
+    match random.below(5) {
         0 => shapes::squares((atoms as u8 - 1) / 3),
         1 => shapes::ladder(atoms as u8 / 2),
         2 => shapes::doubling(atoms as u8 / 2),
+        3 if atoms >= 6 => shapes::tripling(atoms as u8 / 3),
         _ => {
             let rows = random.between(2, 8.min(atoms / 2));
             shapes::grid(rows as u8, (atoms / rows) as u8)

@@ -4,6 +4,7 @@ use super::blocks::free_atoms;
 use super::decks::bonds_at;
 use super::plan::{BlockPlan, DeckPlan, PlacementPlan};
 use super::random::Random;
+use crate::block::{MOST_BONDS, MOST_DEGREE};
 
 /// Makes one thing wrong, or leaves the deck as it is where it has no place for that wrong.
 pub fn damage_plan(random: &mut Random, deck: &mut DeckPlan) {
@@ -21,7 +22,7 @@ pub fn damage_plan(random: &mut Random, deck: &mut DeckPlan) {
         5 => first_joined(random, deck),
         6 => parent_wrong(random, deck),
         7 => join_atom_wrong(random, deck),
-        _ => fifth_by_joining(random, deck),
+        _ => join_over_limit(random, deck),
     }
 }
 
@@ -33,7 +34,7 @@ pub fn damage_block(random: &mut Random, block: &mut BlockPlan) {
         2 => bond_end_wrong(random, block),
         3 => bond_to_itself(random, block),
         4 | 5 => bond_again(random, block),
-        6 => fifth_bond(random, block),
+        6 => bond_over_limit(random, block),
         7 => drop_bonds(random, block),
         _ => block.atoms = block.atoms.saturating_add(1),
     }
@@ -50,7 +51,7 @@ fn insert_bond(random: &mut Random, block: &mut BlockPlan, bond: (u8, u8)) {
 }
 
 fn too_many_bonds(random: &mut Random, block: &mut BlockPlan) {
-    let wanted = *random.pick(&[129, 130, 200, 1_000]);
+    let wanted = *random.pick(&[MOST_BONDS + 1, MOST_BONDS + 2, 300, 1_000]);
     while block.bonds.len() < wanted {
         let bond = (some_atom(random, block), some_atom(random, block));
         block.bonds.push(bond);
@@ -84,13 +85,13 @@ fn bond_again(random: &mut Random, block: &mut BlockPlan) {
     insert_bond(random, block, bond);
 }
 
-/// Bonds from one atom to others until it has five.
-fn fifth_bond(random: &mut Random, block: &mut BlockPlan) {
+/// Bonds from one atom to others until it has one too many.
+fn bond_over_limit(random: &mut Random, block: &mut BlockPlan) {
     let atom = some_atom(random, block);
     for other in 1..=block.atoms.min(64) as u8 {
         let bonds = block.bonds.iter().filter(|&&(u, v)| u == atom || v == atom).count();
         let listed = block.bonds.contains(&(atom, other)) || block.bonds.contains(&(other, atom));
-        if bonds < 5 && other != atom && !listed {
+        if bonds <= MOST_DEGREE && other != atom && !listed {
             insert_bond(random, block, (atom, other));
         }
     }
@@ -178,8 +179,8 @@ fn join_atom_wrong(random: &mut Random, deck: &mut DeckPlan) {
     }
 }
 
-/// Joins at one atom of a placement until it has five bonds, or a block joined by an atom that has four already.
-fn fifth_by_joining(random: &mut Random, deck: &mut DeckPlan) {
+/// Joins at one atom of a placement until it has one bond too many, or a block joined by an atom that is full.
+fn join_over_limit(random: &mut Random, deck: &mut DeckPlan) {
     let Some(at) = some_placement(random, deck) else { return };
     if random.once_in(3) {
         if let Some(block) = deck.blocks.iter().find(|block| block.number == deck.placements[at].block) {
@@ -192,7 +193,7 @@ fn fifth_by_joining(random: &mut Random, deck: &mut DeckPlan) {
     }
     let number = random.pick(&deck.blocks).number;
     let atom = random.between(1, 3) as u8;
-    while bonds_at(deck, at, atom) < 5 && deck.placements.len() < 40 {
+    while bonds_at(deck, at, atom) <= MOST_DEGREE && deck.placements.len() < 40 {
         deck.placements.push(PlacementPlan::joined(number, at as u16 + 1, atom, 1));
     }
 }

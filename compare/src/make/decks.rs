@@ -3,6 +3,7 @@
 use super::blocks::{free_atoms, random_block};
 use super::plan::{BlockPlan, DeckPlan, PlacementPlan};
 use super::random::Random;
+use crate::block::MOST_DEGREE;
 
 /// 1 to 16 blocks in 1 to 32 placements; most decks are small, some are as large as can be.
 pub fn random_deck(random: &mut Random) -> DeckPlan {
@@ -44,9 +45,9 @@ pub fn assemble(random: &mut Random, blocks: Vec<BlockPlan>, order: &[usize]) ->
     deck
 }
 
-/// Takes an atom off a placement's free atoms where the join just made was its fourth bond.
+/// Takes an atom off a placement's free atoms where the join just made was the last that it may have.
 fn drop_if_full(deck: &DeckPlan, free: &mut Vec<u8>, placed: usize, atom: u8) {
-    if bonds_at(deck, placed, atom) == 4 {
+    if bonds_at(deck, placed, atom) == MOST_DEGREE {
         free.retain(|&other| other != atom);
     }
 }

@@ -65,6 +65,20 @@ pub fn double_ring(atoms: u8) -> BlockPlan {
     block(atoms as usize, bonds.collect())
 }
 
+/// A ring in which each atom is bonded to the next three: six bonds an atom, from 7 atoms on.
+pub fn triple_ring(atoms: u8) -> BlockPlan {
+    let bonds = (0..atoms).flat_map(|i| (1..=3).map(move |step| (i + 1, (i + step) % atoms + 1)));
+    block(atoms as usize, bonds.collect())
+}
+
+/// The corners of a cube of so many dimensions, bonded along its edges: as many bonds an atom.
+pub fn cube(dimensions: u8) -> BlockPlan {
+    let corners = 1u8 << dimensions;
+    let edges = |corner: u8| (0..dimensions).map(move |side| (corner, corner | 1 << side)).filter(|(u, v)| u != v);
+    let bonds = (0..corners).flat_map(edges).map(|(u, v)| (u + 1, v + 1));
+    block(corners as usize, bonds.collect())
+}
+
 /// Pairs of atoms in a row, each bonded to both of the next pair: the path counts double at every pair.
 pub fn doubling(pairs: u8) -> BlockPlan {
     let mut bonds = Vec::new();
@@ -73,6 +87,15 @@ pub fn doubling(pairs: u8) -> BlockPlan {
         bonds.extend([(left - 2, left), (left - 2, left + 1), (left - 1, left), (left - 1, left + 1)]);
     }
     block(2 * pairs as usize, bonds)
+}
+
+/// Three atoms in a row of threes, each bonded to all of the next three: the path counts treble at every step.
+pub fn tripling(threes: u8) -> BlockPlan {
+    let mut bonds = Vec::new();
+    for first in (1..threes).map(|three| 3 * three + 1) {
+        bonds.extend((first - 3..first).flat_map(|u| (first..first + 3).map(move |v| (u, v))));
+    }
+    block(3 * threes as usize, bonds)
 }
 
 /// A deck of one block in one placement.

@@ -1,7 +1,7 @@
 //! Decks and blocks that meet each refusal, with number and place written by hand from document 01.
 
 use super::plan::{BlockPlan, DeckPlan, PlacementPlan};
-use super::shapes::{alone, block, chained, double_ring, path, ring, star};
+use super::shapes::{alone, block, chained, path, ring, star, triple_ring};
 use crate::deck::Form;
 
 pub struct DeckSpecimen {
@@ -31,17 +31,18 @@ pub fn blocks() -> Vec<BlockSpecimen> {
     meets(1, 0, "a number of atoms that no byte holds", 1 << 40, &[1, 2]);
     meets(1, 0, "65 atoms and an odd number of bytes", 65, &[1]);
     meets(2, 0, "an odd number of bytes", 2, &[1, 2, 1]);
-    meets(2, 0, "258 bytes", 64, &[1; 258]);
-    meets(2, 0, "257 bytes, the first bond wrong", 64, &[0; 257]);
+    meets(2, 0, "386 bytes", 64, &[1; 386]);
+    meets(2, 0, "385 bytes, the first bond wrong", 64, &[0; 385]);
+    meets(3, 1, "384 bytes, the first bond wrong", 64, &[0; 384]);
     meets(3, 1, "a bond end 0", 2, &[0, 1]);
     meets(3, 2, "a bond end above n", 3, &[1, 2, 2, 4]);
     meets(3, 1, "both ends are 0", 3, &[0, 0]);
     meets(4, 2, "a bond from an atom to itself", 3, &[1, 2, 3, 3]);
     meets(5, 3, "a bond again", 3, &[1, 2, 2, 3, 1, 2]);
     meets(5, 3, "a bond again, the other way round", 3, &[1, 2, 2, 3, 3, 2]);
-    meets(5, 5, "a bond again at an atom that has four", 5, &[1, 2, 1, 3, 1, 4, 1, 5, 5, 1]);
-    meets(6, 5, "a fifth bond, first end", 6, &[1, 2, 1, 3, 1, 4, 1, 5, 1, 6]);
-    meets(6, 5, "a fifth bond, second end", 6, &[2, 1, 3, 1, 4, 1, 5, 1, 6, 1]);
+    meets(5, 7, "a bond again at an atom that has six", 7, &[1, 2, 1, 3, 1, 4, 1, 5, 1, 6, 1, 7, 7, 1]);
+    meets(6, 7, "a seventh bond, first end", 8, &[1, 2, 1, 3, 1, 4, 1, 5, 1, 6, 1, 7, 1, 8]);
+    meets(6, 7, "a seventh bond, second end", 8, &[2, 1, 3, 1, 4, 1, 5, 1, 6, 1, 7, 1, 8, 1]);
     meets(7, 0, "two atoms and no bond", 2, &[]);
     meets(7, 0, "two pieces", 4, &[1, 2, 3, 4]);
     meets(3, 3, "two pieces, then a bond end above n", 4, &[1, 2, 3, 4, 1, 5]);
@@ -77,10 +78,10 @@ fn judged_rings() -> Vec<u8> {
     deck.bytes()
 }
 
-/// The assembly of these placements over blocks of one atom (1), of a star of 5 (2) and of a double ring of 6 (3);
-/// the records begin at bytes 0, 10, 28 and 62, the placements at 68, 74 and so on.
+/// The assembly of these placements over blocks of one atom (1), of a star of 7 (2) and of a triple ring of 7 (3);
+/// the records begin at bytes 0, 10, 32 and 84, the placements at 90, 96 and so on.
 fn placed(placements: &[PlacementPlan]) -> Vec<u8> {
-    let blocks = [path(1), star(5), double_ring(6)];
+    let blocks = [path(1), star(7), triple_ring(7)];
     let numbered = (1..).zip(blocks).map(|(number, block)| BlockPlan { number, ..block });
     DeckPlan { blocks: numbered.collect(), placements: placements.to_vec(), sheet: None }.bytes()
 }
@@ -137,12 +138,12 @@ fn in_records(meets: Meets) {
         many.bytes()
     });
     meets(1, 10, "a block of no atom", second(block(0, vec![])));
-    meets(1, 10, "65 atoms and 129 bonds", second(block(65, vec![(1, 2); 129])));
-    meets(2, 10, "129 bonds, the first wrong", second(block(64, vec![(0, 2); 129])));
+    meets(1, 10, "65 atoms and 193 bonds", second(block(65, vec![(1, 2); 193])));
+    meets(2, 10, "193 bonds, the first wrong", second(block(64, vec![(0, 2); 193])));
     meets(3, 10, "a bond end above n", second(block(2, vec![(1, 3)])));
     meets(4, 10, "a bond from an atom to itself", second(block(2, vec![(1, 2), (2, 2)])));
     meets(5, 10, "a bond again", second(block(2, vec![(1, 2), (2, 1)])));
-    meets(6, 10, "a fifth bond", second(star(6)));
+    meets(6, 10, "a seventh bond", second(star(8)));
     meets(7, 10, "two pieces", second(block(3, vec![(1, 2)])));
     meets(15, 10, "no placement", DeckPlan { placements: vec![], ..alone(path(1)) }.bytes());
     meets(15, 14, "33 placements, the first wrong", {
@@ -167,23 +168,23 @@ fn in_records(meets: Meets) {
 fn in_placements(meets: Meets) {
     let first = PlacementPlan::first;
     let joined = PlacementPlan::joined;
-    meets(16, 68, "a first placement of no block", placed(&[first(4)]));
-    meets(16, 74, "block 0, and a parent of 0", placed(&[first(1), joined(0, 0, 1, 1)]));
-    meets(16, 68, "no block, and joined", placed(&[joined(9, 1, 1, 1)]));
-    meets(17, 68, "a first placement with a parent", placed(&[joined(1, 1, 0, 0)]));
-    meets(17, 68, "a first placement with a parent's atom", placed(&[joined(1, 0, 1, 0)]));
-    meets(17, 68, "a first placement with an own atom", placed(&[joined(1, 0, 0, 1)]));
-    meets(17, 74, "a later placement without a parent", placed(&[first(1), joined(1, 0, 1, 1)]));
-    meets(17, 74, "its own parent, and atom 0", placed(&[first(1), joined(1, 2, 0, 0)]));
-    meets(17, 74, "a parent that comes later", placed(&[first(2), joined(1, 3, 1, 1), joined(1, 1, 1, 1)]));
-    meets(17, 74, "a parent whose low byte alone is right", placed(&[first(2), joined(1, 257, 2, 1)]));
-    meets(18, 74, "parent's atom 0", placed(&[first(1), joined(1, 1, 0, 1)]));
-    meets(18, 74, "own atom 0", placed(&[first(1), joined(1, 1, 1, 0)]));
-    meets(18, 74, "parent's atom above its n", placed(&[first(1), joined(2, 1, 2, 2)]));
-    meets(18, 74, "own atom above n, parent's atom full", placed(&[first(2), joined(1, 1, 1, 2)]));
-    meets(19, 74, "a parent's atom with four bonds", placed(&[first(2), joined(1, 1, 1, 1)]));
-    meets(19, 74, "an own atom with four bonds", placed(&[first(1), joined(3, 1, 1, 4)]));
-    meets(19, 98, "a fifth atom on one atom", {
+    meets(16, 90, "a first placement of no block", placed(&[first(4)]));
+    meets(16, 96, "block 0, and a parent of 0", placed(&[first(1), joined(0, 0, 1, 1)]));
+    meets(16, 90, "no block, and joined", placed(&[joined(9, 1, 1, 1)]));
+    meets(17, 90, "a first placement with a parent", placed(&[joined(1, 1, 0, 0)]));
+    meets(17, 90, "a first placement with a parent's atom", placed(&[joined(1, 0, 1, 0)]));
+    meets(17, 90, "a first placement with an own atom", placed(&[joined(1, 0, 0, 1)]));
+    meets(17, 96, "a later placement without a parent", placed(&[first(1), joined(1, 0, 1, 1)]));
+    meets(17, 96, "its own parent, and atom 0", placed(&[first(1), joined(1, 2, 0, 0)]));
+    meets(17, 96, "a parent that comes later", placed(&[first(2), joined(1, 3, 1, 1), joined(1, 1, 1, 1)]));
+    meets(17, 96, "a parent whose low byte alone is right", placed(&[first(2), joined(1, 257, 2, 1)]));
+    meets(18, 96, "parent's atom 0", placed(&[first(1), joined(1, 1, 0, 1)]));
+    meets(18, 96, "own atom 0", placed(&[first(1), joined(1, 1, 1, 0)]));
+    meets(18, 96, "parent's atom above its n", placed(&[first(1), joined(2, 1, 2, 2)]));
+    meets(18, 96, "own atom above n, parent's atom full", placed(&[first(2), joined(1, 1, 1, 2)]));
+    meets(19, 96, "a parent's atom with six bonds", placed(&[first(2), joined(1, 1, 1, 1)]));
+    meets(19, 96, "an own atom with six bonds", placed(&[first(1), joined(3, 1, 1, 4)]));
+    meets(19, 132, "a seventh atom on one atom", {
         placed(&[
             first(1),
             joined(1, 1, 1, 1),
@@ -191,9 +192,11 @@ fn in_placements(meets: Meets) {
             joined(1, 1, 1, 1),
             joined(1, 1, 1, 1),
             joined(1, 1, 1, 1),
+            joined(1, 1, 1, 1),
+            joined(1, 1, 1, 1),
         ])
     });
-    meets(19, 98, "a fifth bond, the join to the parent counted", {
+    meets(19, 132, "a seventh bond, the join to the parent counted", {
         placed(&[
             first(1),
             joined(1, 1, 1, 1),
@@ -201,9 +204,11 @@ fn in_placements(meets: Meets) {
             joined(1, 2, 1, 1),
             joined(1, 2, 1, 1),
             joined(1, 2, 1, 1),
+            joined(1, 2, 1, 1),
+            joined(1, 2, 1, 1),
         ])
     });
-    meets(19, 86, "the earlier of two wrong placements", {
+    meets(19, 108, "the earlier of two wrong placements", {
         placed(&[first(2), joined(1, 1, 2, 1), joined(2, 2, 1, 2), joined(1, 3, 1, 1), joined(7, 1, 1, 1)])
     });
 }
@@ -222,8 +227,8 @@ fn behind_the_assembly(meets: Meets) {
     meets(12, 40, "an assembly for a sheet", with(42, 2));
     meets(12, 40, "a sheet of kind 4, and a byte behind it", [&with(42, 4)[..], &[0]].concat());
     meets(13, 40, "a sheet of 35 bytes, and a byte behind it", with(40, 35));
-    meets(19, 30, "a wrong placement before a sheet cut off", {
-        let mut deck = chained(star(5), 2, 1, 2);
+    meets(19, 34, "a wrong placement before a sheet cut off", {
+        let mut deck = chained(star(7), 2, 1, 2);
         deck.sheet = Some([0; 5]);
         let bytes = deck.bytes();
         bytes[..bytes.len() - 1].to_vec()

@@ -1,13 +1,13 @@
 //! The numbers that documents 000, 001 and 01 print.
 
 use crate::answers::{self, compose, judge, Verdict};
-use crate::block::read_block;
+use crate::block::{read_block, MOST_BONDS};
 use crate::deck::sheet_record;
 use crate::documents::*;
 use crate::graph::Graph;
 use crate::line::{judge_line, sheet_line};
-use crate::make::plan::{BlockPlan, DeckPlan};
-use crate::make::shapes::{double_ring, longest_path, ring, squares};
+use crate::make::plan::{BlockPlan, DeckPlan, PlacementPlan};
+use crate::make::shapes::{alone, cube, double_ring, longest_path, path, ring, squares, star, triple_ring};
 use crate::molecule::Measurer;
 use crate::refusal::Refusal;
 
@@ -21,7 +21,7 @@ fn fields(deck: &DeckPlan) -> [u64; 5] {
 
 /// D and the shares of a block.
 fn shares(block: &BlockPlan) -> Result<(u64, Vec<u64>), Refusal> {
-    answers::contributions(block.atoms as usize, &block.bond_bytes(), 128, 1)
+    answers::contributions(block.atoms as usize, &block.bond_bytes(), MOST_BONDS, 1)
 }
 
 #[test]
@@ -85,7 +85,22 @@ fn rings_and_squares() {
     assert_eq!(squares(20).atoms, 61);
     assert_eq!(shares(&squares(20)), Err(Refusal { number: 8, place: 0 }));
     assert_eq!(shares(&double_ring(64)).map(|(d, shares)| (d, shares.len())), Ok((720_720, 128)));
-    assert_eq!(shares(&crate::make::shapes::path(1)), Ok((1, vec![])));
+    assert_eq!(shares(&cube(6)), Ok((720, vec![23_040; 192])));
+    assert_eq!(shares(&triple_ring(64)), Err(Refusal { number: 8, place: 0 }));
+    assert_eq!(shares(&path(1)), Ok((1, vec![])));
+}
+
+/// Sulfur hexafluoride as one block, and as an atom with six on it; a seventh is one too many. The cube of six
+/// dimensions has six bonds at each of 64 atoms.
+#[test]
+fn six_bonds_and_a_seventh() {
+    assert_eq!(fields(&alone(star(7))), [7, 36, 30, 6, 0]);
+    assert_eq!(fields(&alone(cube(6))), [64, 6_144, 3_072, 3_072, 640]);
+    for (on_it, right) in [(6, Ok([7, 36, 30, 6, 0])), (7, Err(Refusal { number: 19, place: 58 }))] {
+        let mut deck = alone(path(1));
+        deck.placements.extend(vec![PlacementPlan::joined(1, 1, 1, 1); on_it]);
+        assert_eq!(compose(&mut Measurer::default(), &deck.bytes(), 5), right);
+    }
 }
 
 #[test]

@@ -1,6 +1,7 @@
 //! The stack that each function takes on the largest inputs, and whether the archive asks for heap memory.
 
 use crate::{archive, opened, stack};
+use opinion::block::MOST_BONDS;
 use opinion::make::plan::DeckPlan;
 use opinion::make::shapes;
 use std::fs;
@@ -11,7 +12,8 @@ const MOST_STACK: usize = 256 << 10;
 pub fn stack(decks: &[&DeckPlan]) {
     let judged: Vec<Vec<u8>> = decks.iter().map(|deck| opened(deck).1).collect();
     let decks: Vec<Vec<u8>> = decks.iter().map(|deck| deck.bytes()).collect();
-    let blocks = [shapes::path(64), shapes::double_ring(64), shapes::doubling(32)].map(|block| block.bond_bytes());
+    let blocks = [shapes::path(64), shapes::double_ring(64), shapes::cube(6), shapes::doubling(32)];
+    let blocks = blocks.map(|block| block.bond_bytes());
     let rows = [
         ("judge", most(&judged, archive::judge)),
         ("write_sheet", most(&decks, |deck| archive::write_sheet(deck, &mut [0; 40]))),
@@ -20,7 +22,7 @@ pub fn stack(decks: &[&DeckPlan]) {
         ("check_block", most(&blocks, |bonds| archive::check_block(64, bonds))),
         ("indices", most(&blocks, |bonds| archive::indices(64, bonds, &mut [0; 5]))),
         ("vertex", most(&blocks, |bonds| archive::vertex(64, bonds, 64, &mut [0; 7]))),
-        ("contributions", most(&blocks, |bonds| archive::contributions(64, bonds, &mut [0; 128], &mut [0]))),
+        ("contributions", most(&blocks, |bonds| archive::contributions(64, bonds, &mut [0; MOST_BONDS], &mut [0]))),
         ("polynomial", most(&blocks, |bonds| archive::polynomial(64, bonds, 0.5, &mut [0.0; 2]))),
     ];
     println!("| Function | bytes of stack | goal | |");

@@ -7,6 +7,7 @@ mod plain;
 mod stack;
 mod timing;
 
+use opinion::block::MOST_BONDS;
 use opinion::deck::{read_deck, sheet_record, Form};
 use opinion::graph::Graph;
 use opinion::make::blocks::with_more_bonds;
@@ -31,11 +32,12 @@ fn main() {
     for (name, deck, goal) in &decks {
         time_deck(name, deck, *goal);
     }
-    for (name, block) in [("path of 64", shapes::path(64)), ("64 atoms, 128 bonds", shapes::double_ring(64))] {
-        time_indices(name, &block, 1.0 / 1.5);
+    let rings = [("64 atoms, 128 bonds", shapes::double_ring(64)), ("64 atoms, 192 bonds", shapes::cube(6))];
+    for (name, block) in [("path of 64", shapes::path(64))].iter().chain(&rings) {
+        time_indices(name, block, 1.0 / 1.5);
     }
-    for (name, block) in [("64 atoms, 128 bonds", shapes::double_ring(64)), ("10 squares", shapes::squares(10))] {
-        time_shares(name, &block, 1.0 / 3.0);
+    for (name, block) in rings.iter().chain(&[("10 squares", shapes::squares(10))]) {
+        time_shares(name, block, 1.0 / 3.0);
     }
     println!();
     let (decks_judged, atoms) = decks_a_second();
@@ -122,7 +124,7 @@ fn time_shares(name: &str, block: &BlockPlan, goal: f64) {
     let (atoms, bonds) = (block.atoms as usize, block.bond_bytes());
     let mut plain = Plain::new();
     let mut worked = Shares::new();
-    let (mut shares, mut denominator) = ([0; 128], [0]);
+    let (mut shares, mut denominator) = ([0; MOST_BONDS], [0]);
     assert_eq!(archive::contributions(atoms, &bonds, &mut shares, &mut denominator), 0);
     let right = (shares, denominator[0]);
     let mut library = || {

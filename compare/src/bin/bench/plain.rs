@@ -3,14 +3,16 @@
 
 const MOST: usize = 2_048;
 const NONE: u16 = u16::MAX;
+const DEGREE: usize = opinion::block::MOST_DEGREE;
+const BONDS: usize = opinion::block::MOST_BONDS;
 
 /// A molecule as arrays; atoms are numbered from 0. `bond[v][k]` is the number of the bond to `near[v][k]`.
 pub struct Plain {
     atoms: usize,
     bonds: usize,
     degree: [u8; MOST],
-    near: [[u16; 4]; MOST],
-    bond: [[u16; 4]; MOST],
+    near: [[u16; DEGREE]; MOST],
+    bond: [[u16; DEGREE]; MOST],
     seen: [u16; MOST],
     queue: [u16; MOST],
 }
@@ -21,8 +23,8 @@ impl Plain {
             atoms: 0,
             bonds: 0,
             degree: [0; MOST],
-            near: [[0; 4]; MOST],
-            bond: [[0; 4]; MOST],
+            near: [[0; DEGREE]; MOST],
+            bond: [[0; DEGREE]; MOST],
             seen: [NONE; MOST],
             queue: [0; MOST],
         })
@@ -144,19 +146,19 @@ struct Searched {
 pub struct Shares {
     searched: [Searched; 64],
     through: [u64; 64],
-    pub shares: [u64; 128],
+    pub shares: [u64; BONDS],
     pub denominator: u64,
 }
 
 impl Shares {
     pub fn new() -> Box<Shares> {
         let searched = Searched { order: [0; 64], distance: [0; 64], paths: [0; 64] };
-        Box::new(Shares { searched: [searched; 64], through: [0; 64], shares: [0; 128], denominator: 1 })
+        Box::new(Shares { searched: [searched; 64], through: [0; 64], shares: [0; BONDS], denominator: 1 })
     }
 
     pub fn work(&mut self, block: &Plain) {
         self.denominator = 1;
-        self.shares = [0; 128];
+        self.shares = [0; BONDS];
         for start in 0..block.atoms {
             self.search(block, start);
             for &paths in &self.searched[start].paths[start + 1..block.atoms] {

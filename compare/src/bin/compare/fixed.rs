@@ -48,8 +48,12 @@ fn documents(checker: &mut Checker) {
         shapes::squares(19),
         shapes::squares(20),
         shapes::path(64),
+        shapes::star(7),
         shapes::double_ring(64),
+        shapes::triple_ring(64),
+        shapes::cube(6),
         shapes::doubling(32),
+        shapes::tripling(21),
         shapes::grid(8, 8),
     ]
     .into();
@@ -209,7 +213,7 @@ fn xs(checker: &mut Checker) {
     let right = [least, f64::MIN_POSITIVE, 1e-300, 1e-17, 0.1, 1.0 / 3.0, 0.5, 0.75, below_one, 1.0];
     for x in wrong.into_iter().chain(right) {
         checker.case(format!("x = {x:e}"), |checker| {
-            for block in [shapes::path(64), shapes::ring(63), shapes::star(5), shapes::path(1), NAPHTHALENE.block()] {
+            for block in [shapes::path(64), shapes::ring(63), shapes::star(7), shapes::path(1), NAPHTHALENE.block()] {
                 for room in [0, 1, 2, 3] {
                     checker.polynomial(block.atoms as usize, &block.bond_bytes(), x, room);
                 }
