@@ -48,9 +48,9 @@ isFull g joins k p a = leb limit (bondsOn g joins (k - 1) p a)
 unfoldable pub firstFault : Placement → ℕ
 firstFault q = cond (eqb (q .parent) 0 && eqb (q .site) 0 && eqb (q .own) 0) 0 17
 
--- the number for a later placement's parent that is 0 or not earlier
+-- what is wrong with a later placement's parent that is none of the earlier placements: 23 where it is 0, 24 where it is not earlier
 unfoldable pub parentFault : ℕ → ℕ
-parentFault parent = 17
+parentFault parent = cond (eqb parent 0) 23 24
 
 -- what is wrong with the join at index k, from a placement of block h to one of block g: 18, 19, or 0 for nothing
 unfoldable pub joinFault : Graph → Graph → (ℕ → Join) → ℕ → ℕ
@@ -66,7 +66,7 @@ module _ (book : Book) (placed : ℕ → Placement) where
   abbrev pub graphOn : ℕ → Graph
   graphOn k = book .graph (placed k .block)
 
-  -- what is wrong with the placement at an index that is not 0: 17, 18, 19, or 0
+  -- what is wrong with the placement at an index that is not 0: 23, 24, 18, 19, or 0
   unfoldable pub laterFault : ℕ → ℕ
   laterFault k =
       let parent = placed k .parent in

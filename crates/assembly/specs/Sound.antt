@@ -32,6 +32,15 @@ past : (t : Bool) (x y : ℕ) → (x ≡ 0 → ⊥) → cond t x y ≡ 0 → (t 
 past true x y h e = absurd (h e)
 past false x y h e = (refl, e)
 
+-- a parent that is at fault has a number for it
+parent-faulty : (p : ℕ) → parentFault p ≡ 0 → ⊥
+unfolding parentFault
+parent-faulty p = go (eqb p 0)
+  where
+    go : (t : Bool) → _≡_ {A = ℕ} (cond t 23 24) 0 → ⊥
+    go true e = omega arith
+    go false e = omega arith
+
 module _ (book : Book) (placed : ℕ → Placement) where
   abbrev blocks : ℕ → Graph
   blocks = graphOn book placed
@@ -56,10 +65,10 @@ module _ (book : Book) (placed : ℕ → Placement) where
       }
 
   later-right : (k : ℕ) → laterFault book placed k ≡ 0 → Joined blocks joins k
-  unfolding laterFault parentFault joinOf
+  unfolding laterFault joinOf
   later-right k e =
       let p = placed k .parent in
-      let (a, f) = past (isOutside k p) 17 _ (omega arith) e in
+      let (a, f) = past (isOutside k p) (parentFault p) _ (parent-faulty p) e in
       join-right k (inside k p a) f
 
   -- the placements that are read

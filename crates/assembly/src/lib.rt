@@ -188,11 +188,14 @@ fn first_fault(q: Placement) -> usize
     0
 }
 
-// The number for a later placement's parent that is 0 or not earlier.
+// What is wrong with a later placement's parent that is none of the earlier placements: 23 where it is 0, else 24.
 fn parent_fault(parent: usize) -> usize
     ensures { λ r. ⌜ r ≡ parentFault parent ⌝ }
 {
-    17
+    if parent == 0 {
+        return 23;
+    }
+    24
 }
 
 // What is wrong with the join at index k, from a placement of block `here` to one of block `there`: 18, 19, or 0.
@@ -216,7 +219,7 @@ fn join_fault(d: &[u8], there: BlockAt, here: BlockAt, xs: &[u8], k: usize) -> u
     0
 }
 
-// What is wrong with a later placement, at index k: 17, 18, 19, or 0.
+// What is wrong with a later placement, at index k: 23, 24, 18, 19, or 0.
 fn later_fault(d: &[u8], blocks: BlockTable, count: usize, xs: &[u8], k: usize) -> usize
     requires { ⌜ (1 ≤ k) × (k < mostPlacements) ⌝ }
     ensures { λ r. ⌜ r ≡ laterFault (bookOf (now (d .entry)) (take count blocks)) (placementAt (now (xs .entry))) k ⌝ }
@@ -232,7 +235,7 @@ fn later_fault(d: &[u8], blocks: BlockTable, count: usize, xs: &[u8], k: usize) 
     join_fault(d, there, here, xs, k)
 }
 
-// What is wrong with the placement at index k: 16, 17, 18, 19, or 0.
+// What is wrong with the placement at index k: 16, what first_fault or later_fault says, or 0.
 fn fault_of(d: &[u8], blocks: BlockTable, count: usize, xs: &[u8], k: usize) -> usize
     requires { ⌜ k < mostPlacements ⌝ }
     ensures { λ r. ⌜ r ≡ fault (bookOf (now (d .entry)) (take count blocks)) (placementAt (now (xs .entry))) k ⌝ }

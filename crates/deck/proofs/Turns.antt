@@ -1,5 +1,5 @@
 -- Steps of reading the blocks of a deck: what is left to do gives the answer. Assumes nothing.
-use Prim.Native.Nat.{ℕ, suc, _+_, _<_, _≤_}
+use Prim.Native.Nat.{ℕ, suc, _+_, _*_, _<_, _≤_}
 use mathlib.Core.Bool.{Bool, true, false, _||_, cond}
 use mathlib.Core.List.{List, [], _∷_, _++_}
 use mathlib.Core.Path.{_≡_, refl, sym, _∙_, ap}
@@ -7,11 +7,13 @@ use native.Mathlib.Numerals.{add-one}
 use native.Mathlib.Omega.{arith}
 use borrow.Author.Tests.{eq-eqb, ne-eqb}
 use lib.Dec.{eqb, leb}
-use lib.ListN.{length, take, drop, set, replicate, take-append-drop}
+use lib.ListN.{length, take, drop, set, replicate, take-append-drop, length-take, length-drop}
 use lib.Seq.{length-take-le, take-suc-set, drop-set-lt, drop-drop}
 use Rattle.reply.specs.Read.{Read, refused, read, refusal, saidReply}
-use Rattle.block.specs.Block.{blockReply}
+use Rattle.block.specs.Block.{bondsOf, blockReply}
+use Rattle.block.specs.Told.{place-within}
 use Rattle.reply.specs.declared.Refusal.{Refusal}
+use Rattle.records.specs.Bytes.{part}
 use Rattle.records.specs.Records.{blockKind, kindAt, endAt, kindReply, recordReply}
 use Rattle.records.specs.declared.Kind.{Kind}
 use Rattle.assembly.specs.Book.{noBlock, used, bondBytes}
@@ -36,6 +38,25 @@ second (b ∷ bs) last d at = rw (ne-eqb (length (b ∷ bs)) 0 (omega arith))
 pub moved-said : (place : Refusal → ℕ) (x : Read (Unit {0})) → movedReply place (saidReply x) ≡ saidReply (moved place x)
 moved-said place (refused r) = refl
 moved-said place (read u) = refl
+
+-- the place of a refusal of a block of a deck is no more than the deck is long
+bonds-few : (xs : List ℕ) → length (bondsOf xs) ≤ length xs
+unfolding bondsOf
+bonds-few [] = omega arith
+bonds-few (a ∷ []) = omega arith
+bonds-few (a ∷ (b ∷ xs)) = omega (arith, bonds-few xs)
+
+part-short : (d : List ℕ) (from len : ℕ) → length (part d from len) ≤ length d
+part-short d from len = omega (arith, length-take len (drop from d), length-drop from d)
+
+pub place-low : (d : List ℕ) (b : BlockAt) (r : Refusal) → blockReply (b .atoms) (bondBytes d b) ≡ refused r → r .place ≤ length d
+place-low d b r e =
+    omega (
+      arith,
+      place-within (b .atoms) (bondBytes d b) r e,
+      bonds-few (bondBytes d b),
+      part-short d (b .start + blockKind .fixed) (blockKind .item * b .bonds),
+    )
 
 -- 14 and the block's own
 abbrev pub unfit : List ℕ → ℕ → List BlockAt → Bool

@@ -1,5 +1,5 @@
 -- The deck: its records one after the other, each refused or taken. Document 01, "The deck", "Refusal numbers", "Order" and "Place".
-use Prim.Native.Nat.{ℕ, zero, suc, _+_, _*_}
+use Prim.Native.Nat.{ℕ, zero, suc, _+_, _*_, _-_}
 use mathlib.Core.Bool.{Bool, true, false, _||_, cond}
 use mathlib.Core.List.{List, [], _∷_, _++_}
 use mathlib.Core.Path.{_≡_, refl}
@@ -49,9 +49,13 @@ abbrev pub moved : (Refusal → ℕ) → Read (Unit {0}) → Read (Unit {0})
 moved place (refused r) = refused (refusal (r .number) (place r))
 moved place (read u) = read u
 
--- the place of a block's refusal, by its record's first byte
+-- the first byte of bond number j, from 1, of the block record at a place
+abbrev pub bondPlace : ℕ → ℕ → ℕ
+bondPlace at j = at + headBytes + blockKind .fixed + blockKind .item * (j - 1)
+
+-- the place of a block's refusal, by its record's first byte: the bond's first byte where the refusal has a bond's number, else the record's
 abbrev pub blockPlace : ℕ → Refusal → ℕ
-blockPlace at r = at
+blockPlace at r = cond (eqb (r .place) 0) at (bondPlace at (r .place))
 
 -- the place of an assembly's refusal: the placement's first byte, or the record's. `head-and-count` is why one factor serves both.
 abbrev pub placementPlace : ℕ → Refusal → ℕ
@@ -89,7 +93,7 @@ blocksFrom (suc fuel) last d at done =
 unfoldable pub blocksReply : Kind → List ℕ → Read Deck
 blocksReply last d = blocksFrom (suc mostBlocks) last d 0 []
 
--- 15 to 19 of its assembly
+-- 15 to 19, 23 and 24 of its assembly
 unfoldable pub assemblyReplyAt : List ℕ → List BlockAt → ℕ → Read (Unit {0})
 assemblyReplyAt d blocks at = moved (placementPlace at) (assemblyReply (bookOf d blocks) (payloadAt d at))
 

@@ -116,14 +116,14 @@ joinsTo (suc n) = joinTo 1 1 1 ++ joinsTo n
 cases : List Case
 unfolding _is_at_ record' block assembly sheet atom first joinTo alone atoms star joinsTo
 cases =
-    -- 1 to 7, at the block's record
+    -- 1, 2 and 7 at the block's record, 3 to 6 at the bond
     (atom ++ block 2 0 [] ++ alone) is 1 at 10
     ∷ (block 1 (mostAtoms + 1) [] ++ alone) is 1 at 0
     ∷ (block 1 mostAtoms (replicate (mostBytes + 2) 1) ++ alone) is 2 at 0
-    ∷ (atom ++ block 2 2 (1 ∷ 3 ∷ []) ++ alone) is 3 at 10
-    ∷ (block 1 2 (1 ∷ 1 ∷ []) ++ alone) is 4 at 0
-    ∷ (block 1 2 (1 ∷ 2 ∷ 2 ∷ 1 ∷ []) ++ alone) is 5 at 0
-    ∷ (block 1 (limit + 2) (star (limit + 1)) ++ alone) is 6 at 0
+    ∷ (atom ++ block 2 2 (1 ∷ 3 ∷ []) ++ alone) is 3 at 20
+    ∷ (block 1 2 (1 ∷ 1 ∷ []) ++ alone) is 4 at 10
+    ∷ (block 1 2 (1 ∷ 2 ∷ 2 ∷ 1 ∷ []) ++ alone) is 5 at 12
+    ∷ (block 1 (limit + 2) (star (limit + 1)) ++ alone) is 6 at (10 + 2 * limit)
     ∷ (atom ++ block 2 2 [] ++ alone) is 7 at 10
     -- the deck ends early: before a block, before the assembly, within a head, within a payload; bytes follow the last record
     ∷ [] is 11 at 0
@@ -150,8 +150,8 @@ cases =
     -- at the placement: no such block, a first placement with a join, a parent that is 0 or not earlier, atoms that there are not, one bond too many
     ∷ (block 2 1 [] ++ alone) is 16 at 16
     ∷ (atom ++ assembly 1 (joinTo 0 0 1)) is 17 at 16
-    ∷ (atom ++ assembly 2 (first ++ joinTo 0 1 1)) is 17 at 22
-    ∷ (atom ++ assembly 2 (first ++ joinTo 2 1 1)) is 17 at 22
+    ∷ (atom ++ assembly 2 (first ++ joinTo 0 1 1)) is 23 at 22
+    ∷ (atom ++ assembly 2 (first ++ joinTo 2 1 1)) is 24 at 22
     ∷ (atom ++ assembly 2 (first ++ joinTo 1 2 1)) is 18 at 22
     ∷ (atom ++ assembly 2 (first ++ joinTo 1 1 0)) is 18 at 22
     ∷ (atom ++ assembly (limit + 2) (first ++ joinsTo (limit + 1))) is 19 at (10 + 6 * (limit + 2))

@@ -10,7 +10,7 @@ ghost use Rattle.records.specs.Records.{blockKind, payloadAt};
 ghost use Rattle.assembly.specs.Book.{used};
 ghost use Rattle.assembly.specs.Placements.{mostPlacements, placementAt};
 ghost use Rattle.deck.specs.Deck.{mostBlocks, longestDeck, blockAt, blockPlace, placementPlace, blockReplyAt, assemblyReplyAt, blocksReply, endReply, sheetReply, deckReply, payload, blockSpan};
-ghost use Rattle.deck.specs.Said.{refusedDeck, tabledDeck, movedReply, saidDeck};
+ghost use Rattle.deck.specs.Said.{refusedDeck, tabledDeck, saidDeck};
 use assembly::BLOCK_HEAD;
 use assembly::BLOCKS;
 use assembly::BOND_BYTES;
@@ -58,23 +58,15 @@ pub struct DeckRead {
     pub layout: Layout,
 }
 
-// The place of a block's refusal in a deck, by its record's first byte.
+// The place of a block's refusal in a deck: the bond's first byte where the refusal has a bond's number, else the record's.
 fn block_place(at: usize, r: Refusal) -> usize
+    requires { ⌜ (at ≤ longestDeck) × (r .place ≤ longestDeck) ⌝ }
     ensures { λ p. ⌜ p ≡ blockPlace at r ⌝ }
 {
-    at
-}
-
-fn block_moved(at: usize, reply: Reply) -> Reply
-    ensures { λ r. ⌜ r ≡ movedReply (blockPlace at) reply ⌝ }
-{
-    match reply {
-        Reply::Fine => Reply::Fine,
-        Reply::Refused(r) => Reply::Refused(Refusal {
-            number: r.number,
-            place: block_place(at, r),
-        }),
+    if r.place == 0 {
+        return at;
     }
+    at + HEAD + BLOCK_HEAD + BOND_BYTES * (r.place - 1)
 }
 
 // The place of an assembly's refusal in a deck: the placement's first byte, or the record's.
@@ -115,7 +107,7 @@ fn is_unfit(blocks: BlockTable, count: usize, number: usize) -> bool
 
 // Refusal 14 and the block's own of the record at a place, after the first `count` blocks.
 fn block_reply(d: &[u8], at: usize, b: BlockAt, blocks: BlockTable, count: usize) -> Reply
-    requires { ⌜ (count ≤ mostBlocks) × (b ≡ blockAt (now d) at) ⌝ }
+    requires { ⌜ (count ≤ mostBlocks) × (b ≡ blockAt (now d) at) × (at ≤ longestDeck) × (length (now d) ≤ longestDeck) ⌝ }
     ensures { λ r. ⌜ r ≡ saidReply (blockReplyAt (now (d .entry)) at (take count blocks)) ⌝ }
 {
     if is_unfit(blocks, count, b.number as usize) {
@@ -125,7 +117,14 @@ fn block_reply(d: &[u8], at: usize, b: BlockAt, blocks: BlockTable, count: usize
         });
     }
     let bonds = assembly::bonds_part(d, b);
-    block_moved(at, block::check(b.atoms as usize, bonds))
+    let reply = block::check(b.atoms as usize, bonds);
+    match reply {
+        Reply::Fine => Reply::Fine,
+        Reply::Refused(r) => Reply::Refused(Refusal {
+            number: r.number,
+            place: block_place(at, r),
+        }),
+    }
 }
 
 // The second kind that may stand after `count` blocks.
@@ -173,6 +172,7 @@ fn deck_at(d: &[u8], blocks: BlockTable, count: usize, at: usize) -> DeckRead
 
 // The blocks of a deck, up to a record of the kind `last`.
 fn read_blocks(d: &[u8], last: Kind) -> DeckRead
+    requires { ⌜ length (now d) ≤ longestDeck ⌝ }
     ensures { λ r. ⌜ r ≡ saidDeck (blocksReply last (now (d .entry))) ⌝ }
 {
     let mut blocks = [NO_BLOCK; BLOCKS];
@@ -197,7 +197,7 @@ fn read_blocks(d: &[u8], last: Kind) -> DeckRead
     }
 }
 
-// Refusals 15 to 19 of the assembly record at a place, over the first `count` blocks.
+// Refusals 15 to 19, 23 and 24 of the assembly record at a place, over the first `count` blocks.
 fn assembly_reply(d: &[u8], at: usize, blocks: BlockTable, count: usize) -> Reply
     requires { ⌜ at ≤ longestDeck ⌝ }
     ensures { λ r. ⌜ r ≡ saidReply (assemblyReplyAt (now (d .entry)) (take count blocks) at) ⌝ }

@@ -119,7 +119,9 @@ block-at-requires : tie.Need-block-at-requires Inv-loop μ-loop
 block-at-requires c κs = c .before .before .before .before .before .before .before .loop .inv .0
 
 block-reply-requires : tie.Need-block-reply-requires Inv-loop μ-loop
-block-reply-requires c κs = (c .before .before .before .before .before .before .before .before .loop .inv .1, c .block-at .ensures)
+block-reply-requires c κs = let l = c .before .before .before .before .before .before .before .before in
+    let short = l .before .before .pre in
+    (l .loop .inv .1, c .block-at .ensures, omega (arith, l .loop .inv .0, short), short)
 
 enum-told-3 : tie.Need-enum-told-3 Inv-loop μ-loop
 enum-told-3 c = search needs

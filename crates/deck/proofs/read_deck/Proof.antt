@@ -52,7 +52,7 @@ returns : tie.Need-returns
 returns c = let s = c .before .before .before in c .deck-refused .ensures ∙ ap saidDeck (sym (too-long (s .args .form) (deck s) (c .before .if1 .taken)))
 
 read-blocks-requires : tie.Need-read-blocks-requires
-read-blocks-requires c κs = search needs
+read-blocks-requires c κs = short c
 
 enum-told : tie.Need-enum-told
 enum-told c = search needs
