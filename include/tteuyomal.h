@@ -63,16 +63,18 @@ enum tteuyomal_refusal {
     TTEUYOMAL_BLOCK_NUMBER = 14,    /* a block number that is 0 or used before, or a 17th block */
     TTEUYOMAL_PLACEMENT_COUNT = 15, /* the placement count is 0 or above 32 */
     TTEUYOMAL_NO_BLOCK = 16,        /* the placement's block is not in the deck */
-    TTEUYOMAL_PARENT = 17,          /* a first placement with a join, or a parent that is 0 or not earlier */
+    TTEUYOMAL_FIRST_JOINED = 17,    /* the first placement has a join field that is not 0 */
     TTEUYOMAL_ATOM = 18,            /* a join atom is 0 or above its block's atom count; at place 0: no such
                                        placement or atom as was asked about */
     TTEUYOMAL_JOIN_OVER_LIMIT = 19, /* the join is one bond too many for an atom: its seventh, earlier joins counted */
-    TTEUYOMAL_DECK_LENGTH = 20      /* the deck is longer than 32,768 bytes */
+    TTEUYOMAL_DECK_LENGTH = 20,     /* the deck is longer than 32,768 bytes */
+    TTEUYOMAL_NO_PARENT = 23,       /* a later placement has the parent 0 */
+    TTEUYOMAL_LATER_PARENT = 24     /* a later placement has a parent that is not earlier */
 };
 
 /* The place of a refusal. Lone block: the number of the bond, from 1, for 3 to 6, else 0. Deck: the first byte of
- * the record, from 0; of the placement for 16 to 19; the deck's length where a record is expected and the deck ends;
- * the first byte too many. 0 for 8, 9, 10 and 20. */
+ * the record, from 0; of the bond for 3 to 6; of the placement for 16 to 19, 23 and 24; the deck's length where a
+ * record is expected and the deck ends; the first byte too many. 0 for 8, 9, 10 and 20. */
 
 /* 0, a refusal's number, or TTEUYOMAL_DIFFERS. */
 static inline unsigned tteuyomal_what(tteuyomal_reply reply) { return (unsigned)(reply % 256); }

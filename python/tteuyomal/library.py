@@ -113,10 +113,12 @@ WORDS = {
     14: "a block number that is 0 or used before, or a 17th block",
     15: "the placement count is 0 or above 32",
     16: "the placement's block is not in the deck",
-    17: "a first placement with a join, or a parent that is 0 or not earlier",
+    17: "the first placement has a join field that is not 0",
     18: "a join atom is 0 or above its block's atom count; at place 0: no such placement or atom as was asked about",
     19: "the join is one bond too many for an atom: its seventh, earlier joins counted",
     20: "the deck is longer than 32,768 bytes",
+    23: "a later placement has the parent 0",
+    24: "a later placement has a parent that is not earlier",
 }
 
 

@@ -1,4 +1,4 @@
-// An assembly: placements over any book of blocks, and refusals 15 to 19.
+// An assembly: placements over any book of blocks, and refusals 15 to 19, 23 and 24.
 ghost use mathlib.Core.Path.{_≡_};
 ghost use mathlib.Core.Bool.{_&&_, cond};
 ghost use Prim.Native.Nat.{_+_, _*_, _-_, _<_, _≤_};
@@ -251,7 +251,7 @@ fn fault_of(d: &[u8], blocks: BlockTable, count: usize, xs: &[u8], k: usize) -> 
     later_fault(d, blocks, count, xs, k)
 }
 
-// Refusals 15 to 19 of an assembly's payload, over the first `count` blocks, which stand in d.
+// Refusals 15 to 19, 23 and 24 of an assembly's payload, over the first `count` blocks, which stand in d.
 pub fn check(d: &[u8], blocks: BlockTable, count: usize, xs: &[u8]) -> Reply
     ensures { λ r. ⌜ r ≡ saidReply (assemblyReply (bookOf (now (d .entry)) (take count blocks)) (now (xs .entry))) ⌝ }
 {
