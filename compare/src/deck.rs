@@ -104,7 +104,7 @@ pub fn read_deck(bytes: &[u8], form: Form) -> Result<Deck, Refusal> {
     Ok(deck)
 }
 
-/// A block's record: 13, 14, then the block's own refusals, all at the record's first byte.
+/// A block's record: 13, 14, then the block's own refusals: 3 to 6 at the bond's first byte, the others at the record's.
 fn read_block_record(record: &Record, earlier: &[usize]) -> Result<(usize, Graph), Refusal> {
     let payload = record.payload;
     if payload.len() < 6 || payload.len() != 6 + 2 * pair(payload, 4) {
@@ -116,11 +116,12 @@ fn read_block_record(record: &Record, earlier: &[usize]) -> Result<(usize, Graph
     }
     match read_block(pair(payload, 2), &payload[6..]) {
         Ok(block) => Ok((number, block)),
-        Err(refusal) => refuse(refusal.number, record.first),
+        Err(refusal) if refusal.place == 0 => refuse(refusal.number, record.first),
+        Err(refusal) => refuse(refusal.number, record.first + HEAD + 6 + 2 * (refusal.place as usize - 1)),
     }
 }
 
-/// The assembly: 13 and 15 at the record's first byte, 16 to 19 at the placement's.
+/// The assembly: 13 and 15 at the record's first byte, 16 to 19, 23 and 24 at the placement's.
 fn read_assembly(record: &Record, numbers: &[usize], blocks: &[Graph]) -> Result<Vec<Placement>, Refusal> {
     let payload = record.payload;
     if payload.len() < 2 || payload.len() != 2 + 6 * pair(payload, 0) {
@@ -151,14 +152,17 @@ fn read_assembly(record: &Record, numbers: &[usize], blocks: &[Graph]) -> Result
     Ok(placements)
 }
 
-/// 17, 18 and 19 of the placement that follows the earlier ones.
+/// 17, or 23, 24, 18 and 19, of the placement that follows the earlier ones.
 fn check_join(new: &Placement, earlier: &[Placement], blocks: &[Graph]) -> Result<(), u64> {
     if earlier.is_empty() {
         let joined = new.parent != 0 || new.parent_atom != 0 || new.own_atom != 0;
         return if joined { Err(17) } else { Ok(()) };
     }
-    if new.parent == 0 || new.parent > earlier.len() {
-        return Err(17);
+    if new.parent == 0 {
+        return Err(23);
+    }
+    if new.parent > earlier.len() {
+        return Err(24);
     }
     let parent_block = &blocks[earlier[new.parent - 1].block];
     let own_block = &blocks[new.block];

@@ -86,7 +86,7 @@ fn placed(placements: &[PlacementPlan]) -> Vec<u8> {
     DeckPlan { blocks: numbered.collect(), placements: placements.to_vec(), sheet: None }.bytes()
 }
 
-/// Decks of both forms: refusals 1 to 7 and 11 to 20, and the order among them.
+/// Decks of both forms: refusals 1 to 7, 11 to 20, 23 and 24, and the order among them.
 pub fn decks() -> Vec<DeckSpecimen> {
     let mut all = Vec::new();
     in_records(&mut |number, place, name, deck| {
@@ -140,10 +140,10 @@ fn in_records(meets: Meets) {
     meets(1, 10, "a block of no atom", second(block(0, vec![])));
     meets(1, 10, "65 atoms and 193 bonds", second(block(65, vec![(1, 2); 193])));
     meets(2, 10, "193 bonds, the first wrong", second(block(64, vec![(0, 2); 193])));
-    meets(3, 10, "a bond end above n", second(block(2, vec![(1, 3)])));
-    meets(4, 10, "a bond from an atom to itself", second(block(2, vec![(1, 2), (2, 2)])));
-    meets(5, 10, "a bond again", second(block(2, vec![(1, 2), (2, 1)])));
-    meets(6, 10, "a seventh bond", second(star(8)));
+    meets(3, 20, "a bond end above n", second(block(2, vec![(1, 3)])));
+    meets(4, 22, "a bond from an atom to itself", second(block(2, vec![(1, 2), (2, 2)])));
+    meets(5, 22, "a bond again", second(block(2, vec![(1, 2), (2, 1)])));
+    meets(6, 32, "a seventh bond", second(star(8)));
     meets(7, 10, "two pieces", second(block(3, vec![(1, 2)])));
     meets(15, 10, "no placement", DeckPlan { placements: vec![], ..alone(path(1)) }.bytes());
     meets(15, 14, "33 placements, the first wrong", {
@@ -174,10 +174,10 @@ fn in_placements(meets: Meets) {
     meets(17, 90, "a first placement with a parent", placed(&[joined(1, 1, 0, 0)]));
     meets(17, 90, "a first placement with a parent's atom", placed(&[joined(1, 0, 1, 0)]));
     meets(17, 90, "a first placement with an own atom", placed(&[joined(1, 0, 0, 1)]));
-    meets(17, 96, "a later placement without a parent", placed(&[first(1), joined(1, 0, 1, 1)]));
-    meets(17, 96, "its own parent, and atom 0", placed(&[first(1), joined(1, 2, 0, 0)]));
-    meets(17, 96, "a parent that comes later", placed(&[first(2), joined(1, 3, 1, 1), joined(1, 1, 1, 1)]));
-    meets(17, 96, "a parent whose low byte alone is right", placed(&[first(2), joined(1, 257, 2, 1)]));
+    meets(23, 96, "a later placement without a parent", placed(&[first(1), joined(1, 0, 1, 1)]));
+    meets(24, 96, "its own parent, and atom 0", placed(&[first(1), joined(1, 2, 0, 0)]));
+    meets(24, 96, "a parent that comes later", placed(&[first(2), joined(1, 3, 1, 1), joined(1, 1, 1, 1)]));
+    meets(24, 96, "a parent whose low byte alone is right", placed(&[first(2), joined(1, 257, 2, 1)]));
     meets(18, 96, "parent's atom 0", placed(&[first(1), joined(1, 1, 0, 1)]));
     meets(18, 96, "own atom 0", placed(&[first(1), joined(1, 1, 1, 0)]));
     meets(18, 96, "parent's atom above its n", placed(&[first(1), joined(2, 1, 2, 2)]));

@@ -16,7 +16,7 @@ pub struct Checker {
     pub failed: usize,
     pub calls: usize,
     /// How often each refusal number was right.
-    pub refused: [usize; 21],
+    pub refused: [usize; 25],
     pub accepted: usize,
     /// How often each field was the first wrong one.
     pub differed: [usize; 6],

@@ -72,7 +72,7 @@ fn report(checker: &mut Checker, options: &Options) {
         let seen = checker.differed[field] > 0;
         checker.case(format!("differs {field}"), |checker| checker.holds(seen, "never met"));
     }
-    for number in 1..=20 {
+    for number in (1..=20).chain([23, 24]) {
         println!("refused {number}: {} times", checker.refused[number]);
         let seen = checker.refused[number] > 0;
         checker.case(format!("refusal {number}"), |checker| checker.holds(seen, "never met"));
