@@ -1,6 +1,6 @@
 -- The rows are filled one by one, and a row is looked up. Assumes nothing.
-use Prim.Native.Nat.{ℕ, suc, _≤_, _<_}
-use mathlib.Core.Bool.{true}
+use Prim.Native.Nat.{ℕ, suc, _-_, _≤_, _<_}
+use mathlib.Core.Bool.{true, false}
 use mathlib.Core.List.{List, []}
 use mathlib.Core.Path.{_≡_, refl, sym, subst⁻¹, _∙_}
 use native.Mathlib.Omega.{arith}
@@ -11,12 +11,16 @@ use borrow.Author.Tests.{lt-ltb, ne-eqb}
 use Rattle.graph.specs.Graph.{Within}
 use Rattle.reply.specs.Read.{refused, read, refusal, isOutside}
 use Rattle.block.specs.Block.{mostAtoms, graphOf, blockReply}
-use Rattle.block.specs.Rows.{table, rowOf, noRow, emptyRow, saidRow, rowReply, rowsOf}
+use Rattle.block.specs.Rows.{table, rowOf, noRow, emptyRow, saidRow, rowReply, rowsOf, rowAt, distanceAt}
 use Rattle.block.specs.Tables.{length-table, getD-table}
+use Rattle.block.specs.Opened.{neighboursOf, openedReply, saidOpened}
+use Rattle.block.specs.Near.{Ready}
 use Rattle.block.specs.Told.{row-read}
+use Rattle.block.specs.Drawn.{drawn-is}
 use Rattle.reply.specs.declared.Refusal.{Refusal}
 use Rattle.reply.specs.declared.Reply.the-variants.{Fine, Refused}
 use Rattle.block.specs.declared.OneRow.{OneRow}
+use Rattle.block.specs.declared.Opened.{Opened}
 
 -- the first i rows are filled
 pub record Filled (n : ℕ) (xs : List ℕ) (all : List (List ℕ)) (i : ℕ) : Type 0 where
@@ -30,6 +34,29 @@ emptyRows = replicate mostAtoms emptyRow
 pub no-row : emptyRow ≡ noRow
 unfolding noRow table
 no-row = refl
+
+-- what is looked up in a matrix
+module _ (rows : List (List ℕ)) (i : ℕ) where
+  pub row-none : isOutside mostAtoms i ≡ true → emptyRow ≡ rowAt rows i
+  unfolding rowAt
+  row-none e = rw e no-row
+
+  pub row-some : isOutside mostAtoms i ≡ false → getD rows (i - 1) [] ≡ rowAt rows i
+  unfolding rowAt
+  row-some e = rw e
+
+  module _ (j : ℕ) where
+    pub distance-none : isOutside mostAtoms i ≡ true → 0 ≡ distanceAt rows i j
+    unfolding distanceAt
+    distance-none e = rw e
+
+    pub distance-none′ : isOutside mostAtoms i ≡ false → isOutside mostAtoms j ≡ true → 0 ≡ distanceAt rows i j
+    unfolding distanceAt
+    distance-none′ e f = rw (e, f)
+
+    pub distance-some : isOutside mostAtoms i ≡ false → isOutside mostAtoms j ≡ false → getD (getD rows (i - 1) []) (j - 1) 0 ≡ distanceAt rows i j
+    unfolding distanceAt
+    distance-some e f = rw (e, f)
 
 module _ (n : ℕ) (xs : List ℕ) where
   pub fill-start : Filled n xs emptyRows 0
@@ -83,3 +110,15 @@ module _ (n : ℕ) (xs : List ℕ) where
 
       pub row-fine : Within n i → v .reply ≡ Fine → v .row ≡ rowOf (graphOf n xs) i → v ≡ saidRow (rowReply n xs i)
       row-fine w p q = rw (row-read n xs fine w) (λ j. record { reply = p j; row = q j })
+
+  -- a block that was read
+  module _ (v : Opened) where
+    pub opened-refused : (r : Refusal) → blockReply n xs ≡ refused r → v .reply ≡ Refused r → v .near ≡ emptyRow → v ≡ saidOpened (openedReply n xs)
+    unfolding openedReply
+    opened-refused r b p q = rw b (λ j. record { reply = p j; near = (q ∙ no-row) j })
+
+    pub opened-fine : Ready n xs (v .near) → v .reply ≡ Fine → v ≡ saidOpened (openedReply n xs)
+    unfolding openedReply
+    opened-fine R p =
+        let q : v .near ≡ neighboursOf (graphOf n xs) = drawn-is (graphOf n xs) (v .near) (R .shown) in
+        rw (R .fine) (λ j. record { reply = p j; near = q j })

@@ -1,5 +1,5 @@
 -- What the neighbours say of a relation, and what stays true as a bond joins them. Assumes nothing.
-use Prim.Native.Nat.{ℕ, _+_, _-_, _≤_, _<_}
+use Prim.Native.Nat.{ℕ, _+_, _-_, _^_, _≤_, _<_}
 use mathlib.Core.Bool.{Bool, true, false, _&&_, _||_, cond, or-false}
 use mathlib.Core.List.{List, _∷_}
 use mathlib.Core.Logic.{_⊎_, inl, inr, ⊎-elim}
@@ -8,8 +8,9 @@ use native.Mathlib.Decide.{ℕ-discrete}
 use native.Mathlib.Omega.{arith}
 use borrow.Author.Tests.{le-leb, lt-leb, eq-eqb, ne-eqb, eqb-true}
 use lib.Dec.{eqb, leb}
-use lib.Bits.{bitOr}
-use lib.ListN.{length, length-set}
+use lib.Bits.{bitOr, or-lt}
+use lib.ListN.{length, getD, length-set}
+use lib.Pow.{pow-lt}
 use lib.Seq.{getD-set-same, getD-set-other}
 use Rattle.graph.specs.Graph.{Bond, bond, Within, anyJoins, degree}
 use Rattle.graph.specs.Bonds.{both, both-true, one-of, first-of, second-of, any-out, any-head, any-tail}
@@ -63,6 +64,11 @@ module _ (n : ℕ) (R S : ℕ → ℕ → Bool) (near : List ℕ) (D : Draws n R
         subst₂ (λ (p q : ℕ). Within n p × Within n q) (sym (eqb-true u a x)) (sym (eqb-true w b y)) (wa, wb))
         (one-of (R u w) (eqb u a && eqb w b) (sym (more u w) ∙ e));
     drawn = drawn′;
+    fits = λ p. elim (ℕ-discrete p (a - 1)) [
+      | yes e ↦ subst⁻¹ (λ (x : ℕ). getD (putting near a b) x 0 < 2 ^ n) e (rw at-a (or-lt n (around near a) (alone b) (D .fits (a - 1)) (pow-lt (omega arith))))
+      | no ne ↦ rw (getD-set-other near (a - 1) p (bitOr (around near a) (alone b)) 0 ne) (D .fits p)
+    ];
+    behind = λ p l. getD-set-other near (a - 1) p (bitOr (around near a) (alone b)) 0 (omega arith) ∙ D .behind p l;
   }
 
 -- a bond joins the neighbours at both of its ends

@@ -8,6 +8,7 @@ use native.Mathlib.Omega.{arith}
 use native.Mathlib.Decide.{decLt}
 use native.Mathlib.Numerals.{add-one}
 use lib.ListN.{length, getD, drop, replicate, getD-replicate, length-drop, length-replicate, List·getD-eq-default}
+use lib.Pow.{pow-pos}
 use lib.Seq.{drop-cons}
 use Rattle.graph.specs.Graph.{Bond, bond, Within, anyJoins, bonded, degree}
 use Rattle.graph.specs.Sets.{has, has-none}
@@ -78,6 +79,8 @@ reads-start n xs s = record {
       size = refl;
       ends = λ u w e. absurd (any-none u w e);
       drawn = λ u w a b. ap (λ (x : ℕ). has x w) (zeros mostAtoms (u - 1)) ∙ has-none w;
+      fits = λ p. omega (arith, zeros mostAtoms p, pow-pos n);
+      behind = λ p l. zeros mostAtoms p;
     };
     places = refl;
     degrees = λ u w. zeros mostAtoms (u - 1);

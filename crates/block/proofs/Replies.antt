@@ -10,7 +10,7 @@ use Rattle.graph.specs.Graph.{connected}
 use Rattle.reply.specs.Read.{Read, refused, read, _then_, refuseIf, refusal, isOutside, saidReply}
 use Rattle.block.specs.Block.{mostAtoms, mostBytes, bondsOf, graphOf, bondsReply, blockReply}
 use Rattle.block.specs.Near.{Admitting}
-use Rattle.block.specs.declared.Built.{Built}
+use Rattle.block.specs.declared.Opened.{Opened}
 use Rattle.reply.specs.declared.Refusal.{Refusal}
 use Rattle.reply.specs.declared.Reply.{Reply}
 use Rattle.reply.specs.declared.Reply.the-variants.{Fine, Refused}
@@ -60,5 +60,5 @@ module _ (n : ℕ) (xs : List ℕ) where
         reply-apart e c = rw (reply-bonds, said-fine (bondsReply n [] (bondsOf xs)) e, c)
 
 -- a refused block has no neighbours to give
-pub admit-refused : (n : ℕ) (xs : List ℕ) (b : Built) (f : Refusal) → b .reply ≡ Refused f → Refused f ≡ saidReply (blockReply n xs) → Admitting n xs b
+pub admit-refused : (n : ℕ) (xs : List ℕ) (b : Opened) (f : Refusal) → b .reply ≡ Refused f → Refused f ≡ saidReply (blockReply n xs) → Admitting n xs b
 admit-refused n xs b f e r = record { replied = e ∙ r; ready = λ q. absurd (not-fine (sym e ∙ q)) }

@@ -1,5 +1,5 @@
 -- The neighbours of each atom as a set in one number, and what they say of a graph.
-use Prim.Native.Nat.{ℕ, _+_, _-_, _≤_}
+use Prim.Native.Nat.{ℕ, _+_, _-_, _^_, _≤_, _<_}
 use mathlib.Core.Bool.{Bool, true}
 use mathlib.Core.List.{List, []}
 use mathlib.Core.Path.{_≡_}
@@ -9,7 +9,7 @@ use Rattle.graph.specs.Graph.{Graph, Bond, Within, anyJoins, bonded, degree}
 use Rattle.graph.specs.Sets.{has, alone}
 use Rattle.reply.specs.Read.{read, saidReply}
 use Rattle.block.specs.Block.{mostAtoms, bondsOf, graphOf, bondsReply, blockReply}
-use Rattle.block.specs.declared.Built.{Built}
+use Rattle.block.specs.declared.Opened.{Opened}
 use Rattle.reply.specs.declared.Reply.the-variants.{Fine}
 
 -- the neighbours of atom u, and how many bonds it has
@@ -32,6 +32,8 @@ pub record Draws (n : ℕ) (R : ℕ → ℕ → Bool) (near : List ℕ) : Type 0
   pub size : length near ≡ mostAtoms
   pub ends : (u w : ℕ) → R u w ≡ true → Within n u × Within n w
   pub drawn : (u w : ℕ) → Within n u → Within n w → has (around near u) w ≡ R u w
+  pub fits : (p : ℕ) → getD near p 0 < 2 ^ n
+  pub behind : (p : ℕ) → n ≤ p → getD near p 0 ≡ 0
 
 -- the neighbours and the numbers of bonds are those of the bonds bs between the atoms 1 to n
 pub record Holds (n : ℕ) (bs : List Bond) (near count : List ℕ) : Type 0 where
@@ -49,11 +51,11 @@ pub record Ready (n : ℕ) (xs : List ℕ) (near : List ℕ) : Type 0 where
   pub shown : Shows (graphOf n xs) near
 
 -- what reading the bonds gives: the reply to them and, where they are fine, the neighbours
-pub record Reading (n : ℕ) (xs : List ℕ) (r : Built) : Type 0 where
+pub record Reading (n : ℕ) (xs : List ℕ) (r : Opened) : Type 0 where
   pub replied : r .reply ≡ saidReply (bondsReply n [] (bondsOf xs))
   pub drawn : r .reply ≡ Fine → Shows (graphOf n xs) (r .near)
 
 -- what a block gives: the reply to it and, where it is fine, the neighbours
-pub record Admitting (n : ℕ) (xs : List ℕ) (r : Built) : Type 0 where
+pub record Admitting (n : ℕ) (xs : List ℕ) (r : Opened) : Type 0 where
   pub replied : r .reply ≡ saidReply (blockReply n xs)
   pub ready : r .reply ≡ Fine → Ready n xs (r .near)

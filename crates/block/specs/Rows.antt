@@ -1,9 +1,9 @@
 -- The distances of a block: 64 rows of 64, 0 beyond its atoms and where it is refused.
-use Prim.Native.Nat.{ℕ, zero, suc}
-use mathlib.Core.Bool.{cond}
+use Prim.Native.Nat.{ℕ, zero, suc, _-_}
+use mathlib.Core.Bool.{_||_, cond}
 use mathlib.Core.List.{List, [], _∷_}
 use lib.Dec.{ltb}
-use lib.ListN.{replicate}
+use lib.ListN.{getD, replicate}
 use Rattle.graph.specs.Graph.{Graph, distance}
 use Rattle.reply.specs.Read.{Read, refused, read, _then_, refuseIf, isOutside}
 use Rattle.block.specs.Block.{mostAtoms, graphOf, blockReply}
@@ -36,3 +36,10 @@ saidRow (read row) = record { reply = Fine; row = row }
 -- the row of atom i at place i - 1
 unfoldable pub rowsOf : ℕ → List ℕ → List (List ℕ)
 rowsOf n xs = table mostAtoms (λ i. saidRow (rowReply n xs (suc i)) .row)
+
+-- what a matrix has for atom i, and for atoms i and j; 0 for none
+unfoldable pub rowAt : List (List ℕ) → ℕ → List ℕ
+rowAt rows i = cond (isOutside mostAtoms i) noRow (getD rows (i - 1) [])
+
+unfoldable pub distanceAt : List (List ℕ) → ℕ → ℕ → ℕ
+distanceAt rows i j = cond (isOutside mostAtoms i || isOutside mostAtoms j) 0 (getD (getD rows (i - 1) []) (j - 1) 0)

@@ -16,10 +16,23 @@ use Rattle.graph.specs.Distance.{not-true}
 use Rattle.reply.specs.Read.{Read, refused, read, _then_, refuseIf, refuseFor, refusal, isOutside}
 use Rattle.reply.specs.Chain.{not-read, then-read, if-read, for-read}
 use Rattle.block.specs.Block.{mostAtoms, mostBytes, limit, bondsOf, graphOf, bondFault, bondsReply, blockReply}
-use Rattle.block.specs.Rows.{rowOf, rowReply, saidRow, rowsOf}
+use Rattle.block.specs.Rows.{rowOf, rowReply, saidRow, rowsOf, rowAt, distanceAt}
 use Rattle.block.specs.Faults.{inside, Faultless, faultless}
 use Rattle.block.specs.Tables.{getD-table}
 use Rattle.reply.specs.declared.Refusal.{Refusal}
+
+-- one of the atoms 1 to n
+within-inside : (n a : ℕ) → Within n a → isOutside n a ≡ false
+within-inside n a w = rw (ne-eqb a 0 (omega arith), le-ltb n a (w .high))
+
+-- what a matrix has
+pub row-found : (rows : List (List ℕ)) (a : ℕ) → Within mostAtoms a → rowAt rows a ≡ getD rows (a - 1) []
+unfolding rowAt
+row-found rows a w = rw (within-inside mostAtoms a w)
+
+pub distance-found : (rows : List (List ℕ)) (a b : ℕ) → Within mostAtoms a → Within mostAtoms b → distanceAt rows a b ≡ getD (getD rows (a - 1) []) (b - 1) 0
+unfolding distanceAt
+distance-found rows a b v w = rw (within-inside mostAtoms a v, within-inside mostAtoms b w)
 
 -- a bond joins two atoms of 1 to n that none of the bonds bs joins
 pub record NewBond (n : ℕ) (b : Bond) (bs : List Bond) : Type 0 where
@@ -143,12 +156,9 @@ module _ (n : ℕ) (xs : List ℕ) (fine : blockReply n xs ≡ read tt) where
   each-bond P none more = bonds-by n P none more [] (bondsOf xs) (passed .bonds)
 
   -- the row of an atom, and what stands in it for an atom
-  atom-inside : {a : ℕ} → Within n a → isOutside n a ≡ false
-  atom-inside {a} w = rw (ne-eqb a 0 (omega arith), le-ltb n a (w .high))
-
   pub row-read : {a : ℕ} → Within n a → rowReply n xs a ≡ read (rowOf (graphOf n xs) a)
   unfolding rowReply
-  row-read w = rw (fine, atom-inside w)
+  row-read {a} w = rw (fine, within-inside n a w)
 
   pub row-at : {a : ℕ} → Within n a → getD (rowsOf n xs) (a - 1) [] ≡ rowOf (graphOf n xs) a
   unfolding rowsOf

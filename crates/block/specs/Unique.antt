@@ -5,11 +5,13 @@ use mathlib.Core.Path.{_≡_}
 use Rattle.reply.specs.Read.{saidReply}
 use Rattle.reply.specs.Chain.{unique}
 use Rattle.block.specs.Block.{mostAtoms, blockReply}
-use Rattle.block.specs.Rows.{rowsOf, rowReply, saidRow}
+use Rattle.block.specs.Rows.{rowsOf, rowReply, saidRow, rowAt, distanceAt}
+use Rattle.block.specs.Opened.{openedReply, saidOpened}
 use Rattle.block.specs.Index.{indicesReply, saidIndices, vertexReply, saidVertex, distanceReply, saidDistance, pairsReply, saidPairs}
 use Rattle.block.specs.Sums.{entry, pairEntry, indicesBy, vertexBy}
 use Rattle.reply.specs.declared.Reply.{Reply}
 use Rattle.block.specs.declared.OneRow.{OneRow}
+use Rattle.block.specs.declared.Opened.{Opened}
 use Rattle.block.specs.declared.Indices.{Indices}
 use Rattle.block.specs.declared.Measured.{Measured}
 use Rattle.block.specs.declared.Vertex.{Vertex}
@@ -23,6 +25,13 @@ module _ (n : ℕ) (xs : List ℕ) where
 
   pub unique-rows : (r s : List (List ℕ)) → r ≡ rowsOf n xs → s ≡ rowsOf n xs → r ≡ s
   unique-rows r s = unique
+
+  pub unique-neighbours : (r s : Opened) → r ≡ saidOpened (openedReply n xs) → s ≡ saidOpened (openedReply n xs) → r ≡ s
+  unique-neighbours r s = unique
+
+  -- the reply and the lent matrix
+  pub unique-table : (r s : Opened) (p q : List (List ℕ)) → (r ≡ saidOpened (openedReply n xs)) × (p ≡ rowsOf n xs) → (s ≡ saidOpened (openedReply n xs)) × (q ≡ rowsOf n xs) → (r ≡ s) × (p ≡ q)
+  unique-table r s p q x y = (unique (x .0) (y .0), unique (x .1) (y .1))
 
   pub unique-row : (i : ℕ) (r s : OneRow) → r ≡ saidRow (rowReply n xs i) → s ≡ saidRow (rowReply n xs i) → r ≡ s
   unique-row i r s = unique
@@ -44,3 +53,9 @@ unique-sums rows n r s = unique
 
 pub unique-around-row : (row : List ℕ) (n : ℕ) (r s : Vertex) → r ≡ vertexBy (min n mostAtoms) (entry row) → s ≡ vertexBy (min n mostAtoms) (entry row) → r ≡ s
 unique-around-row row n r s = unique
+
+pub unique-row-at : (rows : List (List ℕ)) (i : ℕ) (r s : List ℕ) → r ≡ rowAt rows i → s ≡ rowAt rows i → r ≡ s
+unique-row-at rows i r s = unique
+
+pub unique-distance-at : (rows : List (List ℕ)) (i j r s : ℕ) → r ≡ distanceAt rows i j → s ≡ distanceAt rows i j → r ≡ s
+unique-distance-at rows i j r s = unique

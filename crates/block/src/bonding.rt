@@ -1,8 +1,8 @@
 // The bonds of a block are read one by one: their faults, and the neighbours of each atom.
 use super::ATOMS;
-use super::Built;
 use super::LIMIT;
 use super::Neighbours;
+use super::Opened;
 use reply::Refusal;
 use reply::Reply;
 use reply::is_outside;
@@ -42,7 +42,7 @@ fn fault(n: usize, near: &Neighbours, count: &[u8; ATOMS], a: u8, b: u8) -> usiz
 }
 
 // The refusals 3 to 6 of the bonds, and the neighbours.
-pub(crate) fn build(n: usize, bonds: &[u8]) -> Built
+pub(crate) fn build(n: usize, bonds: &[u8]) -> Opened
     requires { ⌜ n ≤ mostAtoms ⌝ }
     ensures { λ r. ⌜ Reading n (now (bonds .entry)) r ⌝ }
 {
@@ -55,7 +55,7 @@ pub(crate) fn build(n: usize, bonds: &[u8]) -> Built
         let b = bonds[2 * k + 1];
         let number = fault(n, &near, &count, a, b);
         if number != 0 {
-            return Built {
+            return Opened {
                 reply: Reply::Refused(Refusal {
                     number,
                     place: k + 1,
@@ -71,7 +71,7 @@ pub(crate) fn build(n: usize, bonds: &[u8]) -> Built
         count[v] = count[v] + 1;
         k += 1;
     }
-    Built {
+    Opened {
         reply: Reply::Fine,
         near,
     }

@@ -3,9 +3,10 @@ ghost use mathlib.Core.Path.{_≡_};
 ghost use Prim.Native.Nat.{min};
 ghost use Rattle.reply.specs.Read.{refusal, saidReply};
 ghost use Rattle.block.specs.Block.{mostAtoms, blockReply};
-ghost use Rattle.block.specs.Rows.{rowsOf, rowReply, saidRow};
+ghost use Rattle.block.specs.Rows.{rowsOf, rowReply, saidRow, rowAt, distanceAt};
 ghost use Rattle.block.specs.Index.{indicesReply, saidIndices, vertexReply, saidVertex, distanceReply, saidDistance, pairsReply, saidPairs};
 ghost use Rattle.block.specs.Sums.{entry, pairEntry, indicesBy, vertexBy};
+ghost use Rattle.block.specs.Opened.{openedReply, saidOpened};
 ghost use Rattle.block.specs.Near.{Admitting};
 
 mod bonding;
@@ -77,10 +78,10 @@ pub struct Pairs {
 }
 
 // The neighbours of each atom: those of atom u are a set, at u - 1; atom v is in it where its binary digit at v - 1 is 1.
-type Neighbours = [u64; ATOMS];
+pub type Neighbours = [u64; ATOMS];
 
-// What reading the bonds gives.
-struct Built {
+// A block that was read: the reply to it, and its neighbours; all sets are empty where it is refused.
+pub struct Opened {
     pub reply: Reply,
     pub near: Neighbours,
 }
@@ -97,17 +98,17 @@ struct Tally {
 }
 
 // A refusal at place 0.
-fn refused(number: usize) -> Built
+fn refused(number: usize) -> Opened
     ensures { λ r. ⌜ r .reply ≡ Reply.Refused (refusal number 0) ⌝ }
 {
-    Built {
+    Opened {
         reply: Reply::Refused(Refusal { number, place: 0 }),
         near: [0u64; ATOMS],
     }
 }
 
 // The reply to a block and, where it is fine, the neighbours.
-fn admit(n: usize, bonds: &[u8]) -> Built
+fn admit(n: usize, bonds: &[u8]) -> Opened
     ensures { λ r. ⌜ Admitting n (now (bonds .entry)) r ⌝ }
 {
     if is_outside(ATOMS, n) {
@@ -131,6 +132,21 @@ fn admit(n: usize, bonds: &[u8]) -> Built
     }
 }
 
+// The reply to a block and its neighbours.
+pub fn neighbours(n: usize, bonds: &[u8]) -> Opened
+    ensures { λ r. ⌜ r ≡ saidOpened (openedReply n (now (bonds .entry))) ⌝ }
+{
+    let admitted = admit(n, bonds);
+    let reply = admitted.reply;
+    let Reply::Fine = reply else {
+        return Opened {
+            reply,
+            near: [0u64; ATOMS],
+        };
+    };
+    admitted
+}
+
 // Whether a block is refused, with which number and where: the bond's number from 1, or 0.
 pub fn check(n: usize, bonds: &[u8]) -> Reply
     ensures { λ r. ⌜ r ≡ saidReply (blockReply n (now (bonds .entry))) ⌝ }
@@ -150,6 +166,50 @@ pub fn rows(n: usize, bonds: &[u8]) -> DistanceMatrix
         return [[0u8; ATOMS]; ATOMS];
     };
     search::from_all(&admitted.near, n)
+}
+
+// The reply to a block and its neighbours, and its distances, as rows gives them, in a lent matrix: the block is read once for all of them.
+pub fn table(n: usize, bonds: &[u8], rows: &mut DistanceMatrix) -> Opened
+    ensures reply { λ r. ⌜ r ≡ saidOpened (openedReply n (now (bonds .entry))) ⌝ }
+    ensures rows { λ _. ⌜ now (rows .exit) ≡ rowsOf n (now (bonds .entry)) ⌝ }
+{
+    let admitted = admit(n, bonds);
+    let reply = admitted.reply;
+    let Reply::Fine = reply else {
+        *rows = [[0u8; ATOMS]; ATOMS];
+        return Opened {
+            reply,
+            near: [0u64; ATOMS],
+        };
+    };
+    *rows = search::from_all(&admitted.near, n);
+    admitted
+}
+
+// The row of the distances from atom i in a matrix; all 0 where it has none.
+pub fn row_at(rows: &DistanceMatrix, i: usize) -> DistanceRow
+    ensures { λ r. ⌜ r ≡ rowAt (now (rows .entry)) i ⌝ }
+{
+    if is_outside(ATOMS, i) {
+        return [0u8; ATOMS];
+    }
+    let k = i - 1;
+    rows[k]
+}
+
+// The distance of atoms i and j in a matrix; 0 where it has none.
+pub fn distance_at(rows: &DistanceMatrix, i: usize, j: usize) -> u64
+    ensures { λ r. ⌜ r ≡ distanceAt (now (rows .entry)) i j ⌝ }
+{
+    if is_outside(ATOMS, i) {
+        return 0;
+    }
+    if is_outside(ATOMS, j) {
+        return 0;
+    }
+    let k = i - 1;
+    let l = j - 1;
+    wide(rows[k][l])
 }
 
 // The distances from atom i of a block, or its refusal; 18 at place 0 where there is no such atom.
