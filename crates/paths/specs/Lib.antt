@@ -8,4 +8,5 @@ pub mod Backwards
 pub mod Uses
 pub mod Flow
 pub mod Listed
+pub mod Simple
 pub mod Examples
