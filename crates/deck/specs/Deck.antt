@@ -1,4 +1,4 @@
--- The deck: its records one after the other, each refused or taken. Document 01, "The deck", "Refusal numbers", "Order" and "Place".
+-- Definitions. The deck: its records one after the other, each refused or taken. docs/RULES.md, "The deck", "Refusals", "Order" and "Place".
 use Prim.Native.Nat.{ℕ, zero, suc, _+_, _*_, _-_}
 use mathlib.Core.Bool.{Bool, true, false, _||_, cond}
 use mathlib.Core.List.{List, [], _∷_, _++_}

@@ -1,4 +1,4 @@
--- Document 01's deck of 40 bytes, and a deck for each refusal with its place, by computing.
+-- Laws. The rules' deck of 40 bytes, and a deck for each refusal with its place, by computing.
 use Prim.Native.Nat.{ℕ, zero, suc, _+_, _*_, _/_, _%_, _<_}
 use mathlib.Core.Path.{_≡_, refl}
 use mathlib.Core.List.{List, [], _∷_, _++_, map}

@@ -1,4 +1,4 @@
--- A deck that composes, with a sheet behind it, is read in the form that is judged, and describes the same molecule. Assumes nothing.
+-- Laws. A deck that composes, with a sheet behind it, is read in the form that is judged, and describes the same molecule. Assumes nothing.
 use Prim.Native.Nat.{ℕ, zero, suc, _+_, _*_, _-_, _≤_}
 use mathlib.Core.Bool.{Bool, true, false, _||_, cond}
 use mathlib.Core.List.{List, [], _∷_, _++_}

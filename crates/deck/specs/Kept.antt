@@ -1,4 +1,4 @@
--- What the blocks of a deck keep to, and the record after them. Assumes nothing.
+-- Laws. What the blocks of a deck keep to, and the record after them. Assumes nothing.
 use Prim.Native.Nat.{ℕ, zero, suc, _+_, _*_, _<_, _≤_}
 use mathlib.Core.Bool.{Bool, true, false, _||_}
 use mathlib.Core.List.{List, [], _∷_, _++_}

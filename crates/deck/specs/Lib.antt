@@ -1,9 +1,16 @@
--- What a deck of document 01 says.
+-- What a deck says.
+--
+-- | notion                   | meaning                                                      | the law that matters                                           |
+-- | `deckReply form d`       | refusals 20, 11 to 19 in order, or where everything stands   | `whole`: what a deck that is read keeps to; `fuel-lasts`       |
+-- | `moleculeOf`             | the molecule of a deck, with every atom and bond written out | `same-molecule`: whatever stands behind the deck               |
+-- | `blockSpan`, `blockPart` | the lookup of a block's payload                              | `empty-exactly`                                                |
+-- | `Deck`, `Span`           | where the parts stand                                        | `composed-short`: a deck that composes leaves room for a sheet |
 pub mod Deck
 pub mod Molecule
 pub mod Said
 pub mod Kept
 pub mod Sound
+pub mod Sized
 pub mod Followed
 pub mod Lookup
 pub mod Unique

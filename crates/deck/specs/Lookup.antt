@@ -1,4 +1,4 @@
--- The part that the lookup of a block hands back is empty exactly when the deck is refused in both forms or has no such block. Assumes nothing.
+-- Laws. The part that the lookup of a block hands back is empty exactly when the deck is refused in both forms or has no such block. Assumes nothing.
 use Prim.Native.Nat.{ℕ, zero, suc, _+_, _*_, _<_}
 use mathlib.Core.Bool.{Bool, true, false, not, cond}
 use mathlib.Core.List.{List, [], _∷_}

@@ -1,4 +1,4 @@
--- How the code says what a deck is told.
+-- Definitions. How the code says what a deck is told.
 use Prim.Native.Nat.{ℕ}
 use mathlib.Core.List.{List, [], _++_}
 use lib.ListN.{length, drop, replicate}

@@ -1,4 +1,4 @@
--- What a deck that is not refused keeps to, whichever its form. Assumes nothing.
+-- Laws. What a deck that is not refused keeps to, whichever its form. Assumes nothing.
 use Prim.Native.Nat.{ℕ, _-_, _≤_, _<_}
 use mathlib.Core.Bool.{Bool, true, false, not, cond}
 use mathlib.Core.List.{List, [], _∷_}

@@ -1,59 +1,53 @@
--- Laws. Demand 3: a sheet is accepted exactly when it is right, a written sheet is accepted, and each promise determines its reply and its bytes. Assumes nothing.
-use Prim.Native.Nat.{ℕ, zero, suc, _+_, _-_, _≤_}
+-- Laws. A written sheet is accepted, and each promise determines its reply and its bytes. Assumes nothing.
+use Prim.Native.Nat.{ℕ, _+_, _-_, _≤_}
 use mathlib.Core.List.{List, _++_}
-use mathlib.Core.Logic.{_↔_}
 use mathlib.Core.Path.{_≡_, refl, sym, _∙_, ap}
 use native.Mathlib.Omega.{arith}
 use borrow.Author.Tests.{le-ltb, ltb-false}
 use lib.Dec.{ltb}
 use lib.ListN.{length, getD, take, drop}
 use lib.Seq.{take-at}
-use Rattle.graph.specs.Climb.{written-molecule}
-use Rattle.graph.specs.Bounds.{atoms-most}
+use Rattle.graph.specs.Bounds.{tame-itself, tame-even, tame-odd, tame-at}
 use Rattle.reply.specs.Read.{Read, refused, read, refuseIf}
 use Rattle.reply.specs.Chain.{then-read, if-read}
-use Rattle.block.specs.Block.{mostAtoms}
 use Rattle.block.specs.Index.{indicesOf, saidIndices}
 use Rattle.block.specs.declared.Indices.{Indices}
 use Rattle.block.specs.declared.Measured.{Measured}
 use Rattle.deck.specs.Deck.{longestDeck, Deck, deckReply}
-use Rattle.deck.specs.Molecule.{graphAt, joinAt, moleculeOf}
-use Rattle.deck.specs.Sound.{whole}
+use Rattle.deck.specs.Molecule.{moleculeOf}
+use Rattle.deck.specs.Sized.{composed-short, atoms-few, totals-small}
 use Rattle.deck.specs.Followed.{IsSheet, ends, same-molecule, followed}
 use Rattle.deck.specs.declared.Form.{Form}
 use Rattle.deck.specs.declared.Form.the-variants.{Composed, Judged}
 use Rattle.records.specs.Records.{headBytes}
 use Rattle.sheets.specs.Sheets.{fieldsOf, widths, fieldsAt, sheetOf, claimedAt, sheetBytes, sheetRecord, sheetPut}
-use Rattle.sheets.specs.Back.{Fit, length-sheet, read-whole, fields-behind, none-wrong, wrong-none}
+use Rattle.sheets.specs.Back.{Fit, length-sheet, read-whole, fields-behind, none-wrong}
 use Rattle.compose.specs.Fields.{fieldsReply}
-use Rattle.compose.proofs.Steps.{room}
 use Rattle.molecule.specs.Molecule.{judgeReply, saidVerdict, writeReply, saidWritten, sheetOut}
 use Rattle.molecule.specs.declared.Verdict.{Verdict}
 use Rattle.molecule.specs.declared.Verdict.the-variants as verdict
 use Rattle.molecule.specs.declared.Written.{Written}
 use Rattle.molecule.specs.declared.Written.the-variants as written
 
--- a verdict accepts where no field is wrong, and only there
-no-wrong : (n : ℕ) → saidVerdict (read n) ≡ verdict.Accepted → n ≡ 0
-no-wrong zero e = refl
-no-wrong (suc n) e = absurd (let z : _≡_ {A = ℕ} 0 1 = cc in omega arith)
-
--- (a) a judged deck that is not refused is accepted if and only if its five fields are those of the molecule written out
-pub accepted-exactly : (d : List ℕ) (k : Deck) → deckReply Judged d ≡ read k
-    → (saidVerdict (judgeReply d) ≡ verdict.Accepted) ↔ (claimedAt d (k .sheet) ≡ sheetOf (moleculeOf d k))
-unfolding judgeReply
-accepted-exactly d k e = (
-  λ a. sym (wrong-none 0 (sheetOf (moleculeOf d k)) (claimedAt d (k .sheet)) (no-wrong _ (rw e at a))),
-  λ q. rw (e, q, none-wrong 1 (sheetOf (moleculeOf d k))),
-)
-
 -- the five fields of a deck's molecule fit their widths
 fields-fit : (form : Form) (d : List ℕ) (k : Deck) → deckReply form d ≡ read k → Fit widths (fieldsOf (indicesOf (moleculeOf d k)))
-unfolding fieldsOf moleculeOf indicesOf
-fields-fit form d k e =
-    let w = whole form d k e in
-    let r = room (written-molecule (k .placements - 1) (w .assembled)) (omega (arith, atoms-most mostAtoms (graphAt d k) (joinAt d k) (k .placements - 1) (λ i h. w .atoms i (omega (arith, w .count)) .high), w .count)) refl in
-    (omega (arith, r .atoms), (omega (arith, r .w), (omega (arith, r .even), (omega (arith, r .odd), (omega (arith, r .polarity), tt)))))
+unfolding fieldsOf indicesOf
+fields-fit form d k e = (
+  omega (arith, atoms-few form d k e),
+  (
+    omega (arith, totals-small form d k e tame-itself),
+    (
+      omega (arith, totals-small form d k e tame-even),
+      (
+        omega (arith, totals-small form d k e tame-odd),
+        (
+          omega (arith, totals-small form d k e (tame-at 3)),
+          tt,
+        ),
+      ),
+    ),
+  ),
+)
 
 -- The record of a sheet whose fields fit is one; behind a deck that composes it is taken, and claims its fields.
 module _ (x : Indices) (fit : Fit widths (fieldsOf x)) where
@@ -71,7 +65,7 @@ module _ (x : Indices) (fit : Fit widths (fieldsOf x)) where
         let s = sheetRecord (fieldsOf x) in
         ap (λ (n : ℕ). fieldsAt widths (d ++ s) (n + headBytes)) (ends d k e) ∙ fields-behind d s widths headBytes ∙ ap (drop 2) (read-whole x fit)
 
-module _ (d : List ℕ) (k : Deck) (e : deckReply Composed d ≡ read k) (h : length d + sheetBytes ≤ longestDeck) where
+module _ (d : List ℕ) (k : Deck) (e : deckReply Composed d ≡ read k) where
   -- the record of the molecule's sheet, put behind its deck
   abbrev longer : List ℕ
   longer = d ++ sheetRecord (sheetOf (moleculeOf d k))
@@ -81,7 +75,7 @@ module _ (d : List ℕ) (k : Deck) (e : deckReply Composed d ≡ read k) (h : le
   sheet-accepted =
       let x = indicesOf (moleculeOf d k) in
       let f = fields-fit Composed d k e in
-      rw (sheet-taken x f d k e h, sheet-claimed x f d k e, same-molecule d k e (sheetRecord (fieldsOf x)), none-wrong 1 (fieldsOf x))
+      rw (sheet-taken x f d k e (omega (arith, composed-short d k e)), sheet-claimed x f d k e, same-molecule d k e (sheetRecord (fieldsOf x)), none-wrong 1 (fieldsOf x))
 
 -- a buffer that took a sheet begins with its record
 put-record : (out : List ℕ) (x : Indices) → sheetBytes ≤ length out → take sheetBytes (sheetPut out (fieldsOf x)) ≡ sheetRecord (fieldsOf x)
@@ -101,16 +95,16 @@ made d n x p =
     let (k, e, i) = then-read (deckReply Composed d) (λ k. read (indicesOf (moleculeOf d k))) g in
     (k, e, cc, ltb-false n sheetBytes (if-read _ 9 0 b))
 
--- (b) the record that `write_sheet` writes, put behind the same deck, is accepted, if the longer deck is not too long
-pub written-accepted : (d out : List ℕ) → saidWritten (writeReply d (length out)) ≡ written.Sheet → length d + sheetBytes ≤ longestDeck
+-- (b) the record that `write_sheet` writes, put behind the same deck, is accepted
+pub written-accepted : (d out : List ℕ) → saidWritten (writeReply d (length out)) ≡ written.Sheet
     → saidVerdict (judgeReply (d ++ take sheetBytes (sheetOut out (writeReply d (length out))))) ≡ verdict.Accepted
 unfolding sheetOf
-written-accepted d out s h =
+written-accepted d out s =
     let (x, p) = sheet-made (writeReply d (length out)) s in
     let (k, e, q, l) = made d (length out) x p in
     let b : take sheetBytes (sheetOut out (writeReply d (length out))) ≡ sheetRecord (sheetOf (moleculeOf d k)) =
     ap (λ (y : Read Indices). take sheetBytes (sheetOut out y)) p ∙ put-record out x l ∙ ap (λ (y : Indices). sheetRecord (fieldsOf y)) q in
-    ap (λ (r : List ℕ). saidVerdict (judgeReply (d ++ r))) b ∙ ap saidVerdict (sheet-accepted d k e h)
+    ap (λ (r : List ℕ). saidVerdict (judgeReply (d ++ r))) b ∙ ap saidVerdict (sheet-accepted d k e)
 
 -- (c) two replies, and two buffers, that satisfy a promise are equal
 pub unique-compose : (d : List ℕ) (r s : Measured) → r ≡ saidIndices (fieldsReply Composed d) → s ≡ saidIndices (fieldsReply Composed d) → r ≡ s

@@ -1,0 +1,57 @@
+-- Laws. THE HEADLINE, on one page: what a judged deck is told, the molecule that it is told of, and what accepting means. The first five say what the
+-- definitions are, and hold by computing; then the theorem. What a distance is says `distance-shortest` (graph). Assumes nothing.
+use Prim.Native.Nat.{ℕ, zero, suc, _-_}
+use mathlib.Core.List.{List, [], _∷_}
+use mathlib.Core.Logic.{_↔_}
+use mathlib.Core.Path.{_≡_, refl, sym}
+use native.Mathlib.Omega.{arith}
+use Rattle.graph.specs.Graph.{Graph, wiener, evenPart, oddPart, polarity}
+use Rattle.graph.specs.Assembly.{Join, joined, atomOf, written}
+use Rattle.reply.specs.Read.{refused, read, _then_}
+use Rattle.reply.specs.declared.Refusal.{Refusal}
+use Rattle.block.specs.Index.{indicesOf}
+use Rattle.deck.specs.Deck.{Deck, deckReply}
+use Rattle.deck.specs.Molecule.{graphAt, joinAt, moleculeOf}
+use Rattle.deck.specs.declared.Form.the-variants.{Judged}
+use Rattle.sheets.specs.Sheets.{fieldsOf, sheetOf, claimedAt, firstWrong}
+use Rattle.sheets.specs.Back.{none-wrong, wrong-none}
+use Rattle.molecule.specs.Molecule.{judgeReply, saidVerdict}
+use Rattle.molecule.specs.declared.Verdict.the-variants as verdict
+
+-- `judge` promises `r ≡ saidVerdict (judgeReply d)`: the deck's refusal, or the first field of the claimed sheet that is not the molecule's, 0 for none
+pub judged : (d : List ℕ) → judgeReply d ≡ (deckReply Judged d then λ k. read (firstWrong 1 (sheetOf (moleculeOf d k)) (claimedAt d (k .sheet))))
+unfolding judgeReply
+judged d = refl
+
+pub told : (r : Refusal) (n : ℕ)
+    → (saidVerdict (refused r) ≡ verdict.Refused r) × (saidVerdict (read 0) ≡ verdict.Accepted) × (saidVerdict (read (suc n)) ≡ verdict.Differs (suc n))
+told r n = (refl, refl, refl)
+
+-- the molecule of a deck: the blocks of its placements, each joined by one bond to those before it
+pub molecule-is : (d : List ℕ) (k : Deck) → moleculeOf d k ≡ written (graphAt d k) (joinAt d k) (k .placements - 1)
+unfolding moleculeOf
+molecule-is d k = refl
+
+pub written-is : (blocks : ℕ → Graph) (joins : ℕ → Join) (m : ℕ) → (written blocks joins 0 ≡ blocks 0)
+    × (written blocks joins (suc m) ≡ joined (written blocks joins m) (blocks (suc m)) (atomOf blocks (joins (suc m) .parent) (joins (suc m) .site)) (joins (suc m) .own))
+unfolding written
+written-is blocks joins m = (refl, refl)
+
+-- its sheet
+pub sheet-is : (g : Graph) → sheetOf g ≡ g .atoms ∷ wiener g ∷ evenPart g ∷ oddPart g ∷ polarity g ∷ []
+unfolding sheetOf fieldsOf indicesOf
+sheet-is g = refl
+
+-- a verdict accepts where no field is wrong, and only there
+no-wrong : (n : ℕ) → saidVerdict (read n) ≡ verdict.Accepted → n ≡ 0
+no-wrong zero e = refl
+no-wrong (suc n) e = absurd (let z : _≡_ {A = ℕ} 0 1 = cc in omega arith)
+
+-- THE THEOREM: a judged deck that is not refused is accepted if and only if its five fields are those of the molecule written out
+pub accepted-exactly : (d : List ℕ) (k : Deck) → deckReply Judged d ≡ read k
+    → (saidVerdict (judgeReply d) ≡ verdict.Accepted) ↔ (claimedAt d (k .sheet) ≡ sheetOf (moleculeOf d k))
+unfolding judgeReply
+accepted-exactly d k e = (
+  λ a. sym (wrong-none 0 (sheetOf (moleculeOf d k)) (claimedAt d (k .sheet)) (no-wrong _ (rw e at a))),
+  λ q. rw (e, q, none-wrong 1 (sheetOf (moleculeOf d k))),
+)
