@@ -1,4 +1,4 @@
--- How a C function replies. The reply is one number of 64 bits: the remainder by 256 is 0 for fine, a refusal's number, or 255 for "differs"; the
+-- Definitions. How a C function replies. The reply is one number of 64 bits: the remainder by 256 is 0 for fine, a refusal's number, or 255 for "differs"; the
 -- quotient is the refusal's place, or the first wrong field. What is answered besides goes to the front of a lent output.
 use mathlib.Core.Path.{_≡_}
 use Prim.Native.Nat.{ℕ, _+_, _*_, _%_, _^_}

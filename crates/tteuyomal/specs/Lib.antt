@@ -1,4 +1,10 @@
 -- What the C functions reply.
+--
+-- | notion                         | meaning                                                     | the law that matters                                           |
+-- | `code`, `coded`, `verdictCode` | a refusal, an answer, a verdict as one number               | `Tells`, `Judges`: what the number tells, with nothing assumed |
+-- | `fitting`, `after`, `Lent`     | 9 where the answer does not fit; the lent output afterwards | `lent-once`                                                    |
+-- | `Contributed`                  | the contributions with D lent out beside them               | `contributed-once`                                             |
 pub mod Convention
 pub mod Replies
+pub mod Bounded
 pub mod Recovered

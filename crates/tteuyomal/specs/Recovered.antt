@@ -1,20 +1,204 @@
--- What the one number of a reply tells: its kind, and the refusal's number and place or the first wrong field. Assumes nothing.
-use Prim.Native.Nat.{ℕ, _+_, _*_, _/_, _%_, _<_}
-use mathlib.Core.Path.{_≡_}
+-- Laws. What the one number of a C reply tells, with nothing assumed: it is 0 exactly where the library refuses nothing (for a judged deck: where it accepts),
+-- and else says which refusal it is, of 1 to 253, with its place, or which field differs.
+use Prim.Native.Nat.{ℕ, zero, suc, _+_, _*_, _/_, _%_, _≤_, _<_}
+use mathlib.Core.Bool.{Bool, true, false, _||_, cond}
+use mathlib.Core.List.{List, [], _∷_}
+use mathlib.Core.Path.{_≡_, refl, ap}
 use native.Mathlib.Omega.{arith}
 use native.Mathlib.Nat.{mod-eq-of-lt}
+use lib.Dec.{eqb, ltb}
+use lib.Ieee.{Float}
+use lib.ListN.{length}
+use Rattle.reply.specs.Read.{Read, refused, read, _then_, refuseIf, isOutside}
 use Rattle.reply.specs.declared.Refusal.{Refusal}
-use Rattle.molecule.specs.declared.Verdict.the-variants.{Differs}
-use Rattle.tteuyomal.specs.Convention.{places, code, verdictCode}
+use Rattle.paths.specs.Paths.{denominator}
+use Rattle.block.specs.Block.{mostBytes, bondsOf, graphOf, blockReply}
+use Rattle.block.specs.Index.{indicesOf, indicesReply, vertexOf, vertexReply}
+use Rattle.shares.specs.Reply.{most, sharesReply}
+use Rattle.poly.specs.Poly.{unusable, valuesReply, polynomialReply}
+use Rattle.deck.specs.Deck.{longestDeck, Deck, deckReply}
+use Rattle.deck.specs.Molecule.{moleculeOf}
+use Rattle.deck.specs.declared.Form.{Form}
+use Rattle.deck.specs.declared.Form.the-variants.{Composed, Judged}
+use Rattle.sheets.specs.Sheets.{fieldsOf, sheetOf, claimedAt, sheetBytes, firstWrong}
+use Rattle.compose.specs.Fields.{fieldsReply}
+use Rattle.climb.specs.Placed.{isMissing, placedReply}
+use Rattle.molecule.specs.Molecule.{judgeReply, saidVerdict, writeReply}
+use Rattle.tteuyomal.specs.Convention.{places, code, coded, verdictCode, fitting}
+use Rattle.tteuyomal.specs.Replies.{indicesList, composedList, placedList, sumsOf, vertexList, valuesList, polynomialList, contributionsReply}
+use Rattle.tteuyomal.specs.Bounded.{mostNumber, Small, Bounded, then-bounded, if-bounded, wider, block-bounded, deck-bounded}
 
 -- the two parts of a number that is put together so
 parts : (low high : ℕ) → low < 256 → ((low + 256 * high) % 256 ≡ low) × ((low + 256 * high) / 256 ≡ high)
 parts low high l = (omega arith, omega arith)
 
--- a refusal: its number, 1 to 254, and its place
-pub refusal-recovered : (r : Refusal) → r .number < 255 → r .place < places → (code r % 256 ≡ r .number) × (code r / 256 ≡ r .place)
-refusal-recovered r n p = rw (mod-eq-of-lt {n = r .place} p, mod-eq-of-lt {n = r .number} {m = 256} (omega arith)) (parts (r .number) (r .place) (omega arith))
+code-parts : (r : Refusal) → Small places r → (code r % 256 ≡ r .number) × (code r / 256 ≡ r .place)
+code-parts r s = rw (mod-eq-of-lt {n = r .place} (s .place), mod-eq-of-lt {n = r .number} {m = 256} (omega (arith, s .high))) (parts (r .number) (r .place) (omega (arith, s .high)))
 
--- a sheet that differs: 255, and the first wrong field
-pub field-recovered : (k : ℕ) → k < places → (verdictCode (Differs k) % 256 ≡ 255) × (verdictCode (Differs k) / 256 ≡ k)
-field-recovered k l = rw (mod-eq-of-lt {n = k} l) (parts 255 k (omega arith))
+same-refusal : {A : Type 0} (r s : Refusal) → _≡_ {A = Read A} (refused r) (refused s) → r ≡ s
+same-refusal r s e = cc
+
+never : {A : Type 0} {r : Refusal} {a : A} → read a ≡ refused r → ⊥
+never e = let z : _≡_ {A = ℕ} 0 1 = cc in omega arith
+
+-- what a number n tells of a refusal
+pub record Says (n : ℕ) (r : Refusal) : Type 0 where
+  pub low : 1 ≤ r .number
+  pub high : r .number ≤ mostNumber
+  pub number : n % 256 ≡ r .number
+  pub place : n / 256 ≡ r .place
+
+says : (r q : Refusal) → r ≡ q → Small places r → Says (code r) q
+says r q e s = rw (← e) (record { low = s .low; high = s .high; number = code-parts r s .0; place = code-parts r s .1 })
+
+not-zero : (r : Refusal) → Small places r → code r ≡ 0 → ⊥
+not-zero r s e = omega (arith, s .low, code-parts r s .0, ap (λ (n : ℕ). n % 256) e)
+
+-- THE LAW for a function that replies `coded x`
+pub record Tells {A : Type 0} (x : Read A) : Type 0 where
+  pub fine : coded x ≡ 0 → (a : A) × (x ≡ read a)
+  pub refusal : (r : Refusal) → x ≡ refused r → Says (coded x) r
+
+pub tells : {A : Type 0} (x : Read A) → Bounded places x → Tells x
+tells (refused r) s = record { fine = λ e. absurd (not-zero r s e); refusal = λ q e. says r q (same-refusal r q e) s }
+tells (read a) s = record { fine = λ e. (a, refl); refusal = λ q e. absurd (never e) }
+
+-- and for the judge
+pub record Judges (x : Read ℕ) : Type 0 where
+  pub accepted : verdictCode (saidVerdict x) ≡ 0 → x ≡ read 0
+  pub differs : (k : ℕ) → x ≡ read (suc k) → (verdictCode (saidVerdict x) % 256 ≡ 255) × (verdictCode (saidVerdict x) / 256 ≡ suc k)
+  pub refusal : (r : Refusal) → x ≡ refused r → Says (verdictCode (saidVerdict x)) r
+
+judges : (x : Read ℕ) → Bounded places x → ((k : ℕ) → x ≡ read k → k < places) → Judges x
+judges (refused r) s h = record {
+  accepted = λ e. absurd (not-zero r s e);
+  differs = λ k e. absurd (let z : _≡_ {A = ℕ} 0 1 = cc in omega arith);
+  refusal = λ q e. says r q (same-refusal r q e) s;
+}
+judges (read zero) s h = record {
+  accepted = λ e. refl;
+  differs = λ k e. absurd (let z : _≡_ {A = ℕ} 0 (suc k) = cc in omega arith);
+  refusal = λ q e. absurd (never e);
+}
+judges (read (suc n)) s h =
+    let p = parts 255 (suc n % places) (omega arith) in
+    let l : suc n % places ≡ suc n = mod-eq-of-lt {n = suc n} (h (suc n) refl) in
+    record {
+      accepted = λ e. absurd (omega (arith, p .0, ap (λ (m : ℕ). m % 256) e));
+      differs = λ k e. let q : suc n ≡ suc k = cc in (p .0, omega (arith, p .1, l, q));
+      refusal = λ q e. absurd (never e);
+    }
+
+-- What each function's answer can be refused for.
+block-here : (n : ℕ) (xs : List ℕ) → Bounded places (blockReply n xs)
+block-here n xs = wider (suc mostBytes) places (blockReply n xs) (omega arith) (block-bounded n xs)
+
+indices-bounded : (n : ℕ) (xs : List ℕ) → Bounded places (indicesReply n xs)
+unfolding indicesReply
+indices-bounded n xs = then-bounded places (blockReply n xs) (λ _. read (indicesOf (graphOf n xs))) (block-here n xs) (λ u e. tt)
+
+vertex-bounded : (n : ℕ) (xs : List ℕ) (a : ℕ) → Bounded places (vertexReply n xs a)
+unfolding vertexReply
+vertex-bounded n xs a =
+    then-bounded places (blockReply n xs) _ (block-here n xs) (λ u e.
+    then-bounded places (refuseIf (isOutside n a) 18 0) (λ _. read (vertexOf (graphOf n xs) a)) (if-bounded places (isOutside n a) 18 0 (omega arith)) (λ v f. tt))
+
+polynomial-bounded : (n : ℕ) (xs : List ℕ) (x : Float) → Bounded places (polynomialReply n xs x)
+unfolding polynomialReply valuesReply
+polynomial-bounded n xs x =
+    then-bounded places (blockReply n xs) _ (block-here n xs) (λ u e.
+    then-bounded places (refuseIf (unusable x) 10 0) _ (if-bounded places (unusable x) 10 0 (omega arith)) (λ v f. tt))
+
+shares-bounded : (n : ℕ) (xs : List ℕ) (room : ℕ) → Bounded places (sharesReply n xs room)
+unfolding sharesReply
+shares-bounded n xs room =
+    then-bounded places (blockReply n xs) _ (block-here n xs) (λ u e.
+    then-bounded places (refuseIf (ltb room (length (bondsOf xs))) 9 0) _ (if-bounded places (ltb room (length (bondsOf xs))) 9 0 (omega arith)) (λ v f.
+    then-bounded places (refuseIf (ltb most (denominator (graphOf n xs))) 8 0) _ (if-bounded places (ltb most (denominator (graphOf n xs))) 8 0 (omega arith)) (λ w g. tt)))
+
+contributions-bounded : (n : ℕ) (xs : List ℕ) (room entries : ℕ) → Bounded places (contributionsReply n xs room entries)
+contributions-bounded n xs room entries =
+    then-bounded places (blockReply n xs) _ (block-here n xs) (λ u e.
+    then-bounded places (refuseIf (ltb entries 1) 9 0) _ (if-bounded places (ltb entries 1) 9 0 (omega arith)) (λ v f. shares-bounded n xs room))
+
+fields-bounded : (form : Form) (d : List ℕ) → Bounded places (fieldsReply form d)
+unfolding fieldsReply
+fields-bounded form d = then-bounded places (deckReply form d) (λ k. read (indicesOf (moleculeOf d k))) (deck-bounded form d) (λ k e. tt)
+
+placed-bounded : (d : List ℕ) (k i l j : ℕ) → Bounded places (placedReply d k i l j)
+unfolding placedReply
+placed-bounded d k i l j =
+    then-bounded places (deckReply Composed d) _ (deck-bounded Composed d) (λ deck e.
+    then-bounded places (refuseIf (isMissing d deck k i || isMissing d deck l j) 18 0) _ (if-bounded places (isMissing d deck k i || isMissing d deck l j) 18 0 (omega arith)) (λ v f. tt))
+
+write-bounded : (d : List ℕ) (n : ℕ) → Bounded places (writeReply d n)
+unfolding writeReply
+write-bounded d n =
+    then-bounded places (refuseIf (ltb longestDeck (length d)) 20 0) _ (if-bounded places (ltb longestDeck (length d)) 20 0 (omega arith)) (λ u e.
+    then-bounded places (refuseIf (ltb n sheetBytes) 9 0) (λ _. fieldsReply Composed d) (if-bounded places (ltb n sheetBytes) 9 0 (omega arith)) (λ v f. fields-bounded Composed d))
+
+judge-bounded : (d : List ℕ) → Bounded places (judgeReply d)
+unfolding judgeReply
+judge-bounded d = then-bounded places (deckReply Judged d) (λ k. read (firstWrong 1 (sheetOf (moleculeOf d k)) (claimedAt d (k .sheet)))) (deck-bounded Judged d) (λ k e. tt)
+
+-- an answer as a list of numbers, and 9 where that does not fit
+listed : {A B : Type 0} (x : Read A) (f : A → List B) → Bounded places x → Bounded places (x then λ a. read (f a))
+listed (refused r) f s = s
+listed (read a) f s = tt
+
+lent : {A : Type 0} (room : ℕ) (x : Read (List A)) → Bounded places x → Tells (fitting room x)
+lent room x s = tells (fitting room x) (fits x s)
+  where
+    fits : {A : Type 0} (x : Read (List A)) → Bounded places x → Bounded places (fitting room x)
+    fits (refused r) s = s
+    fits (read xs) s = then-bounded places (refuseIf (ltb room (length xs)) 9 0) (λ _. read xs) (if-bounded places (ltb room (length xs)) 9 0 (omega arith)) (λ v e. tt)
+
+-- the first wrong field of two lists of fields
+first-wrong : (k : ℕ) (xs ys : List ℕ) → firstWrong k xs ys ≤ k + length xs
+unfolding firstWrong
+first-wrong k [] [] = omega arith
+first-wrong k [] (y ∷ ys) = omega arith
+first-wrong k (x ∷ xs) [] = omega arith
+first-wrong k (x ∷ xs) (y ∷ ys) = go (eqb x y) (first-wrong (suc k) xs ys)
+  where
+    go : (t : Bool) → firstWrong (suc k) xs ys ≤ suc k + length xs → cond t (firstWrong (suc k) xs ys) k ≤ k + length (x ∷ xs)
+    go true h = omega (arith, h)
+    go false h = omega arith
+
+few-fields : (d : List ℕ) (k : ℕ) → judgeReply d ≡ read k → k < places
+unfolding judgeReply sheetOf fieldsOf
+few-fields d k e = go (deckReply Judged d) e
+  where
+    go : (x : Read Deck) → (x then λ k. read (firstWrong 1 (sheetOf (moleculeOf d k)) (claimedAt d (k .sheet)))) ≡ read k → k < places
+    go (refused r) q = absurd (let z : _≡_ {A = ℕ} 0 1 = cc in omega arith)
+    go (read a) q =
+        let same : firstWrong 1 (sheetOf (moleculeOf d a)) (claimedAt d (a .sheet)) ≡ k = cc in
+        omega (arith, same, first-wrong 1 (sheetOf (moleculeOf d a)) (claimedAt d (a .sheet)))
+
+-- FUNCTION BY FUNCTION
+pub check-tells : (n : ℕ) (xs : List ℕ) → Tells (blockReply n xs)
+check-tells n xs = tells (blockReply n xs) (block-here n xs)
+
+pub indices-tells : (n : ℕ) (xs : List ℕ) (room : ℕ) → Tells (fitting room (indicesList n xs))
+indices-tells n xs room = lent room (indicesList n xs) (listed (indicesReply n xs) fieldsOf (indices-bounded n xs))
+
+pub vertex-tells : (n : ℕ) (xs : List ℕ) (a room : ℕ) → Tells (fitting room (vertexList n xs a))
+vertex-tells n xs a room = lent room (vertexList n xs a) (listed (vertexReply n xs a) sumsOf (vertex-bounded n xs a))
+
+pub polynomial-tells : (n : ℕ) (xs : List ℕ) (x : Float) (room : ℕ) → Tells (fitting room (polynomialList n xs x))
+polynomial-tells n xs x room = lent room (polynomialList n xs x) (listed (polynomialReply n xs x) valuesList (polynomial-bounded n xs x))
+
+pub contributions-tells : (n : ℕ) (xs : List ℕ) (room entries : ℕ) → Tells (contributionsReply n xs room entries)
+contributions-tells n xs room entries = tells (contributionsReply n xs room entries) (contributions-bounded n xs room entries)
+
+pub compose-tells : (d : List ℕ) (room : ℕ) → Tells (fitting room (composedList d))
+compose-tells d room = lent room (composedList d) (listed (fieldsReply Composed d) fieldsOf (fields-bounded Composed d))
+
+pub placed-tells : (d : List ℕ) (k i l j room : ℕ) → Tells (fitting room (placedList d k i l j))
+placed-tells d k i l j room = lent room (placedList d k i l j) (listed (placedReply d k i l j) (λ n. n ∷ []) (placed-bounded d k i l j))
+
+pub write-tells : (d : List ℕ) (n : ℕ) → Tells (writeReply d n)
+write-tells d n = tells (writeReply d n) (write-bounded d n)
+
+pub judge-tells : (d : List ℕ) → Judges (judgeReply d)
+judge-tells d = judges (judgeReply d) (judge-bounded d) (few-fields d)

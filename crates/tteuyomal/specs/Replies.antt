@@ -1,4 +1,4 @@
--- What each C function answers: the library's reply, its numbers as a list in the order in which they are lent out.
+-- Definitions. What each C function answers: the library's reply, its numbers as a list in the order in which they are lent out.
 use Prim.Native.Nat.{ℕ}
 use mathlib.Core.Path.{_≡_}
 use lib.Dec.{ltb}
