@@ -34,6 +34,9 @@ fn apart(n: usize, bonds: &[u8], row: Row) -> bool {
     told::of_apart(reply).is(row, 2)
 }
 
+// The most bonds of a block.
+const BONDS: usize = block::BYTES / 2;
+
 // The first entries of a buffer are lent.
 fn contributed(n: usize, bonds: &[u8], out: &mut [u64], lent: usize) -> Shares
     requires { ⌜ lent ≤ length (now out) ⌝ }
@@ -91,7 +94,7 @@ fn valued(letter: u8, n: usize, bonds: &[u8], row: Row) -> bool {
 }
 
 // Whether the reply to a question, which is known by its first letter, is that of its line.
-pub fn right(letter: u8, n: usize, bonds: &[u8], row: Row) -> bool {
+pub(crate) fn right(letter: u8, n: usize, bonds: &[u8], row: Row) -> bool {
     match letter {
         b'c' => checked(n, bonds, row),
         b'i' => measured(n, bonds, row),

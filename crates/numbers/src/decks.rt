@@ -67,7 +67,7 @@ fn written(letter: u8, deck: &[u8], row: Row) -> bool {
 }
 
 // Whether the reply to a question, which is known by its first letter, is that of its line.
-pub fn right(letter: u8, deck: &[u8], row: Row) -> bool {
+pub(crate) fn right(letter: u8, deck: &[u8], row: Row) -> bool {
     match letter {
         b'c' => composed(deck, row),
         b'j' => judged(deck, row),

@@ -6,12 +6,12 @@ use crate::row::ROOM;
 use crate::row::Row;
 
 // As its own line gives it, as later lines change it, and where its line stands.
-pub struct Subject {
-    pub deck: bool,
-    pub given: Row,
-    pub changed: Row,
-    pub from: usize,
-    pub len: usize,
+pub(crate) struct Subject {
+    pub(crate) deck: bool,
+    pub(crate) given: Row,
+    pub(crate) changed: Row,
+    pub(crate) from: usize,
+    pub(crate) len: usize,
 }
 
 // One or two bytes changed: place and value of each.
@@ -31,7 +31,7 @@ fn first_bytes(changed: Row, row: Row) -> Row {
 }
 
 impl Subject {
-    pub fn none() -> Subject {
+    pub(crate) fn none() -> Subject {
         Subject {
             deck: false,
             given: Row::none(),
@@ -42,7 +42,7 @@ impl Subject {
     }
 
     // After a line that starts with a capital, which stands at a place.
-    pub fn next(self, letter: u8, row: Row, from: usize, len: usize) -> Subject {
+    pub(crate) fn next(self, letter: u8, row: Row, from: usize, len: usize) -> Subject {
         let given = self.given;
         let changed = self.changed;
         match letter {
@@ -71,7 +71,7 @@ impl Subject {
     }
 
     // Whether the reply to a question is the one of its line.
-    pub fn right(self, letter: u8, row: Row) -> bool {
+    pub(crate) fn right(self, letter: u8, row: Row) -> bool {
         let changed = self.changed;
         let bytes = row::bytes_of(changed);
         if self.deck {

@@ -8,13 +8,13 @@ use reply::Refusal;
 use shares::Shares;
 
 // A refusal's number and place, or so many values; behind them the entries that stay.
-pub struct Told {
-    pub refused: bool,
-    pub count: usize,
-    pub values: [u64; 8],
+pub(crate) struct Told {
+    pub(crate) refused: bool,
+    pub(crate) count: usize,
+    pub(crate) values: [u64; 8],
 }
 
-pub fn refusal(r: Refusal) -> Told {
+pub(crate) fn refusal(r: Refusal) -> Told {
     Told {
         refused: true,
         count: 2,
@@ -31,7 +31,7 @@ pub fn refusal(r: Refusal) -> Told {
     }
 }
 
-pub fn one(x: u64) -> Told {
+pub(crate) fn one(x: u64) -> Told {
     Told {
         refused: false,
         count: 1,
@@ -39,7 +39,7 @@ pub fn one(x: u64) -> Told {
     }
 }
 
-pub fn nothing() -> Told {
+pub(crate) fn nothing() -> Told {
     Told {
         refused: false,
         count: 0,
@@ -47,7 +47,7 @@ pub fn nothing() -> Told {
     }
 }
 
-pub fn of_measured(m: Measured) -> Told {
+pub(crate) fn of_measured(m: Measured) -> Told {
     match m {
         Measured::Refused(r) => refusal(r),
         Measured::Of(x) => Told {
@@ -58,7 +58,7 @@ pub fn of_measured(m: Measured) -> Told {
     }
 }
 
-pub fn of_around(a: Around) -> Told {
+pub(crate) fn of_around(a: Around) -> Told {
     match a {
         Around::Refused(r) => refusal(r),
         Around::Of(x) => Told {
@@ -69,14 +69,14 @@ pub fn of_around(a: Around) -> Told {
     }
 }
 
-pub fn of_apart(a: Apart) -> Told {
+pub(crate) fn of_apart(a: Apart) -> Told {
     match a {
         Apart::Refused(r) => refusal(r),
         Apart::Of(d) => one(d),
     }
 }
 
-pub fn of_shares(s: Shares) -> Told {
+pub(crate) fn of_shares(s: Shares) -> Told {
     match s {
         Shares::Refused(r) => refusal(r),
         Shares::Denominator(d) => one(d),
@@ -85,7 +85,7 @@ pub fn of_shares(s: Shares) -> Told {
 
 impl Told {
     // Whether these are the line's numbers behind what it asks, and all of them.
-    pub fn is(self, row: Row, asked: usize) -> bool {
+    pub(crate) fn is(self, row: Row, asked: usize) -> bool {
         let values = self.values;
         row.refused == self.refused
             && row.left(asked) == self.count
@@ -94,7 +94,7 @@ impl Told {
 }
 
 // Whether a buffer has the line's numbers at its front, and later entries stayed.
-pub fn entries_are(out: &[u64], row: Row, asked: usize) -> bool {
+pub(crate) fn entries_are(out: &[u64], row: Row, asked: usize) -> bool {
     let mut i = 0;
     while i < out.len() {
         if out[i] != row.at(asked, i) {
@@ -106,7 +106,7 @@ pub fn entries_are(out: &[u64], row: Row, asked: usize) -> bool {
 }
 
 // The same of bytes, where one number is what is asked.
-pub fn bytes_are(out: &[u8], row: Row) -> bool {
+pub(crate) fn bytes_are(out: &[u8], row: Row) -> bool {
     let mut i = 0;
     while i < out.len() {
         if reply::wide(out[i]) != row.at(1, i) {

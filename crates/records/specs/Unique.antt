@@ -1,4 +1,4 @@
--- Each promise determines the reply: two replies that satisfy it are equal, and two parts hold the same bytes at the same place. Assumes nothing.
+-- Laws. Each promise determines the reply: two replies that satisfy it are equal, and two parts hold the same bytes at the same place. Assumes nothing.
 use Prim.Native.Nat.{ℕ, _+_}
 use mathlib.Core.List.{List, [], _∷_}
 use mathlib.Core.Path.{_≡_}
@@ -7,7 +7,7 @@ use Rattle.reply.specs.Read.{saidReply}
 use Rattle.reply.specs.Chain.{unique}
 use Rattle.reply.specs.declared.Reply.{Reply}
 use Rattle.records.specs.Bytes.{byteAt, little, PartOf}
-use Rattle.records.specs.Records.{lengthAt, recordReply}
+use Rattle.records.specs.Records.{headBytes, lengthAt, recordReply}
 use Rattle.records.specs.declared.Kind.{Kind}
 
 pub unique-part : {s : RefT (List ℕ)} {from len : ℕ} {q r : RefT (List ℕ)} → PartOf s from len q → PartOf s from len r → (now q ≡ now r) × (ptr q ≡ ptr r)
@@ -24,5 +24,5 @@ module _ (d : List ℕ) (at : ℕ) where
   pub unique-record-at : (a b : Kind) (r s : Reply) → r ≡ saidReply (recordReply (a ∷ b ∷ []) d at) → s ≡ saidReply (recordReply (a ∷ b ∷ []) d at) → r ≡ s
   unique-record-at a b r s = unique
 
-pub unique-payload-at : (s : RefT (List ℕ)) (at : ℕ) (q r : RefT (List ℕ)) → PartOf s (at + 4) (lengthAt (now s) at) q → PartOf s (at + 4) (lengthAt (now s) at) r → (now q ≡ now r) × (ptr q ≡ ptr r)
+pub unique-payload-at : (s : RefT (List ℕ)) (at : ℕ) (q r : RefT (List ℕ)) → PartOf s (at + headBytes) (lengthAt (now s) at) q → PartOf s (at + headBytes) (lengthAt (now s) at) r → (now q ≡ now r) × (ptr q ≡ ptr r)
 unique-payload-at s at q r = unique-part
