@@ -1,4 +1,4 @@
--- A book: a graph under each of some numbers. The blocks of a list of bytes are one.
+-- Definitions. A book: a graph under each of some numbers. The blocks of a list of bytes are one.
 use Prim.Native.Nat.{ℕ, _+_, _*_}
 use mathlib.Core.Bool.{Bool, _&&_, not, cond}
 use mathlib.Core.List.{List, [], _∷_}

@@ -1,4 +1,4 @@
--- The bonds that refusal 19 counts on a placed atom are those that it has in the molecule written out. Assumes nothing.
+-- Laws. The bonds that refusal 19 counts on a placed atom are those that it has in the molecule written out. Assumes nothing.
 use Prim.Native.Nat.{ℕ, zero, suc, _+_, _-_, _≤_, _<_}
 use mathlib.Core.Bool.{Bool, true, false, _&&_, cond}
 use mathlib.Core.List.{List, [], _∷_, _++_}

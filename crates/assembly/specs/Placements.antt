@@ -1,4 +1,4 @@
--- An assembly over a book of blocks, wherever those stand: refusals 15 to 19, 23 and 24. A place is the placement's number from 1, or 0.
+-- Definitions. An assembly over a book of blocks, wherever those stand: refusals 15 to 19, 23 and 24. A place is the placement's number from 1, or 0.
 use Prim.Native.Nat.{ℕ, zero, suc, _+_, _*_, _-_}
 use mathlib.Core.Bool.{Bool, _&&_, _||_, not, cond}
 use mathlib.Core.List.{List}

@@ -1,4 +1,4 @@
--- What an assembly that is not refused keeps to: an assembly in graph's sense, with no atom of more bonds than the limit. Assumes nothing.
+-- Laws. What an assembly that is not refused keeps to: an assembly in graph's sense, with no atom of more bonds than the limit. Assumes nothing.
 use Prim.Native.Nat.{ℕ, zero, suc, _+_, _-_, _≤_, _<_}
 use mathlib.Core.Bool.{Bool, true, false, _&&_, _||_, not, cond}
 use mathlib.Core.List.{List}

@@ -1,4 +1,4 @@
--- A block: what its bytes say, and its refusals 1 to 7 in document 01's order. A place is the bond's number from 1, or 0.
+-- Definitions. A block: what its bytes say, and its refusals 1 to 7 in the order of docs/RULES.md. A place is the bond's number from 1, or 0.
 use Prim.Native.Nat.{ℕ, suc, _*_, _%_}
 use mathlib.Core.Bool.{_||_, not, cond}
 use mathlib.Core.List.{List, [], _∷_}

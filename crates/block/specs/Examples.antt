@@ -1,4 +1,4 @@
--- The definitions compute: document 01's values for a ring of 6 and for two rings of 6 as one block, and a block for each refusal. Assumes nothing.
+-- Laws. The definitions compute: the rules' values for a ring of 6 and for two rings of 6 as one block, and a block for each refusal. Assumes nothing.
 use Prim.Native.Nat.{ℕ, zero, suc, _+_}
 use mathlib.Core.List.{List, [], _∷_}
 use mathlib.Core.Path.{_≡_, refl}

@@ -1,4 +1,4 @@
--- The refusal number of a bond, test by test. Assumes nothing.
+-- Laws. The refusal number of a bond, test by test. Assumes nothing.
 use Prim.Native.Nat.{ℕ, _≤_, _<_}
 use mathlib.Core.Bool.{Bool, true, false, _||_, cond}
 use mathlib.Core.List.{List}

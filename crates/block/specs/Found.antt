@@ -1,4 +1,4 @@
--- What a search from one atom gives.
+-- Work. What a search from one atom gives.
 use Prim.Native.Nat.{ℕ}
 use mathlib.Core.List.{List}
 use mathlib.Core.Bool.{true, false}

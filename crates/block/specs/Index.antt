@@ -1,4 +1,4 @@
--- The indices of a block, its distances and vertex sums, and how many pairs lie at each distance, or its refusal.
+-- Definitions. The indices of a block, its distances and vertex sums, and how many pairs lie at each distance, or its refusal.
 use Prim.Native.Nat.{ℕ}
 use mathlib.Core.List.{List}
 use Rattle.graph.specs.Graph.{Graph, distance, wiener, evenPart, oddPart, polarity, pairsAt, vertexSum, vertexEven, vertexOdd, evenCount, oddCount, countAt}

@@ -1,4 +1,4 @@
--- The sums over the rows of a block that is not refused are its indices, its vertex sums and its counts of pairs. Assumes nothing.
+-- Laws. The sums over the rows of a block that is not refused are its indices, its vertex sums and its counts of pairs. Assumes nothing.
 use Prim.Native.Nat.{ℕ, _-_, min}
 use mathlib.Core.List.{List}
 use mathlib.Core.Path.{_≡_, ap, fun-ext, _∙_}

@@ -1,4 +1,4 @@
--- The neighbours of each atom as a set in one number, and what they say of a graph.
+-- Work. The neighbours of each atom as a set in one number, and what they say of a graph.
 use Prim.Native.Nat.{ℕ, _+_, _-_, _^_, _≤_, _<_}
 use mathlib.Core.Bool.{Bool, true}
 use mathlib.Core.List.{List, []}

@@ -1,4 +1,4 @@
--- The distances of a block: 64 rows of 64, 0 beyond its atoms and where it is refused.
+-- Definitions. The distances of a block: 64 rows of 64, 0 beyond its atoms and where it is refused.
 use Prim.Native.Nat.{ℕ, zero, suc, _-_}
 use mathlib.Core.Bool.{_||_, cond}
 use mathlib.Core.List.{List, [], _∷_}

@@ -1,4 +1,4 @@
--- Sums over distances d, whatever says them: a graph, a row, or rows.
+-- Definitions. Sums over distances d, whatever says them: a graph, a row, or rows.
 use Prim.Native.Nat.{ℕ, _-_}
 use mathlib.Core.List.{List, []}
 use lib.ListN.{getD}

@@ -1,4 +1,4 @@
--- A table's entries. Assumes nothing.
+-- Laws. A table's entries. Assumes nothing.
 use Prim.Native.Nat.{ℕ, zero, suc, _<_}
 use mathlib.Core.Path.{_≡_, refl, ap}
 use native.Mathlib.Omega.{arith}

@@ -1,4 +1,4 @@
--- How the sums over a row, and the counts of pairs, are worked.
+-- Work. How the sums over a row, and the counts of pairs, are worked.
 use Prim.Native.Nat.{ℕ, _+_, _*_, _≤_, _<_}
 use mathlib.Core.List.{List}
 use mathlib.Core.Path.{_≡_}

@@ -1,4 +1,4 @@
--- What a block tells that is not refused: it is a molecule of at most 64 atoms, none with more bonds than the limit, and its rows hold its distances. Assumes nothing.
+-- Laws. What a block tells that is not refused: it is a molecule of at most 64 atoms, none with more bonds than the limit, and its rows hold its distances. Assumes nothing.
 use Prim.Native.Nat.{ℕ, zero, suc, _+_, _-_, _%_, _≤_}
 use mathlib.Core.Bool.{Bool, true, false, _||_, not, cond, true≢false}
 use mathlib.Core.List.{List, [], _∷_}

@@ -1,4 +1,4 @@
--- Each promise determines the reply: two replies that satisfy it are equal. Assumes nothing.
+-- Laws. Each promise determines the reply: two replies that satisfy it are equal. Assumes nothing.
 use Prim.Native.Nat.{ℕ, min}
 use mathlib.Core.List.{List}
 use mathlib.Core.Path.{_≡_}

@@ -1,4 +1,4 @@
--- Document 01's deck of two rings of 6, by computing: distances of its atoms, and a query about one that does not exist.
+-- Laws. The rules' deck of two rings of 6, by computing: distances of its atoms, and a query about one that does not exist.
 use Prim.Native.Nat.{ℕ}
 use mathlib.Core.Path.{_≡_, refl}
 use Rattle.graph.specs.Graph.{joins, anyJoins, bonded, anyAtom, reaches, firstFrom, distance, allAtoms, connected, degree, sum}

@@ -1,4 +1,4 @@
--- Two placed atoms of a deck that is read: what is known of them, of the atoms that a climb leads to, and of their distance. Assumes nothing.
+-- Laws. Two placed atoms of a deck that is read: what is known of them, of the atoms that a climb leads to, and of their distance. Assumes nothing.
 use Prim.Native.Nat.{ℕ, _+_, _*_, _-_, _<_}
 use mathlib.Core.Bool.{false}
 use mathlib.Core.List.{List}

@@ -1,4 +1,4 @@
--- The distance of two placed atoms of a deck, in the molecule written out. Document 01: "A query about a placement or atom that doesn't exist, on a
+-- Definitions. The distance of two placed atoms of a deck, in the molecule written out. Document 01: "A query about a placement or atom that doesn't exist, on a
 -- composed deck .., answers 18 at place 0 after the deck's .. refusals."
 use Prim.Native.Nat.{ℕ, _-_}
 use mathlib.Core.Bool.{Bool, _||_}

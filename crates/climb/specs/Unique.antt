@@ -1,4 +1,4 @@
--- The promise determines the reply: two that satisfy it are equal. Assumes nothing.
+-- Laws. The promise determines the reply: two that satisfy it are equal. Assumes nothing.
 use Prim.Native.Nat.{ℕ}
 use mathlib.Core.List.{List}
 use mathlib.Core.Path.{_≡_, sym, _∙_}

@@ -1,4 +1,4 @@
--- What the numbers of composing mean: what is counted from an atom, and how small that is.
+-- Work. What the numbers of composing mean: what is counted from an atom, and how small that is.
 use Prim.Native.Nat.{ℕ, _+_, _^_, _<_}
 use mathlib.Core.Path.{_≡_}
 use Rattle.graph.specs.Graph.{Graph, Within, Molecule, evenOf, oddOf, evenOne, oddOne, isAt}

@@ -1,4 +1,4 @@
--- What the arrays of composing describe: an assembly, the rows of distances from both ends of each join, and what is counted from them.
+-- Work. What the arrays of composing describe: an assembly, the rows of distances from both ends of each join, and what is counted from them.
 use Prim.Native.Nat.{ℕ, _+_, _*_, _-_, _≤_, _<_}
 use mathlib.Core.List.{List, []}
 use mathlib.Core.Path.{_≡_}

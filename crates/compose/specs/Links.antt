@@ -1,4 +1,4 @@
--- What is read of a placement.
+-- Work. What is read of a placement.
 use Prim.Native.Nat.{ℕ, _≤_, _<_}
 use mathlib.Core.Path.{_≡_}
 use Rattle.assembly.specs.declared.Placement.{Placement}

@@ -1,4 +1,4 @@
--- What composing is given: a deck's bytes, its assembly's payload, its table of blocks, and the links of its placements.
+-- Work. What composing is given: a deck's bytes, its assembly's payload, its table of blocks, and the links of its placements.
 use Prim.Native.Nat.{ℕ, _-_, _<_}
 use mathlib.Core.List.{List}
 use mathlib.Core.Path.{_≡_}

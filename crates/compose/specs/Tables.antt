@@ -1,4 +1,4 @@
--- The ends of the joins, and their rows as the tables of the blocks fill them.
+-- Work. The ends of the joins, and their rows as the tables of the blocks fill them.
 use Prim.Native.Nat.{ℕ, _*_, _-_, _/_, _%_, _≤_, _<_}
 use mathlib.Core.Bool.{cond}
 use mathlib.Core.List.{List, []}

@@ -1,4 +1,4 @@
--- Graphs joined by single bonds, and an assembly of blocks written out as one graph: document 01, "Joining" and "The deck".
+-- Definitions. Graphs joined by single bonds, and an assembly of blocks written out as one graph: docs/RULES.md, "Joining" and "The deck".
 use Prim.Native.Nat.{ℕ, zero, suc, _+_, _-_, _≤_}
 use mathlib.Core.List.{List, [], _∷_, _++_}
 use Rattle.graph.specs.Graph.{Bond, bond, Graph, Within, Molecule}

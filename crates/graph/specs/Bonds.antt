@@ -1,4 +1,4 @@
--- Tests on lists of bonds, as facts. Assumes nothing.
+-- Laws. Tests on lists of bonds, as facts. Assumes nothing.
 use Prim.Native.Nat.{ℕ, _+_}
 use mathlib.Core.Bool.{Bool, true, false, _&&_, _||_, or-true, or-assoc, or-comm, false≢true}
 use mathlib.Core.List.{List, [], _∷_, _++_}

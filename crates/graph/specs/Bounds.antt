@@ -1,4 +1,4 @@
--- Bounds of what is counted on a molecule, by its atom count, and of the atom count of an assembly. Assumes nothing.
+-- Laws. Bounds of what is counted on a molecule, by its atom count, and of the atom count of an assembly. Assumes nothing.
 use Prim.Native.Nat.{ℕ, zero, suc, _*_, _≤_}
 use mathlib.Core.Bool.{Bool, true, false, cond}
 use native.Mathlib.Omega.{arith}

@@ -1,4 +1,4 @@
--- An assembly written out is one molecule. The distance of two placed atoms climbs from the later placement to its parent, and what is counted
+-- Laws. An assembly written out is one molecule. The distance of two placed atoms climbs from the later placement to its parent, and what is counted
 -- from a placed atom grows with each placement more. Assumes nothing.
 use Prim.Native.Nat.{ℕ, zero, suc, _+_, _-_, _≤_, _<_}
 use mathlib.Core.Logic.{⊎-elim}

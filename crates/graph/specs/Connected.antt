@@ -1,4 +1,4 @@
--- `connected` holds exactly where every two atoms have a walk, of whatever length. Assumes nothing.
+-- Laws. `connected` holds exactly where every two atoms have a walk, of whatever length. Assumes nothing.
 use Prim.Native.Nat.{ℕ, zero, suc, _+_}
 use mathlib.Core.Bool.{Bool, true, false}
 use mathlib.Core.Logic.{⊎-elim, _↔_}

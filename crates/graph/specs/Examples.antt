@@ -1,4 +1,4 @@
--- The definitions compute: naphthalene in document 001's numbering, and what is counted from an atom of a ring of 6.
+-- Laws. The definitions compute: naphthalene in document 001's numbering, and what is counted from an atom of a ring of 6.
 use Prim.Native.Nat.{ℕ}
 use mathlib.Core.List.{List, [], _∷_}
 use mathlib.Core.Path.{_≡_, refl}

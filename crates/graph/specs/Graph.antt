@@ -1,4 +1,15 @@
--- Molecular graphs, walks, distances and the sums over them: document 01, "Definitions". Atoms are numbered from 1.
+-- Definitions. Molecular graphs, walks, distances and the sums over them: docs/RULES.md, "Graphs and distances". Atoms are numbered from 1.
+--
+-- | notion                                      | meaning                                                           | the law that matters                             |
+-- | `Graph`, `bonded`                           | atoms 1 to n and a list of bonds; whether some bond joins u and v | `bonded-sym` (Bonds)                             |
+-- | `Walk`, `Shortest`                          | a walk and its number of bonds; one than which none is shorter    | `concat`, `reverse` (Walk)                       |
+-- | `Sound`, `Molecule`                         | bonds end at atoms; and all atoms are linked                      | `connected-molecule` (Connected)                 |
+-- | `reaches`, `distance`                       | whether a walk of k bonds leads there; the first such k           | `distance-shortest`, `distance-below` (Distance) |
+-- | `connected`                                 | every distance is below the atom count                            | `connected-is-linked` (Connected)                |
+-- | `degree`                                    | the ends of bonds at an atom                                      | `degree-is` (assembly)                           |
+-- | `total g f`, `vertex g a f`                 | f summed over the distances of all pairs, and from a              | `total-joined` (Rules)                           |
+-- | `wiener`, `evenPart`, `oddPart`, `polarity` | the indices                                                       | `proved-numbers` (Table)                         |
+-- | `vertexSum`, `evenCount`, `countAt` ..      | what is counted from an atom                                      | `grown-first`, `grown-second` (Rules)            |
 use Prim.Native.Nat.{ℕ, zero, suc, _+_, _%_, _≤_}
 use mathlib.Core.Bool.{Bool, true, false, _&&_, _||_, cond}
 use mathlib.Core.List.{List, [], _∷_}

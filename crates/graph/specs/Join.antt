@@ -1,4 +1,4 @@
--- Two molecules joined by one bond: distances inside are unchanged, and across they add up. Assumes nothing.
+-- Laws. Two molecules joined by one bond: distances inside are unchanged, and across they add up. Assumes nothing.
 use Prim.Native.Nat.{ℕ, suc, _+_, _-_, _≤_}
 use mathlib.Core.Bool.{Bool, true, false, cond}
 use mathlib.Core.List.{[], _∷_, _++_}

@@ -1,7 +1,16 @@
 -- What a molecular graph is, what is counted on it, and the laws of both.
+--
+-- | notion                      | meaning                                                          | the law that matters                                     |
+-- | `Graph`, `Walk`, `distance` | atoms and bonds; walks along bonds; the bonds of a shortest walk | `distance-shortest`, `distance-sym`                      |
+-- | `connected`                 | every two atoms have a path, as a test that computes             | `connected-is-linked`: for walks of any length           |
+-- | `Molecule`                  | a sound graph in which a walk leads from each atom to each       | `connected-molecule`                                     |
+-- | `total g f`, `vertex g a f` | sums of f over the distances of all pairs, and from one atom     | `total-joined`: one law for all joining rules            |
+-- | `joined`, `written`         | two graphs joined by a bond; an assembly written out             | `written-molecule`, `wiener-joined` .. `polarity-joined` |
+-- | `atomOf`                    | a placed atom's number in the molecule written out               | `apart-later`, `apart-earlier`                           |
+-- | sets of atoms               | one number of 64 bits, atom v at the digit v - 1                 | Sets; a search's levels are the distances: Search        |
 pub mod Graph
-pub mod Examples
 pub mod Assembly
+pub mod Examples
 pub mod Bonds
 pub mod Walk
 pub mod Distance

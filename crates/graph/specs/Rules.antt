@@ -1,4 +1,4 @@
--- How sums over distances grow when two molecules are joined: one law for whatever splits over x + 1 + y, and document 000's rules from it. Assumes nothing.
+-- Laws. How sums over distances grow when two molecules are joined: one law for whatever splits over x + 1 + y, and document 000's rules from it. Assumes nothing.
 use Prim.Native.Nat.{ℕ, zero, suc, _+_, _*_, _%_}
 use mathlib.Core.Bool.{Bool, true, false, cond}
 use mathlib.Core.List.{List, [], _∷_}

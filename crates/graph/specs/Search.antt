@@ -1,4 +1,4 @@
--- A search from atom i, level by level: what holds while it runs, and that its levels are the distances. Assumes nothing.
+-- Laws. A search from atom i, level by level: what holds while it runs, and that its levels are the distances. Assumes nothing.
 -- It is seen through five things, whatever holds them: which atoms are met; which of them wait, met at the deepest level with their neighbours not yet
 -- looked at; which atoms were seen next to those that waited; the level of an atom; and the deepest level.
 use Prim.Native.Nat.{ℕ, suc, _≤_, _<_}

@@ -1,4 +1,4 @@
--- Document 01's table of proved numbers, in one theorem. Assumes nothing.
+-- Laws. The rules' table of proved numbers, in one theorem. Assumes nothing.
 use Prim.Native.Nat.{ℕ}
 use mathlib.Core.List.{List, [], _∷_}
 use mathlib.Core.Path.{_≡_, refl}

@@ -1,4 +1,4 @@
--- A file's line: its name, `: `, and the line.
+-- Definitions. A file's line: its name, `: `, and the line.
 use Prim.Native.Nat.{ℕ, _+_}
 use mathlib.Core.Bool.{Bool, cond}
 use mathlib.Core.List.{List, _++_}

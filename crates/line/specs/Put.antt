@@ -1,4 +1,4 @@
--- What the functions that put words into a line do.
+-- Work. What the functions that put words into a line do.
 use Prim.Native.Nat.{ℕ, _+_, _≤_}
 use mathlib.Core.Path.{_≡_}
 use mathlib.Core.List.{List, _++_}

@@ -1,4 +1,4 @@
--- The line that is printed for a reply, byte by byte: document 01, "Proved numbers and run numbers".
+-- Definitions. The line that is printed for a reply, byte by byte: docs/RULES.md, "Numbers to check against".
 use Prim.Native.Nat.{ℕ, zero, suc, _+_, _*_, _-_, _/_, _%_}
 use Prim.Native.Char.{code}
 use Prim.Native.String.{String}

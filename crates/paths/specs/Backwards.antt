@@ -1,4 +1,4 @@
--- Shortest paths read backwards: counts are the same both ways, and each count divides D. Assumes nothing.
+-- Laws. Shortest paths read backwards: counts are the same both ways, and each count divides D. Assumes nothing.
 use Prim.Native.Nat.{ℕ, zero, suc, _<_, _∣_}
 use mathlib.Core.Bool.{Bool, true, false, cond}
 use mathlib.Core.List.{[], _∷_}

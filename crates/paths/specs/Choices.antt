@@ -1,4 +1,4 @@
--- A number where a test holds, else 0: how such numbers add and multiply. Assumes nothing.
+-- Laws. A number where a test holds, else 0: how such numbers add and multiply. Assumes nothing.
 use Prim.Native.Nat.{ℕ, _+_, _*_}
 use mathlib.Core.Bool.{Bool, true, false, _&&_, _||_, cond}
 use mathlib.Core.Path.{_≡_, refl, sym}

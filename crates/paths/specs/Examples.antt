@@ -1,4 +1,4 @@
--- Worked examples: a ring of 4 atoms, and naphthalene in document 001's numbering with its bonds in the order of table 2. Assumes nothing.
+-- Laws. Worked examples: a ring of 4 atoms, and naphthalene in document 001's numbering with its bonds in the order of table 2. Assumes nothing.
 use Prim.Native.Nat.{ℕ}
 use mathlib.Core.List.{List, [], _∷_, map}
 use mathlib.Core.Path.{_≡_, refl}

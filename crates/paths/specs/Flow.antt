@@ -1,4 +1,4 @@
--- Document 001's second part, in whole numbers over one row of counts. From a start i, T(u) adds u's own weight and T of the neighbours one farther.
+-- Laws. Document 001's second part, in whole numbers over one row of counts. From a start i, T(u) adds u's own weight and T of the neighbours one farther.
 -- What a bond answers for is then c(i,v) T(u), for its nearer end v and its farther end u. Assumes nothing.
 use Prim.Native.Nat.{ℕ, zero, suc, _+_, _*_, _-_, _<_}
 use mathlib.Core.Bool.{Bool, true, false, _&&_, cond}

@@ -1,4 +1,4 @@
--- The least common multiple: what it divides, how Euclid's divisor gives it, and that a cap on the numbers does not show in it. Assumes nothing.
+-- Laws. The least common multiple: what it divides, how Euclid's divisor gives it, and that a cap on the numbers does not show in it. Assumes nothing.
 use Prim.Native.Nat.{ℕ, zero, suc, _+_, _*_, _-_, _/_, _%_, min, _≤_, _<_, _∣_}
 use mathlib.Core.Bool.{Bool, true, false}
 use mathlib.Core.Logic.{_⊎_, inl, inr, ⊎-elim, _↔_}

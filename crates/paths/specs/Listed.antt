@@ -1,4 +1,4 @@
--- `walks` lists each walk of k bonds from i to j once, and nothing else: how often a list of atoms stands in it. Assumes nothing.
+-- Laws. `walks` lists each walk of k bonds from i to j once, and nothing else: how often a list of atoms stands in it. Assumes nothing.
 use Prim.Native.Nat.{ℕ, zero, suc}
 use mathlib.Core.Bool.{Bool, true, false, _&&_, cond, false≢true}
 use mathlib.Core.List.{List, [], _∷_}

@@ -1,4 +1,4 @@
--- Notions that the laws of shortest paths are stated with. No promise cites them.
+-- Work. Notions that the laws of shortest paths are stated with. No promise cites them.
 use Prim.Native.Nat.{ℕ, zero, suc, _+_, _-_, _/_, _≤_, _<_, _∣_}
 use mathlib.Core.Bool.{Bool, true, false, _&&_, cond}
 use mathlib.Core.List.{List, [], _∷_}

@@ -1,4 +1,11 @@
--- Shortest paths as lists of atoms, their counts, the common denominator D and the share of a bond: document 01, "Definitions".
+-- Definitions. Shortest paths as lists of atoms, their counts, the common denominator D and the share of a bond: docs/RULES.md, "Contributions of bonds".
+--
+-- | notion                    | meaning                                 | the law that matters                           |
+-- | `walks g k i j`           | the walks of k bonds, as lists of atoms | `walks-once` (Listed)                          |
+-- | `shortestPaths g i j`     | those of as many bonds as the distance  | `paths-once` (Listed), `repeats-none` (Simple) |
+-- | `pathCount`, `pathsUsing` | c(i,j), c(i,j;e)                        | `walks-suc` (Steps)                            |
+-- | `lcm`, `denominator`      | the least common multiple; D            | `denominator-dvd` (Lcm, Backwards)             |
+-- | `share g e`               | D times the contribution of bond e      | `shares-total` (Uses)                          |
 use Prim.Native.Nat.{ℕ, zero, suc, _+_, _*_, _/_, _%_}
 use mathlib.Core.Bool.{Bool, false, _||_, cond}
 use mathlib.Core.List.{List, [], _∷_, _++_, map}

@@ -1,4 +1,4 @@
--- Shortest paths go by their last step: so do their counts and the counts of those that use a bond. Assumes nothing.
+-- Laws. Shortest paths go by their last step: so do their counts and the counts of those that use a bond. Assumes nothing.
 use Prim.Native.Nat.{ℕ, zero, suc, _+_, _≤_, _<_}
 use mathlib.Core.Bool.{Bool, true, false, _&&_, cond}
 use mathlib.Core.List.{List, [], _∷_, _++_, map}

@@ -1,4 +1,4 @@
--- The bonds that shortest paths use: none farther than the path's end, and as many as the distance. The shares add up to D times W. Assumes nothing.
+-- Laws. The bonds that shortest paths use: none farther than the path's end, and as many as the distance. The shares add up to D times W. Assumes nothing.
 use Prim.Native.Nat.{ℕ, zero, suc, _+_, _*_, _/_, _≤_}
 use mathlib.Core.Bool.{Bool, true, false, _||_, cond}
 use mathlib.Core.List.{List, [], _∷_}

@@ -1,4 +1,4 @@
--- What is proved of a reply beside its promise: no value is a NaN or infinite, and at x = 0.5 both are exact for a block of largest distance at most 40.
+-- Definitions. What is proved of a reply beside its promise: no value is a NaN or infinite, and at x = 0.5 both are exact for a block of largest distance at most 40.
 use Prim.Native.Nat.{ℕ, _-_, _*_, _^_, _≤_}
 use mathlib.Core.Bool.{Bool, true, false, _&&_}
 use lib.Ieee.Exact.{HasValue}

@@ -1,4 +1,4 @@
--- The even and odd polynomial values of a block, in the order of roundings that document 01 fixes, and refusal 10.
+-- Definitions. The even and odd polynomial values of a block, in the order of roundings that docs/RULES.md fixes, and refusal 10.
 use Prim.Native.Nat.{ℕ, zero, suc, _-_, _%_}
 use mathlib.Core.Bool.{Bool, false, _||_, cond}
 use mathlib.Core.List.{List}

@@ -1,4 +1,4 @@
--- Bytes and little-endian numbers.
+-- Definitions. Bytes and little-endian numbers.
 use Prim.Native.Nat.{ℕ, zero, suc, _+_, _*_, min}
 use mathlib.Core.List.{List}
 use mathlib.Core.Path.{_≡_}

@@ -1,4 +1,4 @@
--- Bytes put behind a list change no record that lies within it. Assumes nothing.
+-- Laws. Bytes put behind a list change no record that lies within it. Assumes nothing.
 use Prim.Native.Nat.{ℕ, zero, suc, _+_, _*_, _≤_}
 use mathlib.Core.Bool.{Bool, true, false, cond}
 use mathlib.Core.List.{List, [], _∷_, _++_}

@@ -1,4 +1,4 @@
--- Records: payload length (2 bytes), kind (2 bytes), payload. The kinds of document 01, and refusals 11, 12 and 13 at the record's first byte.
+-- Definitions. Records: payload length (2 bytes), kind (2 bytes), payload. The kinds of docs/RULES.md, and refusals 11, 12 and 13 at the record's first byte.
 use Prim.Native.Nat.{ℕ, _+_, _*_}
 use mathlib.Core.Bool.{not, cond}
 use mathlib.Core.List.{List, [], _∷_}

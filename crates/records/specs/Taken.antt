@@ -1,4 +1,4 @@
--- What holds of a record that is taken. Assumes nothing.
+-- Laws. What holds of a record that is taken. Assumes nothing.
 use Prim.Native.Nat.{ℕ, _≤_}
 use mathlib.Core.List.{List, [], _∷_}
 use mathlib.Core.Path.{_≡_}

@@ -1,4 +1,4 @@
--- The contributions of a block's bonds: D and the lent entries, or a refusal: the block's, then 9, then 8, both at place 0.
+-- Definitions. The contributions of a block's bonds: D and the lent entries, or a refusal: the block's, then 9, then 8, both at place 0.
 use Prim.Native.Nat.{ℕ}
 use mathlib.Core.List.{List, _++_, map}
 use lib.Dec.{ltb}

@@ -1,4 +1,4 @@
--- What the arrays of the work hold, atom by atom. No promise cites this.
+-- Work. What the arrays of the work hold, atom by atom. No promise cites this.
 use Prim.Native.Nat.{ℕ, suc, _+_, _*_, _/_, min, _≤_, _<_}
 use mathlib.Core.Bool.{Bool, true, _&&_, cond}
 use mathlib.Core.List.{List, []}
