@@ -10,14 +10,9 @@ use borrow.Author.Tests.{eq-eqb, ne-eqb, eqb-true, eqb-false, ltb-true, ltb-fals
 use lib.Dec.{eqb, ltb}
 use Rattle.graph.specs.Graph.{Bond, bond, Graph, Within, Sound, anyJoins, bonded, degree, sum}
 use Rattle.graph.specs.Assembly.{Join, shifted, joined, startAt, atomOf, written, Assembled, Placed}
-use Rattle.graph.specs.Bonds.{any-head, any-tail}
+use Rattle.graph.specs.Bonds.{any-head, any-tail, degree-append}
 use Rattle.graph.specs.Climb.{size-written, placed-within, placed-sooner, sooner, site-placed, written-molecule}
 use Rattle.assembly.specs.Placements.{joinEnds, joinsOn, bondsOn}
-
-degree-append : (bs cs : List Bond) (v : ℕ) → degree (bs ++ cs) v ≡ degree bs v + degree cs v
-unfolding degree
-degree-append [] cs v = omega arith
-degree-append (b ∷ bs) cs v = omega (arith, degree-append bs cs v)
 
 eqb-shift : (n u v : ℕ) → eqb (n + u) (n + v) ≡ eqb u v
 eqb-shift n u v = go (eqb u v) refl

@@ -14,7 +14,7 @@ use Rattle.block.specs.Rows.{table}
 use Rattle.block.specs.Tables.{length-table, getD-table}
 use Rattle.block.specs.Sums.{entry, pairEntry, countsBy}
 use Rattle.block.specs.Tally.{Counts, Counted}
-use Rattle.block.proofs.Reading.{zeros}
+use Rattle.block.specs.Lent.{zeros}
 
 at-here : (k d : ℕ) → k ≡ d → isAt k d ≡ 1
 unfolding isAt

@@ -23,7 +23,7 @@ use Rattle.block.specs.Rows.{table, rowOf}
 use Rattle.block.specs.Near.{Shows}
 use Rattle.block.specs.Found.{Searched}
 use Rattle.block.specs.Tables.{length-table, getD-table}
-use Rattle.block.proofs.Reading.{zeros}
+use Rattle.block.specs.Lent.{zeros}
 
 -- the search whose row of distances, sets of atoms not met, waiting and seen, and deepest level are given
 abbrev pub view : List ℕ → ℕ → ℕ → ℕ → ℕ → State

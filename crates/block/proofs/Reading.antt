@@ -5,11 +5,9 @@ use mathlib.Core.List.{List, [], _∷_}
 use mathlib.Core.Logic.{_⊎_, inl, inr, ⊎-elim, _≢_}
 use mathlib.Core.Path.{_≡_, refl, ap, subst, fun-ext, _∙_}
 use native.Mathlib.Omega.{arith}
-use native.Mathlib.Decide.{decLt}
 use native.Mathlib.Numerals.{add-one}
-use lib.ListN.{length, getD, drop, replicate, getD-replicate, length-drop, length-replicate, List·getD-eq-default}
+use lib.ListN.{length, getD, replicate}
 use lib.Pow.{pow-pos}
-use lib.Seq.{drop-cons}
 use Rattle.graph.specs.Graph.{Bond, bond, Within, anyJoins, bonded, degree}
 use Rattle.graph.specs.Sets.{has, has-none}
 use Rattle.graph.specs.Bonds.{any-out, any-head, any-tail, any-none}
@@ -17,12 +15,11 @@ use Rattle.reply.specs.Read.{refused, read, _then_, refuseFor, refusal}
 use Rattle.block.specs.Block.{limit, mostAtoms, bondsOf, graphOf, bondFault, bondsReply}
 use Rattle.block.specs.Near.{counted, putting, counting, Draws, Holds, Shows}
 use Rattle.block.specs.Faults.{Faultless, faultless}
+use Rattle.block.specs.Numbered.{bondAt, rest, rest-cons, rest-none}
+use Rattle.block.specs.Lent.{zeros}
 use Rattle.block.proofs.Listing.{same-test, put-holds, room-one, room-two}
 
--- the bond at place k from 0, and the first k bonds, the last of them first
-abbrev pub bondAt : List ℕ → ℕ → Bond
-bondAt xs k = bond (getD xs (2 * k) 0) (getD xs (2 * k + 1) 0)
-
+-- the first k bonds, the last of them first
 unfoldable pub before : List ℕ → ℕ → List Bond
 before xs zero = []
 before xs (suc k) = bondAt xs k ∷ before xs k
@@ -32,29 +29,6 @@ unfolding before
 length-before xs zero = refl
 length-before xs (suc k) = ap suc (length-before xs k)
 
--- the bonds from k on
-abbrev rest : List ℕ → ℕ → List Bond
-rest xs k = bondsOf (drop (2 * k) xs)
-
-rest-cons : (xs : List ℕ) (k : ℕ) → 2 * k + 1 < length xs → rest xs k ≡ bondAt xs k ∷ rest xs (suc k)
-unfolding bondsOf
-rest-cons xs k l =
-    let e1 : suc (2 * k) ≡ 2 * k + 1 = omega arith in
-    let e2 : suc (suc (2 * k)) ≡ 2 * suc k = omega arith in
-    let d1 : drop (2 * k) xs ≡ getD xs (2 * k) 0 ∷ drop (suc (2 * k)) xs = drop-cons xs (2 * k) 0 (omega arith) in
-    let d2 : drop (suc (2 * k)) xs ≡ getD xs (suc (2 * k)) 0 ∷ drop (suc (suc (2 * k))) xs = drop-cons xs (suc (2 * k)) 0 (omega arith) in
-    let d : drop (2 * k) xs ≡ getD xs (2 * k) 0 ∷ (getD xs (2 * k + 1) 0 ∷ drop (2 * suc k) xs) = cc in
-    ap bondsOf d
-
-short : (ys : List ℕ) → length ys < 2 → bondsOf ys ≡ []
-unfolding bondsOf
-short [] h = refl
-short (a ∷ []) h = refl
-short (a ∷ (b ∷ ys)) h = absurd (omega arith)
-
-rest-none : (xs : List ℕ) (k : ℕ) → length xs < 2 * k + 2 → rest xs k ≡ []
-rest-none xs k l = short (drop (2 * k) xs) (rw length-drop (omega arith))
-
 -- what holds after k bonds that have no fault
 pub record Reads (n : ℕ) (xs : List ℕ) (k : ℕ) (near count : List ℕ) : Type 0 where
   pub holds : Holds n (before xs k) near count
@@ -62,10 +36,6 @@ pub record Reads (n : ℕ) (xs : List ℕ) (k : ℕ) (near count : List ℕ) : T
   pub parts : (u v : ℕ) → anyJoins (bondsOf xs) u v ≡ true → (anyJoins (before xs k) u v ≡ true) ⊎ (anyJoins (rest xs k) u v ≡ true)
   pub passed : (u v : ℕ) → anyJoins (before xs k) u v ≡ true → anyJoins (bondsOf xs) u v ≡ true
   pub coming : (u v : ℕ) → anyJoins (rest xs k) u v ≡ true → anyJoins (bondsOf xs) u v ≡ true
-
--- an entry of a list of zeros
-pub zeros : (m p : ℕ) → _≡_ {A = ℕ} (getD (replicate m 0) p 0) 0
-zeros m p = elim (decLt p m) [ yes h ↦ getD-replicate m p 0 0 h | no h ↦ List·getD-eq-default (replicate m 0) 0 {n = p} (omega (arith, length-replicate {A = ℕ} m 0)) ]
 
 abbrev pub blank : List ℕ
 blank = replicate mostAtoms 0

@@ -19,6 +19,8 @@ pub mod Faults
 pub mod Tables
 pub mod Told
 pub mod Drawn
+pub mod Numbered
+pub mod Lent
 pub mod Measures
 pub mod Unique
 pub mod Examples

@@ -4,9 +4,10 @@ use mathlib.Core.Bool.{Bool, true, false, _&&_, _||_, or-true, or-assoc, or-comm
 use mathlib.Core.List.{List, [], _∷_, _++_}
 use mathlib.Core.Logic.{_⊎_, inl, inr, ⊎-elim, ⊎-map}
 use mathlib.Core.Path.{_≡_, refl, sym, _∙_, ap, ap₂}
+use native.Mathlib.Omega.{arith}
 use borrow.Author.Tests.{eqb-true, eq-eqb}
 use lib.Dec.{eqb}
-use Rattle.graph.specs.Graph.{Graph, Bond, bond, joins, anyJoins, bonded}
+use Rattle.graph.specs.Graph.{Graph, Bond, bond, joins, anyJoins, bonded, degree}
 use Rattle.graph.specs.Assembly.{shifted}
 
 -- both parts of a test, one of them
@@ -92,6 +93,11 @@ append-left bs cs u v e = anyJoins-append bs cs u v ∙ first-of (anyJoins bs u 
 
 pub append-right : (bs cs : List Bond) (u v : ℕ) → anyJoins cs u v ≡ true → anyJoins (bs ++ cs) u v ≡ true
 append-right bs cs u v e = anyJoins-append bs cs u v ∙ second-of (anyJoins bs u v) (anyJoins cs u v) e
+
+pub degree-append : (bs cs : List Bond) (v : ℕ) → degree (bs ++ cs) v ≡ degree bs v + degree cs v
+unfolding degree
+degree-append [] cs v = omega arith
+degree-append (b ∷ bs) cs v = omega (arith, degree-append bs cs v)
 
 -- of a list whose atoms are counted from n + 1
 pub shifted-out : (n : ℕ) (bs : List Bond) (u v : ℕ) → anyJoins (shifted n bs) u v ≡ true

@@ -1,11 +1,13 @@
 -- Laws. Bounds of what is counted on a molecule, by its atom count, and of the atom count of an assembly. Assumes nothing.
 use Prim.Native.Nat.{ℕ, zero, suc, _*_, _≤_}
 use mathlib.Core.Bool.{Bool, true, false, cond}
+use mathlib.Core.Path.{_≡_, refl}
 use native.Mathlib.Omega.{arith}
 use lib.Dec.{eqb}
-use Rattle.graph.specs.Graph.{Graph, Within, Molecule, distance, sum, sumPairs, isEven, itself, evenOf, oddOf, evenOne, oddOne, isAt, total, vertex}
+use Rattle.graph.specs.Graph.{Graph, Within, Molecule, distance, sumPairs, isEven, itself, evenOf, oddOf, evenOne, oddOne, isAt, total, vertex, vertexSum}
 use Rattle.graph.specs.Assembly.{Join, joined, written}
-use Rattle.graph.specs.Distance.{distance-below}
+use Rattle.graph.specs.Distance.{distance-below, distance-zero}
+use Rattle.graph.specs.Sums.{sum-at, sum-le}
 
 -- what is counted of a distance d is at most d + 1
 pub record Tame (f : ℕ → ℕ) : Type 0 where
@@ -38,17 +40,12 @@ pub tame-at : (k : ℕ) → Tame (isAt k)
 unfolding isAt
 tame-at k = record { tame = λ d. chosen (eqb d k) d 1 0 (omega arith) (omega arith) }
 
--- sums of numbers that are at most m
-sum-most : (n m : ℕ) (f : ℕ → ℕ) → ((i : ℕ) → Within n i → f i ≤ m) → sum n f ≤ n * m
-unfolding sum
-sum-most zero m f h = omega arith
-sum-most (suc n) m f h = omega (arith, sum-most n m f (λ i w. h i (omega arith)), h (suc n) (omega arith))
-
+-- a sum over pairs of numbers that are at most m
 pub pairs-most : (n m : ℕ) (f : ℕ → ℕ → ℕ) → ((i j : ℕ) → Within n i → Within n j → f i j ≤ m) → sumPairs n f ≤ n * (n * m)
 unfolding sumPairs
 pairs-most zero m f h = omega arith
 pairs-most (suc n) m f h =
-    omega (arith, pairs-most n m f (λ i j w v. h i j (omega arith) (omega arith)), sum-most n m (λ i. f i (suc n)) (λ i w. h i (suc n) (omega arith) (omega arith)))
+    omega (arith, pairs-most n m f (λ i j w v. h i j (omega arith) (omega arith)), sum-le n (λ i w. h i (suc n) (omega arith) (omega arith)))
 
 module _ {g : Graph} (m : Molecule g) {f : ℕ → ℕ} (t : Tame f) where
   distance-most : {i j : ℕ} → Within (g .atoms) i → Within (g .atoms) j → f (distance g i j) ≤ g .atoms
@@ -56,11 +53,20 @@ module _ {g : Graph} (m : Molecule g) {f : ℕ → ℕ} (t : Tame f) where
 
   pub vertex-most : {a : ℕ} → Within (g .atoms) a → vertex g a f ≤ g .atoms * g .atoms
   unfolding vertex
-  vertex-most {a} w = sum-most (g .atoms) (g .atoms) (λ j. f (distance g a j)) (λ j v. distance-most w v)
+  vertex-most {a} w = sum-le (g .atoms) (λ j v. distance-most w v)
 
   pub total-most : total g f ≤ g .atoms * (g .atoms * g .atoms)
   unfolding total
   total-most = pairs-most (g .atoms) (g .atoms) (λ i j. f (distance g i j)) (λ i j w v. distance-most w v)
+
+-- the vertex sum of an atom that is not alone is not 0
+pub vertexSum-positive : {g : Graph} → Molecule g → {u v : ℕ} → Within (g .atoms) u → Within (g .atoms) v → (u ≡ v → ⊥) → 1 ≤ vertexSum g u
+unfolding vertex
+vertexSum-positive {g} m {u} {v} hu hv ne = above (distance g u v) (λ z. ne (distance-zero m hu hv z)) (sum-at (g .atoms) (distance g u) v hv)
+  where
+    above : {s : ℕ} (d : ℕ) → (d ≡ 0 → ⊥) → d ≤ s → 1 ≤ s
+    above zero z l = absurd (z refl)
+    above (suc d) z l = omega arith
 
 -- an assembly of blocks of at most n atoms
 pub atoms-most : (n : ℕ) (blocks : ℕ → Graph) (joins : ℕ → Join) (last : ℕ) → ((k : ℕ) → k ≤ last → blocks k .atoms ≤ n) → written blocks joins last .atoms ≤ n * suc last

@@ -106,6 +106,11 @@ unfoldable pub sumPairs : ℕ → (ℕ → ℕ → ℕ) → ℕ
 sumPairs zero f = 0
 sumPairs (suc n) f = sumPairs n f + sum n (λ i. f i (suc n))
 
+-- the sum of f over a list of bonds
+unfoldable pub sumBonds : List Bond → (Bond → ℕ) → ℕ
+sumBonds [] f = 0
+sumBonds (b ∷ bs) f = f b + sumBonds bs f
+
 abbrev pub isEven : ℕ → Bool
 isEven d = eqb (d % 2) 0
 

@@ -17,7 +17,9 @@ pub mod Distance
 pub mod Search
 pub mod Sets
 pub mod Sums
+pub mod BondSums
 pub mod Connected
+pub mod Tree
 pub mod Join
 pub mod Rules
 pub mod Climb

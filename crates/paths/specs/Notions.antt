@@ -15,11 +15,6 @@ pub record Near (g : Graph) (i v j : ℕ) : Type 0 where
   pub bond : bonded g v j ≡ true
   pub one : suc (distance g i v) ≡ distance g i j
 
--- the sum of f over a list of bonds
-unfoldable pub sumBonds : List Bond → (Bond → ℕ) → ℕ
-sumBonds [] f = 0
-sumBonds (b ∷ bs) f = f b + sumBonds bs f
-
 -- f at the neighbour that bond e gives to j; 0 where it gives none
 unfoldable pub across : Bond → (ℕ → ℕ) → ℕ → ℕ
 across e f j = cond (eqb (e .two) j) (f (e .one)) 0 + cond (eqb (e .one) j) (f (e .two)) 0

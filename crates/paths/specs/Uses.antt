@@ -7,39 +7,16 @@ use mathlib.Core.Path.{_≡_, refl, sym, _∙_, ap, ap₂}
 use native.Mathlib.Nat.{le-trans, mul-div-cancel', mul-div-le, mul-le-mul-right}
 use native.Mathlib.Omega.{arith}
 use lib.Dec.{ltb}
-use Rattle.graph.specs.Graph.{Graph, Bond, Within, Molecule, joins, anyJoins, bonded, distance, sum, total, wiener}
+use Rattle.graph.specs.Graph.{Graph, Bond, Within, Molecule, joins, anyJoins, bonded, distance, sum, sumBonds, total, wiener}
 use Rattle.graph.specs.Bonds.{joins-out, anyJoins-sym}
-use Rattle.graph.specs.Sums.{sum-cong, sum-none, sum-add, sum-scaled, sum-le, sumPairs-rows, sumPairs-scaled}
+use Rattle.graph.specs.Sums.{sum-cong, sum-scaled, sum-le, sumPairs-rows, sumPairs-scaled}
+use Rattle.graph.specs.BondSums.{bonds-cong, bonds-none, bonds-scaled, bonds-cond, bonds-swap}
 use Rattle.paths.specs.Paths.{pathCount, pathsUsing, denominator, share}
-use Rattle.paths.specs.Notions.{near, Near, sumBonds, Plain, weight}
+use Rattle.paths.specs.Notions.{near, Near, Plain, weight}
 use Rattle.paths.specs.Choices.{cond-left, cond-right}
 use Rattle.graph.specs.Distance.{distance-zero}
 use Rattle.paths.specs.Steps.{near-cong, near-none, count-step, using-step, using-self, using-le}
 use Rattle.paths.specs.Backwards.{count-dvd}
-
-bonds-cong : (bs : List Bond) {f h : Bond → ℕ} → ((b : Bond) → f b ≡ h b) → sumBonds bs f ≡ sumBonds bs h
-unfolding sumBonds
-bonds-cong [] e = refl
-bonds-cong (b ∷ bs) e = ap₂ _+_ (e b) (bonds-cong bs e)
-
-bonds-swap : (bs : List Bond) (n : ℕ) (f : Bond → ℕ → ℕ) → sumBonds bs (λ e. sum n (f e)) ≡ sum n (λ v. sumBonds bs (λ e. f e v))
-unfolding sumBonds
-bonds-swap [] n f = sym (sum-none n)
-bonds-swap (b ∷ bs) n f = ap (λ (m : ℕ). sum n (f b) + m) (bonds-swap bs n f) ∙ sym (sum-add n (f b) (λ v. sumBonds bs (λ e. f e v)))
-
-bonds-scaled : (bs : List Bond) (f : Bond → ℕ) (c : ℕ) → sumBonds bs (λ e. f e * c) ≡ sumBonds bs f * c
-unfolding sumBonds
-bonds-scaled [] f c = omega arith
-bonds-scaled (b ∷ bs) f c = omega (arith, bonds-scaled bs f c)
-
-bonds-none : (bs : List Bond) → sumBonds bs (λ e. 0) ≡ 0
-unfolding sumBonds
-bonds-none [] = refl
-bonds-none (b ∷ bs) = omega (arith, bonds-none bs)
-
-bonds-cond : (bs : List Bond) (t : Bool) (f : Bond → ℕ) → sumBonds bs (λ e. cond t (f e) 0) ≡ cond t (sumBonds bs f) 0
-bonds-cond bs true f = refl
-bonds-cond bs false f = bonds-none bs
 
 -- a bond that is not in the list again joins no pair that the list joins
 join-other : (bs : List Bond) (b : Bond) (u v : ℕ) → joins b u v ≡ true → anyJoins bs (b .one) (b .two) ≡ false → anyJoins bs u v ≡ false
@@ -88,9 +65,9 @@ module _ {g : Graph} (m : Molecule g) {i : ℕ} (hi : Within (g .atoms) i) where
   using-total : Plain (g .atoms) (g .bonds) → (k j : ℕ) → Within (g .atoms) j → distance g i j ≡ k
       → sumBonds (g .bonds) (λ e. pathsUsing g e i j) ≡ k * pathCount g i j
   using-total plain zero j hj d =
-      bonds-cong (g .bonds) (λ e. rw (sym (distance-zero m hi hj d)) (using-self m hi e)) ∙ bonds-none (g .bonds) ∙ omega arith
+      bonds-cong (g .bonds) (λ e j. rw (sym (distance-zero m hi hj d)) (using-self m hi e)) ∙ bonds-none (g .bonds) ∙ omega arith
   using-total plain (suc k) j hj d =
-      bonds-cong (g .bonds) (λ e. using-step m hi e k j d)
+      bonds-cong (g .bonds) (λ e b. using-step m hi e k j d)
       ∙ bonds-swap (g .bonds) (g .atoms) (λ e v. cond (near g i v j) (cond (joins e v j) (pathCount g i v) (pathsUsing g e i v)) 0)
       ∙ sum-cong (g .atoms) (λ v hv. bonds-cond (g .bonds) (near g i v j) (λ e. cond (joins e v j) (pathCount g i v) (pathsUsing g e i v)))
       ∙ near-cong g i j (λ v hv y. at v hv y (using-total plain k v hv (omega (arith, y .one))))
@@ -125,7 +102,7 @@ share-rows g e =
 pub shares-total : {g : Graph} → Molecule g → Plain (g .atoms) (g .bonds) → sumBonds (g .bonds) (share g) ≡ denominator g * wiener g
 unfolding total weight
 shares-total {g} m plain =
-    bonds-cong (g .bonds) (share-rows g)
+    bonds-cong (g .bonds) (λ e j. share-rows g e)
     ∙ bonds-swap (g .bonds) n (λ e i. sum n (λ j. pathsUsing g e i j * weight g D i j))
     ∙ sum-cong n (λ i hi.
     bonds-swap (g .bonds) n (λ e j. pathsUsing g e i j * weight g D i j)

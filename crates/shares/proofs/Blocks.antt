@@ -1,21 +1,20 @@
 -- What a block that is not refused brings to the work. Assumes nothing.
-use Prim.Native.Nat.{ℕ, suc, _-_, _/_, _%_, _≤_, _<_}
-use mathlib.Core.Bool.{not}
+use Prim.Native.Nat.{ℕ, suc, _-_, _/_, _≤_, _<_}
 use mathlib.Core.List.{List, []}
 use mathlib.Core.Path.{_≡_, refl, subst₂}
 use native.Mathlib.Omega.{arith}
-use borrow.Author.Tests.{ltb-false}
-use lib.Dec.{eqb, ltb}
+use lib.Dec.{eqb}
 use lib.ListN.{length, getD, replicate}
 use Rattle.graph.specs.Graph.{distance, sum}
 use Rattle.paths.specs.Notions.{Plain, lcmStarts}
 use Rattle.reply.specs.Read.{read}
-use Rattle.reply.specs.Chain.{neither}
 use Rattle.block.specs.Block.{mostAtoms, mostBytes, bondsOf, graphOf, blockReply}
 use Rattle.block.specs.Rows.{rowsOf}
-use Rattle.block.specs.Told.{passed, few-atoms, molecule, each-bond, distance-at}
+use Rattle.block.specs.Told.{few-atoms, molecule, each-bond, distance-at}
+use Rattle.block.specs.Numbered.{few-bytes}
+use Rattle.block.specs.Lent.{zeros}
 use Rattle.shares.specs.Work.{listOf, beside, Shows, Listed, Few, Given, Whole, Sofar}
-use Rattle.shares.proofs.Rows.{zeros, of-places}
+use Rattle.shares.proofs.Rows.{of-places}
 use Rattle.shares.proofs.Lists.{few-read}
 use Rattle.shares.proofs.Few.{at-most-limit}
 
@@ -55,7 +54,7 @@ module _ (n : ℕ) (xs : List ℕ) (fine : blockReply n xs ≡ read tt) where
   whole = record { small = few; molecule = molecule n xs fine; plain = plain; is = refl; low = omega arith }
 
   pub few-bonds : length xs / 2 ≤ mostBytes / 2
-  few-bonds = let l = ltb-false mostBytes (length xs) (neither (not (eqb (length xs % 2) 0)) (ltb mostBytes (length xs)) (passed n xs fine .bytes) .1) in omega arith
+  few-bonds = omega (arith, few-bytes n xs fine)
 
 -- entries of 0 have what no start adds up to
 pub nothing : (n : ℕ) (xs : List ℕ) → length xs / 2 ≤ mostBytes / 2 → Sofar n xs 0 1 (replicate (mostBytes / 2) 0)

@@ -8,7 +8,8 @@ use native.Mathlib.Omega.{arith}
 use lib.ListN.{length, set, replicate}
 use Rattle.graph.specs.Graph.{Within}
 use Rattle.shares.specs.Work.{at, Chained}
-use Rattle.shares.proofs.Rows.{after-store, zeros}
+use Rattle.block.specs.Lent.{zeros}
+use Rattle.shares.proofs.Rows.{after-store}
 
 pub chained-none : (key : List ℕ) (m : ℕ) (before : List ℕ) → Chained 0 key (replicate m 0) before
 chained-none key m before = record {

@@ -1,5 +1,5 @@
 -- No atom has more neighbours than ends of bonds. Assumes nothing.
-use Prim.Native.Nat.{ℕ, zero, suc, _+_, _≤_}
+use Prim.Native.Nat.{ℕ, _+_, _≤_}
 use mathlib.Core.Bool.{Bool, true, false, _&&_, _||_, cond}
 use mathlib.Core.List.{List, _∷_}
 use mathlib.Core.Path.{_≡_, refl, sym, _∙_, ap}
@@ -8,18 +8,13 @@ use borrow.Author.Tests.{eqb-true, eqb-false, ne-eqb}
 use lib.Dec.{eqb}
 use Rattle.graph.specs.Graph.{Bond, Within, Molecule, sum, joins, anyJoins, bonded, degree, distance}
 use Rattle.graph.specs.Distance.{distance-self}
-use Rattle.graph.specs.Sums.{wider, last, sum-add, sum-const, sum-none, sum-pick}
+use Rattle.graph.specs.Sums.{sum-add, sum-const, sum-none, sum-pick, sum-below}
 use Rattle.paths.specs.Choices.{cond-and, cond-swap}
 use Rattle.reply.specs.Read.{read}
 use Rattle.block.specs.Block.{limit, bondsOf, graphOf, blockReply}
 use Rattle.block.specs.Told.{NewBond, few-bonds, each-bond, molecule}
 use Rattle.shares.specs.Work.{beside, Listed}
 use Rattle.shares.proofs.Counting.{bonded-beside}
-
-sum-below : (n : ℕ) {f h : ℕ → ℕ} → ((i : ℕ) → Within n i → f i ≤ h i) → sum n f ≤ sum n h
-unfolding sum
-sum-below zero l = omega arith
-sum-below (suc n) l = omega (arith, sum-below n (λ i w. l i (wider w)), l (suc n) (last n))
 
 either : (p q : Bool) → cond (p || q) 1 0 ≤ cond p 1 0 + cond q 1 0
 either true q = omega arith

@@ -18,8 +18,9 @@ use Rattle.paths.specs.Backwards.{pair-pos}
 use Rattle.paths.specs.Uses.{start-le}
 use Rattle.paths.specs.Flow.{through}
 use Rattle.block.specs.Block.{mostAtoms, bondsOf, graphOf}
+use Rattle.block.specs.Numbered.{bondAt}
 use Rattle.shares.specs.Reply.{most}
-use Rattle.shares.specs.Work.{cap, full, at, Shows, bondAt, carried, Whole, Ready}
+use Rattle.shares.specs.Work.{cap, full, at, Shows, carried, Whole, Ready}
 use Rattle.shares.proofs.Rows.{of-places}
 use Rattle.shares.proofs.Listing.{listed}
 use Rattle.shares.proofs.Scaling.{count-divides}

@@ -6,7 +6,6 @@ pub mod Sweeping
 pub mod Counting
 pub mod Few
 pub mod Tallying
-pub mod Entries
 pub mod Scaling
 pub mod Flowing
 pub mod Listing

@@ -4,13 +4,13 @@ use mathlib.Core.List.{List}
 use mathlib.Core.Bool.{Bool, true, false, cond}
 use mathlib.Core.Logic.{_⊎_, inl, inr, ⊎-elim}
 use mathlib.Core.Path.{_≡_, refl, sym, _∙_, ap}
-use native.Mathlib.Nat.{eq-or-lt-of-le}
 use native.Mathlib.Omega.{arith}
 use borrow.Author.Tests.{eqb-true, eqb-false, eq-eqb, ne-eqb}
 use lib.Dec.{eqb}
-use lib.ListN.{length, getD, set, replicate, length-replicate}
+use lib.ListN.{length, set, replicate, length-replicate}
 use lib.Seq.{getD-set-same, getD-set-other}
 use Rattle.graph.specs.Graph.{Within}
+use Rattle.block.specs.Lent.{zeros, one-more}
 use Rattle.shares.specs.Work.{at}
 
 -- an entry after a store is what was stored, or what it was
@@ -26,22 +26,12 @@ after-store row i x k l = go (eqb k i) refl
 pub store-low : (row : List ℕ) (i x : ℕ) {most : ℕ} → i < length row → ((k : ℕ) → at row k ≤ most) → x ≤ most → (k : ℕ) → at (set row i x) k ≤ most
 store-low row i x l h m k = ⊎-elim (λ q. omega (arith, q .1)) (λ q. omega (arith, q .1, h k)) (after-store row i x k l)
 
--- an entry of zeros
-pub zeros : (m k : ℕ) → _≡_ {A = ℕ} (getD (replicate m 0) k 0) 0
-zeros zero k = refl
-zeros (suc m) zero = refl
-zeros (suc m) (suc k) = zeros m k
-
 -- 1 at one place of zeros
 pub unit-at : (m i v : ℕ) → i < m → at (set (replicate m 0) i 1) v ≡ cond (eqb i v) 1 0
 unit-at m i v l =
     ⊎-elim (λ q. q .1 ∙ sym (ap {B = ℕ} (λ (t : Bool). cond t 1 0) (eq-eqb i v (sym (q .0)))))
     (λ q. q .1 ∙ zeros m v ∙ sym (ap {B = ℕ} (λ (t : Bool). cond t 1 0) (ne-eqb i v (λ e. q .0 (sym e)))))
     (after-store (replicate m 0) i 1 v (omega (arith, length-replicate {A = ℕ} m 0)))
-
--- what holds of each place below j, and of j, holds of each below j + 1
-pub one-more : {P : ℕ → Type 0} (j : ℕ) → ((k : ℕ) → k < j → P k) → P j → (k : ℕ) → k < j + 1 → P k
-one-more {P} j h e k l = ⊎-elim (λ q. let z : k ≡ j = omega arith in rw z e) (λ q. h k (omega arith)) (eq-or-lt-of-le l)
 
 -- a row that has G for the atoms 1 to j has it for the next once that is stored
 pub grown : (row : List ℕ) (j x : ℕ) (G : ℕ → ℕ) → j + 1 < length row → ((k : ℕ) → k < j → at row (suc k) ≡ G k) → x ≡ G j

@@ -17,8 +17,10 @@ use Rattle.paths.specs.Steps.{count-pos}
 use Rattle.paths.specs.Backwards.{pair-pos}
 use Rattle.paths.specs.Uses.{share-rows}
 use Rattle.block.specs.Block.{mostAtoms, bondsOf, graphOf}
+use Rattle.block.specs.Numbered.{bondAt}
+use Rattle.block.specs.Lent.{Filled}
 use Rattle.shares.specs.Reply.{most}
-use Rattle.shares.specs.Work.{cap, full, at, Holds, bondAt, carried, sofar, Start, Whole, Sofar, Ready, Room, Filled}
+use Rattle.shares.specs.Work.{cap, full, at, Holds, carried, sofar, Start, Whole, Sofar, Ready, Room}
 use Rattle.shares.proofs.Scaling.{next-divides, sofar-scaled}
 use Rattle.shares.proofs.Flowing.{count-low, carried-low}
 

@@ -9,6 +9,7 @@ use Rattle.graph.specs.Graph.{Graph, Bond, bond, Within, Molecule, distance, su
 use Rattle.paths.specs.Paths.{pathCount, pathsUsing}
 use Rattle.paths.specs.Notions.{Plain, weight, gathered, lcmStarts}
 use Rattle.block.specs.Block.{mostAtoms, limit, bondsOf, graphOf}
+use Rattle.block.specs.Numbered.{bondAt}
 use Rattle.shares.specs.Reply.{most}
 
 -- where path counts stop, just above the most that D may be, and where what is gathered stops
@@ -109,10 +110,6 @@ pub record Tally (n : ℕ) (f : ℕ → ℕ) (m : ℕ) (c : List ℕ) (before : 
   pub first : 0 < m
   pub capped : before ≡ min cap m
 
--- bond k of the bytes, from 0
-abbrev pub bondAt : List ℕ → ℕ → Bond
-bondAt xs k = bond (getD xs (2 * k) 0) (getD xs (2 * k + 1) 0)
-
 -- what bond e answers for, over d, in the pairs of i and a later atom
 abbrev pub carried : Graph → ℕ → ℕ → Bond → ℕ
 carried g i d e = sum (g .atoms) (λ j. pathsUsing g e i j * weight g d i j)
@@ -146,9 +143,3 @@ pub record Ready (n : ℕ) (xs row c t : List ℕ) (i d : ℕ) : Type 0 where
 pub record Room (xs out : List ℕ) : Type 0 where
   pub room : length xs / 2 ≤ length out
   pub low : (k : ℕ) → k < length xs / 2 → getD out k 0 ≤ mostAtoms * full
-
--- the first m entries are F's, and the others are as they were
-pub record Filled (m : ℕ) (F : ℕ → ℕ) (old new : List ℕ) : Type 0 where
-  pub same : length new ≡ length old
-  pub first : (k : ℕ) → k < m → getD new k 0 ≡ F k
-  pub kept : (k : ℕ) → m ≤ k → getD new k 0 ≡ getD old k 0

@@ -16,8 +16,10 @@ ghost use Rattle.graph.specs.Graph.{Within};
 ghost use Rattle.paths.specs.Paths.{pathCount, denominator, share};
 ghost use Rattle.paths.specs.Notions.{lcmStarts};
 ghost use Rattle.block.specs.Block.{mostAtoms, mostBytes, bondsOf, graphOf};
+ghost use Rattle.block.specs.Numbered.{bondAt};
+ghost use Rattle.block.specs.Lent.{Filled};
 ghost use Rattle.shares.specs.Reply.{most};
-ghost use Rattle.shares.specs.Work.{cap, full, at, bondAt, carried, Start, Given, Whole, Sofar, Ready, Room, Filled};
+ghost use Rattle.shares.specs.Work.{cap, full, at, carried, Start, Given, Whole, Sofar, Ready, Room};
 
 // What each atom after start weighs: its part of d.
 fn weights(n: usize, c: &[u64; SEATS], start: usize, d: u64) -> [u64; SEATS]

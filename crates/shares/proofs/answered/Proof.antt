@@ -9,7 +9,7 @@ use Rattle.shares.specs.Reply.{most, saidShares}
 use Rattle.shares.specs.Work.{Given}
 use Rattle.shares.specs.declared.Shares.the-variants.{Denominator}
 use Rattle.shares.proofs.Blocks.{few, few-bonds, given, whole, nothing}
-use Rattle.shares.proofs.Entries.{filled-as}
+use Rattle.block.specs.Lent.{filled-as}
 use Rattle.shares.proofs.Reply.{reply-short, reply-large, reply-done, entries-stay, entries-done}
 use Rattle.shares.proofs.answered.Statement.{statement}
 use Rattle.shares.proofs.answered.Tie as tie

@@ -9,7 +9,7 @@ use lib.ListN.{length, set, length-set}
 use lib.Seq.{getD-set-same, getD-set-other}
 use Rattle.block.specs.Block.{mostAtoms}
 use Rattle.shares.specs.Work.{listOf, Shows, Listed}
-use Rattle.shares.proofs.Rows.{one-more}
+use Rattle.block.specs.Lent.{one-more}
 use Rattle.shares.proofs.neighbours.Statement.{statement}
 use Rattle.shares.proofs.neighbours.Tie as tie
 

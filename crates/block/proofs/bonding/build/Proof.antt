@@ -7,7 +7,8 @@ use Rattle.graph.specs.Sets.{shifted}
 use Rattle.reply.specs.Read.{saidReply}
 use Rattle.block.specs.Block.{limit, mostAtoms, bondFault}
 use Rattle.block.specs.Near.{counted, counting}
-use Rattle.block.proofs.Reading.{Reads, bondAt, before, reads-start, reads-fault, reads-next, reads-fine, reads-drawn, put-first, put-second}
+use Rattle.block.specs.Numbered.{bondAt}
+use Rattle.block.proofs.Reading.{Reads, before, reads-start, reads-fault, reads-next, reads-fine, reads-drawn, put-first, put-second}
 use Rattle.block.proofs.Replies.{not-fine}
 use Rattle.block.proofs.bonding.build.Statement.{statement}
 use Rattle.block.proofs.bonding.build.Tie as tie

@@ -5,8 +5,9 @@ use native.Mathlib.Nat.{le-refl}
 use native.Mathlib.Omega.{arith}
 use lib.ListN.{length, getD}
 use Rattle.block.specs.Block.{graphOf}
-use Rattle.shares.specs.Work.{full, at, bondAt, carried, Ready, Filled}
-use Rattle.shares.proofs.Entries.{filled-none, filled-store}
+use Rattle.block.specs.Numbered.{bondAt}
+use Rattle.block.specs.Lent.{Filled, filled-none, filled-store}
+use Rattle.shares.specs.Work.{full, at, carried, Ready}
 use Rattle.shares.proofs.Flowing.{carried-low, there-fits, back-fits, flows}
 use Rattle.shares.proofs.flows.add_flows.Statement.{statement}
 use Rattle.shares.proofs.flows.add_flows.Tie as tie

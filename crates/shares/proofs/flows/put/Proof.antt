@@ -3,8 +3,7 @@ use Prim.Native.Nat.{_-_, _≤_}
 use mathlib.Core.Path.{_≡_, refl}
 use native.Mathlib.Omega.{arith}
 use lib.ListN.{getD}
-use Rattle.shares.specs.Work.{Filled}
-use Rattle.shares.proofs.Entries.{filled-none, filled-store}
+use Rattle.block.specs.Lent.{Filled, filled-none, filled-store}
 use Rattle.shares.proofs.flows.put.Statement.{statement}
 use Rattle.shares.proofs.flows.put.Tie as tie
 

@@ -4,8 +4,7 @@ use mathlib.Core.Path.{_≡_, ap}
 use native.Mathlib.Nat.{le-refl}
 use native.Mathlib.Omega.{arith}
 use lib.ListN.{getD}
-use Rattle.shares.specs.Work.{Filled}
-use Rattle.shares.proofs.Entries.{filled-none, filled-same, filled-store}
+use Rattle.block.specs.Lent.{Filled, filled-none, filled-same, filled-store}
 use Rattle.shares.proofs.flows.raise.Statement.{statement}
 use Rattle.shares.proofs.flows.raise.Tie as tie
 

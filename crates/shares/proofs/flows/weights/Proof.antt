@@ -10,7 +10,8 @@ use lib.ListN.{length}
 use Rattle.graph.specs.Graph.{Within}
 use Rattle.block.specs.Block.{mostAtoms}
 use Rattle.shares.specs.Work.{at}
-use Rattle.shares.proofs.Rows.{zeros, seated-next}
+use Rattle.block.specs.Lent.{zeros}
+use Rattle.shares.proofs.Rows.{seated-next}
 use Rattle.shares.proofs.flows.weights.Statement.{statement}
 use Rattle.shares.proofs.flows.weights.Tie as tie
 

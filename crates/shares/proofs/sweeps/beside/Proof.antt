@@ -10,7 +10,7 @@ use lib.ListN.{length, length-set}
 use lib.Seq.{getD-set-other}
 use Rattle.block.specs.Block.{mostAtoms}
 use Rattle.shares.specs.Work.{at, Shows}
-use Rattle.shares.proofs.Rows.{zeros}
+use Rattle.block.specs.Lent.{zeros}
 use Rattle.shares.proofs.Lists.{Listing, listing-none, listing-skip, listing-take, listing-done}
 use Rattle.shares.proofs.sweeps.beside.Statement.{statement}
 use Rattle.shares.proofs.sweeps.beside.Tie as tie

@@ -4,7 +4,7 @@ use mathlib.Core.Logic.{⊎-elim}
 use native.Mathlib.Omega.{arith}
 use lib.ListN.{getD}
 use Rattle.block.specs.Block.{mostAtoms}
-use Rattle.shares.proofs.Rows.{one-more}
+use Rattle.block.specs.Lent.{one-more}
 use Rattle.shares.proofs.sweeps.farthest.Statement.{statement}
 use Rattle.shares.proofs.sweeps.farthest.Tie as tie
 

@@ -6,7 +6,7 @@ use lib.ListN.{length, length-set}
 use lib.Seq.{getD-set-same, getD-set-other}
 use Rattle.block.specs.Block.{mostAtoms}
 use Rattle.shares.specs.Work.{at, there}
-use Rattle.shares.proofs.Rows.{one-more}
+use Rattle.block.specs.Lent.{one-more}
 use Rattle.shares.proofs.sweeps.joined.Statement.{statement}
 use Rattle.shares.proofs.sweeps.joined.Tie as tie
 

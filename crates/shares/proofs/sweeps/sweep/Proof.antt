@@ -8,7 +8,8 @@ use lib.ListN.{length, set, length-set}
 use Rattle.graph.specs.Graph.{Within}
 use Rattle.block.specs.Block.{mostAtoms}
 use Rattle.shares.specs.Work.{at, Ordered}
-use Rattle.shares.proofs.Rows.{zeros, store-low}
+use Rattle.block.specs.Lent.{zeros}
+use Rattle.shares.proofs.Rows.{store-low}
 use Rattle.shares.proofs.Sweeping.{Sweeping, across, seated, sweeping-start, sweeping-level, sweeping-done, sweeping-store}
 use Rattle.shares.proofs.sweeps.sweep.Statement.{statement}
 use Rattle.shares.proofs.sweeps.sweep.Tie as tie
