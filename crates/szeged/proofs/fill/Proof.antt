@@ -1,0 +1,80 @@
+-- `fill` meets its contract: the terms of the bonds passed are put and added up.
+use Prim.Native.Nat.{_-_}
+use native.Mathlib.Omega.{arith}
+use Rattle.block.specs.Numbered.{few-bytes}
+use Rattle.szeged.proofs.Filling.{Filling, inside, filling-none, filling-next, filling-done}
+use Rattle.szeged.proofs.fill.Statement.{statement}
+use Rattle.szeged.proofs.fill.Tie as tie
+
+abbrev Inv-loop : tie.InvT-loop
+Inv-loop n bonds rows out₀ m total₀ k₀ out total k = Filling n bonds out₀ out total k
+
+abbrev μ-loop : tie.MeasureT-loop
+μ-loop n bonds rows out₀ m total₀ k₀ out total k = m - k
+
+loop-holds : tie.Need-loop-holds Inv-loop μ-loop
+loop-holds c = filling-none _ _ _
+
+mul-term : tie.Need-mul-term Inv-loop μ-loop
+mul-term c = omega arith
+
+shared-slice-read-term : tie.Need-shared-slice-read-term Inv-loop μ-loop
+shared-slice-read-term c = omega arith
+
+mul-term-2 : tie.Need-mul-term-2 Inv-loop μ-loop
+mul-term-2 c = omega arith
+
+add-term : tie.Need-add-term Inv-loop μ-loop
+add-term c = omega arith
+
+shared-slice-read-term-2 : tie.Need-shared-slice-read-term-2 Inv-loop μ-loop
+shared-slice-read-term-2 c = omega arith
+
+term-requires : tie.Need-term-requires Inv-loop μ-loop
+term-requires c κs = inside _ _ _ _ (c .before .before .before .before .before .before .pre) (c .before .before .before .loop .k) (c .before .before .loop-test .taken)
+
+mul-out : tie.Need-mul-out Inv-loop μ-loop
+mul-out c = omega arith
+
+slice-write-out : tie.Need-slice-write-out Inv-loop μ-loop
+slice-write-out c = omega (arith, c .before .before .before .before .loop .inv .entries .same, c .before .before .before .before .before .before .before .pre .room)
+
+add-total : tie.Need-add-total Inv-loop μ-loop
+add-total c = omega (arith, c .before .before .before .before .loop .inv .low, few-bytes _ _ (c .before .before .before .before .before .before .before .pre .fine), c .term .ensures .most)
+
+add-k : tie.Need-add-k Inv-loop μ-loop
+add-k c = omega arith
+
+loop-less : tie.Need-loop-less Inv-loop μ-loop
+loop-less c = omega arith
+
+loop-again : tie.Need-loop-again Inv-loop μ-loop
+loop-again c = filling-next _ _ _ (c .before .before .before .before .before .before .before .pre) (c .before .before .before .before .loop .inv) (c .before .before .before .loop-test .taken) (c .term .ensures)
+
+same-length : tie.Need-same-length Inv-loop μ-loop
+same-length c = c .before .loop .inv .entries .same
+
+returns : tie.Need-returns Inv-loop μ-loop
+returns c = filling-done _ _ _ (c .before .loop .inv) (omega (arith, c .before .loop .inv .done))
+
+pub fill-spec : {M : Type 1} → statement M
+fill-spec =
+    tie.close
+    (tie.spec
+    Inv-loop
+    μ-loop
+    loop-holds
+    mul-term
+    shared-slice-read-term
+    mul-term-2
+    add-term
+    shared-slice-read-term-2
+    term-requires
+    mul-out
+    slice-write-out
+    add-total
+    add-k
+    loop-less
+    loop-again
+    same-length
+    returns)

@@ -1,0 +1,98 @@
+// The Szeged index of a block, with the term of each bond.
+ghost use mathlib.Core.Path.{_≡_};
+ghost use Prim.Native.Nat.{ℕ, _+_, _≤_};
+ghost use lib.ListN.{length};
+ghost use Rattle.graph.specs.Graph.{Within, wiener};
+ghost use Rattle.reply.specs.Read.{read, refusal};
+ghost use Rattle.block.specs.Block.{mostAtoms, bondsOf, graphOf, blockReply};
+ghost use Rattle.block.specs.Rows.{rowsOf};
+ghost use Rattle.szeged.specs.Reply.{szegedReply, saidSzeged, szegedEntries};
+ghost use Rattle.szeged.specs.Work.{Counted, Product, Task, Done};
+use block::DistanceMatrix;
+use block::DistanceRow;
+use reply::Refusal;
+use reply::Reply;
+
+// The index, or a refusal.
+pub enum Szeged {
+    Refused(Refusal),
+    Index(u64),
+}
+
+// How many of the first n atoms have a smaller entry in the row one than in the row two.
+fn nearer(n: usize, one: &DistanceRow, two: &DistanceRow) -> u64
+    requires { ⌜ n ≤ mostAtoms ⌝ }
+    ensures { λ r. ⌜ Counted n (now (one .entry)) (now (two .entry)) r ⌝ }
+{
+    let mut count: u64 = 0;
+    let mut x = 0;
+    while x < n {
+        count += (one[x] < two[x]) as u64;
+        x += 1;
+    }
+    count
+}
+
+// The term of a bond of a and b, by the rows of the distances.
+fn term(n: usize, rows: &DistanceMatrix, a: u8, b: u8) -> u64
+    requires { ⌜ (n ≤ mostAtoms) × Within mostAtoms a × Within mostAtoms b ⌝ }
+    ensures { λ r. ⌜ Product n (now (rows .entry)) a b r ⌝ }
+{
+    let u = a as usize - 1;
+    let v = b as usize - 1;
+    let p = nearer(n, &rows[u], &rows[v]);
+    let q = nearer(n, &rows[v], &rows[u]);
+    p * q
+}
+
+// Puts the term of each bond into the lent entries, and adds them up.
+fn fill(n: usize, bonds: &[u8], rows: &DistanceMatrix, out: &mut [u64]) -> u64
+    requires { ⌜ Task n (now bonds) (now rows) (now out) ⌝ }
+    ensures { λ r. ⌜ Done n (now (bonds .entry)) (now (out .entry)) (now (out .exit)) r ⌝ }
+{
+    let m = bonds.len() / 2;
+    let mut total: u64 = 0;
+    let mut k = 0;
+    while k < m {
+        let t = term(n, rows, bonds[2 * k], bonds[2 * k + 1]);
+        out[k] = t;
+        total += t;
+        k += 1;
+    }
+    total
+}
+
+// The answer for a block that is not refused, by its rows.
+fn answered(n: usize, bonds: &[u8], rows: &DistanceMatrix, out: &mut [u64]) -> Szeged
+    requires { ⌜ (blockReply n (now bonds) ≡ read tt) × (now rows ≡ rowsOf n (now bonds)) ⌝ }
+    ensures reply { λ r. ⌜ r ≡ saidSzeged (szegedReply n (now (bonds .entry)) (length (now (out .entry)))) ⌝ }
+    ensures entries { λ _. ⌜ now (out .exit) ≡ szegedEntries n (now (bonds .entry)) (now (out .entry)) ⌝ }
+{
+    if out.len() < bonds.len() / 2 {
+        return Szeged::Refused(Refusal {
+            number: 9,
+            place: 0,
+        });
+    }
+    let s = fill(n, bonds, rows, out);
+    Szeged::Index(s)
+}
+
+// The Szeged index of a block. The reply is the index; the entry of each bond, in list order, is its term, and later entries stay. Or it is a
+// refusal, and no entry changes: the block's, then 9 where there are fewer entries than bonds. Where there is one bond fewer than atoms, the index is W.
+pub fn terms(n: usize, bonds: &[u8], out: &mut [u64]) -> Szeged
+    ensures reply { λ r. ⌜ r ≡ saidSzeged (szegedReply n (now (bonds .entry)) (length (now (out .entry)))) ⌝ }
+    ensures entries { λ _. ⌜ now (out .exit) ≡ szegedEntries n (now (bonds .entry)) (now (out .entry)) ⌝ }
+    ensures tree { λ r. ⌜
+        ((w : ℕ) → r ≡ Szeged.Index w → length (bondsOf (now (bonds .entry))) + 1 ≡ n → w ≡ wiener (graphOf n (now (bonds .entry))))
+        ⌝ }
+{
+    let reply = block::check(n, bonds);
+    match reply {
+        Reply::Refused(refusal) => Szeged::Refused(refusal),
+        Reply::Fine => {
+            let rows = block::rows(n, bonds);
+            answered(n, bonds, &rows, out)
+        }
+    }
+}
