@@ -127,6 +127,13 @@ tteuyomal_reply tteuyomal_vertex(size_t atoms, const uint8_t *bonds, size_t bond
 tteuyomal_reply tteuyomal_contributions(size_t atoms, const uint8_t *bonds, size_t bonds_len, uint64_t *shares,
                                         size_t shares_len, uint64_t *denominator, size_t denominator_len);
 
+/* Writes the Szeged index, and for each bond, in list order, its term: the number of atoms that are nearer to one end
+ * times the number of those nearer to the other; an atom as far from both counts for neither. The index is the sum of
+ * the terms; where there is one bond fewer than atoms, it is W.
+ * Refusals: the block's, then 9 (terms_len below the number of bonds, or index_len 0). */
+tteuyomal_reply tteuyomal_szeged(size_t atoms, const uint8_t *bonds, size_t bonds_len, uint64_t *terms,
+                                 size_t terms_len, uint64_t *index, size_t index_len);
+
 /* Writes two values: the sums of n(k) x^k over even k from 2 and over odd k, n(k) the number of pairs at distance k.
  * Each is worked in one fixed order of roundings: from 0, for k from 63 down to 1, add n(k), or 0 for the other
  * parity, then multiply by x. So the bits are the same everywhere.

@@ -1,3 +1,5 @@
 -- Laws of the replies of C functions.
 pub mod Laws
+pub mod Beside
 pub mod Shared
+pub mod Indexed

@@ -5,6 +5,8 @@
 -- | `fitting`, `after`, `Lent`     | 9 where the answer does not fit; the lent output afterwards | `lent-once`                                                    |
 -- | `Contributed`                  | the contributions with D lent out beside them               | `contributed-once`                                             |
 pub mod Convention
+pub mod Beside
 pub mod Replies
+pub mod Szeged
 pub mod Bounded
 pub mod Recovered

@@ -1,13 +1,12 @@
 -- Definitions. What each C function answers: the library's reply, its numbers as a list in the order in which they are lent out.
 use Prim.Native.Nat.{ℕ}
-use mathlib.Core.Path.{_≡_}
-use lib.Dec.{ltb}
 use lib.ListN.{length}
-use mathlib.Core.List.{List, [], _∷_}
-use Rattle.reply.specs.Read.{Read, refused, read, _then_, refuseIf, refusal}
-use Rattle.block.specs.Block.{graphOf, blockReply}
-use Rattle.shares.specs.Reply.{sharesReply, filled}
-use Rattle.tteuyomal.specs.Convention.{coded, after}
+use mathlib.Core.List.{List, [], _∷_, map}
+use Rattle.reply.specs.Read.{Read, refused, read, _then_, refusal}
+use Rattle.block.specs.Block.{bondsOf, graphOf, blockReply}
+use Rattle.paths.specs.Paths.{share}
+use Rattle.shares.specs.Reply.{sharesReply}
+use Rattle.tteuyomal.specs.Beside.{besideReply, Beside}
 use Rattle.block.specs.Index.{indicesReply, vertexReply}
 use Rattle.block.specs.declared.Vertex.{Vertex}
 use Rattle.sheets.specs.Sheets.{fieldsOf}
@@ -52,12 +51,10 @@ thenNine (read u) = refused (refusal 9 0)
 abbrev pub unlentReply : ℕ → List ℕ → Read ℕ
 unlentReply n bonds = thenNine (blockReply n bonds)
 
--- the contributions, with D lent out beside them: 9 where there is no entry for it
+-- the contributions, with D lent out beside them
 abbrev pub contributionsReply : ℕ → List ℕ → ℕ → ℕ → Read ℕ
-contributionsReply n bonds room entries = blockReply n bonds then λ _. refuseIf (ltb entries 1) 9 0 then λ _. sharesReply n bonds room
+contributionsReply n bonds room entries = besideReply n bonds entries (sharesReply n bonds room)
 
--- the reply and both outputs after the call
-pub record Contributed (n : ℕ) (bonds shares denominator : List ℕ) (reply : ℕ) (shares′ denominator′ : List ℕ) : Type 0 where
-  pub replied : reply ≡ coded (contributionsReply n bonds (length shares) (length denominator))
-  pub shared : shares′ ≡ filled (contributionsReply n bonds (length shares) (length denominator)) (graphOf n bonds) shares
-  pub common : denominator′ ≡ after (contributionsReply n bonds (length shares) (length denominator) then λ d. read (d ∷ [])) denominator
+abbrev pub Contributed : ℕ → List ℕ → List ℕ → List ℕ → ℕ → List ℕ → List ℕ → Type 0
+Contributed n bonds shares denominator =
+    Beside (contributionsReply n bonds (length shares) (length denominator)) (map (share (graphOf n bonds)) (bondsOf bonds)) shares denominator

@@ -20,6 +20,8 @@ use reply::Refusal;
 use reply::Reply;
 use shares::Shares;
 
+mod szeged;
+
 const PLACES: usize = 72_057_594_037_927_936;
 
 // A refusal as one number.

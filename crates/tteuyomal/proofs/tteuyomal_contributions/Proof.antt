@@ -3,7 +3,10 @@ use mathlib.Core.Path.{sym, _∙_, ap}
 use native.Mathlib.Omega.{arith}
 use denote.Ref.{now}
 use borrow.Author.Needs.{needs}
-use Rattle.tteuyomal.proofs.Shared.{toldShares, shares-told, contributed-lacking, contributed-refused, contributed-fine}
+use Rattle.shares.specs.Reply.{sharesReply}
+use lib.ListN.{length}
+use Rattle.tteuyomal.proofs.Beside.{beside-lacking, beside-refused, beside-fine}
+use Rattle.tteuyomal.proofs.Shared.{toldShares, shares-told, shares-stop, shares-lent}
 use Rattle.tteuyomal.proofs.tteuyomal_contributions.Statement.{statement}
 use Rattle.tteuyomal.proofs.tteuyomal_contributions.Tie as tie
 
@@ -13,7 +16,7 @@ unlent-requires c κs = search needs
 returns : tie.Need-returns
 returns c =
     let s = c .before .before .before .before .before in
-    contributed-lacking (s .args .atoms) (now (s .args .bonds)) (now (s .args .shares)) (now (s .args .denominator)) (c .unlent .result) (omega arith) (c .unlent .ensures)
+    beside-lacking (s .args .atoms) (now (s .args .bonds)) (sharesReply (s .args .atoms) (now (s .args .bonds)) (length (now (s .args .shares)))) _ (now (s .args .shares)) (now (s .args .denominator)) (c .unlent .result) (omega arith) (c .unlent .ensures)
 
 contributions-requires : tie.Need-contributions-requires
 contributions-requires c κs = search needs
@@ -37,8 +40,8 @@ returns-2 : tie.Need-returns-2
 returns-2 c =
     let m = c .before .before .before .before .before .before in
     let s = m .before .before .before .before .before .before in
-    contributed-refused (s .args .atoms) (now (s .args .bonds)) (now (s .args .shares)) (now (s .args .denominator)) _ _ (c .code-of .result) (omega arith)
-    (sym (shares-told _ _ (m .contributions .ensures .0)) ∙ ap toldShares (c .before .before .answer .given .1)) (m .contributions .ensures .1) (c .code-of .ensures)
+    beside-refused (s .args .atoms) (now (s .args .bonds)) _ _ (now (s .args .shares)) (now (s .args .denominator)) (shares-stop _ _ _) (omega arith) _ (c .code-of .result)
+    (sym (shares-told _ _ (m .contributions .ensures .0)) ∙ ap toldShares (c .before .before .answer .given .1)) (m .contributions .ensures .1 ∙ shares-lent (s .args .atoms) (now (s .args .bonds)) (now (s .args .shares))) (c .code-of .ensures)
 
 same-length-2 : tie.Need-same-length-2
 same-length-2 c = search needs
@@ -50,8 +53,8 @@ returns-3 : tie.Need-returns-3
 returns-3 c =
     let m = c .before .before .before .before .before in
     let s = m .before .before .before .before .before .before in
-    contributed-fine (s .args .atoms) (now (s .args .bonds)) (now (s .args .shares)) (now (s .args .denominator)) _ _ (omega arith)
-    (sym (shares-told _ _ (m .contributions .ensures .0)) ∙ ap toldShares (c .before .answer2 .given .1)) (m .contributions .ensures .1)
+    beside-fine (s .args .atoms) (now (s .args .bonds)) _ _ (now (s .args .shares)) (now (s .args .denominator)) (shares-stop _ _ _) (omega arith) _
+    (sym (shares-told _ _ (m .contributions .ensures .0)) ∙ ap toldShares (c .before .answer2 .given .1)) (m .contributions .ensures .1 ∙ shares-lent (s .args .atoms) (now (s .args .bonds)) (now (s .args .shares)))
 
 pub tteuyomal-contributions-spec : {M : Type 1} → statement M
 tteuyomal-contributions-spec =
