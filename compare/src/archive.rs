@@ -41,6 +41,15 @@ mod c {
             denominator: *mut u64,
             denominator_len: usize,
         ) -> u64;
+        pub fn tteuyomal_szeged(
+            atoms: usize,
+            bonds: *const u8,
+            bonds_len: usize,
+            terms: *mut u64,
+            terms_len: usize,
+            index: *mut u64,
+            index_len: usize,
+        ) -> u64;
         pub fn tteuyomal_polynomial(
             atoms: usize,
             bonds: *const u8,
@@ -85,6 +94,12 @@ pub fn contributions(atoms: usize, bonds: &[u8], shares: &mut [u64], denominator
     let (out, room) = (shares.as_mut_ptr(), shares.len());
     let (d_out, d_room) = (denominator.as_mut_ptr(), denominator.len());
     unsafe { c::tteuyomal_contributions(atoms, bonds.as_ptr(), bonds.len(), out, room, d_out, d_room) }
+}
+
+pub fn szeged(atoms: usize, bonds: &[u8], terms: &mut [u64], index: &mut [u64]) -> u64 {
+    let (out, room) = (terms.as_mut_ptr(), terms.len());
+    let (index_out, index_room) = (index.as_mut_ptr(), index.len());
+    unsafe { c::tteuyomal_szeged(atoms, bonds.as_ptr(), bonds.len(), out, room, index_out, index_room) }
 }
 
 pub fn polynomial(atoms: usize, bonds: &[u8], x: f64, values: &mut [f64]) -> u64 {

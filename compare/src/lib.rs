@@ -15,6 +15,7 @@ pub mod molecule;
 pub mod polynomial;
 pub mod refusal;
 pub mod shares;
+pub mod szeged;
 
 #[cfg(test)]
 mod tests;

@@ -5,6 +5,7 @@ mod archive;
 mod limits;
 mod plain;
 mod stack;
+mod szeged;
 mod timing;
 
 use opinion::block::MOST_BONDS;
@@ -18,6 +19,7 @@ use opinion::make::shapes;
 use opinion::molecule::write_out;
 use plain::{Plain, Shares};
 use std::hint::black_box;
+use szeged::Szeged;
 use timing::medians;
 
 fn main() {
@@ -38,6 +40,9 @@ fn main() {
     }
     for (name, block) in rings.iter().chain(&[("10 squares", shapes::squares(10))]) {
         time_shares(name, block, 1.0 / 3.0);
+    }
+    for (name, block) in [("64 atoms, 128 bonds", shapes::double_ring(64)), ("path of 64", shapes::path(64))] {
+        time_szeged(name, &block, 1.0 / 1.5);
     }
     println!();
     let (decks_judged, atoms) = decks_a_second();
@@ -136,6 +141,22 @@ fn time_shares(name: &str, block: &BlockPlan, goal: f64) {
         assert_eq!((worked.shares, worked.denominator), right);
     };
     row(&format!("shares, {name}"), medians(&mut library, &mut same), goal);
+}
+
+fn time_szeged(name: &str, block: &BlockPlan, goal: f64) {
+    let (atoms, bonds) = (block.atoms as usize, block.bond_bytes());
+    let mut plain = Szeged::new();
+    let (mut terms, mut index) = ([0; MOST_BONDS], [0]);
+    assert_eq!(archive::szeged(atoms, &bonds, &mut terms, &mut index), 0);
+    let right = (terms, index[0]);
+    let mut library = || {
+        black_box(archive::szeged(atoms, black_box(&bonds), &mut terms, &mut index));
+    };
+    let mut same = || {
+        plain.work(atoms, black_box(&bonds));
+        assert_eq!((plain.terms, plain.index), right);
+    };
+    row(&format!("szeged, {name}"), medians(&mut library, &mut same), goal);
 }
 
 /// How many random decks with right sheets are judged in a second, and how many atoms they have on average.

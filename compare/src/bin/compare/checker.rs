@@ -5,6 +5,7 @@ use crate::lent::{Lent, Shown};
 use opinion::answers::{self, Verdict};
 use opinion::molecule::Measurer;
 use opinion::refusal::Refusal;
+use opinion::szeged;
 use std::fmt::Display;
 
 /// Failures told in full; the others are only counted.
@@ -172,6 +173,17 @@ impl Checker {
         let d_fault = d_out.fault(&written(&right, |&(d, _)| vec![d]));
         let call = || format!("contributions {atoms} room {room} and {d_room} {}", hex(bonds));
         self.agree(call, code(&right), reply, shares_fault.or(d_fault));
+    }
+
+    pub fn szeged(&mut self, atoms: usize, bonds: &[u8], room: usize, index_room: usize) {
+        let (lent, mut out, mut index_out) = (Shown::new(bonds), Lent::new(room), Lent::new(index_room));
+        let reply = archive::szeged(atoms, lent.part(), out.part(), index_out.part());
+        self.holds(lent.is_still(bonds), "an input was changed");
+        let right = szeged::answer(atoms, bonds, room, index_room);
+        let terms_fault = out.fault(&written(&right, |(_, terms)| terms.clone()));
+        let index_fault = index_out.fault(&written(&right, |&(index, _)| vec![index]));
+        let call = || format!("szeged {atoms} room {room} and {index_room} {}", hex(bonds));
+        self.agree(call, code(&right), reply, terms_fault.or(index_fault));
     }
 
     pub fn polynomial(&mut self, atoms: usize, bonds: &[u8], x: f64, room: usize) {

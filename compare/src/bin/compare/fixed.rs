@@ -36,6 +36,7 @@ fn whole_block(checker: &mut Checker, atoms: usize, bonds: &[u8]) {
         checker.vertex(atoms, bonds, atom, 7);
     }
     checker.contributions(atoms, bonds, bonds.len(), 1);
+    checker.szeged(atoms, bonds, bonds.len(), 1);
     for x in [0.5, 1.0, 0.1] {
         checker.polynomial(atoms, bonds, x, 2);
     }
@@ -134,6 +135,7 @@ fn buffers(checker: &mut Checker) {
                 }
                 for d_room in 0..=3 {
                     checker.contributions(atoms, &ring, room, d_room);
+                    checker.szeged(atoms, &ring, room, d_room);
                 }
             }
         });
