@@ -130,6 +130,14 @@ class Answers(unittest.TestCase):
         self.assertEqual(library.indices(1, []), (1, 0, 0, 0, 0))
         self.assertEqual(library.contributions(1, iter(())), (1, []))
 
+    def test_szeged(self):
+        self.assertEqual(library.szeged(7, RING + [(1, 7)]), (78, [12] * 6 + [6]))
+        self.assertEqual(library.szeged(4, [(1, 2), (2, 3), (3, 4)]), (10, [3, 4, 3]))
+        self.assertEqual(library.szeged(1, []), (0, []))
+        with self.assertRaises(Refused) as caught:
+            library.szeged(7, RING)
+        self.assertEqual((caught.exception.number, caught.exception.place), (7, 0))
+
     def test_decks(self):
         self.assertEqual(library.compose(FORTY), (12, 198, 96, 102, 14))
         self.assertEqual(library.write_sheet(FORTY), RIGHT)
