@@ -134,6 +134,12 @@ tteuyomal_reply tteuyomal_contributions(size_t atoms, const uint8_t *bonds, size
 tteuyomal_reply tteuyomal_szeged(size_t atoms, const uint8_t *bonds, size_t bonds_len, uint64_t *terms,
                                  size_t terms_len, uint64_t *index, size_t index_len);
 
+/* Writes one number, Balaban's J times 10^9 in whole numbers: for each bond uv the largest t with t * t * S(u) * S(v) at
+ * most 10^18, S the sum of an atom's distances; these added, times the number of bonds m, divided by m - n + 2 (n the
+ * number of atoms), rounded down. One atom has 0. Refusals: the block's, then 9 (value_len 0). */
+tteuyomal_reply tteuyomal_balaban(size_t atoms, const uint8_t *bonds, size_t bonds_len, uint64_t *value,
+                                  size_t value_len);
+
 /* Writes two values: the sums of n(k) x^k over even k from 2 and over odd k, n(k) the number of pairs at distance k.
  * Each is worked in one fixed order of roundings: from 0, for k from 63 down to 1, add n(k), or 0 for the other
  * parity, then multiply by x. So the bits are the same everywhere.

@@ -1,4 +1,4 @@
--- Laws. The Szeged index as the library answers it: what a reply tells, and the lent terms. Assumes nothing.
+-- Laws. The Szeged index and Balaban's J as the library answers them: what a reply tells, and the lent terms. Assumes nothing.
 use Prim.Native.Nat.{ℕ}
 use mathlib.Core.List.{List, _++_}
 use mathlib.Core.Path.{_≡_, refl, sym, ap}
@@ -10,6 +10,9 @@ use Rattle.szeged.specs.declared.Szeged.{Szeged}
 use Rattle.szeged.specs.declared.Szeged.the-variants as szeged
 use Rattle.szeged.specs.Szeged.{szegedTerm, szegedTerms}
 use Rattle.szeged.specs.Reply.{szegedReply, saidSzeged, filled, szegedEntries}
+use Rattle.balaban.specs.declared.Balaban.{Balaban}
+use Rattle.balaban.specs.declared.Balaban.the-variants as balaban
+use Rattle.balaban.specs.Balaban.{saidBalaban}
 use Rattle.tteuyomal.specs.Convention.{after}
 
 abbrev pub toldSzeged : Szeged → Read ℕ
@@ -19,6 +22,14 @@ toldSzeged (szeged.Index x) = read x
 pub szeged-told : (a : Szeged) (R : Read ℕ) → a ≡ saidSzeged R → toldSzeged a ≡ R
 szeged-told a (refused r) e = ap toldSzeged e
 szeged-told a (read x) e = ap toldSzeged e
+
+abbrev pub toldBalaban : Balaban → Read ℕ
+toldBalaban (balaban.Refused r) = refused r
+toldBalaban (balaban.Of j) = read j
+
+pub balaban-told : (a : Balaban) (R : Read ℕ) → a ≡ saidBalaban R → toldBalaban a ≡ R
+balaban-told a (refused r) e = ap toldBalaban e
+balaban-told a (read j) e = ap toldBalaban e
 
 -- a refusal of the block is one of the index
 pub szeged-stop : (n : ℕ) (bonds : List ℕ) (room : ℕ) (r : Refusal) → blockReply n bonds ≡ refused r → szegedReply n bonds room ≡ refused r

@@ -9,4 +9,5 @@ pub mod Beside
 pub mod Replies
 pub mod Szeged
 pub mod Bounded
+pub mod Balaban
 pub mod Recovered

@@ -20,6 +20,7 @@ use reply::Refusal;
 use reply::Reply;
 use shares::Shares;
 
+mod balaban;
 mod szeged;
 
 const PLACES: usize = 72_057_594_037_927_936;
