@@ -130,6 +130,14 @@ class Answers(unittest.TestCase):
         self.assertEqual(library.indices(1, []), (1, 0, 0, 0, 0))
         self.assertEqual(library.contributions(1, iter(())), (1, []))
 
+    def test_balaban(self):
+        self.assertEqual(library.balaban(6, RING), 1_999_999_998)
+        self.assertEqual(library.balaban(4, [(1, 2), (2, 3), (3, 4)]), 1_974_744_870)
+        self.assertEqual(library.balaban(1, []), 0)
+        with self.assertRaises(Refused) as caught:
+            library.balaban(7, RING)
+        self.assertEqual((caught.exception.number, caught.exception.place), (7, 0))
+
     def test_szeged(self):
         self.assertEqual(library.szeged(7, RING + [(1, 7)]), (78, [12] * 6 + [6]))
         self.assertEqual(library.szeged(4, [(1, 2), (2, 3), (3, 4)]), (10, [3, 4, 3]))

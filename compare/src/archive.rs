@@ -50,6 +50,13 @@ mod c {
             index: *mut u64,
             index_len: usize,
         ) -> u64;
+        pub fn tteuyomal_balaban(
+            atoms: usize,
+            bonds: *const u8,
+            bonds_len: usize,
+            value: *mut u64,
+            value_len: usize,
+        ) -> u64;
         pub fn tteuyomal_polynomial(
             atoms: usize,
             bonds: *const u8,
@@ -100,6 +107,10 @@ pub fn szeged(atoms: usize, bonds: &[u8], terms: &mut [u64], index: &mut [u64]) 
     let (out, room) = (terms.as_mut_ptr(), terms.len());
     let (index_out, index_room) = (index.as_mut_ptr(), index.len());
     unsafe { c::tteuyomal_szeged(atoms, bonds.as_ptr(), bonds.len(), out, room, index_out, index_room) }
+}
+
+pub fn balaban(atoms: usize, bonds: &[u8], value: &mut [u64]) -> u64 {
+    unsafe { c::tteuyomal_balaban(atoms, bonds.as_ptr(), bonds.len(), value.as_mut_ptr(), value.len()) }
 }
 
 pub fn polynomial(atoms: usize, bonds: &[u8], x: f64, values: &mut [f64]) -> u64 {

@@ -4,6 +4,7 @@
 //! searches it from every atom. It is meant to be plain, not fast.
 
 pub mod answers;
+pub mod balaban;
 pub mod block;
 pub mod deck;
 pub mod documents;

@@ -24,6 +24,7 @@ pub fn stack(decks: &[&DeckPlan]) {
         ("vertex", most(&blocks, |bonds| archive::vertex(64, bonds, 64, &mut [0; 7]))),
         ("contributions", most(&blocks, |bonds| archive::contributions(64, bonds, &mut [0; MOST_BONDS], &mut [0]))),
         ("szeged", most(&blocks, |bonds| archive::szeged(64, bonds, &mut [0; MOST_BONDS], &mut [0]))),
+        ("balaban", most(&blocks, |bonds| archive::balaban(64, bonds, &mut [0]))),
         ("polynomial", most(&blocks, |bonds| archive::polynomial(64, bonds, 0.5, &mut [0.0; 2]))),
     ];
     println!("| Function | bytes of stack | goal | |");

@@ -44,6 +44,7 @@ fn main() {
     for (name, block) in [("64 atoms, 128 bonds", shapes::double_ring(64)), ("path of 64", shapes::path(64))] {
         time_szeged(name, &block, 1.0 / 1.5);
     }
+    time_balaban("64 atoms, 128 bonds", &shapes::double_ring(64), 1.0 / 1.5);
     println!();
     let (decks_judged, atoms) = decks_a_second();
     println!("Judged in a second: {decks_judged:.0} random decks of {atoms:.0} atoms on average.");
@@ -157,6 +158,20 @@ fn time_szeged(name: &str, block: &BlockPlan, goal: f64) {
         assert_eq!((plain.terms, plain.index), right);
     };
     row(&format!("szeged, {name}"), medians(&mut library, &mut same), goal);
+}
+
+/// Beside the library's own indices of the same block.
+fn time_balaban(name: &str, block: &BlockPlan, goal: f64) {
+    let (atoms, bonds) = (block.atoms as usize, block.bond_bytes());
+    let (mut value, mut fields) = ([0], [0; 5]);
+    assert_eq!(archive::balaban(atoms, &bonds, &mut value), 0);
+    let mut library = || {
+        black_box(archive::balaban(atoms, black_box(&bonds), &mut value));
+    };
+    let mut indices = || {
+        black_box(archive::indices(atoms, black_box(&bonds), &mut fields));
+    };
+    row(&format!("balaban beside indices, {name}"), medians(&mut library, &mut indices), goal);
 }
 
 /// How many random decks with right sheets are judged in a second, and how many atoms they have on average.

@@ -3,6 +3,7 @@
 use crate::archive;
 use crate::lent::{Lent, Shown};
 use opinion::answers::{self, Verdict};
+use opinion::balaban;
 use opinion::molecule::Measurer;
 use opinion::refusal::Refusal;
 use opinion::szeged;
@@ -184,6 +185,15 @@ impl Checker {
         let index_fault = index_out.fault(&written(&right, |&(index, _)| vec![index]));
         let call = || format!("szeged {atoms} room {room} and {index_room} {}", hex(bonds));
         self.agree(call, code(&right), reply, terms_fault.or(index_fault));
+    }
+
+    pub fn balaban(&mut self, atoms: usize, bonds: &[u8], room: usize) {
+        let (lent, mut out) = (Shown::new(bonds), Lent::new(room));
+        let reply = archive::balaban(atoms, lent.part(), out.part());
+        self.holds(lent.is_still(bonds), "an input was changed");
+        let right = balaban::answer(atoms, bonds, room);
+        let fault = out.fault(&written(&right, |&value| vec![value]));
+        self.agree(|| format!("balaban {atoms} room {room} {}", hex(bonds)), code(&right), reply, fault);
     }
 
     pub fn polynomial(&mut self, atoms: usize, bonds: &[u8], x: f64, room: usize) {

@@ -37,6 +37,7 @@ fn whole_block(checker: &mut Checker, atoms: usize, bonds: &[u8]) {
     }
     checker.contributions(atoms, bonds, bonds.len(), 1);
     checker.szeged(atoms, bonds, bonds.len(), 1);
+    checker.balaban(atoms, bonds, 1);
     for x in [0.5, 1.0, 0.1] {
         checker.polynomial(atoms, bonds, x, 2);
     }
@@ -128,6 +129,7 @@ fn buffers(checker: &mut Checker) {
             let ring = shapes::ring(6).bond_bytes();
             for atoms in [6, 7] {
                 checker.indices(atoms, &ring, room);
+                checker.balaban(atoms, &ring, room);
                 checker.polynomial(atoms, &ring, 0.5, room);
                 checker.polynomial(atoms, &ring, 0.0, room);
                 for atom in [0, 1, 7] {

@@ -163,6 +163,8 @@ fn block(checker: &mut Checker, random: &mut Random) {
     checker.contributions(atoms, &bonds, room, d_room);
     let (room, index_room) = (about(random, bonds.len() / 2), random.below(8).min(1));
     checker.szeged(atoms, &bonds, room, index_room);
+    let room = random.below(8).min(2);
+    checker.balaban(atoms, &bonds, room);
     let (x, room) = (some_x(random), about(random, 2));
     checker.polynomial(atoms, &bonds, x, room);
 }
