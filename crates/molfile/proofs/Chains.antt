@@ -1,0 +1,149 @@
+-- Laws. The lines of a file part by part. Assumes nothing.
+use Prim.Native.Nat.{ℕ, _+_, _<_, _≤_}
+use mathlib.Core.Bool.{Bool, true, false, _||_, not}
+use mathlib.Core.List.{List, _++_}
+use mathlib.Core.Path.{_≡_, refl, sym, _∙_, ap}
+use native.Mathlib.Omega.{arith}
+use borrow.Author.Tests.{not-false, ne-eqb, lt-ltb, le-ltb, ltb-true, ltb-false}
+use lib.Dec.{ltb}
+use lib.ListN.{length, drop}
+use Rattle.block.specs.Read.{Read, refused, read, _then_, refusal, refuseIf}
+use Rattle.block.specs.Chain.{then-read, if-read}
+use Rattle.block.specs.Faults.{neither}
+use Rattle.block.specs.Block.{mostAtoms, blockReply}
+use Rattle.block.specs.declared.Refusal.{Refusal}
+use Rattle.text.specs.Text.{byteAt, isNumber, threeAt, lineStarts}
+use Rattle.text.specs.Laws.{three-below}
+use Rattle.molfile.specs.Molfile.{countsPlace, restPlace, atomCount, bondCount, endWord, inTurn, lineReply, headerReply, numbersReply, atomReply, bondReplyOf, endReply, linesReply, atomsOf, bytesOf, molfileReply}
+use Rattle.molfile.specs.Said.{saidAnswer, filled}
+use Rattle.molfile.specs.Work.{most, Marks, Ends, countsReply, listsReply, restReply, answerReply}
+
+module _ (d : List ℕ) where
+  pub counts-no-header : (r : Refusal) → inTurn 3 (headerReply d) ≡ refused r → countsReply d ≡ refused r
+  unfolding countsReply
+  counts-no-header r e = rw e
+
+  pub counts-go-on : inTurn 3 (headerReply d) ≡ read tt → countsReply d ≡ numbersReply d (countsPlace d)
+  unfolding countsReply
+  counts-go-on e = rw e
+
+  -- the counts, then the lists
+  in-two : (a : Read (Unit {0})) (b c : Unit {0} → Read (Unit {0})) → ((a then b) then c) ≡ (a then λ u. b u then c)
+  in-two (refused r) b c = refl
+  in-two (read u) b c = refl
+
+  lines-are : linesReply d ≡ (countsReply d then λ _. listsReply d)
+  unfolding linesReply countsReply listsReply
+  lines-are = sym (in-two (inTurn 3 (headerReply d)) (λ _. numbersReply d (countsPlace d)) (λ _. listsReply d))
+
+  pub lines-no-counts : (r : Refusal) → countsReply d ≡ refused r → linesReply d ≡ refused r
+  lines-no-counts r e = lines-are ∙ rw e
+
+  pub lines-go-on : countsReply d ≡ read tt → linesReply d ≡ listsReply d
+  lines-go-on e = lines-are ∙ rw e
+
+  pub lists-no-atom : (r : Refusal) → inTurn (atomCount d) (atomReply d) ≡ refused r → listsReply d ≡ refused r
+  unfolding listsReply
+  lists-no-atom r e = rw e
+
+  pub lists-go-on : inTurn (atomCount d) (atomReply d) ≡ read tt → listsReply d ≡ restReply d
+  unfolding listsReply restReply
+  lists-go-on e = rw e
+
+  pub rest-no-bond : (r : Refusal) → inTurn (bondCount d) (bondReplyOf d) ≡ refused r → restReply d ≡ refused r
+  unfolding restReply
+  rest-no-bond r e = rw e
+
+  module _ (e : inTurn (bondCount d) (bondReplyOf d) ≡ read tt) where
+    pub rest-ended : lineStarts endWord true (drop (restPlace d) d) ≡ true → restReply d ≡ read tt
+    unfolding restReply endReply
+    rest-ended f = rw (e, f)
+
+    pub rest-no-end : lineStarts endWord true (drop (restPlace d) d) ≡ false → restReply d ≡ refused (refusal 25 (length d))
+    unfolding restReply endReply
+    rest-no-end f = rw (e, f)
+
+  -- what the lists tell
+  pub lists-there : listsReply d ≡ read tt → (inTurn (atomCount d) (atomReply d) ≡ read tt) × (inTurn (bondCount d) (bondReplyOf d) ≡ read tt)
+  unfolding listsReply
+  lists-there e =
+      let (u, a, b) = then-read (inTurn (atomCount d) (atomReply d)) (λ _. inTurn (bondCount d) (bondReplyOf d) then λ _. endReply d (restPlace d)) e in
+      let (v, f, g) = then-read (inTurn (bondCount d) (bondReplyOf d)) (λ _. endReply d (restPlace d)) b in
+      (a, f)
+
+  -- the counts are below 1000
+  pub counts-few : countsReply d ≡ read tt → (atomCount d ≤ most) × (bondCount d ≤ most)
+  unfolding countsReply numbersReply
+  counts-few e =
+      let p = countsPlace d in
+      let (u, a, b) = then-read (inTurn 3 (headerReply d)) (λ _. numbersReply d p) e in
+      let (v, f, g) = then-read (lineReply 6 d p) (λ _. refuseIf (not (isNumber (threeAt d p)) || not (isNumber (threeAt d (p + 3)))) 26 p) b in
+      let n = neither (not (isNumber (threeAt d p))) (not (isNumber (threeAt d (p + 3)))) (if-read (not (isNumber (threeAt d p)) || not (isNumber (threeAt d (p + 3)))) 26 p g) in
+      let x = three-below (byteAt d p) (byteAt d (p + 1)) (byteAt d (p + 2)) (not-false (isNumber (threeAt d p)) (n .0)) in
+      let y = three-below (byteAt d (p + 3)) (byteAt d (p + 3 + 1)) (byteAt d (p + 3 + 2)) (not-false (isNumber (threeAt d (p + 3))) (n .1)) in
+      (omega arith, omega arith)
+
+  -- the block after the lines
+  module _ (room : ℕ) where
+    pub molfile-no-line : (r : Refusal) → linesReply d ≡ refused r → molfileReply d room ≡ refused r
+    unfolding molfileReply
+    molfile-no-line r e = rw e
+
+    pub molfile-answer : linesReply d ≡ read tt → molfileReply d room ≡ answerReply (atomsOf d) (bytesOf d) room
+    unfolding molfileReply answerReply
+    molfile-answer e = rw e
+
+-- what is learnt of k lines, where k is the count of the definition
+pub ends-learnt : (d : List ℕ) {k n : ℕ} {ones twos : List ℕ} → k ≡ n → (inTurn k (bondReplyOf d) ≡ read tt → Ends d k ones twos) → inTurn n (bondReplyOf d) ≡ read tt → Ends d n ones twos
+ends-learnt d e h = rw (← e) h
+
+pub marks-learnt : (d : List ℕ) {k n : ℕ} {marks : List ℕ} → k ≡ n → (inTurn k (atomReply d) ≡ read tt → Marks d k marks) → inTurn n (atomReply d) ≡ read tt → Marks d n marks
+marks-learnt d e h = rw (← e) h
+
+-- the answer for a block
+module _ (n : ℕ) (xs : List ℕ) (room : ℕ) where
+  pub answer-refused : (r : Refusal) → blockReply n xs ≡ refused r → answerReply n xs room ≡ refused r
+  unfolding answerReply
+  answer-refused r e = rw e
+
+  pub answer-short : blockReply n xs ≡ read tt → room < length xs → answerReply n xs room ≡ refused (refusal 9 0)
+  unfolding answerReply
+  answer-short e l = rw (e, lt-ltb room (length xs) l)
+
+  pub answer-fine : blockReply n xs ≡ read tt → length xs ≤ room → answerReply n xs room ≡ read tt
+  unfolding answerReply
+  answer-fine e l = rw (e, le-ltb room (length xs) l)
+
+  -- too many atoms
+  answer-many : mostAtoms < n → answerReply n xs room ≡ refused (refusal 1 0)
+  unfolding answerReply blockReply
+  answer-many l = rw (ne-eqb n 0 (λ z. omega arith), lt-ltb mostAtoms n l)
+
+-- a refusal changes no byte
+pub stays : (xs out : List ℕ) {m : Read (Unit {0})} {r : Refusal} → m ≡ refused r → filled m xs out ≡ out
+unfolding filled
+stays xs out e = rw e
+
+pub fills : (xs out : List ℕ) {m : Read (Unit {0})} → m ≡ read tt → filled m xs out ≡ xs ++ drop (length xs) out
+unfolding filled
+fills xs out e = rw e
+
+-- the same answer, whatever the bytes of too many atoms are
+pub record Same (n n′ : ℕ) (xs ys : List ℕ) (out : List ℕ) : Type 0 where
+  pub reply : saidAnswer n xs (answerReply n xs (length out)) ≡ saidAnswer n′ ys (answerReply n′ ys (length out))
+  pub bytes : filled (answerReply n xs (length out)) xs out ≡ filled (answerReply n′ ys (length out)) ys out
+
+pub same-answer : (n n′ : ℕ) (xs ys : List ℕ) (out : List ℕ) → n ≡ n′ → (n ≤ mostAtoms → xs ≡ ys) → Same n n′ xs ys out
+same-answer n n′ xs ys out e f = go (ltb mostAtoms n) refl
+  where
+    go : (t : Bool) → ltb mostAtoms n ≡ t → Same n n′ xs ys out
+    go true p =
+        let a = answer-many n xs (length out) (ltb-true mostAtoms n p) in
+        let b = answer-many n′ ys (length out) (omega (arith, ltb-true mostAtoms n p)) in
+        record { reply = ap (saidAnswer n xs) a ∙ sym (ap (saidAnswer n′ ys) b); bytes = stays xs out a ∙ sym (stays ys out b) }
+    go false p =
+        let g = f (ltb-false mostAtoms n p) in
+        record {
+          reply = ap (λ (k : ℕ). saidAnswer k xs (answerReply k xs (length out))) e ∙ ap (λ (zs : List ℕ). saidAnswer n′ zs (answerReply n′ zs (length out))) g;
+          bytes = ap (λ (k : ℕ). filled (answerReply k xs (length out)) xs out) e ∙ ap (λ (zs : List ℕ). filled (answerReply n′ zs (length out)) zs out) g;
+        }

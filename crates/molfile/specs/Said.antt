@@ -1,0 +1,24 @@
+-- Definitions. How the code says what a molfile says.
+use Prim.Native.Nat.{ℕ, _/_}
+use mathlib.Core.List.{List, _++_}
+use lib.ListN.{length, drop}
+use Rattle.block.specs.Read.{Read, refused, read}
+use Rattle.molfile.specs.Molfile.{atomsOf, bytesOf, molfileReply}
+use Rattle.molfile.specs.declared.MolRead.{MolRead}
+use Rattle.molfile.specs.declared.MolRead.the-variants.{Refused, Block}
+
+-- a block of n atoms whose bonds take these bytes
+abbrev pub saidAnswer : ℕ → List ℕ → Read (Unit {0}) → MolRead
+saidAnswer n xs (refused r) = Refused r
+saidAnswer n xs (read u) = Block (record { atoms = n; bonds = length xs / 2 })
+
+abbrev pub saidMolfile : List ℕ → Read (Unit {0}) → MolRead
+saidMolfile d = saidAnswer (atomsOf d) (bytesOf d)
+
+-- the lent bytes afterwards: the bytes of the kept bonds, and later ones as they were; a refusal changes none
+unfoldable pub filled : Read (Unit {0}) → List ℕ → List ℕ → List ℕ
+filled (refused r) xs out = out
+filled (read u) xs out = xs ++ drop (length xs) out
+
+abbrev pub molfileBytes : List ℕ → List ℕ → List ℕ
+molfileBytes d out = filled (molfileReply d (length out)) (bytesOf d) out

@@ -1,0 +1,378 @@
+// V2000 molfiles: read as a block, hydrogens with one bond dropped.
+ghost use mathlib.Core.Path.{_≡_};
+ghost use Prim.Native.Nat.{_+_, _≤_};
+ghost use lib.ListN.{length};
+ghost use Rattle.block.specs.Read.{read};
+ghost use Rattle.block.specs.Block.{isOutside};
+ghost use Rattle.text.specs.Text.{threeAt, lineChars};
+ghost use Rattle.text.specs.Said.{saidNumber};
+ghost use Rattle.molfile.specs.Molfile.{countsPlace, atomPlace, bondPlace, atomCount, bondCount, symbolAt, isH, oneH, hydrogenAt, inTurn, lineReply, headerReply, numbersReply, bondReply, molfileReply};
+ghost use Rattle.molfile.specs.Said.{saidAnswer, saidMolfile, filled, molfileBytes};
+ghost use Rattle.molfile.specs.Work.{most, markOf, saidLine, saidWalk, numbersAt, saidNumbers, countsReply, answerReply, AtomsRead, BondsRead, RestRead, ListsRead};
+use block::Refusal;
+use block::Reply;
+use text::BLANK;
+use text::Line;
+use text::NO_NUMBER;
+
+mod dropping;
+
+// What a molfile holds once hydrogens are dropped.
+pub struct Counts {
+    pub atoms: usize,
+    pub bonds: usize,
+}
+
+pub enum MolRead {
+    Refused(Refusal),
+    Block(Counts),
+}
+
+// The most atoms or bonds that three digits say.
+const MOST: usize = 999;
+
+// The bytes of so many bonds.
+const PAIRS: usize = 2 * MOST;
+
+// The fewest characters of a line that begins with two numbers, and of an atom line, whose last is the first of its symbol.
+const TWO_NUMBERS: usize = 6;
+
+const ATOM_LINE: usize = 32;
+
+// A line that is due, or its refusal.
+enum LineRead {
+    Refused(Refusal),
+    Read(Line),
+}
+
+// Where the lines end that were read, or the refusal of one.
+enum Walk {
+    Refused(Refusal),
+    At(usize),
+}
+
+// The two numbers that a line begins with, and where the next line begins.
+struct Numbers {
+    pub one: usize,
+    pub two: usize,
+    pub next: usize,
+}
+
+enum NumbersRead {
+    Refused(Refusal),
+    Read(Numbers),
+}
+
+// What is kept: the atoms, and the bytes of the bonds.
+struct Kept {
+    pub atoms: usize,
+    pub bytes: usize,
+}
+
+// The line due at a place: 25 where it is missing or has fewer characters than it needs.
+fn line(d: &[u8], at: usize, least: usize) -> LineRead
+    ensures { λ r. ⌜ r ≡ saidLine (now (d .entry)) at (lineReply least (now (d .entry)) at) ⌝ }
+{
+    if d.len() <= at {
+        return LineRead::Refused(Refusal {
+            number: 25,
+            place: d.len(),
+        });
+    }
+    let seen = text::line_at(d, at);
+    if seen.chars < least {
+        return LineRead::Refused(Refusal {
+            number: 25,
+            place: at,
+        });
+    }
+    LineRead::Read(seen)
+}
+
+// The three header lines.
+fn header(d: &[u8]) -> Walk
+    ensures { λ r. ⌜ r ≡ saidWalk (countsPlace (now (d .entry))) (inTurn 3 (headerReply (now (d .entry)))) ⌝ }
+{
+    let mut at = 0;
+    let mut k: usize = 0;
+    while k < 3 {
+        let seen = line(d, at, 0);
+        match seen {
+            LineRead::Refused(r) => {
+                return Walk::Refused(r);
+            }
+            LineRead::Read(l) => {
+                at = l.next;
+            }
+        }
+        k += 1;
+    }
+    Walk::At(at)
+}
+
+// The number of three characters at a place: 1000 where it is none.
+fn number_at(d: &[u8], at: usize) -> usize
+    requires { ⌜ at + 3 ≤ length (now d) ⌝ }
+    ensures { λ r. ⌜ r ≡ saidNumber (threeAt (now (d .entry)) at) ⌝ }
+{
+    text::number(d[at], d[at + 1], d[at + 2])
+}
+
+// A line that begins with two numbers: 25, then 26.
+fn two_numbers(d: &[u8], at: usize) -> NumbersRead
+    ensures { λ r. ⌜ r ≡ saidNumbers (now (d .entry)) at (numbersReply (now (d .entry)) at) ⌝ }
+{
+    let seen = line(d, at, TWO_NUMBERS);
+    match seen {
+        LineRead::Refused(r) => NumbersRead::Refused(r),
+        LineRead::Read(l) => {
+            let one = number_at(d, at);
+            let two = number_at(d, at + 3);
+            if one == NO_NUMBER {
+                return NumbersRead::Refused(Refusal {
+                    number: 26,
+                    place: at,
+                });
+            }
+            if two == NO_NUMBER {
+                return NumbersRead::Refused(Refusal {
+                    number: 26,
+                    place: at,
+                });
+            }
+            NumbersRead::Read(Numbers {
+                one,
+                two,
+                next: l.next,
+            })
+        }
+    }
+}
+
+// The header and the counts line.
+fn counts_line(d: &[u8]) -> NumbersRead
+    ensures { λ r. ⌜ r ≡ saidNumbers (now (d .entry)) (countsPlace (now (d .entry))) (countsReply (now (d .entry))) ⌝ }
+{
+    let passed = header(d);
+    match passed {
+        Walk::Refused(r) => NumbersRead::Refused(r),
+        Walk::At(at) => two_numbers(d, at),
+    }
+}
+
+fn is_h(b: u8) -> bool
+    ensures { λ r. ⌜ r ≡ isH b ⌝ }
+{
+    b == 72
+}
+
+// Whether three characters are one H and otherwise blanks.
+fn one_h(a: u8, b: u8, c: u8) -> bool
+    ensures { λ r. ⌜ r ≡ oneH a b c ⌝ }
+{
+    if is_h(a) {
+        if text::is_blank(b) {
+            return text::is_blank(c);
+        }
+        return false;
+    }
+    if text::is_blank(a) {
+        if is_h(b) {
+            return text::is_blank(c);
+        }
+        if text::is_blank(b) {
+            return is_h(c);
+        }
+    }
+    false
+}
+
+// A character of the symbol of an atom line, of which so many characters are there; past its end it is blank.
+fn symbol(d: &[u8], at: usize, chars: usize, k: usize) -> u8
+    requires { ⌜ (k ≤ 2) × (chars ≡ lineChars (now d) at) × (at + chars ≤ length (now d)) ⌝ }
+    ensures { λ r. ⌜ r ≡ symbolAt (now (d .entry)) at k ⌝ }
+{
+    if 31 + k < chars {
+        return d[at + 31 + k];
+    }
+    BLANK
+}
+
+// The mark of an atom line: 1 for a hydrogen, else 0.
+fn mark(d: &[u8], at: usize, chars: usize) -> u8
+    requires { ⌜ (chars ≡ lineChars (now d) at) × (at + chars ≤ length (now d)) ⌝ }
+    ensures { λ r. ⌜ r ≡ markOf (hydrogenAt (now (d .entry)) at) ⌝ }
+{
+    let a = symbol(d, at, chars, 0);
+    let b = symbol(d, at, chars, 1);
+    let c = symbol(d, at, chars, 2);
+    if one_h(a, b, c) { 1 } else { 0 }
+}
+
+// The atom lines from a place on, and their marks.
+fn atoms(d: &[u8], from: usize, n: usize, marks: &mut [u8]) -> Walk
+    requires { ⌜ (from ≡ atomPlace (now d) 0) × (n ≤ length (now marks)) ⌝ }
+    ensures { λ r. ⌜ AtomsRead (now (d .entry)) n (now (marks .entry)) (now (marks .exit)) r ⌝ }
+{
+    let mut at = from;
+    let mut i: usize = 0;
+    while i < n {
+        let seen = line(d, at, ATOM_LINE);
+        match seen {
+            LineRead::Refused(r) => {
+                return Walk::Refused(r);
+            }
+            LineRead::Read(l) => {
+                marks[i] = mark(d, at, l.chars);
+                at = l.next;
+            }
+        }
+        i += 1;
+    }
+    Walk::At(at)
+}
+
+fn outside(n: usize, v: usize) -> bool
+    ensures { λ r. ⌜ r ≡ isOutside n v ⌝ }
+{
+    v == 0 || v > n
+}
+
+// A bond line: 25, 26, then 27.
+fn bond_line(d: &[u8], at: usize, n: usize) -> NumbersRead
+    ensures { λ r. ⌜ r ≡ saidNumbers (now (d .entry)) at (bondReply n (now (d .entry)) at) ⌝ }
+{
+    let seen = two_numbers(d, at);
+    match seen {
+        NumbersRead::Refused(r) => NumbersRead::Refused(r),
+        NumbersRead::Read(x) => {
+            if outside(n, x.one) {
+                return NumbersRead::Refused(Refusal {
+                    number: 27,
+                    place: at,
+                });
+            }
+            if outside(n, x.two) {
+                return NumbersRead::Refused(Refusal {
+                    number: 27,
+                    place: at,
+                });
+            }
+            NumbersRead::Read(x)
+        }
+    }
+}
+
+// The bond lines from a place on, and their ends.
+fn bonds(d: &[u8], from: usize, n: usize, m: usize, ones: &mut [u16], twos: &mut [u16]) -> Walk
+    requires { ⌜ (from ≡ bondPlace (now d) 0) × (n ≡ atomCount (now d)) × (n ≤ most) × (m ≤ length (now ones)) × (m ≤ length (now twos)) ⌝ }
+    ensures { λ r. ⌜ BondsRead (now (d .entry)) m (now (ones .entry)) (now (twos .entry)) (now (ones .exit)) (now (twos .exit)) r ⌝ }
+{
+    let mut at = from;
+    let mut k: usize = 0;
+    while k < m {
+        let seen = bond_line(d, at, n);
+        match seen {
+            NumbersRead::Refused(r) => {
+                return Walk::Refused(r);
+            }
+            NumbersRead::Read(x) => {
+                ones[k] = x.one as u16;
+                twos[k] = x.two as u16;
+                at = x.next;
+            }
+        }
+        k += 1;
+    }
+    Walk::At(at)
+}
+
+// The bond lines from a place on and their ends, and M  END: 25 to 27.
+fn rest(d: &[u8], from: usize, n: usize, m: usize, ones: &mut [u16], twos: &mut [u16]) -> Reply
+    requires { ⌜ (from ≡ bondPlace (now d) 0) × (n ≡ atomCount (now d)) × (n ≤ most) × (m ≤ length (now ones)) × (m ≤ length (now twos)) × (m ≡ bondCount (now d)) ⌝ }
+    ensures { λ r. ⌜ RestRead (now (d .entry)) (now (ones .entry)) (now (twos .entry)) (now (ones .exit)) (now (twos .exit)) r ⌝ }
+{
+    let passed = bonds(d, from, n, m, ones, twos);
+    match passed {
+        Walk::Refused(r) => Reply::Refused(r),
+        Walk::At(at) => {
+            if text::line_starts(d, at, b"M  END") {
+                return Reply::Fine;
+            }
+            Reply::Refused(Refusal {
+                number: 25,
+                place: d.len(),
+            })
+        }
+    }
+}
+
+// The lines after the counts: 25 to 27, the marks of the atoms and the ends of the bonds.
+fn lists(d: &[u8], x: Numbers, marks: &mut [u8], ones: &mut [u16], twos: &mut [u16]) -> Reply
+    requires { ⌜ (x ≡ numbersAt (now d) (countsPlace (now d))) × (x .one ≤ length (now marks)) × (x .one ≤ most) × (x .two ≤ length (now ones)) × (x .two ≤ length (now twos)) ⌝ }
+    ensures { λ r. ⌜ ListsRead (now (d .entry)) (now (marks .entry)) (now (ones .entry)) (now (twos .entry)) (now (marks .exit)) (now (ones .exit)) (now (twos .exit)) r ⌝ }
+{
+    let passed = atoms(d, x.next, x.one, marks);
+    match passed {
+        Walk::Refused(r) => Reply::Refused(r),
+        Walk::At(at) => rest(d, at, x.one, x.two, ones, twos),
+    }
+}
+
+// The answer for a block: its refusals, 9 for a lent output too short, or its bytes.
+fn answer(n: usize, xs: &[u8], out: &mut [u8]) -> MolRead
+    ensures reply { λ r. ⌜ r ≡ saidAnswer n (now (xs .entry)) (answerReply n (now (xs .entry)) (length (now (out .entry)))) ⌝ }
+    ensures bytes { λ _. ⌜ now (out .exit) ≡ filled (answerReply n (now (xs .entry)) (length (now (out .entry)))) (now (xs .entry)) (now (out .entry)) ⌝ }
+{
+    let reply = block::check(n, xs);
+    match reply {
+        Reply::Refused(r) => MolRead::Refused(r),
+        Reply::Fine => {
+            if out.len() < xs.len() {
+                return MolRead::Refused(Refusal {
+                    number: 9,
+                    place: 0,
+                });
+            }
+            text::put(out, 0, xs);
+            MolRead::Block(Counts {
+                atoms: n,
+                bonds: xs.len() / 2,
+            })
+        }
+    }
+}
+
+// The block of a file whose counts line is read.
+fn listed(text: &[u8], x: Numbers, out: &mut [u8]) -> MolRead
+    requires { ⌜ (x ≡ numbersAt (now text) (countsPlace (now text))) × (countsReply (now text) ≡ read tt) ⌝ }
+    ensures reply { λ r. ⌜ r ≡ saidMolfile (now (text .entry)) (molfileReply (now (text .entry)) (length (now (out .entry)))) ⌝ }
+    ensures bytes { λ _. ⌜ now (out .exit) ≡ molfileBytes (now (text .entry)) (now (out .entry)) ⌝ }
+{
+    let mut marks = [0u8; MOST];
+    let mut ones = [0u16; MOST];
+    let mut twos = [0u16; MOST];
+    let reply = lists(text, x, &mut marks, &mut ones, &mut twos);
+    match reply {
+        Reply::Refused(r) => MolRead::Refused(r),
+        Reply::Fine => {
+            let mut buffer = [0u8; PAIRS];
+            let k = dropping::kept(x.one, x.two, &marks, &ones, &twos, &mut buffer);
+            let bytes = k.bytes;
+            answer(k.atoms, &buffer[..bytes], out)
+        }
+    }
+}
+
+// Reads a molfile as a block: how many atoms and bonds it has, its bonds at the front of the lent output, two bytes each, and later bytes stay. Or it is a
+// refusal, and no byte changes: 25 to 27 of its lines in file order, the block's over the kept bonds, then 9 where fewer bytes are lent than these take.
+pub fn read(text: &[u8], out: &mut [u8]) -> MolRead
+    ensures reply { λ r. ⌜ r ≡ saidMolfile (now (text .entry)) (molfileReply (now (text .entry)) (length (now (out .entry)))) ⌝ }
+    ensures bytes { λ _. ⌜ now (out .exit) ≡ molfileBytes (now (text .entry)) (now (out .entry)) ⌝ }
+{
+    let seen = counts_line(text);
+    match seen {
+        NumbersRead::Refused(r) => MolRead::Refused(r),
+        NumbersRead::Read(x) => listed(text, x, out),
+    }
+}

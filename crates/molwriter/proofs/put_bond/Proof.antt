@@ -1,0 +1,52 @@
+-- `molwriter::put_bond` meets its contract: the words one after the other.
+use Prim.Native.Nat.{ℕ}
+use mathlib.Core.List.{List, _++_}
+use mathlib.Core.Path.{_≡_, refl, sym, ap, _∙_}
+use Rattle.text.specs.Text.{ascii, three}
+use Rattle.text.proofs.Putting.{both, as-word}
+use Rattle.molwriter.proofs.Pieces.{bond-is}
+use borrow.Author.Needs.{needs}
+use Rattle.molwriter.proofs.put_bond.Statement.{statement}
+use Rattle.molwriter.proofs.put_bond.Tie as tie
+
+wide-requires : tie.Need-wide-requires
+wide-requires c κs = search needs
+
+put-three-requires : tie.Need-put-three-requires
+put-three-requires c κs = search needs
+
+wide-requires-2 : tie.Need-wide-requires-2
+wide-requires-2 c κs = search needs
+
+put-three-requires-2 : tie.Need-put-three-requires-2
+put-three-requires-2 c κs = search needs
+
+slice-aggregate-put : tie.Need-slice-aggregate-put
+slice-aggregate-put c = search needs
+
+put-requires : tie.Need-put-requires
+put-requires c κs = search needs
+
+same-length : tie.Need-same-length
+same-length c = search needs
+
+returns : tie.Need-returns
+returns c =
+    let p3 = c .before .before in
+    let p2 = p3 .before .before .before .before .before in
+    let p1 = p2 .before .before .before .before .before in
+    let s = p1 .before .before .before .before in
+    as-word (bond-is (s .args .a) (s .args .b)) (both (both (as-word (ap three (p1 .before .wide .ensures)) (p1 .put-three .ensures)) (as-word (ap three (p2 .before .wide2 .ensures)) (p2 .put-three2 .ensures))) (p3 .put .ensures))
+
+pub put-bond-spec : {M : Type 1} → statement M
+put-bond-spec =
+    tie.close
+    (tie.spec
+    wide-requires
+    put-three-requires
+    wide-requires-2
+    put-three-requires-2
+    slice-aggregate-put
+    put-requires
+    same-length
+    returns)

@@ -1,0 +1,52 @@
+-- `molwriter::put_counts` meets its contract: the words one after the other.
+use mathlib.Core.List.{List, _++_}
+use mathlib.Core.Path.{_≡_, refl, sym, ap, _∙_}
+use Rattle.text.specs.Text.{ascii, three}
+use Rattle.text.proofs.Putting.{both, as-word}
+use Rattle.molwriter.proofs.Pieces.{counts-is}
+use borrow.Author.Needs.{needs}
+use Rattle.molwriter.proofs.put_counts.Statement.{statement}
+use Rattle.molwriter.proofs.put_counts.Tie as tie
+
+slice-aggregate-put : tie.Need-slice-aggregate-put
+slice-aggregate-put c = search needs
+
+put-requires : tie.Need-put-requires
+put-requires c κs = search needs
+
+put-three-requires : tie.Need-put-three-requires
+put-three-requires c κs = search needs
+
+put-three-requires-2 : tie.Need-put-three-requires-2
+put-three-requires-2 c κs = search needs
+
+slice-aggregate-put-2 : tie.Need-slice-aggregate-put-2
+slice-aggregate-put-2 c = search needs
+
+put-requires-2 : tie.Need-put-requires-2
+put-requires-2 c κs = search needs
+
+same-length : tie.Need-same-length
+same-length c = search needs
+
+returns : tie.Need-returns
+returns c =
+    let p4 = c .before .before in
+    let p3 = p4 .before .before .before .before .before in
+    let p2 = p3 .before .before .before .before in
+    let p1 = p2 .before .before .before .before in
+    let a = p1 .before .before .before .before .args in
+    as-word (counts-is (a .n) (a .m)) (both (both (both (p1 .put .ensures) (p2 .put-three .ensures)) (p3 .put-three2 .ensures)) (p4 .put2 .ensures))
+
+pub put-counts-spec : {M : Type 1} → statement M
+put-counts-spec =
+    tie.close
+    (tie.spec
+    slice-aggregate-put
+    put-requires
+    put-three-requires
+    put-three-requires-2
+    slice-aggregate-put-2
+    put-requires-2
+    same-length
+    returns)
