@@ -69,12 +69,16 @@ enum tteuyomal_refusal {
     TTEUYOMAL_JOIN_OVER_LIMIT = 19, /* the join is one bond too many for an atom: its seventh, earlier joins counted */
     TTEUYOMAL_DECK_LENGTH = 20,     /* the deck is longer than 32,768 bytes */
     TTEUYOMAL_NO_PARENT = 23,       /* a later placement has the parent 0 */
-    TTEUYOMAL_LATER_PARENT = 24     /* a later placement has a parent that is not earlier */
+    TTEUYOMAL_LATER_PARENT = 24,    /* a later placement has a parent that is not earlier */
+    TTEUYOMAL_MOLFILE_LINE = 25,    /* a line of the molfile is missing or too short */
+    TTEUYOMAL_MOLFILE_NUMBER = 26,  /* a count or a bond end of the molfile isn't blanks, then at least one digit */
+    TTEUYOMAL_MOLFILE_END = 27      /* a bond end of the molfile is outside its atom list */
 };
 
 /* The place of a refusal. Lone block: the number of the bond, from 1, for 3 to 6, else 0. Deck: the first byte of
  * the record, from 0; of the bond for 3 to 6; of the placement for 16 to 19, 23 and 24; the deck's length where a
- * record is expected and the deck ends; the first byte too many. 0 for 8, 9, 10 and 20. */
+ * record is expected and the deck ends; the first byte too many. Molfile: for 25 to 27 the first byte of
+ * the line, or the file's length where it is missing; for 3 to 6 the number of the kept bond. 0 for 8, 9, 10 and 20. */
 
 /* 0, a refusal's number, or TTEUYOMAL_DIFFERS. */
 static inline unsigned tteuyomal_what(tteuyomal_reply reply) { return (unsigned)(reply % 256); }
@@ -146,6 +150,22 @@ tteuyomal_reply tteuyomal_balaban(size_t atoms, const uint8_t *bonds, size_t bon
  * Refusals: the block's, then 10 (x), then 9 (values_len below 2). */
 tteuyomal_reply tteuyomal_polynomial(size_t atoms, const uint8_t *bonds, size_t bonds_len, double x, double *values,
                                      size_t values_len);
+
+/* ---- Molfiles ---- */
+
+/* Reads a V2000 molfile, or the first record of an SDF, as a block: writes its bonds, two bytes each, and two numbers,
+ * the atom count and the number of bonds. An atom with symbol H and exactly one bond, to an atom that isn't H, is left
+ * out, and the others are numbered in order. Any bytes may be lent, of any length; up to 64 KiB of stack are used.
+ * Refusals: 25, 26 and 27 in file order, the block's over the kept bonds, then 9 (bonds_len below two bytes a kept
+ * bond, or counts_len below 2). 512 bytes are room for the bonds of every block. */
+tteuyomal_reply tteuyomal_read_molfile(const uint8_t *text, size_t text_len, uint8_t *bonds, size_t bonds_len,
+                                       uint64_t *counts, size_t counts_len);
+
+/* Writes a block as a V2000 molfile of carbons at zero coordinates and single bonds, and one number, its length:
+ * 50 bytes, 70 for each atom and 22 for each bond. Reading it gives the same block.
+ * Refusals: the block's, then 9 (text_len below that, or length_len 0). */
+tteuyomal_reply tteuyomal_write_molfile(size_t atoms, const uint8_t *bonds, size_t bonds_len, uint8_t *text,
+                                        size_t text_len, uint64_t *length, size_t length_len);
 
 #ifdef __cplusplus
 }

@@ -65,6 +65,23 @@ mod c {
             values: *mut f64,
             values_len: usize,
         ) -> u64;
+        pub fn tteuyomal_read_molfile(
+            text: *const u8,
+            text_len: usize,
+            bonds: *mut u8,
+            bonds_len: usize,
+            counts: *mut u64,
+            counts_len: usize,
+        ) -> u64;
+        pub fn tteuyomal_write_molfile(
+            atoms: usize,
+            bonds: *const u8,
+            bonds_len: usize,
+            text: *mut u8,
+            text_len: usize,
+            length: *mut u64,
+            length_len: usize,
+        ) -> u64;
     }
 }
 
@@ -115,4 +132,15 @@ pub fn balaban(atoms: usize, bonds: &[u8], value: &mut [u64]) -> u64 {
 
 pub fn polynomial(atoms: usize, bonds: &[u8], x: f64, values: &mut [f64]) -> u64 {
     unsafe { c::tteuyomal_polynomial(atoms, bonds.as_ptr(), bonds.len(), x, values.as_mut_ptr(), values.len()) }
+}
+
+pub fn read_molfile(text: &[u8], bonds: &mut [u8], counts: &mut [u64]) -> u64 {
+    let (out, room) = (bonds.as_mut_ptr(), bonds.len());
+    unsafe { c::tteuyomal_read_molfile(text.as_ptr(), text.len(), out, room, counts.as_mut_ptr(), counts.len()) }
+}
+
+pub fn write_molfile(atoms: usize, bonds: &[u8], text: &mut [u8], length: &mut [u64]) -> u64 {
+    let (out, room) = (text.as_mut_ptr(), text.len());
+    let (told, entries) = (length.as_mut_ptr(), length.len());
+    unsafe { c::tteuyomal_write_molfile(atoms, bonds.as_ptr(), bonds.len(), out, room, told, entries) }
 }

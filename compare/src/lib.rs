@@ -13,6 +13,7 @@ pub mod graph;
 pub mod line;
 pub mod make;
 pub mod molecule;
+pub mod molfile;
 pub mod polynomial;
 pub mod refusal;
 pub mod shares;

@@ -1,12 +1,28 @@
 //! The lines that the programs print.
 
 use crate::answers::{compose, judge, Verdict};
+use crate::block::read_block;
 use crate::molecule::Measurer;
+use crate::molfile;
 use crate::refusal::Refusal;
 
 /// What `sheet` prints for a deck without a sheet.
 pub fn sheet_line(measurer: &mut Measurer, deck: &[u8]) -> String {
-    match compose(measurer, deck, 5) {
+    fields_line(compose(measurer, deck, 5))
+}
+
+/// What `measure` prints for a molfile.
+pub fn measure_line(file: &[u8]) -> String {
+    if file.len() > 1 << 20 {
+        return String::from("longer than 1048576 bytes");
+    }
+    let read = molfile::read(file, usize::MAX, 2);
+    let fields = read.map(|(atoms, bonds)| read_block(atoms, &bonds).expect("a block that was read").indices().fields());
+    fields_line(fields)
+}
+
+fn fields_line(fields: Result<[u64; 5], Refusal>) -> String {
+    match fields {
         Ok([atoms, w, even, odd, polarity]) => {
             format!("atoms {atoms} W {w} even {even} odd {odd} polarity {polarity}")
         }

@@ -119,6 +119,9 @@ WORDS = {
     20: "the deck is longer than 32,768 bytes",
     23: "a later placement has the parent 0",
     24: "a later placement has a parent that is not earlier",
+    25: "a line of the molfile is missing or too short",
+    26: "a count or a bond end of the molfile isn't blanks, then at least one digit",
+    27: "a bond end of the molfile is outside its atom list",
 }
 
 

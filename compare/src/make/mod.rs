@@ -4,6 +4,7 @@ pub mod blocks;
 pub mod damage;
 pub mod damage_bytes;
 pub mod decks;
+pub mod molfiles;
 pub mod plan;
 pub mod random;
 pub mod shapes;

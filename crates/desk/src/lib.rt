@@ -1,4 +1,4 @@
-// What the programs `sheet` and `judge` share: a deck from standard input or from each file that is named, and one line for it.
+// What the programs share: a deck or a molfile from standard input or from each file that is named, and one line for it.
 ghost use mathlib.Core.Path.{_≡_};
 ghost use Prim.Native.Nat.{_≤_};
 ghost use lib.ListN.{length};
@@ -11,8 +11,19 @@ use line::Line;
 // One byte more than the longest deck, so that a longer one is seen to be longer.
 const ROOM: usize = deck::LONGEST + 1;
 
+// The longest molfile that is read, and one byte more.
+const LONGEST_MOLFILE: usize = 1048576;
+
+const MOLFILE_ROOM: usize = LONGEST_MOLFILE + 1;
+
 // The longest argument that Linux hands over, and behind it `: ` and the longest line.
 const WIDTH: usize = 131072 + 2 + line::LONGEST;
+
+// What is asked of each input.
+enum Asked {
+    Deck(Form),
+    Molfile,
+}
 
 // How many bytes were read, and whether no read failed.
 struct Got {
@@ -33,12 +44,12 @@ fn read_some(fd: i32, part: &mut [u8]) -> Got
 }
 
 // Reads until the buffer is full, the input ends or a read fails.
-fn read_deck(fd: i32, deck: &mut [u8]) -> Got
-    ensures { λ r. ⌜ Counts (r .n) (now (deck .exit)) ⌝ }
+fn read_whole(fd: i32, bytes: &mut [u8]) -> Got
+    ensures { λ r. ⌜ Counts (r .n) (now (bytes .exit)) ⌝ }
 {
     let mut n = 0;
-    while n < deck.len() {
-        let got = read_some(fd, &mut deck[n..]);
+    while n < bytes.len() {
+        let got = read_some(fd, &mut bytes[n..]);
         if got.n == 0 {
             return Got {
                 whole: got.whole,
@@ -51,16 +62,41 @@ fn read_deck(fd: i32, deck: &mut [u8]) -> Got
 }
 
 // The line of a deck that stands in a descriptor.
-fn input_line(form: Form, fd: i32) -> Line
+fn deck_line(form: Form, fd: i32) -> Line
     ensures { λ r. ⌜ Counts (r .len) (r .text) ⌝ }
 {
     let mut deck = [0u8; ROOM];
-    let got = read_deck(fd, &mut deck);
+    let got = read_whole(fd, &mut deck);
     if !got.whole {
         return line::unread_line();
     }
     let n = got.n;
     line::deck_line(form, &deck[..n])
+}
+
+// The line of a molfile that stands in a descriptor.
+fn molfile_line(fd: i32) -> Line
+    ensures { λ r. ⌜ Counts (r .len) (r .text) ⌝ }
+{
+    let mut text = [0u8; MOLFILE_ROOM];
+    let got = read_whole(fd, &mut text);
+    if !got.whole {
+        return line::unread_line();
+    }
+    let n = got.n;
+    if LONGEST_MOLFILE < n {
+        return line::longer_line();
+    }
+    line::measured_line(measuring::measure(&text[..n]))
+}
+
+fn input_line(asked: Asked, fd: i32) -> Line
+    ensures { λ r. ⌜ Counts (r .len) (r .text) ⌝ }
+{
+    match asked {
+        Asked::Deck(form) => deck_line(form, fd),
+        Asked::Molfile => molfile_line(fd),
+    }
 }
 
 // Writes a line in one piece, and answers whether it could.
@@ -73,7 +109,7 @@ fn print(text: &[u8]) -> bool {
 }
 
 // The line of the file that argument i names.
-fn file_line(form: Form, i: usize) -> Line
+fn file_line(asked: Asked, i: usize) -> Line
     ensures { λ r. ⌜ Counts (r .len) (r .text) ⌝ }
 {
     let mut path = io::buffer();
@@ -82,7 +118,7 @@ fn file_line(form: Form, i: usize) -> Line
     if fd < 0 {
         return line::unread_line();
     }
-    let said = input_line(form, fd);
+    let said = input_line(asked, fd);
     libc::close(fd);
     said
 }
@@ -100,29 +136,43 @@ fn print_named(i: usize, said: Line) -> bool
 }
 
 // Prints the line of standard input.
-fn answer_input(form: Form) -> bool {
-    let said = input_line(form, STDIN_FILENO);
+fn answer_input(asked: Asked) -> bool {
+    let said = input_line(asked, STDIN_FILENO);
     let text = said.text;
     let len = said.len;
     print(&text[..len])
 }
 
 // Prints the lines of the files that the arguments from 1 on name, as long as lines can be printed.
-fn answer_files(form: Form, count: usize) {
+fn answer_files(asked: Asked, count: usize) {
     let mut i = 1;
-    while i < count && print_named(i, file_line(form, i)) {
+    while i < count && print_named(i, file_line(asked, i)) {
         i += 1;
     }
 }
 
 // One line for each file that is named, or for standard input where none is. What is read and written no promise can say.
-pub fn serve(form: Form)
+fn serve_each(asked: Asked)
     ensures { λ r. ⌜ r ≡ tt ⌝ }
 {
     let count = os::arg_count();
     if count < 2 {
-        answer_input(form);
+        answer_input(asked);
     } else {
-        answer_files(form, count);
+        answer_files(asked, count);
     }
+}
+
+// The line of each deck.
+pub fn serve(form: Form)
+    ensures { λ r. ⌜ r ≡ tt ⌝ }
+{
+    serve_each(Asked::Deck(form))
+}
+
+// The line of each molfile.
+pub fn serve_molfiles()
+    ensures { λ r. ⌜ r ≡ tt ⌝ }
+{
+    serve_each(Asked::Molfile)
 }

@@ -71,6 +71,10 @@ deckText Judged d = verdictText (saidVerdict (judgeReply d))
 abbrev pub unreadText : List ℕ
 unreadText = ascii "cannot be read\n"
 
+-- a file that is longer than what is looked at
+abbrev pub longerText : List ℕ
+longerText = ascii "longer than 1048576 bytes\n"
+
 -- The longest line: that of the five fields.
 abbrev pub longest : ℕ
 longest = 31 + 5 * mostDigits

@@ -4,7 +4,7 @@ ghost use mathlib.Core.List.{[], _++_};
 ghost use Prim.Native.Nat.{_+_};
 ghost use lib.Dec.{leb};
 ghost use Rattle.io.specs.Counts.{Counts};
-ghost use Rattle.line.specs.Text.{decimal, indicesText, refusalText, measuredText, differsText, verdictText, deckText, unreadText, lined};
+ghost use Rattle.line.specs.Text.{decimal, indicesText, refusalText, measuredText, differsText, verdictText, deckText, unreadText, longerText, lined};
 ghost use Rattle.line.specs.Label.{labelReply, labelled};
 ghost use Rattle.line.specs.Put.{Put, Adds};
 use block::Indices;
@@ -130,6 +130,14 @@ pub fn unread_line() -> Line
     ensures { λ r. ⌜ Counts (r .len) (r .text) ⌝ }
 {
     empty().with(b"cannot be read\n")
+}
+
+// The line of a file that is longer than what is looked at.
+pub fn longer_line() -> Line
+    ensures { λ r. ⌜ r ≡ lined longerText ⌝ }
+    ensures { λ r. ⌜ Counts (r .len) (r .text) ⌝ }
+{
+    empty().with(b"longer than 1048576 bytes\n")
 }
 
 fn has_room(size: usize, name: usize, more: usize) -> bool

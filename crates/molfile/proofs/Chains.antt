@@ -7,11 +7,10 @@ use native.Mathlib.Omega.{arith}
 use borrow.Author.Tests.{not-false, ne-eqb, lt-ltb, le-ltb, ltb-true, ltb-false}
 use lib.Dec.{ltb}
 use lib.ListN.{length, drop}
-use Rattle.block.specs.Read.{Read, refused, read, _then_, refusal, refuseIf}
-use Rattle.block.specs.Chain.{then-read, if-read}
-use Rattle.block.specs.Faults.{neither}
+use Rattle.reply.specs.Read.{Read, refused, read, _then_, refusal, refuseIf}
+use Rattle.reply.specs.Chain.{then-read, if-read, neither}
 use Rattle.block.specs.Block.{mostAtoms, blockReply}
-use Rattle.block.specs.declared.Refusal.{Refusal}
+use Rattle.reply.specs.declared.Refusal.{Refusal}
 use Rattle.text.specs.Text.{byteAt, isNumber, threeAt, lineStarts}
 use Rattle.text.specs.Laws.{three-below}
 use Rattle.molfile.specs.Molfile.{countsPlace, restPlace, atomCount, bondCount, endWord, inTurn, lineReply, headerReply, numbersReply, atomReply, bondReplyOf, endReply, linesReply, atomsOf, bytesOf, molfileReply}

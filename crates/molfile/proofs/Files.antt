@@ -5,7 +5,7 @@ use mathlib.Core.List.{List}
 use mathlib.Core.Path.{_≡_, refl, sym, _∙_, ap}
 use lib.ListN.{length, getD}
 use Rattle.graph.specs.Graph.{Bond, Within}
-use Rattle.block.specs.Read.{read}
+use Rattle.reply.specs.Read.{read}
 use Rattle.molfile.specs.Molfile.{atomPlace, atomCount, bondPlace, bondCount, endsAt, bondAt, hydrogenAt, hydrogenIn, bondReplyOf, isDropped}
 use Rattle.molfile.specs.Work.{Marks, Ends, listsReply, Inside, Given, Keeps}
 use Rattle.molfile.specs.declared.Kept.{Kept}

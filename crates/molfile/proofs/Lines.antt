@@ -7,12 +7,11 @@ use native.Mathlib.Omega.{arith}
 use borrow.Author.Tests.{le-leb, lt-leb, lt-ltb, le-ltb, leb-false, ltb-false}
 use lib.Dec.{leb, ltb}
 use lib.ListN.{length}
-use Rattle.block.specs.Read.{Read, refused, read, _then_, refusal, refuseIf}
-use Rattle.block.specs.Chain.{then-read, if-read}
-use Rattle.block.specs.Block.{isOutside}
-use Rattle.block.specs.Faults.{neither, inside}
+use Rattle.reply.specs.Read.{Read, refused, read, _then_, refusal, refuseIf, isOutside}
+use Rattle.reply.specs.Chain.{then-read, if-read, neither}
+use Rattle.block.specs.Faults.{inside}
 use Rattle.graph.specs.Graph.{Bond, Within}
-use Rattle.block.specs.declared.Refusal.{Refusal}
+use Rattle.reply.specs.declared.Refusal.{Refusal}
 use Rattle.text.specs.Text.{isNumber, numberOf, threeAt, lineChars, nextLine}
 use Rattle.text.specs.Said.{noNumber, saidNumber, lineAt}
 use Rattle.text.specs.Laws.{chars-within}

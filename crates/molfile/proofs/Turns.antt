@@ -6,11 +6,9 @@ use mathlib.Core.Path.{_≡_, refl, sym, _∙_, ap}
 use native.Mathlib.Decide.{ℕ-discrete}
 use native.Mathlib.Omega.{arith}
 use native.Mathlib.Numerals.{add-one}
-use Rattle.block.specs.Read.{Read, refused, read, _then_}
-use Rattle.block.specs.Chain.{not-read, then-read}
-use Rattle.block.specs.Block.{saidBlock}
-use Rattle.block.specs.declared.Refusal.{Refusal}
-use Rattle.block.specs.declared.Reply.the-variants.{Fine, Refused}
+use Rattle.reply.specs.Read.{Read, refused, read, _then_}
+use Rattle.reply.specs.Chain.{not-read, then-read}
+use Rattle.reply.specs.declared.Refusal.{Refusal}
 use Rattle.text.specs.Said.{lineAt}
 use Rattle.text.specs.declared.Line.{Line}
 use Rattle.molfile.specs.Molfile.{inTurn}
@@ -44,14 +42,6 @@ numbers-refused d at (read u) e = let z : _≡_ {A = ℕ} 0 1 = cc in absurd (om
 pub numbers-read : (d : List ℕ) (at : ℕ) (m : Read (Unit {0})) {x : Numbers} → saidNumbers d at m ≡ numbers.Read x → (m ≡ read tt) × (numbersAt d at ≡ x)
 numbers-read d at (refused s) e = let z : _≡_ {A = ℕ} 0 1 = cc in absurd (omega arith)
 numbers-read d at (read u) e = (refl, cc)
-
-pub fine-read : (m : Read (Unit {0})) → saidBlock m ≡ Fine → m ≡ read tt
-fine-read (refused s) e = let z : _≡_ {A = ℕ} 0 1 = cc in absurd (omega arith)
-fine-read (read u) e = refl
-
-pub refused-read : (m : Read (Unit {0})) {r : Refusal} → saidBlock m ≡ Refused r → m ≡ refused r
-refused-read (refused s) e = ap refused (cc)
-refused-read (read u) e = let z : _≡_ {A = ℕ} 0 1 = cc in absurd (omega arith)
 
 -- tests in turn
 module _ (f : ℕ → Read (Unit {0})) where

@@ -4,7 +4,7 @@ use mathlib.Core.Path.{_≡_, refl}
 use mathlib.Core.List.{List, [], _∷_, _++_}
 use lib.ListN.{length}
 use Rattle.graph.specs.Graph.{joins, anyJoins, bonded, anyAtom, reaches, firstFrom, distance, allAtoms, connected, degree}
-use Rattle.block.specs.Read.{Read, refused, read, refusal}
+use Rattle.reply.specs.Read.{Read, refused, read, refusal}
 use Rattle.block.specs.Block.{bondsOf, bondFault, bondsReply, blockReply}
 use Rattle.text.specs.Text.{ascii, feed, allDigits, isNumber, valueFrom, numberOf, untilFeed, lineEnd, hasCarriage, lineChars, nextLine, laterLine, startsWith, lineStarts}
 use Rattle.molfile.specs.Molfile.{bondAt, hydrogenIn, symbolAt, oneH, hydrogenAt, inTurn, lineReply, numbersReply, bondReply, endReply, linesReply, count, isDropped, keptBytes, atomsOf, bytesOf, molfileReply}

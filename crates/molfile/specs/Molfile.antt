@@ -5,8 +5,8 @@ use mathlib.Core.List.{List, [], _∷_, _++_}
 use lib.Dec.{eqb, leb, ltb}
 use lib.ListN.{length, drop}
 use Rattle.graph.specs.Graph.{Bond, bond}
-use Rattle.block.specs.Read.{Read, refused, read, _then_, refuseIf}
-use Rattle.block.specs.Block.{isOutside, blockReply}
+use Rattle.reply.specs.Read.{Read, refused, read, _then_, refuseIf, isOutside}
+use Rattle.block.specs.Block.{blockReply}
 use Rattle.text.specs.Text.{ascii, blank, isBlank, byteAt, isNumber, numberOf, threeAt, lineChars, laterLine, lineStarts}
 
 -- THE LINES. Where they begin: three header lines, the counts, the atoms, the bonds, and those read over up to M  END. Atoms and bonds count from 0 here.

@@ -2,7 +2,7 @@
 use Prim.Native.Nat.{ℕ, _/_}
 use mathlib.Core.List.{List, _++_}
 use lib.ListN.{length, drop}
-use Rattle.block.specs.Read.{Read, refused, read}
+use Rattle.reply.specs.Read.{Read, refused, read}
 use Rattle.molfile.specs.Molfile.{atomsOf, bytesOf, molfileReply}
 use Rattle.molfile.specs.declared.MolRead.{MolRead}
 use Rattle.molfile.specs.declared.MolRead.the-variants.{Refused, Block}

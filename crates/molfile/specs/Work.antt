@@ -6,9 +6,9 @@ use mathlib.Core.Path.{_≡_}
 use lib.Dec.{eqb, ltb}
 use lib.ListN.{length, getD, take, drop}
 use Rattle.graph.specs.Graph.{Bond, bond, Within}
-use Rattle.block.specs.Read.{Read, refused, read, _then_, refuseIf}
-use Rattle.block.specs.Block.{mostAtoms, blockReply, saidBlock}
-use Rattle.block.specs.declared.Reply.{Reply}
+use Rattle.reply.specs.Read.{Read, refused, read, _then_, refuseIf, saidReply}
+use Rattle.block.specs.Block.{mostAtoms, blockReply}
+use Rattle.reply.specs.declared.Reply.{Reply}
 use Rattle.text.specs.Text.{nextLine}
 use Rattle.text.specs.Said.{lineAt}
 use Rattle.molfile.specs.Molfile.{countsPlace, atomPlace, bondPlace, restPlace, atomCount, bondCount, endsAt, bondAt, hydrogenAt, inTurn, lineReply, headerReply, numbersReply, atomReply, bondReplyOf, endReply, newNumber, keptBytes}
@@ -81,13 +81,13 @@ pub record BondsRead (d : List ℕ) (m : ℕ) (ones twos ones′ twos′ : List 
   pub same-two : length twos′ ≡ length twos
 
 pub record RestRead (d ones twos ones′ twos′ : List ℕ) (r : Reply) : Type 0 where
-  pub reply : r ≡ saidBlock (restReply d)
+  pub reply : r ≡ saidReply (restReply d)
   pub ends : restReply d ≡ read tt → Ends d (bondCount d) ones′ twos′
   pub same-one : length ones′ ≡ length ones
   pub same-two : length twos′ ≡ length twos
 
 pub record ListsRead (d marks ones twos marks′ ones′ twos′ : List ℕ) (r : Reply) : Type 0 where
-  pub reply : r ≡ saidBlock (listsReply d)
+  pub reply : r ≡ saidReply (listsReply d)
   pub marks-are : listsReply d ≡ read tt → Marks d (atomCount d) marks′
   pub ends-are : listsReply d ≡ read tt → Ends d (bondCount d) ones′ twos′
   pub same-marks : length marks′ ≡ length marks

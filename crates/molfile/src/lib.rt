@@ -2,15 +2,14 @@
 ghost use mathlib.Core.Path.{_≡_};
 ghost use Prim.Native.Nat.{_+_, _≤_};
 ghost use lib.ListN.{length};
-ghost use Rattle.block.specs.Read.{read};
-ghost use Rattle.block.specs.Block.{isOutside};
+ghost use Rattle.reply.specs.Read.{read};
 ghost use Rattle.text.specs.Text.{threeAt, lineChars};
 ghost use Rattle.text.specs.Said.{saidNumber};
 ghost use Rattle.molfile.specs.Molfile.{countsPlace, atomPlace, bondPlace, atomCount, bondCount, symbolAt, isH, oneH, hydrogenAt, inTurn, lineReply, headerReply, numbersReply, bondReply, molfileReply};
 ghost use Rattle.molfile.specs.Said.{saidAnswer, saidMolfile, filled, molfileBytes};
 ghost use Rattle.molfile.specs.Work.{most, markOf, saidLine, saidWalk, numbersAt, saidNumbers, countsReply, answerReply, AtomsRead, BondsRead, RestRead, ListsRead};
-use block::Refusal;
-use block::Reply;
+use reply::Refusal;
+use reply::Reply;
 use text::BLANK;
 use text::Line;
 use text::NO_NUMBER;
@@ -232,12 +231,6 @@ fn atoms(d: &[u8], from: usize, n: usize, marks: &mut [u8]) -> Walk
     Walk::At(at)
 }
 
-fn outside(n: usize, v: usize) -> bool
-    ensures { λ r. ⌜ r ≡ isOutside n v ⌝ }
-{
-    v == 0 || v > n
-}
-
 // A bond line: 25, 26, then 27.
 fn bond_line(d: &[u8], at: usize, n: usize) -> NumbersRead
     ensures { λ r. ⌜ r ≡ saidNumbers (now (d .entry)) at (bondReply n (now (d .entry)) at) ⌝ }
@@ -246,13 +239,13 @@ fn bond_line(d: &[u8], at: usize, n: usize) -> NumbersRead
     match seen {
         NumbersRead::Refused(r) => NumbersRead::Refused(r),
         NumbersRead::Read(x) => {
-            if outside(n, x.one) {
+            if reply::is_outside(n, x.one) {
                 return NumbersRead::Refused(Refusal {
                     number: 27,
                     place: at,
                 });
             }
-            if outside(n, x.two) {
+            if reply::is_outside(n, x.two) {
                 return NumbersRead::Refused(Refusal {
                     number: 27,
                     place: at,

@@ -10,10 +10,10 @@ use lib.Dec.{eqb, ltb}
 use lib.ListN.{length, getD, take, drop}
 use lib.Seq.{take-suc, take-all, take-append-seam}
 use Rattle.graph.specs.Graph.{Bond, bond, Within}
-use Rattle.block.specs.Read.{Read, refused, read, _then_, refuseIf, refuseFor}
-use Rattle.block.specs.Chain.{then-read, for-read}
-use Rattle.block.specs.Faults.{faultless, neither}
-use Rattle.block.specs.Block.{mostBytes, isOutside, bondsOf, bondFault, bondsReply, blockReply}
+use Rattle.reply.specs.Read.{Read, refused, read, _then_, refuseIf, refuseFor, isOutside}
+use Rattle.reply.specs.Chain.{then-read, for-read, neither}
+use Rattle.block.specs.Faults.{faultless}
+use Rattle.block.specs.Block.{mostBytes, bondsOf, bondFault, bondsReply, blockReply}
 use Rattle.block.specs.Told.{passed, few-atoms}
 use Rattle.text.specs.Text.{ascii, three, blank, isBlank, byteAt, isNumber, numberOf, threeAt, lineChars, laterLine, startsWith, lineStarts}
 use Rattle.molfile.specs.Molfile.{countsPlace, atomPlace, atomCount, bondCount, bondPlace, restPlace, endsAt, bondAt, symbolAt, isH, oneH, hydrogenAt, inTurn, lineReply, numbersReply, bondReply, endWord, endReply, headerReply, atomReply, bondReplyOf, linesReply, hydrogenIn, count, isDropped, newNumber, keptBytes, atomsOf, bytesOf, molfileReply}

@@ -8,9 +8,9 @@ use borrow.Author.Tests.{ltb-false}
 use lib.Dec.{eqb, ltb}
 use lib.ListN.{length, length-append}
 use Rattle.graph.specs.Graph.{Bond}
-use Rattle.block.specs.Read.{read}
+use Rattle.reply.specs.Read.{read}
+use Rattle.reply.specs.Chain.{neither}
 use Rattle.block.specs.Block.{mostBytes, bondsOf, blockReply}
-use Rattle.block.specs.Faults.{neither}
 use Rattle.block.specs.Told.{passed}
 use Rattle.text.specs.Text.{ascii, three}
 use Rattle.molwriter.specs.Pieces.{countsText, atomText, atomsText, bondText, bondsText, pieces}

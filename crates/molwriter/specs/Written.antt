@@ -4,7 +4,7 @@ use mathlib.Core.List.{List, [], _∷_, _++_}
 use lib.Dec.{ltb}
 use lib.ListN.{length, drop, replicate}
 use Rattle.graph.specs.Graph.{Bond}
-use Rattle.block.specs.Read.{Read, refused, read, _then_, refuseIf}
+use Rattle.reply.specs.Read.{Read, refused, read, _then_, refuseIf}
 use Rattle.block.specs.Block.{bondsOf, blockReply}
 use Rattle.text.specs.Text.{ascii, feed, three}
 use Rattle.molwriter.specs.declared.MolWritten.{MolWritten}

@@ -4,13 +4,13 @@ ghost use mathlib.Core.List.{List, _++_};
 ghost use Rattle.graph.specs.Graph.{bond};
 ghost use lib.ListN.{length};
 ghost use Rattle.block.specs.Block.{bondsOf, blockReply};
-ghost use Rattle.block.specs.Read.{read};
+ghost use Rattle.reply.specs.Read.{read};
 ghost use Rattle.text.specs.Text.{ascii};
 ghost use Rattle.text.specs.Put.{Puts};
 ghost use Rattle.molwriter.specs.Written.{writeReply, saidWritten, writtenBytes};
 ghost use Rattle.molwriter.specs.Pieces.{countsText, atomsText, bondText, bondsText};
-use block::Refusal;
-use block::Reply;
+use reply::Refusal;
+use reply::Reply;
 
 // How many bytes were written, or why none were.
 pub enum MolWritten {

@@ -11,3 +11,4 @@ pub mod Szeged
 pub mod Bounded
 pub mod Balaban
 pub mod Recovered
+pub mod Molfiles

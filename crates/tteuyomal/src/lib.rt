@@ -22,6 +22,7 @@ use shares::Shares;
 
 mod balaban;
 mod szeged;
+mod molfiles;
 
 const PLACES: usize = 72_057_594_037_927_936;
 

@@ -3,6 +3,7 @@
 #[path = "../../archive.rs"]
 mod archive;
 mod limits;
+mod molfiles;
 mod plain;
 mod stack;
 mod szeged;
@@ -45,11 +46,15 @@ fn main() {
         time_szeged(name, &block, 1.0 / 1.5);
     }
     time_balaban("64 atoms, 128 bonds", &shapes::double_ring(64), 1.0 / 1.5);
+    let growth = molfiles::times();
+    println!();
+    println!("{growth}");
     println!();
     let (decks_judged, atoms) = decks_a_second();
     println!("Judged in a second: {decks_judged:.0} random decks of {atoms:.0} atoms on average.");
     println!();
     limits::stack(&[&decks[0].1, &decks[1].1]);
+    molfiles::stack_rows();
     println!();
     limits::heap();
 }

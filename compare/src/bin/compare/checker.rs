@@ -5,6 +5,7 @@ use crate::lent::{Lent, Shown};
 use opinion::answers::{self, Verdict};
 use opinion::balaban;
 use opinion::molecule::Measurer;
+use opinion::molfile;
 use opinion::refusal::Refusal;
 use opinion::szeged;
 use std::fmt::Display;
@@ -12,13 +13,22 @@ use std::fmt::Display;
 /// Failures told in full; the others are only counted.
 const MOST_TOLD: usize = 20;
 
+/// How often each number was met.
+pub struct Refusals(pub [usize; 256]);
+
+impl Default for Refusals {
+    fn default() -> Refusals {
+        Refusals([0; 256])
+    }
+}
+
 #[derive(Default)]
 pub struct Checker {
     pub passed: usize,
     pub failed: usize,
     pub calls: usize,
     /// How often each refusal number was right.
-    pub refused: [usize; 25],
+    pub refused: Refusals,
     pub accepted: usize,
     /// How often each field was the first wrong one.
     pub differed: [usize; 6],
@@ -84,7 +94,7 @@ impl Checker {
         match (right % 256, right / 256) {
             (0, _) => {}
             (255, field) => self.differed[field as usize] += 1,
-            (number, _) => self.refused[number as usize] += 1,
+            (number, _) => self.refused.0[number as usize] += 1,
         }
     }
 
@@ -204,5 +214,27 @@ impl Checker {
         let fault = out.fault(&written(&right, |values| values.to_vec()));
         let call = || format!("polynomial {atoms} x {x:e} room {room} {}", hex(bonds));
         self.agree(call, code(&right), reply, fault);
+    }
+
+    pub fn read_molfile(&mut self, file: &[u8], room: usize, entries: usize) {
+        let (lent, mut out, mut counts) = (Shown::new(file), Lent::new(room), Lent::new(entries));
+        let reply = archive::read_molfile(lent.part(), out.part(), counts.part());
+        self.holds(lent.is_still(file), "an input was changed");
+        let right = molfile::read(file, room, entries);
+        let bonds_fault = out.fault(&written(&right, |(_, bytes)| bytes.clone()));
+        let counts_fault = counts.fault(&written(&right, |(atoms, bytes)| vec![*atoms as u64, bytes.len() as u64 / 2]));
+        let call = || format!("read_molfile room {room} and {entries} {:?}", String::from_utf8_lossy(file));
+        self.agree(call, code(&right), reply, bonds_fault.or(counts_fault));
+    }
+
+    pub fn write_molfile(&mut self, atoms: usize, bonds: &[u8], room: usize, entries: usize) {
+        let (lent, mut out, mut length) = (Shown::new(bonds), Lent::new(room), Lent::new(entries));
+        let reply = archive::write_molfile(atoms, lent.part(), out.part(), length.part());
+        self.holds(lent.is_still(bonds), "an input was changed");
+        let right = molfile::write(atoms, bonds, room, entries);
+        let text_fault = out.fault(&written(&right, |text| text.clone().into_bytes()));
+        let length_fault = length.fault(&written(&right, |text| vec![text.len() as u64]));
+        let call = || format!("write_molfile {atoms} room {room} and {entries} {}", hex(bonds));
+        self.agree(call, code(&right), reply, text_fault.or(length_fault));
     }
 }

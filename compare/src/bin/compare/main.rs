@@ -3,13 +3,14 @@
 //!
 //!     compare [--seed N] [--cases N] [--first N] [--programs FOLDER]
 //!
-//! With a folder, the programs `sheet` and `judge` in it are run and their lines compared too.
+//! With a folder, the programs `sheet`, `judge` and `measure` in it are run and their lines compared too.
 
 #[path = "../../archive.rs"]
 mod archive;
 mod checker;
 mod fixed;
 mod lent;
+mod molfiles;
 mod programs;
 mod random;
 
@@ -52,6 +53,7 @@ fn main() -> ExitCode {
     let checker = &mut Checker::default();
     fixed::run(checker);
     random::run(checker, options.seed, options.first, options.cases);
+    molfiles::run(checker, options.seed, options.first, options.cases);
     if let Some(folder) = &options.programs {
         programs::run(checker, folder, options.seed);
     }
@@ -72,9 +74,9 @@ fn report(checker: &mut Checker, options: &Options) {
         let seen = checker.differed[field] > 0;
         checker.case(format!("differs {field}"), |checker| checker.holds(seen, "never met"));
     }
-    for number in (1..=20).chain([23, 24]) {
-        println!("refused {number}: {} times", checker.refused[number]);
-        let seen = checker.refused[number] > 0;
+    for number in (1..=20).chain(23..=27) {
+        println!("refused {number}: {} times", checker.refused.0[number]);
+        let seen = checker.refused.0[number] > 0;
         checker.case(format!("refusal {number}"), |checker| checker.holds(seen, "never met"));
     }
     println!("{} passed, {} failed", checker.passed, checker.failed);

@@ -1,10 +1,11 @@
-//! The programs `sheet` and `judge`, run on decks: from standard input in pieces, and from files.
+//! The programs `sheet` and `judge`, run on decks, and `measure`, run on molfiles: from standard input in pieces, and from files.
 
 use crate::checker::Checker;
 use opinion::documents::FORTY;
-use opinion::line::{judge_line, sheet_line};
+use opinion::line::{judge_line, measure_line, sheet_line};
 use opinion::make::damage_bytes::damage_bytes;
 use opinion::make::decks::random_deck;
+use opinion::make::molfiles::{damage_molfile, random_molfile};
 use opinion::make::random::Random;
 use opinion::make::specimens;
 use opinion::molecule::Measurer;
@@ -17,33 +18,56 @@ use std::time::Duration;
 const RANDOM_DECKS: u64 = 400;
 
 pub fn run(checker: &mut Checker, folder: &Path, seed: u64) {
-    let decks = decks(seed);
     let room = std::env::temp_dir().join(format!("tteuyomal-compare-{}", std::process::id()));
-    fs::create_dir_all(&room).expect("a folder for the decks");
-    type Line = fn(&mut Measurer, &[u8]) -> String;
-    for (name, line) in [("sheet", sheet_line as Line), ("judge", judge_line as Line)] {
-        let program = folder.join(name);
-        if !program.is_file() {
-            checker.case(name, |checker| checker.holds(false, format!("{} is not there", program.display())));
-            continue;
-        }
-        let measurer = &mut Measurer::default();
-        let lines: Vec<String> = decks.iter().map(|deck| line(measurer, deck)).collect();
-        for (at, deck) in decks.iter().enumerate().filter(|(at, _)| at % 8 == 0) {
-            checker.case(format!("{name} reads deck {at} from standard input"), |checker| {
-                let said = from_standard_input(&program, deck, at % 64 == 0);
-                checker
-                    .holds(said == format!("{}\n", lines[at]), format!("printed {said:?}, right is {:?}", lines[at]));
-            });
-        }
-        from_files(checker, &program, &room, &decks, &lines);
-        checker.case(format!("{name} on an input that cannot be read"), |checker| {
-            let said = command_says(Command::new(&program).stdin(File::open(&room).expect("a folder")));
-            let good = said.contains("accepted") || said.contains("atoms");
-            checker.holds(!good, format!("printed {said:?}"));
+    fs::create_dir_all(&room).expect("a folder for the inputs");
+    let (decks, files) = (decks(seed), molfiles(seed));
+    let measurer = &mut Measurer::default();
+    let sheets = decks.iter().map(|deck| sheet_line(measurer, deck)).collect();
+    program(checker, &folder.join("sheet"), &room, &decks, sheets);
+    let verdicts = decks.iter().map(|deck| judge_line(measurer, deck)).collect();
+    program(checker, &folder.join("judge"), &room, &decks, verdicts);
+    let measured = files.iter().map(|file| measure_line(file)).collect();
+    program(checker, &folder.join("measure"), &room, &files, measured);
+    fs::remove_dir_all(&room).expect("the folder is ours");
+}
+
+/// One program on inputs, each with the line that is right.
+fn program(checker: &mut Checker, program: &Path, room: &Path, inputs: &[Vec<u8>], lines: Vec<String>) {
+    let name = program.file_name().expect("a program has a name").to_string_lossy();
+    if !program.is_file() {
+        checker.case(&name, |checker| checker.holds(false, format!("{} is not there", program.display())));
+        return;
+    }
+    for (at, input) in inputs.iter().enumerate().filter(|(at, _)| at % 8 == 0) {
+        checker.case(format!("{name} reads input {at} from standard input"), |checker| {
+            let said = from_standard_input(program, input, at % 64 == 0);
+            checker.holds(said == format!("{}\n", lines[at]), format!("printed {said:?}, right is {:?}", lines[at]));
         });
     }
-    fs::remove_dir_all(&room).expect("the folder is ours");
+    from_files(checker, program, room, inputs, &lines);
+    checker.case(format!("{name} on an input that cannot be read"), |checker| {
+        let said = command_says(Command::new(program).stdin(File::open(room).expect("a folder")));
+        let good = said.contains("accepted") || said.contains("atoms");
+        checker.holds(!good, format!("printed {said:?}"));
+    });
+}
+
+/// Files whose length is about the most that is read, and random ones, some damaged.
+fn molfiles(seed: u64) -> Vec<Vec<u8>> {
+    let good = format!("\n\n\n  1  0\n{:31}C\nM  END\n", "").into_bytes();
+    let mut files: Vec<Vec<u8>> = [(1 << 20) - 1, 1 << 20, (1 << 20) + 1, 3 << 20]
+        .iter()
+        .map(|&length| [&good[..], &vec![b'x'; length - good.len()]].concat())
+        .collect();
+    for case in 0..RANDOM_DECKS {
+        let random = &mut Random::for_case(seed, case);
+        let mut file = random_molfile(random);
+        if random.once_in(2) {
+            damage_molfile(random, &mut file);
+        }
+        files.push(file.bytes());
+    }
+    files
 }
 
 /// The specimens, and random decks with and without sheets, some damaged.
@@ -101,8 +125,8 @@ fn from_files(checker: &mut Checker, program: &Path, room: &Path, decks: &[Vec<u
     let mut files: Vec<PathBuf> = Vec::new();
     let mut right = Vec::new();
     for (at, (deck, line)) in decks.iter().zip(lines).enumerate() {
-        let file = room.join(format!("deck {at}"));
-        fs::write(&file, deck).expect("a deck is written");
+        let file = room.join(format!("input {at}"));
+        fs::write(&file, deck).expect("an input is written");
         right.push(format!("{}: {line}", file.display()));
         files.push(file);
     }

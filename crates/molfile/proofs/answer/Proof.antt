@@ -1,12 +1,12 @@
 -- `molfile::answer` meets its contract: each return is one way through the definition.
 use mathlib.Core.Path.{_≡_, refl, sym, ap, _∙_}
 use lib.ListN.{length}
-use Rattle.block.specs.Read.{read}
+use Rattle.reply.specs.Read.{read}
 use Rattle.block.specs.Block.{blockReply}
 use Rattle.molfile.specs.Said.{saidAnswer, filled}
-use Rattle.molfile.proofs.Turns.{fine-read, refused-read}
 use Rattle.molfile.proofs.Chains.{answer-refused, answer-short, answer-fine, stays, fills}
 use Rattle.text.proofs.Putting.{at-front}
+use Rattle.reply.specs.Chain.{fine-read, refused-read}
 use borrow.Author.Needs.{needs}
 use Rattle.molfile.proofs.answer.Statement.{statement}
 use Rattle.molfile.proofs.answer.Tie as tie
@@ -40,7 +40,7 @@ returns-2 c =
     let b = c .before .before .before in
     let a = start b .args in
     let g = c .before .reply .given in
-    let e = answer-refused (a .n) (a .xs .now) (length (a .out .now)) (g .0 .0) (refused-read _ (sym (b .check .ensures) ∙ g .1)) in
+    let e = answer-refused (a .n) (a .xs .now) (length (a .out .now)) (g .0 .0) (refused-read _ _ (sym (b .check .ensures) ∙ g .1)) in
     (sym (ap (saidAnswer (a .n) (a .xs .now)) e), sym (stays (a .xs .now) (a .out .now) e))
 
 same-length : tie.Need-same-length

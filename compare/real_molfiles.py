@@ -1,0 +1,126 @@
+"""Real molfiles against RDKit, by hand: atoms, bonds and W of every file, and of the first record of every SDF.
+
+    apt-get install python3-rdkit rdkit-data openbabel
+    make python && PYTHONPATH=python /usr/bin/python3 compare/real_molfiles.py FOLDER..
+
+A file that the library reads must have the atoms, the bonds and W that RDKit's own reader finds once each H with one
+bond, to an atom that isn't H, is left out. A refusal is held against the rules by what RDKit sees: 1 is a molecule of
+0 or more than 64 atoms, 6 an atom of too many bonds, 7 one in parts. The last lines are the table of docs/BENCHMARKS.md.
+"""
+
+import collections
+import os
+import sys
+import time
+
+from rdkit import Chem, RDLogger
+
+import tteuyomal
+from tteuyomal import library
+
+RDLogger.DisableLog("rdApp.*")
+ENDINGS = (".mol", ".sdf", ".sd", ".mdl")
+
+
+def records(data):
+    """The records of a file: one, or those of an SDF."""
+    at = 0
+    while at < len(data):
+        end = data.find(b"\n$$$$", at)
+        if end < 0:
+            yield data[at:]
+            return
+        yield data[at : end + 1]
+        at = data.find(b"\n", end + 1) + 1 or len(data)
+
+
+def by_rdkit(record):
+    """Atom count, bonds and W by RDKit, hydrogens left out by the rule; None where it can't read the record."""
+    try:
+        molecule = Chem.MolFromMolBlock(record.decode("latin-1"), sanitize=False, removeHs=False, strictParsing=False)
+    except Exception:
+        return None
+    if molecule is None:
+        return None
+    drop = []
+    for atom in molecule.GetAtoms():
+        if atom.GetAtomicNum() == 1 and atom.GetIsotope() == 0 and atom.GetDegree() == 1:
+            if atom.GetNeighbors()[0].GetAtomicNum() != 1:
+                drop.append(atom.GetIdx())
+    editable = Chem.RWMol(molecule)
+    for at in sorted(drop, reverse=True):
+        editable.RemoveAtom(at)
+    atoms = editable.GetNumAtoms()
+    bonds = sorted(tuple(sorted((b.GetBeginAtomIdx() + 1, b.GetEndAtomIdx() + 1))) for b in editable.GetBonds())
+    if atoms == 0:
+        return 0, bonds, 0, 0, 0
+    far = Chem.GetDistanceMatrix(editable, force=True)
+    parts = len(Chem.GetMolFrags(editable))
+    degree = max(atom.GetDegree() for atom in editable.GetAtoms())
+    return atoms, bonds, int(sum(far[i][j] for i in range(atoms) for j in range(i))), parts, degree
+
+
+def fits(refused, seen):
+    """Whether a refusal is what RDKit's molecule asks for; True where RDKit can't say."""
+    if seen is None:
+        return True
+    atoms, bonds, _, parts, degree = seen
+    if refused.number == 1:
+        return atoms == 0 or atoms > 64
+    if refused.number == 2:
+        return len(bonds) > 128
+    if refused.number == 6:
+        return degree > 4
+    if refused.number == 7:
+        return parts > 1
+    return refused.number in (5, 25, 26, 27)
+
+
+def main(folders):
+    files = [os.path.join(path, name) for folder in folders for path, _, names in os.walk(folder) for name in sorted(names) if name.lower().endswith(ENDINGS)]
+    told = collections.Counter()
+    wrong = []
+    ours = theirs = 0.0
+    read_bytes = 0
+    for path in files:
+        with open(path, "rb") as file:
+            data = file.read()
+        for at, record in enumerate(records(data)):
+            told["records"] += 1
+            begin = time.perf_counter()
+            try:
+                block = library.read_molfile(record)
+                fields = library.indices(block.atoms, block.bonds)
+                refused = None
+            except tteuyomal.Refused as fault:
+                refused = fault
+            middle = time.perf_counter()
+            seen = by_rdkit(record)
+            ours += middle - begin
+            theirs += time.perf_counter() - middle
+            read_bytes += len(record)
+            if refused is not None:
+                told[f"refused {refused.number}"] += 1
+                if not fits(refused, seen):
+                    wrong.append((path, at, str(refused), seen))
+                continue
+            told["read"] += 1
+            if seen is None:
+                told["read, RDKit can't"] += 1
+                continue
+            bonds = sorted(tuple(sorted(bond)) for bond in block.bonds)
+            if (block.atoms, bonds, fields.w) != seen[:3]:
+                wrong.append((path, at, (block.atoms, len(bonds), fields.w), seen))
+            else:
+                told["same atoms, bonds and W"] += 1
+    for case in wrong[:20]:
+        print("OTHER", *case)
+    print(f"files {len(files)}, records {told.pop('records')}, {read_bytes} bytes; others: {len(wrong)}")
+    for name, count in sorted(told.items()):
+        print(f"| {name} | {count} |")
+    print(f"seconds through Python: {ours:.1f} here, {theirs:.1f} in RDKit with its distances")
+    return 1 if wrong else 0
+
+
+if __name__ == "__main__":
+    sys.exit(main(sys.argv[1:]))
