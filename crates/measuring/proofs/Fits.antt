@@ -6,7 +6,7 @@ use mathlib.Core.Path.{_≡_, refl, sym, _∙_, ap}
 use native.Mathlib.Omega.{arith}
 use borrow.Author.Tests.{ltb-false, le-ltb, eqb-true, not-false}
 use lib.Dec.{eqb, ltb}
-use lib.ListN.{length, take, drop}
+use lib.ListN.{length, take, drop, length-append}
 use lib.Seq.{take-append-seam}
 use Rattle.reply.specs.Read.{Read, refused, read, _then_, refuseIf, refusal}
 use Rattle.reply.specs.Chain.{then-read, not-read, neither}
@@ -51,11 +51,13 @@ module _ (d : List ℕ) where
 
   -- the bytes that were lent, cut to the bonds
   pub cut-to : (old new : List ℕ) (m : ℕ) → molfileReply d mostBytes ≡ read tt → length old ≡ mostBytes → new ≡ filled (molfileReply d (length old)) (bytesOf d) old
-      → length (bytesOf d) / 2 ≡ m → (2 * m ≤ mostBytes) × (take (2 * m) new ≡ bytesOf d)
+      → length (bytesOf d) / 2 ≡ m → (2 * m ≤ mostBytes) × (2 * m ≤ length new) × (take (2 * m) new ≡ bytesOf d)
   unfolding filled
-  cut-to old new m e l f h =
+  cut-to old new m e l h₁ h =
       let b = lines-fine e .1 in
       let w = whole (atomsOf d) (bytesOf d) b in
       let k : 2 * m ≡ length (bytesOf d) = omega arith in
-      let g = rw (l, e) at f in
-      (omega (arith, few (atomsOf d) (bytesOf d) b), rw (k, g) (take-append-seam (bytesOf d) (drop (length (bytesOf d)) old)))
+      let g = rw (l, e) at h₁ in
+      let f = few (atomsOf d) (bytesOf d) b in
+      let n : length (bytesOf d) ≤ length new = rw g (omega (arith, length-append (bytesOf d) (drop (length (bytesOf d)) old))) in
+      (omega arith, omega arith, rw (k, g) (take-append-seam (bytesOf d) (drop (length (bytesOf d)) old)))

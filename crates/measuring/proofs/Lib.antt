@@ -1,2 +1,3 @@
--- Laws that the proof cites.
+-- Laws that proofs cite.
+pub mod Said
 pub mod Fits

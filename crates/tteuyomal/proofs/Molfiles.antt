@@ -11,9 +11,8 @@ use Rattle.reply.specs.Read.{Read, refused, read, _then_, refuseIf, refusal}
 use Rattle.reply.specs.declared.Refusal.{Refusal}
 use Rattle.block.specs.Block.{bondsOf, blockReply}
 use Rattle.molfile.specs.Molfile.{atomsOf, bytesOf, linesReply, molfileReply}
-use Rattle.molfile.specs.Said.{saidAnswer, filled}
+use Rattle.molfile.specs.Said.{filled}
 use Rattle.molfile.specs.declared.Counts.{Counts}
-use Rattle.molfile.specs.declared.MolRead.the-variants as mol
 use Rattle.molwriter.specs.Written.{molfileText, writeReply, written, saidWritten}
 use Rattle.molwriter.specs.declared.MolWritten.the-variants as text
 use Rattle.tteuyomal.specs.Convention.{code, coded, over, after}
@@ -23,14 +22,6 @@ use Rattle.tteuyomal.proofs.Laws.{both-put}
 use Rattle.tteuyomal.proofs.Shared.{first-put}
 
 -- what a reply of the code says of the definition
-pub mol-refused : (n : ℕ) (xs : List ℕ) (R : Read (Unit {0})) {r : Refusal} → saidAnswer n xs R ≡ mol.Refused r → R ≡ refused r
-mol-refused n xs (refused s) e = ap refused (cc)
-mol-refused n xs (read u) e = let z : _≡_ {A = ℕ} 0 1 = cc in absurd (omega arith)
-
-pub mol-block : (n : ℕ) (xs : List ℕ) (R : Read (Unit {0})) {c : Counts} → saidAnswer n xs R ≡ mol.Block c → (R ≡ read tt) × (n ≡ c .atoms) × (length xs / 2 ≡ c .bonds)
-mol-block n xs (refused s) e = let z : _≡_ {A = ℕ} 0 1 = cc in absurd (omega arith)
-mol-block n xs (read u) e = (refl, cc, cc)
-
 pub text-refused : (R : Read ℕ) {r : Refusal} → saidWritten R ≡ text.Refused r → R ≡ refused r
 text-refused (refused s) e = ap refused (cc)
 text-refused (read k) e = let z : _≡_ {A = ℕ} 0 1 = cc in absurd (omega arith)

@@ -20,11 +20,7 @@ fn unlent_molfile(text: &[u8]) -> u64
 }
 
 #[no_mangle]
-pub extern "C" fn tteuyomal_read_molfile(
-    text: &[u8],
-    bonds: &mut [u8],
-    counts: &mut [u64],
-) -> u64
+pub extern "C" fn tteuyomal_read_molfile(text: &[u8], bonds: &mut [u8], counts: &mut [u64]) -> u64
     ensures { λ r. ⌜ MolfileRead (now (text .entry)) (now (bonds .entry)) (now (counts .entry)) r (now (bonds .exit)) (now (counts .exit)) ⌝ }
 {
     if counts.len() < 2 {
