@@ -68,9 +68,9 @@ def fits(refused, seen):
     if refused.number == 1:
         return atoms == 0 or atoms > 64
     if refused.number == 2:
-        return len(bonds) > 128
+        return len(bonds) > 192
     if refused.number == 6:
-        return degree > 4
+        return degree > 6
     if refused.number == 7:
         return parts > 1
     return refused.number in (5, 25, 26, 27)

@@ -150,3 +150,21 @@ class Answers(unittest.TestCase):
         self.assertEqual(library.compose(FORTY), (12, 198, 96, 102, 14))
         self.assertEqual(library.write_sheet(FORTY), RIGHT)
         self.assertEqual(library.placed_distance(FORTY, 1, 4, 2, 4), 7)
+
+
+class Molfiles(unittest.TestCase):
+    def test_written_reads_back(self):
+        text = library.write_molfile(6, RING)
+        self.assertEqual(len(text), 50 + 70 * 6 + 22 * 6)
+        self.assertEqual(library.read_molfile(text), (6, list(RING)))
+
+    def test_hydrogens_are_left_out(self):
+        atom = " " * 31
+        lines = ["", "", "", "  3  2", atom + "H", atom + "C", atom + "  C", "  1  2", "  3  2", "M  END"]
+        self.assertEqual(library.read_molfile("\r\n".join(lines).encode()), (2, [(2, 1)]))
+
+    def test_refusals(self):
+        for text, number, place in ((b"", 25, 0), (b"\n\n\n +1  0\n", 26, 3), (b"\n\n\n  0  1\n  1  1\n", 27, 10)):
+            with self.subTest(text), self.assertRaises(Refused) as caught:
+                library.read_molfile(text)
+            self.assertEqual((caught.exception.number, caught.exception.place), (number, place))

@@ -17,7 +17,7 @@ unlent-is : (B : Read (Unit {0})) (rest : Unit {0} → Read ℕ) → (r : Refusa
 unlent-is (refused r) rest = (r, refl, refl)
 unlent-is (read u) rest = (refusal 9 0, refl, refl)
 
-first-put : (d : ℕ) (old : List ℕ) → 1 ≤ length old → set old 0 d ≡ over (d ∷ []) old
+pub first-put : (d : ℕ) (old : List ℕ) → 1 ≤ length old → set old 0 d ≡ over (d ∷ []) old
 first-put d [] h = absurd (omega arith)
 first-put d (a ∷ rest) h = refl
 

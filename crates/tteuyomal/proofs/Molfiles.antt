@@ -19,7 +19,7 @@ use Rattle.tteuyomal.specs.Convention.{code, coded, over, after}
 use Rattle.tteuyomal.specs.Replies.{thenNine, unlentReply}
 use Rattle.tteuyomal.specs.Molfiles.{readReply, unlentMolfile, MolfileRead, writtenReply, MolfileWritten}
 use Rattle.tteuyomal.proofs.Laws.{both-put}
-use Rattle.tteuyomal.proofs.Shared.{first-put}
+use Rattle.tteuyomal.proofs.Beside.{first-put}
 
 -- what a reply of the code says of the definition
 pub text-refused : (R : Read ℕ) {r : Refusal} → saidWritten R ≡ text.Refused r → R ≡ refused r

@@ -93,7 +93,7 @@ impl Plain {
         let mut near = [0u64; 64];
         for pair in self.bytes.chunks(2) {
             let (u, v) = (pair[0] as usize - 1, pair[1] as usize - 1);
-            if u == v || near[u] >> v & 1 == 1 || near[u].count_ones() == 4 || near[v].count_ones() == 4 {
+            if u == v || near[u] >> v & 1 == 1 || near[u].count_ones() == 6 || near[v].count_ones() == 6 {
                 return false;
             }
             near[u] |= 1 << v;
