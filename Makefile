@@ -38,4 +38,4 @@ install: $(SHARED)
 	    'Cflags: -I$${includedir}' 'Libs: -L$${libdir} -ltteuyomal' > $(DESTDIR)$(PREFIX)/lib/pkgconfig/tteuyomal.pc
 
 test: python
-	tests/run
+	python3 tests/run.py

@@ -77,12 +77,11 @@ def _what(judged: Judged) -> str:
 
 def _fields(judged: Judged) -> str:
     wrong = judged.wrong()
-    names = "".join(f"<th>{name}</th>" for name in FIELD_NAMES[: len(judged.claimed)])
-    claimed = "".join(f'<td class="wrong">{n}</td>' if k in wrong else f"<td>{n}</td>" for k, n in enumerate(judged.claimed))
-    worked = "".join(f"<td>{n}</td>" for n in judged.worked)
-    return (
-        f"<table><tr><th></th>{names}</tr><tr><th>claimed</th>{claimed}</tr><tr><th>worked out</th>{worked}</tr></table>"
-    )
+    rows = ["<tr><th></th><th>claimed</th><th>worked out</th></tr>"]
+    for k, (name, claim, number) in enumerate(zip(FIELD_NAMES, judged.claimed, judged.worked)):
+        mark = ' class="wrong"' if k in wrong else ""
+        rows.append(f"<tr><th>{name}</th><td{mark}>{claim}</td><td>{number}</td></tr>")
+    return f"<table><tbody>{''.join(rows)}</tbody></table>"
 
 
 def head(tally: Tally, folder: str, version: str, now: datetime.datetime) -> Iterator[str]:
@@ -96,11 +95,14 @@ def head(tally: Tally, folder: str, version: str, now: datetime.datetime) -> Ite
     yield '<meta name="viewport" content="width=device-width, initial-scale=1">\n'
     yield f"<title>{text(title)}</title>\n<style>\n{style}</style>\n</head>\n<body>\n"
     yield f'<header>\n<h1 class="{kind}">{light(kind)}<span>{text(title)}</span></h1>\n'
-    yield f"<p>Decks of {text(files.shown(folder))}, judged {now:%Y-%m-%d %H:%M} UTC by the library Tteuyomal {text(version)}.</p>\n"
-    yield (
-        "<p>Nothing stored was compared with. Each light holds the fields that a deck's sheet claims against those that the library "
-        f"(version {text(version)}) worked out from the blocks and placements of that same deck.</p>\n</header>\n"
-    )
+    done = "judged" if tally.total else "looked for"
+    yield f"<p>Decks of {text(files.shown(folder))}, {done} {now:%Y-%m-%d %H:%M} UTC by the library Tteuyomal {text(version)}.</p>\n"
+    if tally.total:
+        yield (
+            "<p>Nothing stored was compared with. Each light holds the fields that a deck's sheet claims against those that the "
+            f"library (version {text(version)}) worked out from the blocks and placements of that same deck.</p>\n"
+        )
+    yield "</header>\n"
     yield from _controls(tally)
     yield "<main>\n"
 

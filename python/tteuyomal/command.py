@@ -7,6 +7,7 @@ import argparse
 import contextlib
 import datetime
 import functools
+import json
 import os
 import shutil
 import signal
@@ -17,7 +18,7 @@ from typing import IO, Any, NoReturn
 
 from . import __version__, board, decks, decktext, drawing, explain, files, judging, library, measuring, notice, work
 from .files import Found
-from .judging import Judged, Tally
+from .judging import Tally
 from .library import NotThere, Refused
 
 INTERRUPTED = 130
@@ -63,8 +64,6 @@ def notice_batch(batch: list[Found], folder: str) -> list[tuple[str, str]]:
 
 
 def _sheet_line(found: Found, six: bool, as_json: bool) -> tuple[str, bool]:
-    import json
-
     name = files.shown(found.name)
     said: dict[str, Any] = {"file": name, "sha256": None}
     try:
@@ -259,6 +258,10 @@ def _jobs(options: argparse.Namespace) -> int:
 # ---- the command line ----
 
 
+class OutputFailed(Exception):
+    """Standard output could not be written; the reason is not there where who read it has gone."""
+
+
 class Output:
     """Standard output. A line that can't be written ends the command, and its exit status is not 0."""
 
@@ -268,16 +271,32 @@ class Output:
 
     def write(self, text: str) -> None:
         """Writes some lines."""
-        data = text.encode(self.encoding, "backslashreplace")
-        buffer = getattr(self.file, "buffer", None)
-        if buffer is None:
-            self.file.write(text)
-        else:
-            buffer.write(data)
+        if self.file is None:
+            raise OutputFailed("standard output is closed")
+        with self._told():
+            self.file.buffer.write(text.encode(self.encoding, "backslashreplace"))
 
     def flush(self) -> None:
-        """Hands everything over; raises OSError where that can't be done."""
-        self.file.flush()
+        """Hands everything over."""
+        if self.file is not None:
+            with self._told():
+                self.file.flush()
+
+    @contextlib.contextmanager
+    def _told(self) -> Iterator[None]:
+        try:
+            yield
+        except BrokenPipeError:
+            self._let_go()
+            raise OutputFailed from None
+        except OSError as fault:
+            self._let_go()
+            raise OutputFailed(f"standard output: {fault}") from None
+
+    def _let_go(self) -> None:
+        """What could not be written is let go, so that ending the process tries it no second time."""
+        with contextlib.suppress(OSError):
+            os.dup2(os.open(os.devnull, os.O_WRONLY), self.file.fileno())
 
 
 def complain(text: str) -> None:
@@ -355,38 +374,19 @@ def main(words: list[str] | None = None) -> int:
     """Runs the command and answers its exit status."""
     with contextlib.suppress(ValueError):  # not in the main thread
         signal.signal(signal.SIGTERM, _terminated)
+    options = _parser().parse_args(words)
     out = Output()
     try:
-        options = _parser().parse_args(words)
-        status = _run(options, out)
-        out.flush()
-        return status
-    except BrokenPipeError:  # who read the lines has gone
-        _close_output()
+        try:
+            return int(options.function(options, out))
+        finally:
+            out.flush()
+    except OutputFailed as fault:
+        if str(fault):
+            complain(str(fault))
         return 2
-    except OSError as fault:
-        _close_output()
+    except (Stop, NotThere, files.OverInput, OSError) as fault:
         complain(str(fault))
         return 2
     except KeyboardInterrupt:
-        _close_output()
         return INTERRUPTED
-
-
-def _run(options: argparse.Namespace, out: Output) -> int:
-    try:
-        status: int = options.function(options, out)
-        return status
-    except (Stop, NotThere, files.OverInput) as fault:
-        out.flush()
-        complain(str(fault))
-        return 2
-
-
-def _close_output() -> None:
-    """What could not be written is let go, so that ending the process tries it no second time."""
-    with contextlib.suppress(OSError):
-        os.dup2(os.open(os.devnull, os.O_WRONLY), 1)
-
-
-__all__ = ["Judged", "main"]

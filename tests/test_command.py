@@ -1,0 +1,397 @@
+"""The command: exit statuses, lines, objects, texts, and outputs that are whole or not there."""
+
+import contextlib
+import hashlib
+import io
+import json
+import os
+import random
+import signal
+import subprocess
+import sys
+import tempfile
+import time
+import unittest
+from unittest import mock
+
+from common import FORTY, JUDGED, PYTHON, RIGHT, ROOT, sheet
+
+from tteuyomal import command, decktext, files, judging, library
+from tteuyomal.decks import Block, Deck, Placement, Sheet
+
+GOOD, WRONG = FORTY + RIGHT, FORTY + sheet(12, 198, 97, 101, 14)
+REFUSED = FORTY[:13] + b"\x02" + FORTY[14:] + RIGHT
+PROGRAM = os.path.join(ROOT, "target", "bin", "judge")
+
+
+class Room(unittest.TestCase):
+    """A folder of its own for each test, and the command run in this process."""
+
+    def setUp(self):
+        room = tempfile.TemporaryDirectory()
+        self.addCleanup(room.cleanup)
+        self.room = room.name
+        self.decks = self.folder("decks")
+
+    def folder(self, name):
+        path = os.path.join(self.room, name)
+        os.makedirs(path, exist_ok=True)
+        return path
+
+    def put(self, name, data, folder=None):
+        path = os.path.join(folder or self.decks, name)
+        os.makedirs(os.path.dirname(path), exist_ok=True)
+        with open(path, "wb") as file:
+            file.write(data)
+        return path
+
+    def run_command(self, *words):
+        """The exit status and what was printed."""
+        out, fault = io.TextIOWrapper(io.BytesIO(), "utf-8"), io.StringIO()
+        with contextlib.redirect_stdout(out), contextlib.redirect_stderr(fault):
+            try:
+                status = command.main(list(words))
+            except SystemExit as end:
+                status = end.code
+        out.flush()
+        self.fault = fault.getvalue()
+        return status, out.buffer.getvalue().decode()
+
+    def process(self, *words, **more):
+        environment = os.environ | {"PYTHONPATH": PYTHON}
+        return subprocess.Popen([sys.executable, "-m", "tteuyomal", *words], env=environment, **more)
+
+    def read(self, path):
+        with open(path, "rb") as file:
+            return file.read()
+
+
+class Judging(Room):
+    def test_statuses(self):
+        good, wrong, refused = self.put("a", GOOD), self.put("b", WRONG), self.put("c", REFUSED)
+        missing = os.path.join(self.decks, "missing")
+        for paths, status in (
+            ([good], 0),
+            ([good, good], 0),
+            ([wrong], 1),
+            ([good, wrong, good], 1),
+            ([refused], 2),
+            ([wrong, refused], 2),
+            ([refused, wrong], 2),
+            ([good, missing], 2),
+            ([missing], 2),
+            ([], 2),
+            ([self.folder("empty")], 2),
+            ([good, self.folder("empty")], 0),
+            ([self.decks], 2),
+        ):
+            with self.subTest(paths):
+                self.assertEqual(self.run_command("judge", *paths)[0], status)
+                self.assertEqual(self.run_command("judge", "--json", *paths)[0], status)
+
+    def test_lines(self):
+        lines = []
+        for place, (data, line) in enumerate(JUDGED):
+            lines.append(f"{self.put(f'{place:02d}', data)}: {line}\n")
+        self.assertEqual(self.run_command("judge", self.decks), (2, "".join(lines)))
+        if os.path.exists(PROGRAM):
+            names = [line.rsplit(": ", 1)[0] for line in lines] + [os.path.join(self.room, "missing"), self.folder("x")]
+            said = subprocess.run([PROGRAM, *names], capture_output=True, text=True).stdout
+            self.assertEqual(self.run_command("judge", *names[:-1])[1], "".join(said.splitlines(True)[:-1]))
+
+    def test_objects(self):
+        for name, data in (("a", GOOD), ("b", WRONG), ("c", REFUSED), ("d", bytes(40000))):
+            self.put(name, data)
+        os.symlink("nowhere", os.path.join(self.decks, "e"))
+        status, said = self.run_command("judge", "--json", self.decks)
+        accepted, differs, refused, long, unread = map(json.loads, said.splitlines())
+        right = {"atoms": 12, "w": 198, "even": 96, "odd": 102, "polarity": 14}
+        self.assertEqual(status, 2)
+        self.assertEqual((accepted["verdict"], accepted["claimed"], accepted["worked_out"]), ("accepted", right, right))
+        self.assertEqual(accepted["sha256"], hashlib.sha256(GOOD).hexdigest())
+        self.assertEqual((differs["verdict"], differs["field"]), ("differs", 3))
+        self.assertEqual((differs["claimed"], differs["worked_out"]), (right | {"even": 97, "odd": 101}, right))
+        refusal = {"number": 4, "place": 12 if REFUSAL_AT_BOND else 0, "words": library.WORDS[4]}
+        self.assertEqual((refused["verdict"], refused["refusal"]), ("refused", refusal))
+        self.assertEqual((long["refusal"]["number"], long["sha256"]), (20, hashlib.sha256(bytes(40000)).hexdigest()))
+        self.assertEqual((unread["verdict"], unread["sha256"]), ("cannot be read", None))
+        self.assertEqual(unread["fault"], "no such file or directory")
+
+    def test_names(self):
+        for name in (b"two\nlines: accepted", b"no \xff utf-8", b"<script>", b"back\\slash", "żółć".encode()):
+            self.put(os.fsdecode(name), GOOD)
+        status, said = self.run_command("judge", self.decks)
+        self.assertEqual(status, 0)
+        names = sorted(line[len(self.decks) + 1 : -len(": accepted")] for line in said.splitlines())
+        self.assertEqual(names, sorted(["<script>", "back\\slash", "no \\xff utf-8", "two\\nlines: accepted", "żółć"]))
+        objects = [json.loads(line) for line in self.run_command("judge", "--json", self.decks)[1].splitlines()]
+        exact = {bytes.fromhex(one["file_bytes"]).rsplit(b"/", 1)[1] for one in objects if "file_bytes" in one}
+        self.assertEqual(exact, {b"two\nlines: accepted", b"no \xff utf-8"})
+
+    def test_nothing_is_passed_over(self):
+        self.put(".hidden", GOOD)
+        self.put("sub/deck", GOOD)
+        os.mkfifo(os.path.join(self.decks, "pipe"))
+        os.symlink(self.decks, os.path.join(self.decks, "round"))
+        os.symlink(self.put("real", GOOD, self.room), os.path.join(self.decks, "link"))
+        status, said = self.run_command("judge", self.decks)
+        verdicts = {line[len(self.decks) + 1 :] for line in said.splitlines()}
+        expected = {".hidden: accepted", "sub/deck: accepted", "link: accepted", "pipe: cannot be read", "round: cannot be read"}
+        self.assertEqual((status, verdicts), (2, expected))
+
+    def test_many(self):
+        kinds = [GOOD, WRONG, REFUSED, b""]
+        for number in range(1300):
+            self.put(f"{number % 3}/{number:05d}", kinds[number * 7 % 11 % 4])
+        one = self.run_command("judge", "-j", "1", self.decks)
+        self.assertEqual(len(one[1].splitlines()), 1300)
+        self.assertEqual(self.run_command("judge", "-j", "2", self.decks), one)
+        with mock.patch.object(files, "_HELD", 7):
+            self.assertEqual(self.run_command("judge", "-j", "1", self.decks), one)
+        names = [line.rsplit(": ", 1)[0] for line in one[1].splitlines()]
+        self.assertEqual(names, sorted(names))
+
+    def test_output_that_fails(self):
+        deck = self.put("a", GOOD)
+        for words in (["judge", deck], ["judge", "--json", deck], ["explain", deck], ["show", deck], ["sheet", self.put("b", FORTY)]):
+            with self.subTest(words), open("/dev/full", "wb") as full:
+                one = self.process(*words, stdout=full, stderr=subprocess.PIPE)
+                self.assertIn(b"No space left", one.communicate()[1])
+                self.assertEqual(one.returncode, 2)
+        gone = self.process("judge", deck, stdout=subprocess.PIPE, stderr=subprocess.PIPE)
+        gone.stdout.close()
+        self.assertEqual((gone.stderr.read(), gone.wait()), (b"", 2))
+        gone.stderr.close()
+        closed = subprocess.run(["bash", "-c", f'exec "{sys.executable}" -m tteuyomal judge "{deck}" >&-'],
+                                env=os.environ | {"PYTHONPATH": PYTHON}, stderr=subprocess.PIPE)  # fmt: skip
+        self.assertEqual(closed.returncode, 2)
+
+    def test_standard_input(self):
+        one = self.process("judge", "-", stdin=subprocess.PIPE, stdout=subprocess.PIPE)
+        self.assertEqual((one.communicate(GOOD)[0], one.returncode), (b"-: accepted\n", 0))
+
+    def test_dask_that_is_not_there(self):
+        with mock.patch.dict(sys.modules, {"distributed": None}):
+            status, said = self.run_command("judge", "--dask", "tcp://127.0.0.1:1", self.put("a", GOOD))
+        self.assertEqual((status, said), (2, ""))
+        self.assertIn("python3-distributed", self.fault)
+
+    def test_usage(self):
+        for words in ([], ["judge", "--no-such"], ["nothing"], ["judge", "-j", "0", self.decks], ["board", self.decks]):
+            self.assertEqual(self.run_command(*words)[0], 2)
+        self.assertEqual(self.run_command("--version")[0], 0)
+
+
+class Explaining(Room):
+    def test_statuses(self):
+        for data, status in ((GOOD, 0), (WRONG, 1), (REFUSED, 2), (FORTY, 2), (b"", 2), (bytes(5), 2), (bytes(40000), 2)):
+            self.assertEqual(self.run_command("explain", self.put("a", data))[0], status)
+        self.assertEqual(self.run_command("explain", os.path.join(self.decks, "missing"))[0], 2)
+
+    def test_words(self):
+        said = self.run_command("explain", self.put("a", WRONG))[1]
+        for words in ("block 1: 6 atoms, 6 bonds", "1-2 2-3 3-4 4-5 5-6 6-1", "its atom 1 bonded to atom 1 of placement 1",
+                      "differs 3: the first wrong field is even part; wrong too: odd part."):  # fmt: skip
+            self.assertIn(words, said)
+        said = self.run_command("explain", self.put("a", REFUSED))[1]
+        self.assertIn(f"refused 4 at {12 if REFUSAL_AT_BOND else 0}: {library.WORDS[4]}.", said)
+        self.assertIn("block 1", said)
+        nobody = bytearray(GOOD)
+        nobody[34] = 9  # placement 2 asks for block 9
+        said = self.run_command("explain", self.put("a", nobody))[1]
+        self.assertIn("Byte 34 is in placement 2: block 9", said)
+        self.assertIn("[09]", said)
+        self.assertIn("nothing to judge", self.run_command("explain", self.put("a", FORTY))[1])
+
+    def test_any_bytes(self):
+        chance = random.Random(5)
+        for _ in range(300):
+            data = bytearray(GOOD[: chance.randrange(len(GOOD) + 1)])
+            for _ in range(chance.randrange(4)):
+                if data:
+                    data[chance.randrange(len(data))] = chance.randrange(256)
+            judged = judging.judge_bytes("deck", bytes(data), "")
+            self.assertIn(judged.verdict().split()[0], "\n".join(__import__("tteuyomal.explain").explain.explained(judged)))
+
+
+class Sheets(Room):
+    def test_fields(self):
+        deck = self.put("a", FORTY)
+        line = f"{deck}: atoms 12 W 198 even 96 odd 102 polarity 14\n"
+        self.assertEqual(self.run_command("sheet", deck), (0, line))
+        self.assertEqual(self.run_command("sheet", deck, self.put("b", GOOD)), (2, line + f"{self.decks}/b: refused 11 at 40\n"))
+        self.assertEqual(self.run_command("sheet")[0], 2)
+        said = json.loads(self.run_command("sheet", "--json", deck)[1])
+        self.assertEqual(said["worked_out"], {"atoms": 12, "w": 198, "even": 96, "odd": 102, "polarity": 14})
+
+    def test_append(self):
+        deck, other = self.put("a", FORTY), os.path.join(self.room, "b")
+        self.assertEqual(self.run_command("sheet", deck, "--append", other), (0, ""))
+        self.assertEqual((self.read(other), self.read(deck)), (GOOD, FORTY))
+        os.link(deck, os.path.join(self.room, "hard"))
+        os.symlink(deck, os.path.join(self.room, "soft"))
+        for same in (deck, os.path.join(self.room, "hard"), os.path.join(self.room, "soft"), os.path.join(self.decks, "..", "decks", "a")):
+            self.assertEqual(self.run_command("sheet", deck, "--append", same)[0], 2)
+            self.assertEqual(self.read(deck), FORTY)
+        bad = self.put("bad", FORTY[:-1])
+        self.assertEqual(self.run_command("sheet", bad, "--append", other)[0], 2)
+        self.assertEqual(self.read(other), GOOD, "a refusal leaves what was there")
+        self.assertEqual(self.run_command("sheet", deck, "--append", os.path.join(self.room, "no", "where"))[0], 2)
+        self.assertEqual([name for name in os.listdir(self.room) if "part" in name], [])
+
+
+class Texts(Room):
+    def random_deck(self, chance):
+        blocks = [(chance.randrange(70000) % 65536, Block(chance.randrange(70), [(chance.randrange(256), chance.randrange(256))
+                  for _ in range(chance.randrange(9))])) for _ in range(chance.randrange(4))]  # fmt: skip
+        placements = [Placement(chance.randrange(9), chance.randrange(3), chance.randrange(3), chance.randrange(3)) for _ in range(chance.randrange(5))]
+        claims = [None, Sheet(*(chance.randrange(2**32) for _ in range(5))), Sheet(*(chance.randrange(2**32) for _ in range(6)))]
+        return bytes(Deck(blocks, placements, chance.choice(claims)))
+
+    def test_inverse(self):
+        chance = random.Random(11)
+        for turn in range(1500):
+            data = bytearray(self.random_deck(chance) if turn % 2 else GOOD)
+            if turn % 3 == 0 and data:
+                data[chance.randrange(len(data))] = chance.randrange(256)
+            data = bytes(data[: len(data) - (chance.randrange(5) if turn % 5 == 0 else 0)])
+            text = decktext.shown(data)
+            self.assertEqual(decktext.made(text), data)
+            self.assertEqual(decktext.shown(decktext.made(text)), text)
+        for data in (b"", bytes(3), RIGHT, FORTY + RIGHT + RIGHT):
+            self.assertEqual(decktext.made(decktext.shown(data)), data)
+            self.assertIn("bytes = ", decktext.shown(data))
+        self.assertNotIn("bytes = ", decktext.shown(GOOD))
+
+    def test_by_command(self):
+        deck = self.put("a", GOOD)
+        status, text = self.run_command("show", deck)
+        self.assertEqual(status, 0)
+        made = os.path.join(self.room, "made")
+        self.assertEqual(self.run_command("deck", self.put("a.toml", text.encode()), "-o", made), (0, ""))
+        self.assertEqual(self.read(made), GOOD)
+        self.assertEqual(self.run_command("show", made), (0, text))
+        self.assertEqual(self.run_command("show", os.path.join(self.room, "missing"))[0], 2)
+
+    def test_never_over_its_text(self):
+        text = self.put("a.toml", decktext.shown(GOOD).encode())
+        self.assertEqual(self.run_command("deck", text, "-o", text)[0], 2)
+        self.assertEqual(self.read(text).decode(), decktext.shown(GOOD))
+        mol = self.put("x.mol", b"molecule")
+        text = self.put("b.toml", b'[[block]]\nnumber = 1\nmolfile = "x.mol"\n')
+        self.assertEqual(self.run_command("deck", text, "-o", mol)[0], 2)
+        self.assertEqual(self.read(mol), b"molecule")
+
+    def test_texts_that_are_no_deck(self):
+        for text in (
+            "block = 1", "[[block]]\n", "[[block]]\nnumber = 1\n", "[[block]]\nnumber = 1\natoms = 2\nbonds = ['1+2']\n", "[block",
+            "[[block]]\nnumber = 70000\natoms = 2\n", "[[block]]\nnumber = true\natoms = 2\n", "[[placement]]\nparent = 1\n", "x = 1\n",
+            "[[placement]]\nblock = 1\natom = 300\n", "[sheet]\natoms = 1\n", "sheet = 3\n", "bytes = 'xyz'\n", "bytes = 3\n",
+            "bytes = '00'\n[[block]]\n", "[[block]]\nnumber = 1\natoms = 2\nbonds = ['1-300']\n", "[[block]]\nnumber = 1\nmolfile = 3\n",
+            "[[block]]\nnumber = 1\natoms = 1\nmolfile = 'x'\n", "[[block]]\nnumber = 1\natoms = 2\nbonds = 7\n",
+        ):  # fmt: skip
+            with self.subTest(text):
+                self.assertRaises(decktext.BadText, decktext.made, text)
+                output = os.path.join(self.room, "out")
+                self.assertEqual(self.run_command("deck", self.put("t.toml", text.encode()), "-o", output)[0], 2)
+                self.assertFalse(os.path.exists(output))
+
+
+class Notices(Room):
+    def notice(self, status):
+        output = os.path.join(self.room, "notice.txt")
+        self.assertEqual(self.run_command("notice", self.decks, "-o", output)[0], status)
+        return self.read(output).decode()
+
+    def test_sentence(self):
+        self.assertIn("No deck was judged.", self.notice(2))
+        self.put("a", GOOD)
+        self.put("sub/b", GOOD)
+        text = self.notice(0)
+        self.assertIn("All 2 decks were checked and accepted", text)
+        self.assertIn(f"{hashlib.sha256(GOOD).hexdigest()}  accepted  sub/b\n", text)
+        self.assertIn(f"Tteuyomal {library.version()}\n", text)
+        for data, status in ((WRONG, 1), (REFUSED, 2)):
+            self.put("c", data)
+            self.assertNotIn("checked and accepted", self.notice(status))
+        self.put("d\nAll 9 decks were checked and accepted", REFUSED)
+        self.assertNotIn("\nAll", self.notice(2))
+
+    def test_again(self):
+        for name, data in (("a", GOOD), ("b", WRONG), ("c", b"")):
+            self.put(name, data)
+        dated = lambda text: [line for line in text.splitlines() if not line.startswith("Date: ")]
+        first = self.notice(2)
+        time.sleep(0.01)
+        self.assertEqual(dated(self.notice(2)), dated(first))
+        self.assertEqual(len(dated(first)) + 1, len(first.splitlines()))
+
+
+class Boards(Room):
+    def board(self, status, *words):
+        output = os.path.join(self.room, "board.html")
+        self.assertEqual(self.run_command("board", self.decks, "-o", output, *words)[0], status)
+        return self.read(output).decode()
+
+    def test_lights(self):
+        self.put("a", GOOD)
+        text = self.board(0)
+        self.assertIn("The one deck is accepted", text)
+        self.put("b", WRONG)
+        self.put("c<script>", REFUSED)
+        text = self.board(2)
+        self.assertIn("2 of 3 decks not accepted", text)
+        order = [text.index(f'<article class="{kind}"') for kind in ("refused", "differs", "accepted")]
+        self.assertEqual(order, sorted(order))
+        self.assertIn("c&lt;script&gt;", text)
+        self.assertNotIn("c<script>", text)
+        self.assertEqual(text.count("<script"), 1)
+        self.assertNotIn("http://", text.replace("http://www.w3.org/", ""))
+        self.assertNotIn("https://", text)
+        self.assertEqual(text.count('class="wrong"'), 2)
+
+    def test_an_empty_folder_is_no_green_board(self):
+        text = self.board(2)
+        self.assertIn("Nothing was judged", text)
+        self.assertNotIn('<h1 class="accepted"', text)
+
+    def test_not_among_its_decks(self):
+        self.put("a", GOOD)
+        for name in ("board.html", "a", "sub/../board.html"):
+            self.folder("decks/sub")
+            self.assertEqual(self.run_command("board", self.decks, "-o", os.path.join(self.decks, name))[0], 2)
+        self.assertEqual(sorted(os.listdir(self.decks)), ["a", "sub"])
+        self.assertEqual(self.run_command("board", os.path.join(self.decks, "a"), "-o", os.path.join(self.room, "b"))[0], 2)
+
+    def test_an_interrupt_leaves_no_half_file(self):
+        for number in range(3000):
+            self.put(f"{number:05d}", GOOD)
+        for sign, status in ((signal.SIGINT, 130), (signal.SIGTERM, 143)):
+            output = self.put("old.html", b"yesterday", self.room)
+            one = self.process("board", self.decks, "-o", output, stderr=subprocess.DEVNULL)
+            time.sleep(0.4)
+            one.send_signal(sign)
+            self.assertIn(one.wait(60), (status, -sign, 0))
+            if one.returncode != 0:
+                self.assertEqual(self.read(output), b"yesterday")
+            self.assertEqual(sorted(os.listdir(self.room)), ["decks", "old.html"])
+
+
+class Outputs(Room):
+    def test_whole_or_not_there(self):
+        path = self.put("a", b"before")
+        for fault in (ValueError, KeyboardInterrupt, SystemExit):
+            with self.assertRaises(fault), files.written(path) as file:
+                file.write(b"half")
+                raise fault
+            self.assertEqual((self.read(path), os.listdir(self.decks)), (b"before", ["a"]))
+        os.chmod(path, 0o640)
+        with files.written(path) as file:
+            file.write(b"after")
+        self.assertEqual((self.read(path), os.stat(path).st_mode & 0o777), (b"after", 0o640))
+
+
+REFUSAL_AT_BOND = judging.judge_bytes("", REFUSED, "").place != 0  # the place of 3 to 6 in a deck
+
+if __name__ == "__main__":
+    unittest.main()
