@@ -266,10 +266,12 @@ def records(data: bytes) -> Iterator[tuple[int, int, bytes]]:
         at += 4 + size
 
 
-def claimed(data: bytes) -> tuple[int, Sheet]:
-    """Where the last record, a sheet, stands in a deck that the library does not refuse, and what it claims."""
-    at, kind, payload = list(records(data))[-1]
-    return at, _sheet(at, kind, payload)
+def claimed(data: bytes) -> tuple[int, tuple[int, ...]]:
+    """Where the last record, a sheet, stands in a deck that the library does not refuse, and the fields that it claims."""
+    at = 0
+    while (end := at + 4 + data[at] + 256 * data[at + 1]) < len(data):
+        at = end
+    return at, struct.unpack_from("<4xIQQQQ" if data[at + 2] == SHEET else "<4xIQQQQI", data, at)
 
 
 def _parse(data: bytes) -> Deck:

@@ -10,7 +10,7 @@ import stat
 import sys
 import tempfile
 from collections.abc import Iterable, Iterator
-from typing import IO, Any, NamedTuple
+from typing import IO, NamedTuple
 
 LONGEST = 32768  # bytes of a deck; a longer one is refused whatever its bytes are
 _HELD = 200_000  # names of one folder that are held at a time
@@ -45,41 +45,50 @@ def find(paths: Iterable[str]) -> Iterator[Found]:
 
 
 def _within(folder: str) -> Iterator[Found]:
+    front = folder if folder.endswith("/") else folder + "/"
     try:
-        for name in _names(folder):
-            path = os.path.join(folder, name)
-            yield from _entry(path)
+        for name, kind in _names(folder):
+            if kind == _FILE:
+                yield Found(front + name)
+            elif kind == _FOLDER:
+                yield from _within(front + name)
+            else:
+                yield _other(front + name)
     except OSError as fault:
         yield Found(folder, reason(fault))
 
 
-def _entry(path: str) -> Iterator[Found]:
+def _other(path: str) -> Found:
+    """What is neither a file nor a folder itself: a link is followed to a file."""
     try:
         mode = os.stat(path).st_mode
     except OSError as fault:
-        yield Found(path, reason(fault))
-        return
-    if stat.S_ISDIR(mode) and os.path.islink(path):
-        yield Found(path, "a link to a folder")
-    elif stat.S_ISDIR(mode):
-        yield from _within(path)
-    elif stat.S_ISREG(mode):
-        yield Found(path)
-    else:
-        yield Found(path, "no file")
+        return Found(path, reason(fault))
+    if stat.S_ISREG(mode):
+        return Found(path)
+    return Found(path, "a link to a folder" if stat.S_ISDIR(mode) else "no file")
 
 
-def _names(folder: str) -> Iterator[str]:
+_FILE, _FOLDER, _OTHER = range(3)
+
+
+def _kind(entry: os.DirEntry[str]) -> int:
+    if entry.is_file(follow_symlinks=False):
+        return _FILE
+    return _FOLDER if entry.is_dir(follow_symlinks=False) else _OTHER
+
+
+def _names(folder: str) -> Iterator[tuple[str, int]]:
     """The names in a folder in order, however many: no more than `_HELD` of them are held at a time."""
     last: str | None = None
     while True:
         with os.scandir(folder) as entries:
-            later = (entry.name for entry in entries if last is None or entry.name > last)
+            later = ((entry.name, _kind(entry)) for entry in entries if last is None or entry.name > last)
             part = heapq.nsmallest(_HELD, later)
         yield from part
         if len(part) < _HELD:
             return
-        last = part[-1]
+        last = part[-1][0]
 
 
 def read(found: Found, most: int = LONGEST) -> Contents:
@@ -88,23 +97,27 @@ def read(found: Found, most: int = LONGEST) -> Contents:
         raise Unread(found.fault)
     try:
         if found.name == "-":
-            return _contents(sys.stdin.buffer, most)
-        with open(found.name, "rb", buffering=0) as file:
-            return _contents(file, most)
+            return contents(sys.stdin.fileno(), most)
+        file = os.open(found.name, os.O_RDONLY | os.O_CLOEXEC)
+        try:
+            return contents(file, most)
+        finally:
+            os.close(file)
     except (OSError, ValueError) as fault:
         raise Unread(reason(fault)) from None
 
 
-def _contents(file: Any, most: int) -> Contents:
-    data = file.read(most + 1) or b""
-    while len(data) <= most:
-        more = file.read(most + 1 - len(data))
+def contents(file: int, most: int) -> Contents:
+    """What an open file holds."""
+    data = os.read(file, most + 1)
+    while data and len(data) <= most:
+        more = os.read(file, most + 1 - len(data))
         if not more:
             break
         data += more
     digest = hashlib.sha256(data)
     if len(data) > most:  # too long already; the rest is read for its SHA-256 alone
-        while more := file.read(1 << 20):
+        while more := os.read(file, 1 << 20):
             digest.update(more)
     return Contents(data, digest.hexdigest())
 

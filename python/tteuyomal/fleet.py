@@ -63,5 +63,4 @@ def _on_worker(function: Callable[[list[Found]], Any], folder: str, batch: list[
 
 def identity() -> str:
     """Which library this is: its version and the SHA-256 of the shared object."""
-    with open(library.SHARED_OBJECT, "rb") as file:
-        return f"{library.version()} {files._contents(file, 1 << 20).sha256}"
+    return f"{library.version()} {files.read(Found(library.SHARED_OBJECT)).sha256}"

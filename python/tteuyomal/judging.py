@@ -101,9 +101,9 @@ def judge_bytes(name: str, data: bytes, sha256: str, fields: bool = True) -> Jud
     word, field = (ACCEPTED, 0) if what == 0 else (DIFFERS, where)
     if not fields:
         return Judged(name, word, sha256, len(data), field, data=data)
-    at, sheet = decks.claimed(data)
-    worked = worked_out(data[:at], len(sheet.fields()))
-    return Judged(name, word, sha256, len(data), field, claimed=sheet.fields(), worked=worked, data=data)
+    at, claims = decks.claimed(data)
+    worked = worked_out(data[:at], len(claims))
+    return Judged(name, word, sha256, len(data), field, claimed=claims, worked=worked, data=data)
 
 
 def worked_out(deck: bytes, count: int = 5) -> tuple[int, ...]:
