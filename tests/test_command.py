@@ -166,6 +166,16 @@ class Judging(Room):
                                 env=os.environ | {"PYTHONPATH": PYTHON}, stderr=subprocess.PIPE)  # fmt: skip
         self.assertEqual(closed.returncode, 2)
 
+    def test_a_fault_is_never_a_verdict(self):
+        deck = self.put("a", GOOD)
+        with mock.patch.object(judging, "judge_file", side_effect=RuntimeError("a fault")):
+            self.assertEqual(self.run_command("judge", deck), (2, ""))
+        with mock.patch.dict(os.environ, {"TTEUYOMAL_SO": os.path.join(self.room, "nowhere.so")}):
+            one = self.process("judge", deck, stdout=subprocess.PIPE, stderr=subprocess.PIPE)
+            out, fault = one.communicate()
+        self.assertEqual((one.returncode, out), (2, b""))
+        self.assertIn(b"make python", fault)
+
     def test_standard_input(self):
         one = self.process("judge", "-", stdin=subprocess.PIPE, stdout=subprocess.PIPE)
         self.assertEqual((one.communicate(GOOD)[0], one.returncode), (b"-: accepted\n", 0))

@@ -13,6 +13,7 @@ import shutil
 import signal
 import sys
 import tempfile
+import traceback
 from collections.abc import Callable, Iterable, Iterator
 from typing import IO, Any, NoReturn
 
@@ -390,3 +391,6 @@ def main(words: list[str] | None = None) -> int:
         return 2
     except KeyboardInterrupt:
         return INTERRUPTED
+    except Exception:  # a fault of this program: Python's own status for it is 1, which says that a sheet differs
+        traceback.print_exc()
+        return 2

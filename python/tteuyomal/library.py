@@ -149,20 +149,21 @@ class Refused(Exception):
 
 
 class NotThere(Exception):
-    """The shared object has no such function: it is older than this package."""
+    """The shared object can't be loaded, or has no such function, being older than this package."""
 
 
 SHARED_OBJECT = os.environ.get("TTEUYOMAL_SO") or os.path.join(os.path.dirname(os.path.abspath(__file__)), "libtteuyomal.so")
 
 
-def _load() -> ctypes.CDLL:
+def _load() -> tuple[ctypes.CDLL | None, str]:
+    """The shared object, or why it can't be loaded: that is told when a function is called, so that the command can tell it."""
     try:
-        return ctypes.CDLL(SHARED_OBJECT)
+        return ctypes.CDLL(SHARED_OBJECT), ""
     except OSError as fault:
-        raise ImportError(f"the library can't be loaded ({fault}); `make python` in the repository puts it there") from fault
+        return None, f"the library can't be loaded ({fault}); `make python` in the repository puts it there"
 
 
-_library = _load()
+_library, _fault = _load()
 _NUMBERS = [ctypes.POINTER(c_uint64), c_size_t]
 _BYTES = [ctypes.POINTER(c_uint8), c_size_t]
 _DECK = [c_char_p, c_size_t]
@@ -170,23 +171,22 @@ _BLOCK = [c_size_t, c_char_p, c_size_t]
 _TEXT = [c_char_p, c_size_t]
 
 
-def _function(name: str, arguments: list[Any]) -> Any:
-    try:
-        function = getattr(_library, "tteuyomal_" + name)
-    except AttributeError:
-
-        def missing(*_: Any) -> int:
-            raise NotThere(f"this library has no tteuyomal_{name}")
-
-        return missing
-    function.argtypes = arguments
-    function.restype = c_uint64
-    return function
-
-
 def has(name: str) -> bool:
     """Whether the library has the C function `tteuyomal_` and this name."""
     return hasattr(_library, "tteuyomal_" + name)
+
+
+def _function(name: str, arguments: list[Any]) -> Any:
+    if not has(name):
+
+        def missing(*_: Any) -> int:
+            raise NotThere(_fault or f"this library has no tteuyomal_{name}")
+
+        return missing
+    function = getattr(_library, "tteuyomal_" + name)
+    function.argtypes = arguments
+    function.restype = c_uint64
+    return function
 
 
 _version = _function("version", [])
@@ -411,6 +411,8 @@ _count_sets = _function("count_sets", _BLOCK + _NUMBERS)
 _farthest = _function("farthest", _BLOCK + [c_size_t] + _NUMBERS)
 _write_six = _function("write_six", _DECK + _BYTES)
 _compose_six = _function("compose_six", _DECK + _NUMBERS)
+_library_count = _function("library_count", _DECK + _NUMBERS)
+_library_step = _function("library_step", _DECK + 2 * [c_size_t] + _BYTES + _NUMBERS)
 _read_molfile = _function("read_molfile", _TEXT + _BYTES + _NUMBERS)
 _write_molfile = _function("write_molfile", _BLOCK + _BYTES + _NUMBERS)
 _read_neighbours = _function("read_neighbours", _TEXT + _BYTES + _NUMBERS)
@@ -454,6 +456,21 @@ def write_six(deck: Bytes) -> bytes:
 def compose_six(deck: Bytes) -> Six:
     """The five fields of a deck without a sheet, and the largest distance."""
     return Six(*_numbers(_compose_six, _lent(deck), 6))
+
+
+def library_count(deck: Bytes) -> int:
+    """How many products a library deck has."""
+    return _numbers(_library_count, _lent(deck), 1)[0]
+
+
+def library_step(deck: Bytes, position: int, kind: int = 3) -> tuple[bytes, int] | None:
+    """The sheet (of kind 3 or 4) of the product at a position, from 0, and the next position; None past the last."""
+    out, following = (c_uint8 * 44)(), (c_uint64 * 1)()
+    reply = _library_step(*_lent(deck), kind, _size(position, "the position"), out, 44, following, 1)
+    if reply % 256 == 254:
+        return None
+    _told(reply)
+    return bytes(out)[: 44 if kind == 4 else 40], following[0]
 
 
 def _read_text(function: Any, text: Bytes) -> ReadBlock:
