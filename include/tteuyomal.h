@@ -92,6 +92,10 @@ static inline int tteuyomal_is_refusal(tteuyomal_reply reply)
     return tteuyomal_what(reply) != TTEUYOMAL_FINE && tteuyomal_what(reply) != TTEUYOMAL_DIFFERS;
 }
 
+/* The version of these functions: 1,000,000 times the first of its three parts, 1,000 times the second, and the third. The
+ * first grows when a function changes what it replies or takes, the second when one is added. No refusal: it takes nothing. */
+uint64_t tteuyomal_version(void);
+
 /* ---- Decks ---- */
 
 /* Judges a deck that ends with a sheet: fine when all five fields are right, else TTEUYOMAL_DIFFERS with the first

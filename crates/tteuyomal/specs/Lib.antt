@@ -12,3 +12,4 @@ pub mod Bounded
 pub mod Balaban
 pub mod Recovered
 pub mod Molfiles
+pub mod Version

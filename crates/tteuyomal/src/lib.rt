@@ -21,8 +21,9 @@ use reply::Reply;
 use shares::Shares;
 
 mod balaban;
-mod szeged;
 mod molfiles;
+mod szeged;
+mod version;
 
 const PLACES: usize = 72_057_594_037_927_936;
 
