@@ -1,0 +1,150 @@
+-- `sets::recursion` meets its contract. The loop's invariant: what the lists hold counts the sets of the whole tree. The measure is how many atoms were not looked at, and how
+-- many bonds are left.
+use Prim.Native.Nat.{_+_, _-_}
+use native.Mathlib.Omega.{arith}
+use borrow.Author.Needs.{needs}
+use Rattle.sets.proofs.Trees.{few, listed}
+use Rattle.sets.proofs.Running.{Running, running-start, in-places, p-places, store-bonds, store-atoms, key-enough, some-left, running-merged, more-atoms, running-next, root-places, atoms-fit, answered}
+use Rattle.sets.proofs.recursion.Statement.{statement}
+use Rattle.sets.proofs.recursion.Tie as tie
+
+abbrev Inv-loop : tie.InvT-loop
+Inv-loop n bonds root keys₀ all₀ free₀ omitted₀ chosen₀ left₀ i₀ a₀ keys all free omitted chosen left i a = Running n bonds root keys all free omitted chosen left i a
+
+abbrev μ-loop : tie.MeasureT-loop
+μ-loop n bonds root keys₀ all₀ free₀ omitted₀ chosen₀ left₀ i₀ a₀ keys all free omitted chosen left i a = n - i + left
+
+keyed-requires : tie.Need-keyed-requires Inv-loop μ-loop
+keyed-requires c κs = listed (c .before .pre)
+
+loop-holds : tie.Need-loop-holds Inv-loop μ-loop
+loop-holds c = running-start (c .before .before .pre) (c .keyed .ensures)
+
+mul-key : tie.Need-mul-key Inv-loop μ-loop
+mul-key c = omega (arith, in-places (c .before .before .before .before .pre) (c .before .loop .inv))
+
+array-read-key : tie.Need-array-read-key Inv-loop μ-loop
+array-read-key c = omega (arith, in-places (c .before .before .before .before .pre) (c .before .loop .inv))
+
+slice-aggregate-merge : tie.Need-slice-aggregate-merge Inv-loop μ-loop
+slice-aggregate-merge c = search needs
+
+slice-aggregate-merge-2 : tie.Need-slice-aggregate-merge-2 Inv-loop μ-loop
+slice-aggregate-merge-2 c = search needs
+
+merge-requires : tie.Need-merge-requires Inv-loop μ-loop
+merge-requires c κs = store-bonds (c .before .before .before .before .before .before .before .pre) (c .before .before .before .before .loop .inv) (c .before .before .if1 .taken)
+
+slice-aggregate-merge-3 : tie.Need-slice-aggregate-merge-3 Inv-loop μ-loop
+slice-aggregate-merge-3 c = search needs
+
+slice-aggregate-merge-4 : tie.Need-slice-aggregate-merge-4 Inv-loop μ-loop
+slice-aggregate-merge-4 c = search needs
+
+merge-requires-2 : tie.Need-merge-requires-2 Inv-loop μ-loop
+merge-requires-2 c κs = store-atoms (c .before .before .before .before .before .before .before .before .before .before .before .before .pre) (c .before .before .before .before .before .before .before .before .before .loop .inv) (c .before .before .before .before .before .before .before .if1 .taken)
+
+mul-keys : tie.Need-mul-keys Inv-loop μ-loop
+mul-keys c = omega (arith, p-places (c .before .before .before .before .before .before .before .before .before .before .before .before .before .before .before .pre) (c .before .before .before .before .before .before .before .before .before .before .before .before .loop .inv) (c .before .before .before .before .before .before .before .before .before .before .if1 .taken))
+
+array-read-keys : tie.Need-array-read-keys Inv-loop μ-loop
+array-read-keys c = omega (arith, p-places (c .before .before .before .before .before .before .before .before .before .before .before .before .before .before .before .pre) (c .before .before .before .before .before .before .before .before .before .before .before .before .loop .inv) (c .before .before .before .before .before .before .before .before .before .before .if1 .taken))
+
+add-keys : tie.Need-add-keys Inv-loop μ-loop
+add-keys c = omega (arith, in-places (c .before .before .before .before .before .before .before .before .before .before .before .before .before .before .before .pre) (c .before .before .before .before .before .before .before .before .before .before .before .before .loop .inv))
+
+sub-keys : tie.Need-sub-keys Inv-loop μ-loop
+sub-keys c = key-enough (c .before .before .before .before .before .before .before .before .before .before .before .before .before .before .before .pre) (c .before .before .before .before .before .before .before .before .before .before .before .before .loop .inv) (c .before .before .before .before .before .before .before .before .before .before .if1 .taken)
+
+mul-keys-2 : tie.Need-mul-keys-2 Inv-loop μ-loop
+mul-keys-2 c = omega (arith, p-places (c .before .before .before .before .before .before .before .before .before .before .before .before .before .before .before .pre) (c .before .before .before .before .before .before .before .before .before .before .before .before .loop .inv) (c .before .before .before .before .before .before .before .before .before .before .if1 .taken))
+
+array-write-keys : tie.Need-array-write-keys Inv-loop μ-loop
+array-write-keys c = omega (arith, p-places (c .before .before .before .before .before .before .before .before .before .before .before .before .before .before .before .pre) (c .before .before .before .before .before .before .before .before .before .before .before .before .loop .inv) (c .before .before .before .before .before .before .before .before .before .before .if1 .taken))
+
+mul-keys-3 : tie.Need-mul-keys-3 Inv-loop μ-loop
+mul-keys-3 c = omega (arith, in-places (c .before .before .before .before .before .before .before .before .before .before .before .before .before .before .before .pre) (c .before .before .before .before .before .before .before .before .before .before .before .before .loop .inv))
+
+array-write-keys-2 : tie.Need-array-write-keys-2 Inv-loop μ-loop
+array-write-keys-2 c = omega (arith, in-places (c .before .before .before .before .before .before .before .before .before .before .before .before .before .before .before .pre) (c .before .before .before .before .before .before .before .before .before .before .before .before .loop .inv))
+
+sub-left : tie.Need-sub-left Inv-loop μ-loop
+sub-left c = some-left (c .before .before .before .before .before .before .before .before .before .before .before .before .before .before .before .pre) (c .before .before .before .before .before .before .before .before .before .before .before .before .loop .inv) (c .before .before .before .before .before .before .before .before .before .before .if1 .taken)
+
+loop-less : tie.Need-loop-less Inv-loop μ-loop
+loop-less c = omega (arith, some-left (c .before .before .before .before .before .before .before .before .before .before .before .before .before .before .before .pre) (c .before .before .before .before .before .before .before .before .before .before .before .before .loop .inv) (c .before .before .before .before .before .before .before .before .before .before .if1 .taken))
+
+loop-again : tie.Need-loop-again Inv-loop μ-loop
+loop-again c = running-merged (c .before .before .before .before .before .before .before .before .before .before .before .before .before .before .before .pre) (c .before .before .before .before .before .before .before .before .before .before .before .before .loop .inv) (c .before .before .before .before .before .before .before .before .before .before .if1 .taken) (c .before .before .before .before .before .before .before .merge .ensures) (c .before .before .merge2 .ensures)
+
+add-i : tie.Need-add-i Inv-loop μ-loop
+add-i c = omega (arith, c .before .before .loop .inv .seen, few (c .before .before .before .before .before .pre))
+
+loop-less-2 : tie.Need-loop-less-2 Inv-loop μ-loop
+loop-less-2 c = omega (arith, more-atoms (c .before .before .before .before .before .pre) (c .before .before .loop .inv) (c .if1 .left) (c .before .loop-test .taken))
+
+loop-again-2 : tie.Need-loop-again-2 Inv-loop μ-loop
+loop-again-2 c = running-next (c .before .before .before .before .before .pre) (c .before .before .loop .inv) (c .if1 .left) (c .before .loop-test .taken)
+
+mul-t15 : tie.Need-mul-t15 Inv-loop μ-loop
+mul-t15 c = omega (arith, root-places (c .before .before .before .before .pre) (c .before .loop .inv))
+
+array-read-t43 : tie.Need-array-read-t43 Inv-loop μ-loop
+array-read-t43 c = omega (arith, root-places (c .before .before .before .before .pre) (c .before .loop .inv))
+
+mul-t44 : tie.Need-mul-t44 Inv-loop μ-loop
+mul-t44 c = omega (arith, root-places (c .before .before .before .before .pre) (c .before .loop .inv))
+
+array-read-t47 : tie.Need-array-read-t47 Inv-loop μ-loop
+array-read-t47 c = omega (arith, root-places (c .before .before .before .before .pre) (c .before .loop .inv))
+
+mul-t48 : tie.Need-mul-t48 Inv-loop μ-loop
+mul-t48 c = omega (arith, root-places (c .before .before .before .before .pre) (c .before .loop .inv))
+
+array-read-t51 : tie.Need-array-read-t51 Inv-loop μ-loop
+array-read-t51 c = omega (arith, root-places (c .before .before .before .before .pre) (c .before .loop .inv))
+
+add-t52 : tie.Need-add-t52 Inv-loop μ-loop
+add-t52 c = omega (arith, atoms-fit (c .before .before .before .before .pre) (c .before .loop .inv) (c .loop-test .left))
+
+returns : tie.Need-returns Inv-loop μ-loop
+returns c = answered (c .before .before .before .before .pre) (c .before .loop .inv) (c .loop-test .left)
+
+pub recursion-spec : {M : Type 1} → statement M
+recursion-spec =
+    tie.close
+    (tie.spec
+    Inv-loop
+    μ-loop
+    keyed-requires
+    loop-holds
+    mul-key
+    array-read-key
+    slice-aggregate-merge
+    slice-aggregate-merge-2
+    merge-requires
+    slice-aggregate-merge-3
+    slice-aggregate-merge-4
+    merge-requires-2
+    mul-keys
+    array-read-keys
+    add-keys
+    sub-keys
+    mul-keys-2
+    array-write-keys
+    mul-keys-3
+    array-write-keys-2
+    sub-left
+    loop-less
+    loop-again
+    add-i
+    loop-less-2
+    loop-again-2
+    mul-t15
+    array-read-t43
+    mul-t44
+    array-read-t47
+    mul-t48
+    array-read-t51
+    add-t52
+    returns)

@@ -1,0 +1,48 @@
+-- Laws. The definitions compute: one atom, paths, a star, a branched tree, a ring and a block in two parts. Assumes nothing.
+use Prim.Native.Nat.{ℕ}
+use mathlib.Core.List.{List, [], _∷_}
+use mathlib.Core.Path.{_≡_, refl}
+use Rattle.graph.specs.Graph.{joins, anyJoins, bonded, anyAtom, reaches, firstFrom, distance, allAtoms, connected, degree}
+use Rattle.reply.specs.Read.{Read, refused, read, refusal}
+use Rattle.block.specs.Block.{bondsOf, bondFault, bondsReply, blockReply}
+use Rattle.sets.specs.Sets.{withOne, subsets, count, some, apart, setsApart, touches, share, atomsOf, hosoya, merrifieldSimmons}
+use Rattle.sets.specs.Reply.{setsOf, treeReply, setsReply}
+use Rattle.sets.specs.declared.Sets.{Sets}
+
+unfoldable pub told : ℕ → List ℕ → Read Sets
+unfolding joins anyJoins bonded anyAtom reaches firstFrom distance allAtoms connected degree bondsOf bondFault bondsReply blockReply withOne subsets count some apart setsApart touches share atomsOf hosoya merrifieldSimmons setsOf treeReply setsReply
+told n xs = setsReply n xs
+
+abbrev pub of : ℕ → ℕ → Read Sets
+of b a = read (record { bonds = b; atoms = a })
+
+pub one-atom : told 1 [] ≡ of 1 2
+unfolding told
+one-atom = refl
+
+pub path-of-4 : told 4 (1 ∷ 2 ∷ 2 ∷ 3 ∷ 3 ∷ 4 ∷ []) ≡ of 5 8
+unfolding told
+path-of-4 = refl
+
+-- the same path, listed another way
+pub path-again : told 4 (4 ∷ 1 ∷ 2 ∷ 3 ∷ 1 ∷ 3 ∷ []) ≡ of 5 8
+unfolding told
+path-again = refl
+
+-- a star of 5, and a path of 5 with a branch at its second atom
+pub star-of-5 : told 5 (1 ∷ 2 ∷ 1 ∷ 3 ∷ 1 ∷ 4 ∷ 1 ∷ 5 ∷ []) ≡ of 5 17
+unfolding told
+star-of-5 = refl
+
+pub branched : told 6 (1 ∷ 2 ∷ 2 ∷ 3 ∷ 3 ∷ 4 ∷ 4 ∷ 5 ∷ 2 ∷ 6 ∷ []) ≡ of 11 23
+unfolding told
+branched = refl
+
+-- a ring is no tree; a block's own refusal comes first
+pub ring-of-3 : told 3 (1 ∷ 2 ∷ 2 ∷ 3 ∷ 3 ∷ 1 ∷ []) ≡ refused (refusal 34 0)
+unfolding told
+ring-of-3 = refl
+
+pub two-parts : told 4 (1 ∷ 2 ∷ 2 ∷ 3 ∷ 3 ∷ 1 ∷ []) ≡ refused (refusal 7 0)
+unfolding told
+two-parts = refl
