@@ -65,6 +65,13 @@ mod c {
             values: *mut f64,
             values_len: usize,
         ) -> u64;
+        pub fn tteuyomal_count_sets(
+            atoms: usize,
+            bonds: *const u8,
+            bonds_len: usize,
+            counts: *mut u64,
+            counts_len: usize,
+        ) -> u64;
         pub fn tteuyomal_read_molfile(
             text: *const u8,
             text_len: usize,
@@ -143,4 +150,8 @@ pub fn write_molfile(atoms: usize, bonds: &[u8], text: &mut [u8], length: &mut [
     let (out, room) = (text.as_mut_ptr(), text.len());
     let (told, entries) = (length.as_mut_ptr(), length.len());
     unsafe { c::tteuyomal_write_molfile(atoms, bonds.as_ptr(), bonds.len(), out, room, told, entries) }
+}
+
+pub fn count_sets(atoms: usize, bonds: &[u8], counts: &mut [u64]) -> u64 {
+    unsafe { c::tteuyomal_count_sets(atoms, bonds.as_ptr(), bonds.len(), counts.as_mut_ptr(), counts.len()) }
 }

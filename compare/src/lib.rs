@@ -6,6 +6,7 @@
 pub mod answers;
 pub mod balaban;
 pub mod block;
+pub mod count_sets;
 pub mod deck;
 pub mod documents;
 pub mod fraction;

@@ -10,6 +10,7 @@ pub mod Replies
 pub mod Szeged
 pub mod Bounded
 pub mod Balaban
+pub mod CountSets
 pub mod Recovered
 pub mod Molfiles
 pub mod Version

@@ -20,6 +20,7 @@ use reply::Refusal;
 use reply::Reply;
 use shares::Shares;
 
+mod count_sets;
 mod balaban;
 mod molfiles;
 mod szeged;

@@ -26,6 +26,7 @@ pub fn stack(decks: &[&DeckPlan]) {
         ("szeged", most(&blocks, |bonds| archive::szeged(64, bonds, &mut [0; MOST_BONDS], &mut [0]))),
         ("balaban", most(&blocks, |bonds| archive::balaban(64, bonds, &mut [0]))),
         ("polynomial", most(&blocks, |bonds| archive::polynomial(64, bonds, 0.5, &mut [0.0; 2]))),
+        ("count_sets", most(&blocks, |bonds| archive::count_sets(64, bonds, &mut [0; 2]))),
     ];
     println!("| Function | bytes of stack | goal | |");
     println!("|---|---|---|---|");

@@ -46,6 +46,7 @@ fn main() {
         time_szeged(name, &block, 1.0 / 1.5);
     }
     time_balaban("64 atoms, 128 bonds", &shapes::double_ring(64), 1.0 / 1.5);
+    time_sets("path of 64", &shapes::path(64), 1.0 / 1.5);
     let growth = molfiles::times();
     println!();
     println!("{growth}");
@@ -177,6 +178,20 @@ fn time_balaban(name: &str, block: &BlockPlan, goal: f64) {
         black_box(archive::indices(atoms, black_box(&bonds), &mut fields));
     };
     row(&format!("balaban beside indices, {name}"), medians(&mut library, &mut indices), goal);
+}
+
+/// Beside the seven numbers of one atom, that is its row of distances.
+fn time_sets(name: &str, tree: &BlockPlan, goal: f64) {
+    let (atoms, bonds) = (tree.atoms as usize, tree.bond_bytes());
+    let (mut counts, mut sums) = ([0; 2], [0; 7]);
+    assert_eq!(archive::count_sets(atoms, &bonds, &mut counts), 0);
+    let mut sets = || {
+        black_box(archive::count_sets(atoms, black_box(&bonds), &mut counts));
+    };
+    let mut row_of_one = || {
+        black_box(archive::vertex(atoms, black_box(&bonds), 1, &mut sums));
+    };
+    row(&format!("sets beside one row of distances, {name}"), medians(&mut sets, &mut row_of_one), goal);
 }
 
 /// How many random decks with right sheets are judged in a second, and how many atoms they have on average.

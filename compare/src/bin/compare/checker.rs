@@ -4,6 +4,7 @@ use crate::archive;
 use crate::lent::{Lent, Shown};
 use opinion::answers::{self, Verdict};
 use opinion::balaban;
+use opinion::count_sets;
 use opinion::molecule::Measurer;
 use opinion::molfile;
 use opinion::refusal::Refusal;
@@ -236,5 +237,14 @@ impl Checker {
         let length_fault = length.fault(&written(&right, |text| vec![text.len() as u64]));
         let call = || format!("write_molfile {atoms} room {room} and {entries} {}", hex(bonds));
         self.agree(call, code(&right), reply, text_fault.or(length_fault));
+    }
+
+    pub fn count_sets(&mut self, atoms: usize, bonds: &[u8], room: usize) {
+        let (lent, mut out) = (Shown::new(bonds), Lent::new(room));
+        let reply = archive::count_sets(atoms, lent.part(), out.part());
+        self.holds(lent.is_still(bonds), "an input was changed");
+        let right = count_sets::count_sets(atoms, bonds, room);
+        let fault = out.fault(&written(&right, |counts| counts.to_vec()));
+        self.agree(|| format!("count_sets {atoms} room {room} {}", hex(bonds)), code(&right), reply, fault);
     }
 }

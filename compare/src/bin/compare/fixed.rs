@@ -1,8 +1,10 @@
 //! The cases of every run: the documents' decks and blocks, a specimen of each refusal, and sweeps over buffer
 //! lengths, cuts and single bytes.
 
+use crate::archive;
 use crate::checker::Checker;
 use opinion::answers;
+use opinion::count_sets;
 use opinion::deck::{read_deck, sheet_record};
 use opinion::documents::{ten_graphs, worked_example, ACEPLEIADYLENE, DIBENZFULVENE, FORTY, NAPHTHALENE};
 use opinion::make::plan::BlockPlan;
@@ -18,6 +20,7 @@ pub fn run(checker: &mut Checker) {
     cuts(checker);
     single_bytes(checker);
     xs(checker);
+    trees(checker);
 }
 
 /// All calls that a deck without a sheet takes, with room enough.
@@ -41,6 +44,7 @@ fn whole_block(checker: &mut Checker, atoms: usize, bonds: &[u8]) {
     for x in [0.5, 1.0, 0.1] {
         checker.polynomial(atoms, bonds, x, 2);
     }
+    checker.count_sets(atoms, bonds, 2);
 }
 
 fn documents(checker: &mut Checker) {
@@ -224,4 +228,25 @@ fn xs(checker: &mut Checker) {
             }
         });
     }
+}
+
+/// The trees whose numbers of sets are known, into outputs of every length about what is needed.
+fn trees(checker: &mut Checker) {
+    for (name, tree, numbers) in count_sets::known() {
+        checker.case(format!("sets of {name}"), |checker| {
+            let (atoms, bonds) = (tree.atoms as usize, tree.bond_bytes());
+            let mut counts = [0; 2];
+            let reply = archive::count_sets(atoms, &bonds, &mut counts);
+            checker.holds((reply, counts) == (0, numbers), "not the numbers that are known");
+            for room in 0..=4 {
+                checker.count_sets(atoms, &bonds, room);
+            }
+        });
+    }
+    checker.case("sets of a ring and of one atom too many", |checker| {
+        let six = shapes::ring(6).bond_bytes();
+        for (atoms, room) in [(6, 2), (6, 0), (7, 2), (0, 0)] {
+            checker.count_sets(atoms, &six, room);
+        }
+    });
 }

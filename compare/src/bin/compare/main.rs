@@ -74,7 +74,7 @@ fn report(checker: &mut Checker, options: &Options) {
         let seen = checker.differed[field] > 0;
         checker.case(format!("differs {field}"), |checker| checker.holds(seen, "never met"));
     }
-    for number in (1..=20).chain(23..=27) {
+    for number in (1..=20).chain(23..=27).chain([34]) {
         println!("refused {number}: {} times", checker.refused.0[number]);
         let seen = checker.refused.0[number] > 0;
         checker.case(format!("refusal {number}"), |checker| checker.holds(seen, "never met"));

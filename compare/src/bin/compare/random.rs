@@ -167,6 +167,8 @@ fn block(checker: &mut Checker, random: &mut Random) {
     checker.balaban(atoms, &bonds, room);
     let (x, room) = (some_x(random), about(random, 2));
     checker.polynomial(atoms, &bonds, x, room);
+    let room = about(random, 2);
+    checker.count_sets(atoms, &bonds, room);
 }
 
 fn some_x(random: &mut Random) -> f64 {
