@@ -72,13 +72,15 @@ enum tteuyomal_refusal {
     TTEUYOMAL_LATER_PARENT = 24,    /* a later placement has a parent that is not earlier */
     TTEUYOMAL_MOLFILE_LINE = 25,    /* a line of the molfile is missing or too short */
     TTEUYOMAL_MOLFILE_NUMBER = 26,  /* a count or a bond end of the molfile isn't blanks, then at least one digit */
-    TTEUYOMAL_MOLFILE_END = 27      /* a bond end of the molfile is outside its atom list */
+    TTEUYOMAL_MOLFILE_END = 27,     /* a bond end of the molfile is outside its atom list */
+    TTEUYOMAL_NO_TREE = 34          /* the block's bonds are not one fewer than its atoms */
 };
 
 /* The place of a refusal. Lone block: the number of the bond, from 1, for 3 to 6, else 0. Deck: the first byte of
  * the record, from 0; of the bond for 3 to 6; of the placement for 16 to 19, 23 and 24; the deck's length where a
  * record is expected and the deck ends; the first byte too many. Molfile: for 25 to 27 the first byte of
- * the line, or the file's length where it is missing; for 3 to 6 the number of the kept bond. 0 for 8, 9, 10 and 20. */
+ * the line, or the file's length where it is missing; for 3 to 6 the number of the kept bond. 0 for 8, 9, 10, 20 and
+ * 34. */
 
 /* 0, a refusal's number, or TTEUYOMAL_DIFFERS. */
 static inline unsigned tteuyomal_what(tteuyomal_reply reply) { return (unsigned)(reply % 256); }
@@ -170,6 +172,14 @@ tteuyomal_reply tteuyomal_read_molfile(const uint8_t *text, size_t text_len, uin
  * Refusals: the block's, then 9 (text_len below that, or length_len 0). */
 tteuyomal_reply tteuyomal_write_molfile(size_t atoms, const uint8_t *bonds, size_t bonds_len, uint8_t *text,
                                         size_t text_len, uint64_t *length, size_t length_len);
+
+/* ---- Trees ---- */
+
+/* Writes two numbers of a block that is a tree: how many sets of bonds share no atom (the Hosoya index), and how many
+ * sets of atoms have no two that are bonded (the Merrifield-Simmons index); the empty set is counted in each.
+ * Refusals: the block's, then 34 (no tree), then 9 (counts_len below 2). */
+tteuyomal_reply tteuyomal_count_sets(size_t atoms, const uint8_t *bonds, size_t bonds_len, uint64_t *counts,
+                                     size_t counts_len);
 
 #ifdef __cplusplus
 }

@@ -146,6 +146,13 @@ class Answers(unittest.TestCase):
             library.szeged(7, RING)
         self.assertEqual((caught.exception.number, caught.exception.place), (7, 0))
 
+    def test_sets(self):
+        self.assertEqual(library.count_sets(1, []), (1, 2))
+        self.assertEqual(library.count_sets(4, [(1, 2), (2, 3), (3, 4)]), (5, 8))
+        with self.assertRaises(Refused) as caught:
+            library.count_sets(6, RING)
+        self.assertEqual((caught.exception.number, caught.exception.place), (34, 0))
+
     def test_decks(self):
         self.assertEqual(library.compose(FORTY), (12, 198, 96, 102, 14))
         self.assertEqual(library.write_sheet(FORTY), RIGHT)

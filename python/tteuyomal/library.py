@@ -122,6 +122,7 @@ WORDS = {
     25: "a line of the molfile is missing or too short",
     26: "a count or a bond end of the molfile isn't blanks, then at least one digit",
     27: "a bond end of the molfile is outside its atom list",
+    34: "the block's bonds are not one fewer than its atoms",
 }
 
 
