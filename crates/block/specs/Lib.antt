@@ -15,12 +15,12 @@ pub mod Sums
 pub mod Near
 pub mod Found
 pub mod Tally
+pub mod Numbered
+pub mod Lent
 pub mod Faults
 pub mod Tables
 pub mod Told
 pub mod Drawn
-pub mod Numbered
-pub mod Lent
 pub mod Measures
 pub mod Unique
 pub mod Examples

@@ -10,12 +10,12 @@
 -- | sets of atoms               | one number of 64 bits, atom v at the digit v - 1                 | Sets; a search's levels are the distances: Search        |
 pub mod Graph
 pub mod Assembly
+pub mod Sets
 pub mod Examples
 pub mod Bonds
 pub mod Walk
 pub mod Distance
 pub mod Search
-pub mod Sets
 pub mod Sums
 pub mod BondSums
 pub mod Connected

@@ -1,4 +1,4 @@
--- Laws. Sets of atoms as numbers: atom v is in the set whose binary digit at v - 1 is 1. Assumes nothing.
+-- Definitions. Sets of atoms as numbers: atom v is in the set whose binary digit at v - 1 is 1. Assumes nothing.
 use Prim.Native.Nat.{ℕ, zero, suc, _+_, _-_, _*_, _/_, _%_, _^_, _≤_, _<_, min, max}
 use mathlib.Core.Bool.{Bool, true, false, not, _&&_, _||_, cond, false≢true}
 use mathlib.Core.Path.{_≡_, refl, sym, ap, ap₂, _∙_}

@@ -1,5 +1,6 @@
 -- What is measured of a molfile.
--- Definitions
+--
+-- | notion         | meaning                                                          | the law that matters |
+-- | `measureReply` | the five numbers of the block that a molfile holds, or a refusal | `unique-measure`     |
 pub mod Measuring
--- Laws
 pub mod Unique

@@ -3,14 +3,14 @@
 -- | notion                         | meaning                                                     | the law that matters                                           |
 -- | `code`, `coded`, `verdictCode` | a refusal, an answer, a verdict as one number               | `Tells`, `Judges`: what the number tells, with nothing assumed |
 -- | `fitting`, `after`, `Lent`     | 9 where the answer does not fit; the lent output afterwards | `lent-once`                                                    |
--- | `Contributed`                  | the contributions with D lent out beside them               | `contributed-once`                                             |
+-- | `Beside`, `Contributed`        | a number for each bond, and one number beside them          | `beside-once`                                                  |
 pub mod Convention
 pub mod Beside
 pub mod Replies
 pub mod Szeged
-pub mod Bounded
 pub mod Balaban
 pub mod CountSets
-pub mod Recovered
 pub mod Molfiles
 pub mod Version
+pub mod Bounded
+pub mod Recovered
