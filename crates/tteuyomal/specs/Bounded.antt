@@ -20,7 +20,7 @@ use Rattle.assembly.specs.Book.{Book, used, bondBytes, bookOf}
 use Rattle.assembly.specs.Placements.{mostPlacements, placementCount, placementAt, isFull, firstFault, parentFault, joinFault, laterFault, fault, placedReply, assemblyReply}
 use Rattle.assembly.specs.declared.Placement.{Placement}
 use Rattle.assembly.specs.declared.BlockAt.{BlockAt}
-use Rattle.deck.specs.Deck.{longestDeck, mostBlocks, kindsAfter, sheetKinds, Deck, blockAt, moved, blockPlace, placementPlace, blockReplyAt, deckAt, ifElse, blocksFrom, blocksReply, assemblyReplyAt, endReply, sheetReply, deckReply}
+use Rattle.deck.specs.Deck.{longestDeck, mostBlocks, kindsAfter, sheetKinds, Deck, blockAt, moved, bondPlace, blockPlace, placementPlace, blockReplyAt, deckAt, ifElse, blocksFrom, blocksReply, assemblyReplyAt, endReply, sheetReply, deckReply}
 use Rattle.deck.specs.Kept.{kept}
 use Rattle.deck.specs.declared.Form.{Form}
 use Rattle.deck.specs.declared.Form.the-variants.{Composed, Judged}
@@ -121,13 +121,13 @@ first-number q = go (eqb (q .parent) 0 && eqb (q .site) 0 && eqb (q .own) 0)
     go true = omega arith
     go false = omega arith
 
-parent-number : (p : ℕ) → parentFault p ≤ mostNumber
-unfolding parentFault
-parent-number p = omega arith
-
 either : (t : Bool) (m n : ℕ) → m ≤ mostNumber → n ≤ mostNumber → cond t m n ≤ mostNumber
 either true m n h k = h
 either false m n h k = k
+
+parent-number : (p : ℕ) → parentFault p ≤ mostNumber
+unfolding parentFault
+parent-number p = either (eqb p 0) 23 24 (omega arith) (omega arith)
 
 join-number : (g h : Graph) (joins : ℕ → Join) (k : ℕ) → joinFault g h joins k ≤ mostNumber
 unfolding joinFault
@@ -160,6 +160,10 @@ assembly-bounded book xs =
     placed-bounded book (placementAt xs) c 0 n (omega (arith, ltb-false mostPlacements n (neither (eqb n 0) (ltb mostPlacements n) (if-read _ 15 0 e) .1))))
 
 -- A deck: no place is more than the deck's length and what a record's own places add.
+first-or-bond : (at c : ℕ) (t : Bool) (j : ℕ) → at < c → bondPlace at j < c → cond t at (bondPlace at j) < c
+first-or-bond at c true j h k = h
+first-or-bond at c false j h k = k
+
 moved-bounded : (b c : ℕ) (place : Refusal → ℕ) (x : Read (Unit {0})) → ((r : Refusal) → r .place < b → place r < c) → Bounded b x → Bounded c (moved place x)
 moved-bounded b c place (refused r) h s = record { low = s .low; high = s .high; place = h r (s .place) }
 moved-bounded b c place (read u) h s = tt
@@ -171,7 +175,7 @@ module _ (d : List ℕ) (l : length d ≤ longestDeck) where
       let b = blockAt d at in
       let t = eqb (b .number) 0 || used done (b .number) || leb mostBlocks (length done) in
       then-bounded places (refuseIf t 14 at) _ (if-bounded places t 14 at (omega arith)) (λ u e.
-      moved-bounded (suc mostBytes) places (blockPlace at) (blockReply (b .atoms) (bondBytes d b)) (λ r s. omega arith) (block-bounded (b .atoms) (bondBytes d b)))
+      moved-bounded (suc mostBytes) places (blockPlace at) (blockReply (b .atoms) (bondBytes d b)) (λ r s. first-or-bond at places (eqb (r .place) 0) (r .place) (omega arith) (omega (arith, s, h, l))) (block-bounded (b .atoms) (bondBytes d b)))
 
   from-bounded : (last : Kind) (fuel at : ℕ) (done : List BlockAt) → at ≤ length d → Bounded places (blocksFrom fuel last d at done)
   unfolding blocksFrom
