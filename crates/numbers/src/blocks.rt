@@ -34,9 +34,6 @@ fn apart(n: usize, bonds: &[u8], row: Row) -> bool {
     told::of_apart(reply).is(row, 2)
 }
 
-// The most bonds of a block.
-const BONDS: usize = block::BYTES / 2;
-
 // The first entries of a buffer are lent.
 fn contributed(n: usize, bonds: &[u8], out: &mut [u64], lent: usize) -> Shares
     requires { ⌜ lent ≤ length (now out) ⌝ }

@@ -20,10 +20,10 @@ use reply::Refusal;
 use reply::Reply;
 use shares::Shares;
 
+mod balaban_j;
 mod count_sets;
-mod balaban;
 mod molfiles;
-mod szeged;
+mod szeged_terms;
 mod version;
 
 const PLACES: usize = 72_057_594_037_927_936;

@@ -8,8 +8,8 @@ use borrow.Author.Needs.{needs}
 use Rattle.reply.specs.Read.{Read, read, _then_}
 use Rattle.tteuyomal.proofs.Laws.{lent-refused, lent-read}
 use Rattle.tteuyomal.proofs.Indexed.{toldBalaban, balaban-told}
-use Rattle.tteuyomal.proofs.balaban.tteuyomal_balaban.Statement.{statement}
-use Rattle.tteuyomal.proofs.balaban.tteuyomal_balaban.Tie as tie
+use Rattle.tteuyomal.proofs.balaban_j.tteuyomal_balaban.Statement.{statement}
+use Rattle.tteuyomal.proofs.balaban_j.tteuyomal_balaban.Tie as tie
 
 index-requires : tie.Need-index-requires
 index-requires c κs = search needs

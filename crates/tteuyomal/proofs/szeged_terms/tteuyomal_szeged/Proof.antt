@@ -7,8 +7,8 @@ use Rattle.szeged.specs.Reply.{szegedReply}
 use lib.ListN.{length}
 use Rattle.tteuyomal.proofs.Beside.{beside-lacking, beside-refused, beside-fine}
 use Rattle.tteuyomal.proofs.Indexed.{toldSzeged, szeged-told, szeged-stop, szeged-lent}
-use Rattle.tteuyomal.proofs.szeged.tteuyomal_szeged.Statement.{statement}
-use Rattle.tteuyomal.proofs.szeged.tteuyomal_szeged.Tie as tie
+use Rattle.tteuyomal.proofs.szeged_terms.tteuyomal_szeged.Statement.{statement}
+use Rattle.tteuyomal.proofs.szeged_terms.tteuyomal_szeged.Tie as tie
 
 unlent-requires : tie.Need-unlent-requires
 unlent-requires c κs = search needs
