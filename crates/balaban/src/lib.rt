@@ -107,11 +107,12 @@ fn answered(n: usize, bonds: &[u8], rows: &DistanceMatrix) -> u64
 pub fn index(n: usize, bonds: &[u8]) -> Balaban
     ensures { λ r. ⌜ r ≡ saidBalaban (balabanReply n (now (bonds .entry))) ⌝ }
 {
-    let reply = block::check(n, bonds);
+    let mut rows = [[0u8; ATOMS]; ATOMS];
+    let opened = block::table(n, bonds, &mut rows);
+    let reply = opened.reply;
     match reply {
         Reply::Refused(refusal) => Balaban::Refused(refusal),
         Reply::Fine => {
-            let rows = block::rows(n, bonds);
             let j = answered(n, bonds, &rows);
             Balaban::Of(j)
         }

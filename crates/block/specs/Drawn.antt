@@ -16,11 +16,13 @@ use Rattle.graph.specs.Graph.{Graph, Within, bonded, sum}
 use Rattle.graph.specs.Sums.{wider, last, sum-cong, sum-none}
 use Rattle.graph.specs.Distance.{not-true}
 use Rattle.graph.specs.Sets.{has, alone, has-or, has-xor, has-alone, beyond, taken-one}
-use Rattle.block.specs.Block.{mostAtoms}
+use Rattle.reply.specs.Read.{Read, refused, read, _then_, saidReply}
+use Rattle.block.specs.Block.{mostAtoms, graphOf, blockReply}
 use Rattle.block.specs.Rows.{table}
 use Rattle.block.specs.Tables.{length-table, getD-table}
 use Rattle.block.specs.Near.{around, Shows}
-use Rattle.block.specs.Opened.{setOf, neighboursOf}
+use Rattle.block.specs.Opened.{setOf, neighboursOf, openedReply, saidOpened}
+use Rattle.block.specs.declared.Opened.{Opened}
 
 pub set-fits : (n : ℕ) (p : ℕ → Bool) → setOf n p < 2 ^ n
 unfolding sum
@@ -128,3 +130,12 @@ has-neighbour g u v w x =
     ap (λ (m : ℕ). has m v) (getD-table mostAtoms (λ k. setOf (g .atoms) (bonded g (suc k))) (u - 1) 0 (omega arith))
     ∙ has-set (g .atoms) (bonded g (suc (u - 1))) v x
     ∙ ap (λ (y : ℕ). bonded g y v) k
+
+-- the reply beside the neighbours is the block's
+pub opened-reply : (n : ℕ) (xs : List ℕ) (v : Opened) → v ≡ saidOpened (openedReply n xs) → v .reply ≡ saidReply (blockReply n xs)
+unfolding openedReply
+opened-reply n xs v e = ap (λ (o : Opened). o .reply) e ∙ go (blockReply n xs)
+  where
+    go : (R : Read (Unit {0})) → saidOpened (R then λ _. read (neighboursOf (graphOf n xs))) .reply ≡ saidReply R
+    go (refused r) = refl
+    go (read u) = refl

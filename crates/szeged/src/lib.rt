@@ -8,6 +8,7 @@ ghost use Rattle.block.specs.Block.{mostAtoms, bondsOf, graphOf, blockReply};
 ghost use Rattle.block.specs.Rows.{rowsOf};
 ghost use Rattle.szeged.specs.Reply.{szegedReply, saidSzeged, szegedEntries};
 ghost use Rattle.szeged.specs.Work.{Counted, Product, Task, Done};
+use block::ATOMS;
 use block::DistanceMatrix;
 use block::DistanceRow;
 use reply::Refusal;
@@ -87,12 +88,11 @@ pub fn terms(n: usize, bonds: &[u8], out: &mut [u64]) -> Szeged
         ((w : ℕ) → r ≡ Szeged.Index w → length (bondsOf (now (bonds .entry))) + 1 ≡ n → w ≡ wiener (graphOf n (now (bonds .entry))))
         ⌝ }
 {
-    let reply = block::check(n, bonds);
+    let mut rows = [[0u8; ATOMS]; ATOMS];
+    let opened = block::table(n, bonds, &mut rows);
+    let reply = opened.reply;
     match reply {
         Reply::Refused(refusal) => Szeged::Refused(refusal),
-        Reply::Fine => {
-            let rows = block::rows(n, bonds);
-            answered(n, bonds, &rows, out)
-        }
+        Reply::Fine => answered(n, bonds, &rows, out),
     }
 }

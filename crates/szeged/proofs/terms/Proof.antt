@@ -1,15 +1,16 @@
 -- `terms` meets its contract: the block's refusal, or the answer for a block that is not refused.
 use mathlib.Core.Path.{sym, _∙_, ap}
-use Rattle.block.specs.Block.{blockReply}
 use Rattle.reply.specs.Chain.{fine-read, refused-read}
+use Rattle.block.specs.Block.{blockReply}
+use Rattle.block.specs.Drawn.{opened-reply}
 use Rattle.szeged.specs.Reply.{saidSzeged}
 use Rattle.szeged.proofs.Reply.{reply-refused, entries-stay, tree-told}
 use borrow.Author.Needs.{needs}
 use Rattle.szeged.proofs.terms.Statement.{statement}
 use Rattle.szeged.proofs.terms.Tie as tie
 
-check-requires : tie.Need-check-requires
-check-requires c κs = search needs
+table-requires : tie.Need-table-requires
+table-requires c κs = search needs
 
 enum-known-reply : tie.Need-enum-known-reply
 enum-known-reply c = search needs
@@ -17,18 +18,16 @@ enum-known-reply c = search needs
 enum-told : tie.Need-enum-told
 enum-told c = search needs
 
-rows-requires : tie.Need-rows-requires
-rows-requires c κs = search needs
-
 answered-requires : tie.Need-answered-requires
 answered-requires c κs =
     let a = c .before .before .before .before .before .before .before .before .args in
-    (fine-read (blockReply (a .n) (a .bonds .now)) (sym (c .before .before .before .before .before .check .ensures) ∙ c .before .before .before .enum-told .given .1), c .before .before .rows .ensures)
+    let t = c .before .before .before .before .table in
+    (fine-read (blockReply (a .n) (a .bonds .now)) (sym (opened-reply _ _ _ (t .ensures .0)) ∙ c .before .before .enum-told .given .1), t .ensures .1)
 
 returns : tie.Need-returns
 returns c =
-    let a = c .before .before .before .before .before .before .args in
-    let e = reply-refused (a .n) (a .bonds .now) _ (refused-read (blockReply (a .n) (a .bonds .now)) _ (sym (c .before .before .before .check .ensures) ∙ c .before .reply .given .1)) in
+    let a = c .before .before .before .before .before .before .before .args in
+    let e = reply-refused (a .n) (a .bonds .now) _ (refused-read (blockReply (a .n) (a .bonds .now)) _ (sym (opened-reply _ _ _ (c .before .before .before .table .ensures .0)) ∙ c .before .reply .given .1)) in
     let r = sym (ap saidSzeged e) in
     (r, (entries-stay (a .n) (a .bonds .now) (a .out .now) e, tree-told (a .n) (a .bonds .now) _ _ r))
 
@@ -41,14 +40,4 @@ returns-2 c =
     (f .0, (f .1, tree-told _ _ _ _ (f .0)))
 
 pub terms-spec : {M : Type 1} → statement M
-terms-spec =
-    tie.close
-    (tie.spec
-    check-requires
-    enum-known-reply
-    enum-told
-    rows-requires
-    answered-requires
-    returns
-    same-length
-    returns-2)
+terms-spec = tie.close (tie.spec table-requires enum-known-reply enum-told answered-requires returns same-length returns-2)
