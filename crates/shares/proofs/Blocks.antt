@@ -1,22 +1,45 @@
 -- What a block that is not refused brings to the work. Assumes nothing.
 use Prim.Native.Nat.{ℕ, suc, _-_, _/_, _≤_, _<_}
-use mathlib.Core.List.{List, []}
-use mathlib.Core.Path.{_≡_, refl, subst₂}
+use mathlib.Core.List.{List}
+use mathlib.Core.Path.{_≡_, refl, sym, ap, _∙_}
 use native.Mathlib.Omega.{arith}
-use lib.Dec.{eqb}
 use lib.ListN.{length, getD, replicate}
-use Rattle.graph.specs.Graph.{distance, sum}
+use Rattle.graph.specs.Graph.{Within, distance, sum}
 use Rattle.paths.specs.Notions.{Plain, lcmStarts}
-use Rattle.reply.specs.Read.{read}
+use Rattle.reply.specs.Read.{Read, refused, read, _then_}
 use Rattle.block.specs.Block.{mostAtoms, mostBytes, bondsOf, graphOf, blockReply}
-use Rattle.block.specs.Rows.{rowsOf}
-use Rattle.block.specs.Told.{few-atoms, molecule, each-bond, distance-at}
+use Rattle.block.specs.Rows.{rowsOf, rowAt}
+use Rattle.block.specs.Opened.{neighboursOf, openedReply, saidOpened}
+use Rattle.block.specs.Drawn.{neighbour-fits, has-neighbour}
+use Rattle.block.specs.Told.{few-atoms, molecule, each-bond, row-found, distance-at}
 use Rattle.block.specs.Numbered.{few-bytes}
 use Rattle.block.specs.Lent.{zeros}
-use Rattle.shares.specs.Work.{listOf, beside, Shows, Listed, Few, Given, Whole, Sofar}
-use Rattle.shares.proofs.Rows.{of-places}
-use Rattle.shares.proofs.Lists.{few-read}
-use Rattle.shares.proofs.Few.{at-most-limit}
+use Rattle.reply.specs.declared.Refusal.{Refusal}
+use Rattle.reply.specs.declared.Reply.the-variants.{Fine, Refused}
+use Rattle.block.specs.declared.Opened.{Opened}
+use Rattle.block.proofs.Replies.{not-fine}
+use Rattle.shares.specs.Work.{Given, Whole, Sofar}
+
+-- what a block that was read tells
+module _ (n : ℕ) (xs : List ℕ) (v : Opened) (is : v ≡ saidOpened (openedReply n xs)) where
+  abbrev sets : List ℕ
+  sets = neighboursOf (graphOf n xs)
+
+  pub opened-in : v .reply ≡ Fine → (blockReply n xs ≡ read tt) × (v .near ≡ sets)
+  unfolding openedReply
+  opened-in = go (blockReply n xs) is
+    where
+      go : (m : Read (Unit {0})) → v ≡ saidOpened (m then λ _. read sets) → v .reply ≡ Fine → (m ≡ read tt) × (v .near ≡ sets)
+      go (refused r) e f = absurd (not-fine (sym (ap (λ (x : Opened). x .reply) e) ∙ f))
+      go (read u) e f = (refl, ap (λ (x : Opened). x .near) e)
+
+  pub opened-out : (r : Refusal) → v .reply ≡ Refused r → blockReply n xs ≡ refused r
+  unfolding openedReply
+  opened-out r = go (blockReply n xs) is
+    where
+      go : (m : Read (Unit {0})) → v ≡ saidOpened (m then λ _. read sets) → v .reply ≡ Refused r → m ≡ refused r
+      go (refused q) e f = let h : Refused q ≡ Refused r = sym (ap (λ (x : Opened). x .reply) e) ∙ f in cc
+      go (read u) e f = absurd (not-fine (sym f ∙ ap (λ (x : Opened). x .reply) e))
 
 module _ (n : ℕ) (xs : List ℕ) (fine : blockReply n xs ≡ read tt) where
   pub plain : Plain n (bondsOf xs)
@@ -26,28 +49,24 @@ module _ (n : ℕ) (xs : List ℕ) (fine : blockReply n xs ≡ read tt) where
   pub few : n ≤ mostAtoms
   few = few-atoms n xs fine .high
 
-  -- the row of each atom shows its distances
-  pub far : (i : ℕ) → i < n → Shows n (distance (graphOf n xs) (suc i)) (listOf (rowsOf n xs) i)
-  far i l = record {
-    shows = λ j h.
-        subst₂ (λ (x y : ℕ). getD (getD (rowsOf n xs) x []) y 0 ≡ distance (graphOf n xs) (suc i) (suc j)) (before i) (before j)
-        (distance-at n xs fine {a = suc i} {b = suc j} (omega arith) (omega arith));
+  -- its neighbours and its rows
+  pub given : (near : List ℕ) (rows : List (List ℕ)) → near ≡ neighboursOf (graphOf n xs) → rows ≡ rowsOf n xs → Given n (bondsOf xs) near rows
+  given near rows e h = record {
+    small = few;
+    molecule = molecule n xs fine;
+    beside = rw e (record { each = λ v w a b. has-neighbour (graphOf n xs) v w (inner a) b; fits = λ v a. neighbour-fits (graphOf n xs) v (inner a) });
+    far = λ i a. rw h (record { shows = λ j l. row-shows i a j l });
   }
     where
-      before : (k : ℕ) → suc k - 1 ≡ k
-      before k = omega arith
+      inner : {v : ℕ} → Within n v → Within mostAtoms v
+      inner a = record { low = a .low; high = omega (arith, few) }
 
-  pub given : (near rows : List (List ℕ)) → rows ≡ rowsOf n xs
-      → ((i : ℕ) → i < n → (d : ℕ → ℕ) → Shows n d (listOf rows i) → Listed n (λ w. eqb (d w) 1) (listOf near (suc i))) → Given n (bondsOf xs) near rows
-  given near rows e h =
-      let shown : (i : ℕ) → i < n → Shows n (distance (graphOf n xs) (suc i)) (listOf rows i) = rw e far in
-      record {
-        small = few;
-        molecule = molecule n xs fine;
-        lists = of-places (λ v. Few n (beside (graphOf n xs) v) (listOf near v)) n
-            (λ i l. let list = h i l (distance (graphOf n xs) (suc i)) (shown i l) in few-read list (at-most-limit n xs fine (record { low = omega arith; high = l }) list));
-        far = shown;
-      }
+      row-shows : (i : ℕ) → Within n i → (j : ℕ) → j < n → getD (rowAt (rowsOf n xs) i) j 0 ≡ distance (graphOf n xs) i (suc j)
+      row-shows i a j l =
+          let e : suc j - 1 ≡ j = omega arith in
+          ap (λ (k : ℕ). getD (rowAt (rowsOf n xs) i) k 0) (sym e)
+          ∙ ap (λ (row : List ℕ). getD row (suc j - 1) 0) (row-found (rowsOf n xs) i (inner a))
+          ∙ distance-at n xs fine a (record { low = omega arith; high = l })
 
   pub whole : Whole n xs 0 1
   unfolding lcmStarts

@@ -20,8 +20,8 @@ use Rattle.paths.specs.Flow.{through}
 use Rattle.block.specs.Block.{mostAtoms, bondsOf, graphOf}
 use Rattle.block.specs.Numbered.{bondAt}
 use Rattle.shares.specs.Reply.{most}
-use Rattle.shares.specs.Work.{cap, full, at, Shows, carried, Whole, Ready}
-use Rattle.shares.proofs.Rows.{of-places}
+use Rattle.shares.specs.Work.{cap, full, at, carried, Whole, Ready}
+use Rattle.shares.proofs.Counting.{shown-at}
 use Rattle.shares.proofs.Listing.{listed}
 use Rattle.shares.proofs.Scaling.{count-divides}
 
@@ -31,10 +31,6 @@ let-pass p q x t e = simp (eq-eqb (suc p) q (omega arith))
 
 pub let-none : (p q x t : ℕ) → (p + 1 ≡ q → ⊥) → 0 ≡ cond (eqb (suc p) q) x 0 * t
 let-none p q x t d = simp (ne-eqb (suc p) q (λ z. d (omega arith))) (omega arith)
-
--- a row by the atoms' numbers
-shown-at : {n : ℕ} {d : ℕ → ℕ} {row : List ℕ} → Shows n d row → (v : ℕ) → Within n v → getD row (v - 1) 0 ≡ d v
-shown-at {n} {d} {row} s = of-places (λ v. getD row (v - 1) 0 ≡ d v) n (λ j l. let e : suc j - 1 ≡ j = omega arith in ap (λ (k : ℕ). getD row k 0) e ∙ s .shows j l)
 
 module _ {n : ℕ} {xs : List ℕ} {i d : ℕ} (W : Whole n xs i d) where
   pub count-low : {v : ℕ} → Within n i → Within n v → pathCount (graphOf n xs) i v ≤ most

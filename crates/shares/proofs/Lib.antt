@@ -1,10 +1,8 @@
 -- Laws of the work on arrays.
 pub mod Rows
-pub mod Lists
-pub mod Chains
+pub mod Layering
 pub mod Sweeping
 pub mod Counting
-pub mod Few
 pub mod Tallying
 pub mod Scaling
 pub mod Flowing

@@ -10,7 +10,7 @@ use lib.Dec.{eqb}
 use lib.ListN.{length, set, replicate, length-replicate}
 use lib.Seq.{getD-set-same, getD-set-other}
 use Rattle.graph.specs.Graph.{Within}
-use Rattle.block.specs.Lent.{zeros, one-more}
+use Rattle.block.specs.Lent.{zeros}
 use Rattle.shares.specs.Work.{at}
 
 -- an entry after a store is what was stored, or what it was
@@ -33,14 +33,13 @@ unit-at m i v l =
     (λ q. q .1 ∙ zeros m v ∙ sym (ap {B = ℕ} (λ (t : Bool). cond t 1 0) (ne-eqb i v (λ e. q .0 (sym e)))))
     (after-store (replicate m 0) i 1 v (omega (arith, length-replicate {A = ℕ} m 0)))
 
--- a row that has G for the atoms 1 to j has it for the next once that is stored
-pub grown : (row : List ℕ) (j x : ℕ) (G : ℕ → ℕ) → j + 1 < length row → ((k : ℕ) → k < j → at row (suc k) ≡ G k) → x ≡ G j
-    → (k : ℕ) → k < j + 1 → at (set row (j + 1) x) (suc k) ≡ G k
-grown row j x G i h e =
-    one-more j (λ k l. getD-set-other row (j + 1) (suc k) x 0 (λ z. omega arith) ∙ h k l)
-    (let z : suc j ≡ j + 1 = omega arith in ap (λ (k : ℕ). at (set row (j + 1) x) k) z ∙ getD-set-same row (j + 1) x 0 i ∙ e)
+-- a row that has G at the places below j has it at j once that is stored
+pub placed : (row : List ℕ) (j x : ℕ) (G : ℕ → ℕ) → j < length row → ((k : ℕ) → k < j → at row k ≡ G k) → x ≡ G j
+    → (k : ℕ) → k < j + 1 → at (set row j x) k ≡ G k
+placed row j x G i h e k l =
+    ⊎-elim (λ q. q .1 ∙ e ∙ ap G (sym (q .0))) (λ q. q .1 ∙ h k (omega (arith, q .0))) (after-store row j x k i)
 
--- the same, for a row that has G at the seats of the atoms 1 to v
+-- the same, for the seats of the atoms 1 to v
 pub seated-next : (row : List ℕ) (v x : ℕ) (G : ℕ → ℕ) → v + 1 < length row → ((u : ℕ) → Within v u → at row u ≡ G u) → x ≡ G (v + 1)
     → (u : ℕ) → Within (v + 1) u → at (set row (v + 1) x) u ≡ G u
 seated-next row v x G i h e u w =

@@ -36,7 +36,7 @@ module _ {n : ℕ} {xs : List ℕ} {i d : ℕ} (W : Whole n xs i d) where
         let exact : at c v ≡ pathCount (graphOf n xs) i v = omega (arith, h .holds v hv, count-low W hi hv) in
         e v hv ∙ ap (λ (x : ℕ). cond (ltb i v) (d / x) 0) exact
 
-    pub ready : {near : List (List ℕ)} {row t : List ℕ} → Start n (bondsOf xs) near row i
+    pub ready : {near row sets t : List ℕ} {top : ℕ} → Start n (bondsOf xs) near row sets top i
         → Holds n full (gathered (graphOf n xs) i (weight (graphOf n xs) d i)) t → Ready n xs row c t i d
     ready s p = record { whole = W; far = s .far; start = hi; counts = h; passed = p }
 

@@ -1,169 +1,236 @@
--- A sweep over the atoms in the order of their keys: what holds while it runs. Assumes nothing.
-use Prim.Native.Nat.{ℕ, suc, _+_, _-_, min, _≤_, _<_}
-use mathlib.Core.Bool.{Bool, true, false, _&&_, cond}
-use mathlib.Core.List.{List, []}
-use mathlib.Core.Logic.{_⊎_, inl, inr, ⊎-elim}
-use mathlib.Core.Path.{_≡_, refl, sym, _∙_, ap}
-use native.Mathlib.Nat.{eq-or-lt-of-le, eq-zero-or-pos}
+-- A sweep over the atoms, level by level: what holds while it runs. Assumes nothing.
+use Prim.Native.Nat.{ℕ, suc, _+_, _-_, _^_, min, _≤_, _<_}
+use mathlib.Core.Bool.{Bool, true, false, not, _&&_, _||_, cond, false≢true, true≢false}
+use mathlib.Core.List.{List}
+use mathlib.Core.Logic.{_≢_}
+use mathlib.Core.Path.{_≡_, refl, sym, _∙_, ap, subst⁻¹}
+use native.Mathlib.Decide.{ℕ-discrete, decLt}
+use native.Mathlib.Numerals.{add-one}
 use native.Mathlib.Omega.{arith}
-use borrow.Author.Tests.{eqb-true, eqb-false, ltb-true, ltb-false}
-use lib.Dec.{eqb, ltb}
+use borrow.Author.Tests.{eqb-true, eq-eqb, ne-eqb}
+use lib.Bits.{bitAnd, bitXor, and-le-l}
+use lib.Count.{trailingZeros}
+use lib.Dec.{eqb}
 use lib.ListN.{length, getD, set}
+use lib.Pow.{pow-mono}
 use lib.Seq.{getD-set-same, getD-set-other}
-use Rattle.graph.specs.Graph.{Within}
-use Rattle.graph.specs.Sums.{sum-cong, sum-min}
-use Rattle.block.specs.Block.{mostAtoms, limit}
-use Rattle.shares.specs.Work.{at, there, fromSeats, Ordered, Rule, Holds}
+use Rattle.graph.specs.Graph.{Within, sum}
+use Rattle.graph.specs.Sets.{has, alone, has-and, has-xor, has-none, has-alone, beyond, lowest, taken-one}
+use Rattle.graph.specs.Sums.{sum-cong, sum-add, sum-none, sum-split, sum-min, sum-pick}
+use Rattle.block.specs.Block.{mostAtoms}
+use Rattle.block.specs.Drawn.{has-set}
+use Rattle.shares.specs.Work.{at, overSet, Near, Levels, Rule, Holds}
 
--- where the other side starts
-abbrev pub across : ℕ → ℕ
-across from = suc mostAtoms - from
+-- the lowest place of a set
+abbrev pub first : ℕ → ℕ
+first m = trailingZeros mostAtoms m
 
--- v is the next atom with the key level, or 0; the row has F for all atoms before it: those just below level on one side, those of it on the other
-pub record Sweeping (n : ℕ) (B : ℕ → ℕ → Bool) (key own : List ℕ) (top level from v : ℕ) (both : List ℕ) : Type 0 where
-  pub side : (from ≡ 0) ⊎ (from ≡ suc mostAtoms)
-  pub none : (at both 0 ≡ 0) × (at both (suc mostAtoms) ≡ 0)
-  pub next : (v ≡ 0 → ⊥) → Within n v × (at key v ≡ level)
-  pub lower : (F : ℕ → ℕ) → Rule n B (at key) (at own) F → (w : ℕ) → Within n w → at key w < level → at both w + there both (suc mostAtoms) w ≡ min top (F w)
-  pub below : (F : ℕ → ℕ) → Rule n B (at key) (at own) F → (w : ℕ) → Within n w → suc (at key w) ≡ level → there both from w ≡ min top (F w)
-  pub passed : (F : ℕ → ℕ) → Rule n B (at key) (at own) F → (w : ℕ) → Within n w → at key w ≡ level → v < w → there both (across from) w ≡ min top (F w)
-  pub level-free : (w : ℕ) → Within n w → at key w ≡ level → there both from w ≡ 0
-  pub later-free : (w : ℕ) → Within n w → level < at key w → (there both from w ≡ 0) × (there both (across from) w ≡ 0)
+-- its atom is taken out
+abbrev pub less : ℕ → ℕ
+less m = bitXor m (2 ^ first m)
 
-module _ {n : ℕ} {B : ℕ → ℕ → Bool} {near : List (List ℕ)} {key last before : List ℕ} {top : ℕ} (o : Ordered n B near key last before top) where
-  -- the last atom with a key has a seat
-  pub seated : (d : ℕ) → at last d ≤ mostAtoms
-  seated d = ⊎-elim (λ z. omega arith) (λ p. omega (arith, o .chain .atLast d (λ z. omega arith) .0, o .keyed .small)) (eq-zero-or-pos (at last d))
+module _ (m : ℕ) (some : m ≢ 0) (fits : m < 2 ^ mostAtoms) where
+  pub first-low : first m < mostAtoms
+  first-low = lowest mostAtoms m (omega arith) fits .0
 
-  pub sweeping-start : (own : List ℕ) (cap : ℕ) (both : List ℕ) → ((w : ℕ) → at both w ≡ 0) → Sweeping n B key own cap 0 (suc mostAtoms) (at last 0) both
-  sweeping-start own cap both z = record {
-    side = inr refl;
-    none = (z 0, z (suc mostAtoms));
-    next = o .chain .atLast 0;
-    lower = λ F r w h l. absurd (omega arith);
-    below = λ F r w h l. absurd (omega arith);
-    passed = λ F r w h e l. absurd (omega (arith, o .chain .noneLater w h, ap (at last) e));
-    level-free = λ w h e. z (suc mostAtoms + w);
-    later-free = λ w h l. (z (suc mostAtoms + w), z (across (suc mostAtoms) + w));
+  pub first-has : has m (suc (first m)) ≡ true
+  first-has = lowest mostAtoms m (omega arith) fits .1
+
+  is-alone : 2 ^ first m ≡ alone (suc (first m))
+  is-alone = let q : first m ≡ suc (first m) - 1 = omega arith in ap (λ (x : ℕ). 2 ^ x) q
+
+  pub less-sum : less m + 2 ^ first m ≡ m
+  less-sum = rw is-alone (taken-one m (suc (first m)) first-has)
+
+  pub has-less : (w : ℕ) → 1 ≤ w → has (less m) w ≡ (has m w && not (eqb w (suc (first m))))
+  has-less w l = rw is-alone (has-xor m (alone (suc (first m))) w ∙ rw (has-alone (suc (first m)) w (omega arith) l) (elim (ℕ-discrete w (suc (first m))) [
+    | yes e ↦ rw (eq-eqb w (suc (first m)) e, e, first-has) refl
+    | no ne ↦ rw (ne-eqb w (suc (first m)) ne) (plain (has m w))
+  ]))
+    where
+      plain : (t : Bool) → ((t && not false) || (not t && false)) ≡ (t && not false)
+      plain true = refl
+      plain false = refl
+
+  -- what the set has is what the lowest atom has, and the others
+  pub over-less : (f : ℕ → ℕ) → overSet m f ≡ f (first m + 1) + overSet (less m) f
+  over-less f =
+      rw (add-one (first m))
+      (sum-cong mostAtoms (λ w h. rw (has-less w (h .low)) (at-one w (ℕ-discrete w (suc (first m)))))
+      ∙ sum-add mostAtoms (λ w. cond (eqb (suc (first m)) w) (f w) 0) (λ w. cond (has (less m) w) (f w) 0)
+      ∙ ap (λ (x : ℕ). x + overSet (less m) f) (sum-pick mostAtoms (suc (first m)) f (omega (arith, first-low))))
+    where
+      at-one : (w : ℕ) → Dec (w ≡ suc (first m)) → cond (has m w) (f w) 0 ≡ cond (eqb (suc (first m)) w) (f w) 0 + cond (has m w && not (eqb w (suc (first m)))) (f w) 0
+      at-one w (yes e) = rw (eq-eqb w (suc (first m)) e, eq-eqb (suc (first m)) w (sym e), e, first-has) (omega arith)
+      at-one w (no ne) = rw (ne-eqb w (suc (first m)) ne, ne-eqb (suc (first m)) w (λ e. ne (sym e))) (plain (has m w))
+        where
+          plain : (t : Bool) → cond t (f w) 0 ≡ 0 + cond (t && not false) (f w) 0
+          plain true = omega arith
+          plain false = omega arith
+
+pub over-none : (f : ℕ → ℕ) → overSet 0 f ≡ 0
+over-none f = sum-cong mostAtoms (λ w h. rw (has-none w) refl) ∙ sum-none mostAtoms
+
+-- below are the atoms of the level before d, rest those of level d that wait; the row has F for all others up to d
+pub record Sweeping (n : ℕ) (key F : ℕ → ℕ) (top cap d below rest : ℕ) (row : List ℕ) : Type 0 where
+  pub waits : rest < 2 ^ n
+  pub lower : (w : ℕ) → Within n w → key w < d → at row w ≡ min cap (F w)
+  pub under : d ≤ top → (w : ℕ) → Within n w → has below w ≡ eqb (suc (key w)) d
+  pub here : d ≤ top → (w : ℕ) → Within n w → has rest w ≡ true → key w ≡ d
+  pub passed : d ≤ top → (w : ℕ) → Within n w → key w ≡ d → has rest w ≡ false → at row w ≡ min cap (F w)
+
+-- who is in a level
+module _ {n : ℕ} {key : ℕ → ℕ} {sets : List ℕ} {top : ℕ} (L : Levels n key sets top) where
+  at-level : (d : ℕ) → d ≤ top → (w : ℕ) → Within n w → has (at sets d) w ≡ eqb (key w) d
+  at-level d l w h = ap (λ (m : ℕ). has m w) (L .level d l) ∙ has-set n (λ v. eqb (key v) d) w h
+
+  at-here : (d : ℕ) → d ≤ top → (w : ℕ) → Within n w → has (at sets d) w ≡ true → key w ≡ d
+  at-here d l w h e = eqb-true (key w) d (sym (at-level d l w h) ∙ e)
+
+  at-passed : (d : ℕ) → d ≤ top → (w : ℕ) → Within n w → key w ≡ d → has (at sets d) w ≡ false → ⊥
+  at-passed d l w h k e = false≢true (sym e ∙ at-level d l w h ∙ eq-eqb (key w) d k)
+
+-- an atom that waits is one of the atoms, and what is asked of its neighbours is a set of them
+pub wide-set : {n m : ℕ} → n ≤ mostAtoms → m < 2 ^ n → m < 2 ^ mostAtoms
+wide-set {n} {m} l w = omega (arith, w, grow)
+  where
+    grow : 2 ^ n ≤ 2 ^ mostAtoms
+    grow = pow-mono l
+
+module _ {n : ℕ} (small : n ≤ mostAtoms) (rest : ℕ) (waits : rest < 2 ^ n) (some : rest ≢ 0) where
+  its-first : has rest (suc (first rest)) ≡ true
+  its-first = first-has rest some (wide-set small waits)
+
+  pub taken : Within n (suc (first rest))
+  taken = elim (decLt n (suc (first rest))) [
+    | yes h ↦ absurd (false≢true (sym (beyond n rest (suc (first rest)) waits h) ∙ its-first))
+    | no h ↦ omega arith
+  ]
+
+  its-place : suc (first rest) - 1 ≡ first rest
+  its-place = omega arith
+
+  pub asked-fits : {B : ℕ → ℕ → Bool} {near : List ℕ} (below : ℕ) → Near n B near → bitAnd (getD near (first rest) 0) below < 2 ^ n
+  asked-fits {near = near} below N = omega (arith, and-le-l (getD near (first rest) 0) below, ap (λ (p : ℕ). getD near p 0) its-place, N .fits (suc (first rest)) taken)
+
+  its-near : {B : ℕ → ℕ → Bool} {near : List ℕ} → Near n B near → (w : ℕ) → Within n w → has (getD near (first rest) 0) w ≡ B (suc (first rest)) w
+  its-near {near = near} N w h = ap (λ (p : ℕ). has (getD near p 0) w) (sym its-place) ∙ N .each (suc (first rest)) w taken h
+
+module _ {n : ℕ} {B : ℕ → ℕ → Bool} {near : List ℕ} {key own F : ℕ → ℕ} {sets : List ℕ} {top cap : ℕ}
+    (N : Near n B near) (L : Levels n key sets top) (R : Rule n B key own F) where
+  pub sweeping-start : (row : List ℕ) → Sweeping n key F top cap 0 0 (at sets 0) row
+  sweeping-start row = record {
+    waits = L .fits 0;
+    lower = λ w h l. absurd (omega arith);
+    under = λ l w h. has-none w ∙ sym (ne-eqb (suc (key w)) 0 (omega arith));
+    here = at-here L 0;
+    passed = λ l w h k e. absurd (at-passed L 0 l w h k e);
   }
 
-  module _ {own : List ℕ} {cap level from v : ℕ} {both : List ℕ} (S : Sweeping n B key own cap level from v both) where
-    -- one side and the other are the two sides
-    sides : (w x : ℕ) → there both from w ≡ 0 → there both (across from) w ≡ x → at both w + there both (suc mostAtoms) w ≡ x
-    sides w x e f =
-        let z : 0 + w ≡ w = omega arith in
-        ⊎-elim (λ q. omega (arith, (rw q at e), (rw q at f), ap (at both) z)) (λ q. omega (arith, (rw q at e), (rw q at f), ap (at both) z)) (S .side)
+  module _ (d below rest : ℕ) (row : List ℕ) (S : Sweeping n key F top cap d below rest row) where
+    pub sweeping-done : top < d → Holds n cap F row
+    sweeping-done l = record { holds = λ w h. S .lower w h (omega (arith, L .high w h)) }
 
-    -- no atom is left with this key
-    pub sweeping-level : v ≡ 0 → Sweeping n B key own cap (level + 1) (across from) (at last (level + 1)) both
-    sweeping-level z = record {
-      side = ⊎-elim (λ q. inr (omega arith)) (λ q. inl (omega arith)) (S .side);
-      none = S .none;
-      next = o .chain .atLast (level + 1);
-      lower = λ F r w h l.
-          ⊎-elim (λ q. sides w (min cap (F w)) (S .level-free w h q) (S .passed F r w h q (omega arith))) (λ q. S .lower F r w h q)
-          (eq-or-lt-of-le (let m : at key w ≤ level = omega arith in m));
-      below = λ F r w h l. S .passed F r w h (omega arith) (omega arith);
-      passed = λ F r w h e l. absurd (omega (arith, o .chain .noneLater w h, ap (at last) e));
-      level-free = λ w h e. S .later-free w h (omega arith) .1;
-      later-free = λ w h l. let q = S .later-free w h (omega arith) in (q .1, rw back (q .0));
+    -- no atom of the level waits
+    pub sweeping-level : d ≤ top → rest ≡ 0 → Sweeping n key F top cap (d + 1) (at sets d) (at sets (d + 1)) row
+    sweeping-level l z = record {
+      waits = L .fits (d + 1);
+      lower = λ w h k. elim (decLt (key w) d) [
+        | yes q ↦ S .lower w h q
+        | no q ↦ S .passed l w h (omega arith) (ap (λ (m : ℕ). has m w) z ∙ has-none w)
+      ];
+      under = λ m w h. at-level L d l w h ∙ up (key w);
+      here = at-here L (d + 1);
+      passed = λ m w h k e. absurd (at-passed L (d + 1) m w h k e);
     }
       where
-        back : across (across from) ≡ from
-        back = ⊎-elim (λ q. omega arith) (λ q. omega arith) (S .side)
+        up : (k : ℕ) → eqb k d ≡ eqb (suc k) (d + 1)
+        up k = elim (ℕ-discrete k d) [
+          | yes e ↦ eq-eqb k d e ∙ sym (eq-eqb (suc k) (d + 1) (omega arith))
+          | no ne ↦ ne-eqb k d ne ∙ sym (ne-eqb (suc k) (d + 1) (omega arith))
+        ]
 
-    pub sweeping-done : top < level → (F : ℕ → ℕ) → Rule n B (at key) (at own) F → (row : List ℕ)
-        → ((w : ℕ) → w ≤ mostAtoms → at row w ≡ at both w + there both (suc mostAtoms) w) → Holds n cap F row
-    sweeping-done l F r row j = record { holds = λ w h. j w (omega (arith, o .keyed .small)) ∙ S .lower F r w h (omega (arith, o .keyed .high w h)) }
+    -- the lowest of those that wait is given its own and what its neighbours in the level before have
+    module _ (l : d ≤ top) (some : rest ≢ 0) where
+      rest-fits : rest < 2 ^ mostAtoms
+      rest-fits = wide-set (L .small) (S .waits)
 
-    -- the atom v is given its own and what its neighbours have
-    module _ (ne : v ≡ 0 → ⊥) (long : across from + v < length both) (s x : ℕ)
-        (pulls : s ≡ min cap (fromSeats limit (there both from) (getD near v []))) (adds : x ≡ min cap (s + at own v)) where
-      -- what stands below is what the neighbours with the next smaller key have
-      here : (F : ℕ → ℕ) → Rule n B (at key) (at own) F → (w : ℕ) → Within n w
-          → cond (B v w) (there both from w) 0 ≡ min cap (cond (B v w && eqb (suc (at key w)) level) (F w) 0)
-      here F r w h = go (B v w) refl
+      abbrev v : ℕ
+      v = suc (first rest)
+
+      mine : Within n v
+      mine = taken (L .small) rest (S .waits) some
+
+      its-key : key v ≡ d
+      its-key = S .here l v mine (its-first (L .small) rest (S .waits) some)
+
+      abbrev from : ℕ
+      from = bitAnd (getD near (first rest) 0) below
+
+      -- only neighbours count, each with what it has
+      gives : (w : ℕ) → Within n w → cond (has from w) (at row w) 0 ≡ min cap (cond (B v w && eqb (suc (key w)) (key v)) (F w) 0)
+      gives w h = rw (has-and (getD near (first rest) 0) below w, its-near (L .small) rest (S .waits) some N w h, S .under l w h, its-key) (go (B v w && eqb (suc (key w)) d) refl)
         where
-          under : (t : Bool) → eqb (suc (at key w)) level ≡ t → B v w ≡ true → there both from w ≡ min cap (cond t (F w) 0)
-          under true e b = S .below F r w h (eqb-true (suc (at key w)) level e)
-          under false e b =
-              let q = o .keyed .close v w (S .next ne .0) h b in
-              let k = S .next ne .1 in
-              let apart = eqb-false (suc (at key w)) level e in
-              ⊎-elim (λ z. omega (arith, S .level-free w h (sym z))) (λ z. omega (arith, S .later-free w h z .0)) (eq-or-lt-of-le (let m : level ≤ at key w = omega arith in m))
-
-          go : (t : Bool) → B v w ≡ t → cond t (there both from w) 0 ≡ min cap (cond (t && eqb (suc (at key w)) level) (F w) 0)
-          go true b = under (eqb (suc (at key w)) level) refl b
-          go false b = omega arith
-
-      right : (F : ℕ → ℕ) → Rule n B (at key) (at own) F → x ≡ min cap (F v)
-      right F r =
-          let e : at key v ≡ level = S .next ne .1 in
-          let empty : there both from 0 ≡ 0 = ⊎-elim (λ q. rw q (S .none .0)) (λ q. rw q (S .none .1)) (S .side) in
-          omega (
-            arith,
-            pulls,
-            adds,
-            r .rule v (S .next ne .0),
-            o .keyed .lists v (S .next ne .0) .sums (there both from) empty,
-            sum-cong n {f = λ w. cond (B v w) (there both from w) 0} {h = λ w. min cap (term w)} (here F r),
-            sum-min n cap term,
-            sum-cong n {f = λ w. cond (B v w && eqb (suc (at key w)) (at key v)) (F w) 0} {h = term} (λ w h. ap (λ (k : ℕ). cond (B v w && eqb (suc (at key w)) k) (F w) 0) e),
-          )
-        where
-          term : ℕ → ℕ
-          term w = cond (B v w && eqb (suc (at key w)) level) (F w) 0
-
-      new : List ℕ
-      new = set both (across from + v) x
-
-      -- other places stay
-      stays : (k : ℕ) → (k ≡ across from + v → ⊥) → at new k ≡ at both k
-      unfolding new
-      stays k d = getD-set-other both (across from + v) k x 0 d
-
-      low : v ≤ mostAtoms
-      low = omega (arith, S .next ne .0, o .keyed .small)
-
-      pub sweeping-store : Sweeping n B key own cap level from (at before v) (set both (across from + v) x)
-      unfolding new
-      sweeping-store = record {
-        side = S .side;
-        none = (stays 0 (λ z. omega (arith, S .next ne .0)) ∙ S .none .0, stays (suc mostAtoms) (λ z. ⊎-elim (λ q. omega (arith, S .next ne .0)) (λ q. omega (arith, low)) (S .side)) ∙ S .none .1);
-        next = λ m. let q = o .chain .atBefore v (S .next ne .0) m in (q .0, q .1 ∙ S .next ne .1);
-        lower = λ F r w h l. omega (arith, stays w (λ z. other w h l 0 (inl refl) (let y : 0 + w ≡ across from + v = omega arith in y)), stays (suc mostAtoms + w) (other w h l (suc mostAtoms) (inr refl)), S .lower F r w h l);
-        below = λ F r w h l. stays (from + w) (opposite w h) ∙ S .below F r w h l;
-        passed = λ F r w h e l.
-            ⊎-elim (λ q. ap (λ (u : ℕ). at new (across from + u)) q ∙ getD-set-same both (across from + v) x 0 long ∙ right F r ∙ ap (λ (u : ℕ). min cap (F u)) (sym q))
-            (λ d. stays (across from + w) (λ z. d (omega arith)) ∙ S .passed F r w h e (later w h e l d)) (same w);
-        level-free = λ w h e. stays (from + w) (opposite w h) ∙ S .level-free w h e;
-        later-free = λ w h l. let q = S .later-free w h l in
-            (stays (from + w) (opposite w h) ∙ q .0, stays (across from + w) (λ z. let u : w ≡ v = omega arith in omega (arith, ap (at key) u, S .next ne .1)) ∙ q .1);
-      }
-        where
-          opposite : (w : ℕ) → Within n w → from + w ≡ across from + v → ⊥
-          opposite w h z = ⊎-elim (λ q. omega (arith, o .keyed .small, low, h)) (λ q. omega (arith, o .keyed .small, low, h, S .next ne .0)) (S .side)
-
-          -- an atom with a smaller key is another one
-          other : (w : ℕ) → Within n w → at key w < level → (a : ℕ) → (a ≡ 0) ⊎ (a ≡ suc mostAtoms) → a + w ≡ across from + v → ⊥
-          other w h l a s z =
-              let u : w ≡ v =
-              ⊎-elim (λ p. ⊎-elim (λ q. omega (arith, o .keyed .small, low, h, S .next ne .0)) (λ q. omega (arith, o .keyed .small, low, h, S .next ne .0)) (S .side))
-              (λ p. ⊎-elim (λ q. omega (arith, o .keyed .small, low, h, S .next ne .0)) (λ q. omega (arith, o .keyed .small, low, h, S .next ne .0)) (S .side)) s in
-              omega (arith, ap (at key) u, S .next ne .1)
-
-          same : (w : ℕ) → (w ≡ v) ⊎ (w ≡ v → ⊥)
-          same w = go (eqb w v) refl
+          go : (t : Bool) → (B v w && eqb (suc (key w)) d) ≡ t → cond t (at row w) 0 ≡ min cap (cond t (F w) 0)
+          go true e = S .lower w h (omega (arith, eqb-true (suc (key w)) d (second (B v w) (eqb (suc (key w)) d) e)))
             where
-              go : (t : Bool) → eqb w v ≡ t → (w ≡ v) ⊎ (w ≡ v → ⊥)
-              go true e = inl (eqb-true w v e)
-              go false e = inr (eqb-false w v e)
+              second : (p q : Bool) → (p && q) ≡ true → q ≡ true
+              second true q e = e
+              second false q e = absurd (false≢true e)
+          go false e = omega arith
 
-          later : (w : ℕ) → Within n w → at key w ≡ level → at before v < w → (w ≡ v → ⊥) → v < w
-          later w h e l d =
-              ⊎-elim (λ q. absurd (d (sym q)))
-              (λ q. q) (eq-or-lt-of-le (go (ltb w v) refl))
-            where
-              go : (t : Bool) → ltb w v ≡ t → v ≤ w
-              go false q = ltb-false w v q
-              go true q = absurd (omega (arith, o .chain .noneBetween v w (S .next ne .0) h (e ∙ sym (S .next ne .1)) (ltb-true w v q)))
+      from-fits : from < 2 ^ n
+      from-fits = asked-fits (L .small) rest (S .waits) some below N
+
+      all-of : overSet from (at row) ≡ sum n (λ w. cond (has from w) (at row w) 0)
+      all-of =
+          let e : mostAtoms ≡ n + (mostAtoms - n) = omega (arith, L .small) in
+          ap (λ (k : ℕ). sum k (λ w. cond (has from w) (at row w) 0)) e
+          ∙ sum-split n (mostAtoms - n) (λ w. cond (has from w) (at row w) 0)
+          ∙ omega (arith, sum-cong (mostAtoms - n) {f = λ j. cond (has from (n + j)) (at row (n + j)) 0} {h = λ j. 0} (λ j h. rw (beyond n from (n + j) from-fits (omega arith)) refl), sum-none (mostAtoms - n))
+
+      module _ (s x : ℕ) (pulls : s ≡ min cap (overSet from (at row))) (adds : x ≡ min cap (s + own (first rest + 1))) where
+        right : x ≡ min cap (F v)
+        right =
+            omega (
+              arith,
+              pulls,
+              adds,
+              ap own (add-one (first rest)),
+              all-of,
+              R .rule v mine,
+              sum-cong n {f = λ w. cond (has from w) (at row w) 0} {h = λ w. min cap (term w)} gives,
+              sum-min n cap term,
+            )
+          where
+            term : ℕ → ℕ
+            term w = cond (B v w && eqb (suc (key w)) (key v)) (F w) 0
+
+        stored : v < length row → Sweeping n key F top cap d below (less rest) (set row v x)
+        stored long = record {
+          waits = omega (arith, S .waits, less-sum rest some rest-fits);
+          lower = λ w h k. getD-set-other row v w x 0 (λ e. omega (arith, ap key e, its-key)) ∙ S .lower w h k;
+          under = S .under;
+          here = λ m w h e. S .here m w h (both w h e);
+          passed = λ m w h k e. elim (ℕ-discrete w v) [
+            | yes q ↦ subst⁻¹ (λ (y : ℕ). at (set row v x) y ≡ min cap (F y)) q (getD-set-same row v x 0 long ∙ right)
+            | no ne ↦ getD-set-other row v w x 0 ne ∙ S .passed m w h k (still w h ne e)
+          ];
+        }
+          where
+            both : (w : ℕ) → Within n w → has (less rest) w ≡ true → has rest w ≡ true
+            both w h e = go (has rest w) (sym (has-less rest some rest-fits w (h .low)) ∙ e)
+              where
+                go : (t : Bool) → (t && not (eqb w v)) ≡ true → t ≡ true
+                go true q = refl
+                go false q = absurd (false≢true q)
+
+            still : (w : ℕ) → Within n w → (w ≡ v → ⊥) → has (less rest) w ≡ false → has rest w ≡ false
+            still w h ne e = go (has rest w) (rw (ne-eqb w v ne) at (sym (has-less rest some rest-fits w (h .low)) ∙ e))
+              where
+                go : (t : Bool) → (t && not false) ≡ false → t ≡ false
+                go true q = absurd (true≢false q)
+                go false q = refl
+
+        pub sweeping-take : first rest + 1 < length row → Sweeping n key F top cap d below (less rest) (set row (first rest + 1) x)
+        sweeping-take far = rw (add-one (first rest)) (stored (let k : v < length row = omega arith in k))

@@ -6,15 +6,20 @@ use native.Mathlib.Nat.{pos-of-dvd-of-pos, mul-le-mul, lt-of-le-of-lt}
 use native.Mathlib.Numerals.{add-one}
 use native.Mathlib.Omega.{arith}
 use lib.Dec.{lit<}
+use lib.ListN.{getD}
 use mir.Syntax.{w64}
 use mir.Val.{Fits}
-use Rattle.graph.specs.Graph.{Bond, Within, Molecule}
+use Rattle.graph.specs.Graph.{Bond, Within, Molecule, distance}
 use Rattle.paths.specs.Paths.{pathCount, lcm, lcmOver, denominator}
 use Rattle.paths.specs.Notions.{Gcd, Pair, lcmStarts}
 use Rattle.paths.specs.Lcm.{over-pos, lcm-cap, starts-pos, starts-all, starts-le}
 use Rattle.paths.specs.Steps.{count-pos}
 use Rattle.paths.specs.Backwards.{pair-pos}
-use Rattle.shares.specs.Work.{cap, full, at, listOf, Holds, graph, Start, Tally, Given}
+use Rattle.block.specs.Block.{mostAtoms}
+use Rattle.block.specs.Rows.{rowAt}
+use Rattle.block.specs.Sums.{entry}
+use Rattle.shares.specs.Work.{cap, full, at, Shows, Levels, Holds, graph, Start, Tally, Given}
+use Rattle.shares.proofs.Counting.{row-below, by-distance}
 
 pub divisor-pos : {a b d : ℕ} → Gcd a b d → 0 < a → 0 < d
 divisor-pos h p = pos-of-dvd-of-pos (h .left) p
@@ -52,14 +57,25 @@ module _ {n : ℕ} {f : ℕ → ℕ} {m : ℕ} {c : List ℕ} {before : ℕ} (t 
         ∙ rw (next, last)
 
 -- a start's arrays, of all
-pub start-of : {n : ℕ} {bs : List Bond} {near rows : List (List ℕ)} → Given n bs near rows → (i : ℕ) → i < n → Start n bs near (listOf rows i) (i + 1)
-start-of G i l = record {
-  small = G .small;
-  molecule = G .molecule;
-  lists = G .lists;
-  far = rw (add-one i) (G .far i l);
-  start = record { low = omega arith; high = omega arith };
-}
+module _ {n : ℕ} {bs : List Bond} {near : List ℕ} {rows : List (List ℕ)} (G : Given n bs near rows) (i : ℕ) (l : i < n) (row : List ℕ) (is : row ≡ rowAt rows (i + 1)) where
+  first : Within n (i + 1)
+  first = record { low = omega arith; high = omega arith }
+
+  shown : Shows n (distance (graph n bs) (i + 1)) row
+  shown = rw is (G .far (i + 1) first)
+
+  pub start-below : (j : ℕ) → j < n → getD row j 0 < mostAtoms
+  start-below = row-below (G .small) (G .molecule) first shown
+
+  pub start-of : {sets : List ℕ} {top : ℕ} → Levels n (entry row) sets top → Start n bs near row sets top (i + 1)
+  start-of L = record {
+    small = G .small;
+    molecule = G .molecule;
+    beside = G .beside;
+    far = shown;
+    levels = by-distance (G .small) (G .molecule) first shown L;
+    start = first;
+  }
 
 -- the starts one by one
 module _ {n : ℕ} {bs : List Bond} (molecule : Molecule (graph n bs)) where
@@ -69,7 +85,7 @@ module _ {n : ℕ} {bs : List Bond} (molecule : Molecule (graph n bs)) where
   abbrev starts : ℕ → ℕ
   starts i = lcmStarts n (pathCount (graph n bs)) i
 
-  pub tally-of : (i : ℕ) {near : List (List ℕ)} {row c : List ℕ} {all : ℕ} → Start n bs near row (i + 1) → Holds n cap (pathCount (graph n bs) (i + 1)) c → all ≡ starts i → all ≤ cap
+  pub tally-of : (i : ℕ) {near row sets c : List ℕ} {top all : ℕ} → Start n bs near row sets top (i + 1) → Holds n cap (pathCount (graph n bs) (i + 1)) c → all ≡ starts i → all ≤ cap
       → Tally n (pathCount (graph n bs) (i + 1)) (starts i) c all
   tally-of i s h e l = record {
     small = s .small;

@@ -1,15 +1,19 @@
 -- Work. What the arrays of the work hold, atom by atom. No promise cites this.
-use Prim.Native.Nat.{ℕ, suc, _+_, _*_, _/_, min, _≤_, _<_}
-use mathlib.Core.Bool.{Bool, true, _&&_, cond}
-use mathlib.Core.List.{List, []}
+use Prim.Native.Nat.{ℕ, suc, _+_, _*_, _-_, _/_, _^_, min, _≤_, _<_}
+use mathlib.Core.Bool.{Bool, _&&_, cond}
+use mathlib.Core.List.{List}
 use mathlib.Core.Path.{_≡_}
 use lib.Dec.{eqb}
 use lib.ListN.{length, getD}
-use Rattle.graph.specs.Graph.{Graph, Bond, bond, Within, Molecule, distance, sum}
+use Rattle.graph.specs.Graph.{Graph, Bond, bond, Within, Molecule, bonded, distance, sum}
+use Rattle.graph.specs.Sets.{has}
 use Rattle.paths.specs.Paths.{pathCount, pathsUsing}
 use Rattle.paths.specs.Notions.{Plain, weight, gathered, lcmStarts}
-use Rattle.block.specs.Block.{mostAtoms, limit, bondsOf, graphOf}
+use Rattle.block.specs.Block.{mostAtoms, bondsOf, graphOf}
 use Rattle.block.specs.Numbered.{bondAt}
+use Rattle.block.specs.Rows.{rowAt}
+use Rattle.block.specs.Opened.{setOf}
+use Rattle.block.specs.Near.{around}
 use Rattle.shares.specs.Reply.{most}
 
 -- where path counts stop, just above the most that D may be, and where what is gathered stops
@@ -19,57 +23,34 @@ cap = most + 1
 abbrev pub full : ℕ
 full = mostAtoms * most
 
--- what an array has for atom v, numbered from 1; a list for each
+-- what an array has for atom v, numbered from 1
 abbrev pub at : List ℕ → ℕ → ℕ
 at row v = getD row v 0
-
-abbrev pub listOf : List (List ℕ) → ℕ → List ℕ
-listOf near v = getD near v []
 
 -- a row whose first place is atom 1's has d
 pub record Shows (n : ℕ) (d : ℕ → ℕ) (row : List ℕ) : Type 0 where
   pub shows : (j : ℕ) → j < n → getD row j 0 ≡ d (suc j)
 
--- a list of the atoms of 1 to n that pass B, each once from seat 1 on; what follows is 0
-pub record Listed (n : ℕ) (B : ℕ → Bool) (list : List ℕ) : Type 0 where
-  pub count : ℕ
-  pub each : (k : ℕ) → Within count k → Within n (at list k)
-  pub rest : (k : ℕ) → count < k → at list k ≡ 0
-  pub sums : (f : ℕ → ℕ) → sum count (λ k. f (at list k)) ≡ sum n (λ w. cond (B w) (f w) 0)
+-- what f gives the atoms of a set
+abbrev pub overSet : ℕ → (ℕ → ℕ) → ℕ
+overSet m f = sum mostAtoms (λ w. cond (has m w) (f w) 0)
 
--- what the seats 1 to k of a list give
-abbrev pub fromSeats : ℕ → (ℕ → ℕ) → List ℕ → ℕ
-fromSeats k f list = sum k (λ j. f (at list j))
+-- the atoms that B gives each of the atoms 1 to n, as sets
+pub record Near (n : ℕ) (B : ℕ → ℕ → Bool) (near : List ℕ) : Type 0 where
+  pub each : (v w : ℕ) → Within n v → Within n w → has (around near v) w ≡ B v w
+  pub fits : (v : ℕ) → Within n v → around near v < 2 ^ n
 
--- what atom w has on the side of a double row that starts at `from`
-abbrev pub there : List ℕ → ℕ → ℕ → ℕ
-there both from w = at both (from + w)
-
--- a list of at most as many as an atom has bonds, read whole: a seat that no atom takes counts for nothing
-pub record Few (n : ℕ) (B : ℕ → Bool) (list : List ℕ) : Type 0 where
-  pub each : (k : ℕ) → Within limit k → at list k ≤ n
-  pub sums : (f : ℕ → ℕ) → f 0 ≡ 0 → fromSeats limit f list ≡ sum n (λ w. cond (B w) (f w) 0)
-
--- the atoms by their keys: the last atom with each key, and before each atom the one before it with the same key
-pub record Chained (n : ℕ) (key last before : List ℕ) : Type 0 where
-  pub atLast : (d : ℕ) → (at last d ≡ 0 → ⊥) → Within n (at last d) × (at key (at last d) ≡ d)
-  pub noneLater : (v : ℕ) → Within n v → v ≤ at last (at key v)
-  pub atBefore : (v : ℕ) → Within n v → (at before v ≡ 0 → ⊥) → Within n (at before v) × (at key (at before v) ≡ at key v)
-  pub falls : (v : ℕ) → Within n v → at before v < v
-  pub noneBetween : (v w : ℕ) → Within n v → Within n w → at key w ≡ at key v → w < v → w ≤ at before v
-
--- lists and keys of the atoms 1 to n; from an atom to a listed one the key changes by 1 at most
-pub record Keyed (n : ℕ) (B : ℕ → ℕ → Bool) (near : List (List ℕ)) (key : List ℕ) (top : ℕ) : Type 0 where
+-- the atoms with each key as a set, the level, up to the largest key
+pub record Levels (n : ℕ) (key : ℕ → ℕ) (sets : List ℕ) (top : ℕ) : Type 0 where
   pub small : n ≤ mostAtoms
-  pub lists : (v : ℕ) → Within n v → Few n (B v) (listOf near v)
-  pub close : (v w : ℕ) → Within n v → Within n w → B v w ≡ true → (at key w ≤ suc (at key v)) × (at key v ≤ suc (at key w))
-  pub high : (v : ℕ) → Within n v → at key v ≤ top
   pub low : top < mostAtoms
+  pub high : (v : ℕ) → Within n v → key v ≤ top
+  pub level : (d : ℕ) → d ≤ top → at sets d ≡ setOf n (λ v. eqb (key v) d)
+  pub fits : (d : ℕ) → at sets d < 2 ^ n
 
--- what a sweep goes over
-pub record Ordered (n : ℕ) (B : ℕ → ℕ → Bool) (near : List (List ℕ)) (key last before : List ℕ) (top : ℕ) : Type 0 where
-  pub keyed : Keyed n B near key top
-  pub chain : Chained n key last before
+-- keys from the top down
+abbrev pub heights : ℕ → (ℕ → ℕ) → ℕ → ℕ
+heights top key v = top - key v
 
 -- F is what each atom has of its own, and what those that B gives it with the next smaller key have
 pub record Rule (n : ℕ) (B : ℕ → ℕ → Bool) (key own F : ℕ → ℕ) : Type 0 where
@@ -83,24 +64,21 @@ pub record Holds (n top : ℕ) (F : ℕ → ℕ) (row : List ℕ) : Type 0 where
 abbrev pub graph : ℕ → List Bond → Graph
 graph n bs = record { atoms = n; bonds = bs }
 
--- the neighbours of each atom: those at distance 1
-abbrev pub beside : Graph → ℕ → ℕ → Bool
-beside g v w = eqb (distance g v w) 1
-
 -- what one starting atom is worked with
-pub record Start (n : ℕ) (bs : List Bond) (near : List (List ℕ)) (row : List ℕ) (i : ℕ) : Type 0 where
+pub record Start (n : ℕ) (bs : List Bond) (near row sets : List ℕ) (top i : ℕ) : Type 0 where
   pub small : n ≤ mostAtoms
   pub molecule : Molecule (graph n bs)
-  pub lists : (v : ℕ) → Within n v → Few n (beside (graph n bs) v) (listOf near v)
+  pub beside : Near n (bonded (graph n bs)) near
   pub far : Shows n (distance (graph n bs) i) row
+  pub levels : Levels n (distance (graph n bs) i) sets top
   pub start : Within n i
 
--- the rows of a block, and the lists of its neighbours
-pub record Given (n : ℕ) (bs : List Bond) (near rows : List (List ℕ)) : Type 0 where
+-- the neighbours of a block, and its rows
+pub record Given (n : ℕ) (bs : List Bond) (near : List ℕ) (rows : List (List ℕ)) : Type 0 where
   pub small : n ≤ mostAtoms
   pub molecule : Molecule (graph n bs)
-  pub lists : (v : ℕ) → Within n v → Few n (beside (graph n bs) v) (listOf near v)
-  pub far : (i : ℕ) → i < n → Shows n (distance (graph n bs) (suc i)) (listOf rows i)
+  pub beside : Near n (bonded (graph n bs)) near
+  pub far : (i : ℕ) → Within n i → Shows n (distance (graph n bs) i) (rowAt rows i)
 
 -- positive counts f and a positive number m, up to the cap
 pub record Tally (n : ℕ) (f : ℕ → ℕ) (m : ℕ) (c : List ℕ) (before : ℕ) : Type 0 where

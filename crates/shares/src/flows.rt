@@ -6,7 +6,10 @@ use super::SEATS;
 use super::common;
 use super::sweeps;
 use super::sweeps::wide;
-use block::ATOMS;
+use block::DistanceMatrix;
+use block::DistanceRow;
+use block::Neighbours;
+use block::row_at;
 ghost use mathlib.Core.Path.{_≡_};
 ghost use mathlib.Core.Bool.{cond};
 ghost use Prim.Native.Nat.{ℕ, suc, _+_, _*_, _-_, _/_, min, _<_, _≤_};
@@ -36,21 +39,22 @@ fn weights(n: usize, c: &[u64; SEATS], start: usize, d: u64) -> [u64; SEATS]
 }
 
 // What a bond carries from a to b, if b is the farther one: the paths to a, times what lies onward from b.
-fn passed(row: &[u8; ATOMS], c: &[u64; SEATS], t: &[u64; SEATS], a: usize, b: usize) -> u64
+fn passed(row: &DistanceRow, c: &[u64; SEATS], t: &[u64; SEATS], a: usize, b: usize) -> u64
     requires { ⌜ Within mostAtoms a × Within mostAtoms b × (at (now c) a ≤ cap) × (at (now t) b ≤ full) ⌝ }
     ensures { λ r. ⌜
         r ≡ cond (eqb (suc (getD (now (row .entry)) (a - 1) 0)) (getD (now (row .entry)) (b - 1) 0)) (at (now (c .entry)) a) 0 * at (now (t .entry)) b
         ⌝ }
 {
+    let x = c[a] * t[b];
     if wide(row[a - 1]) + 1 == wide(row[b - 1]) {
-        c[a] * t[b]
+        x
     } else {
         0
     }
 }
 
 // Adds to the entry of each bond what it carries.
-fn add_flows(bonds: &[u8], row: &[u8; ATOMS], c: &[u64; SEATS], t: &[u64; SEATS], out: &mut [u64])
+fn add_flows(bonds: &[u8], row: &DistanceRow, c: &[u64; SEATS], t: &[u64; SEATS], out: &mut [u64])
     requires { ⌜ ((n : ℕ) × (i : ℕ) × (d : ℕ) × Ready n (now bonds) (now row) (now c) (now t) i d) × Room (now bonds) (now out) ⌝ }
     ensures { λ _. ⌜
         ((n i d : ℕ) → Ready n (now (bonds .entry)) (now (row .entry)) (now (c .entry)) (now (t .entry)) i d
@@ -89,14 +93,16 @@ fn raise(m: usize, f: u64, out: &mut [u64])
 fn add_start(
     n: usize,
     bonds: &[u8],
-    near: &[[u8; SEATS]; SEATS],
-    row: &[u8; ATOMS],
+    near: &Neighbours,
+    row: &DistanceRow,
+    sets: &[u64; SEATS],
+    top: usize,
     i: usize,
     before: u64,
     out: &mut [u64],
 ) -> u64
     requires { ⌜
-        Start n (bondsOf (now bonds)) (now near) (now row) (i + 1) × Whole n (now bonds) i before × Sofar n (now bonds) i before (now out)
+        Start n (bondsOf (now bonds)) (now near) (now row) (now sets) top (i + 1) × Whole n (now bonds) i before × Sofar n (now bonds) i before (now out)
         ⌝ }
     ensures { λ r. ⌜
         (r ≡ min cap (lcmStarts n (pathCount (graphOf n (now (bonds .entry)))) (i + 1)))
@@ -104,14 +110,14 @@ fn add_start(
         ⌝ }
 {
     let start = i + 1;
-    let c = sweeps::counts(n, near, row, start);
+    let c = sweeps::counts(near, sets, top, start);
     let d = common::common_start(n, &c, start, before);
     if MOST < d {
         return d;
     }
     raise(bonds.len() / 2, d / before, out);
     let q = weights(n, &c, start, d);
-    let t = sweeps::onward(n, near, row, &q);
+    let t = sweeps::onward(near, sets, top, &q);
     add_flows(bonds, row, &c, &t, out);
     d
 }
@@ -120,8 +126,8 @@ fn add_start(
 pub(crate) fn fill(
     n: usize,
     bonds: &[u8],
-    near: &[[u8; SEATS]; SEATS],
-    rows: &[[u8; ATOMS]; ATOMS],
+    near: &Neighbours,
+    rows: &DistanceMatrix,
     out: &mut [u64],
 ) -> u64
     requires { ⌜ Whole n (now bonds) 0 1 × Given n (bondsOf (now bonds)) (now near) (now rows) × Sofar n (now bonds) 0 1 (now out) ⌝ }
@@ -136,7 +142,9 @@ pub(crate) fn fill(
         if MOST < d {
             return CAP;
         }
-        let next = add_start(n, bonds, near, &rows[i], i, d, out);
+        let row = row_at(rows, i + 1);
+        let levels = sweeps::by_level(n, &row);
+        let next = add_start(n, bonds, near, &row, &levels.sets, levels.top, i, d, out);
         d = next;
         i += 1;
     }

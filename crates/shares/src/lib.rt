@@ -1,14 +1,15 @@
 // Bond contributions: path counts, the common denominator D, and what each bond answers for, one starting atom at a time.
 ghost use mathlib.Core.Path.{_≡_};
-ghost use Prim.Native.Nat.{ℕ, suc, _<_, _≤_};
-ghost use lib.Dec.{eqb};
 ghost use lib.ListN.{length};
 ghost use Rattle.reply.specs.Read.{read, refusal};
-ghost use Rattle.block.specs.Block.{mostAtoms, blockReply};
+ghost use Rattle.block.specs.Block.{graphOf, blockReply};
+ghost use Rattle.block.specs.Rows.{rowsOf};
+ghost use Rattle.block.specs.Opened.{neighboursOf};
 ghost use Rattle.shares.specs.Reply.{sharesReply, saidShares, sharesEntries};
-ghost use Rattle.shares.specs.Work.{listOf, Shows, Listed};
 use block::ATOMS;
 use block::BYTES;
+use block::DistanceMatrix;
+use block::Neighbours;
 use reply::Refusal;
 use reply::Reply;
 
@@ -18,9 +19,6 @@ mod sweeps;
 
 // A seat for each atom, numbered from 1; seat 0 is free.
 const SEATS: usize = ATOMS + 1;
-
-// The seats of a double row.
-const SIDES: usize = 2 * SEATS;
 
 // The most bonds of a block: two bytes are one.
 pub const BONDS: usize = BYTES / 2;
@@ -39,23 +37,6 @@ pub enum Shares {
     Denominator(u64),
 }
 
-// The neighbours of each atom, by the rows.
-fn neighbours(n: usize, rows: &[[u8; ATOMS]; ATOMS]) -> [[u8; SEATS]; SEATS]
-    requires { ⌜ n ≤ mostAtoms ⌝ }
-    ensures { λ r. ⌜
-        ((i : ℕ) → i < n → (d : ℕ → ℕ) → Shows n d (listOf (now (rows .entry)) i) → Listed n (λ w. eqb (d w) 1) (listOf r (suc i)))
-        ⌝ }
-{
-    let mut near = [[0u8; SEATS]; SEATS];
-    let mut i = 0;
-    while i < n {
-        let list = sweeps::beside(n, &rows[i]);
-        near[i + 1] = list;
-        i += 1;
-    }
-    near
-}
-
 // A refusal at place 0.
 fn refused(number: usize) -> Shares
     ensures { λ r. ⌜ r ≡ Shares.Refused (refusal number 0) ⌝ }
@@ -64,18 +45,22 @@ fn refused(number: usize) -> Shares
 }
 
 // The answer for a block that is not refused.
-fn answered(n: usize, bonds: &[u8], out: &mut [u64]) -> Shares
-    requires { ⌜ blockReply n (now bonds) ≡ read tt ⌝ }
+fn answered(
+    n: usize,
+    bonds: &[u8],
+    near: &Neighbours,
+    rows: &DistanceMatrix,
+    out: &mut [u64],
+) -> Shares
+    requires { ⌜ (blockReply n (now bonds) ≡ read tt) × (now near ≡ neighboursOf (graphOf n (now bonds))) × (now rows ≡ rowsOf n (now bonds)) ⌝ }
     ensures reply { λ r. ⌜ r ≡ saidShares (sharesReply n (now (bonds .entry)) (length (now (out .entry)))) ⌝ }
     ensures entries { λ _. ⌜ now (out .exit) ≡ sharesEntries n (now (bonds .entry)) (now (out .entry)) ⌝ }
 {
     if out.len() < bonds.len() / 2 {
         return refused(9);
     }
-    let rows = block::rows(n, bonds);
-    let near = neighbours(n, &rows);
     let mut entries = [0u64; BONDS];
-    let d = flows::fill(n, bonds, &near, &rows, &mut entries);
+    let d = flows::fill(n, bonds, near, rows, &mut entries);
     if MOST < d {
         return refused(8);
     }
@@ -89,9 +74,11 @@ pub fn contributions(n: usize, bonds: &[u8], out: &mut [u64]) -> Shares
     ensures reply { λ r. ⌜ r ≡ saidShares (sharesReply n (now (bonds .entry)) (length (now (out .entry)))) ⌝ }
     ensures entries { λ _. ⌜ now (out .exit) ≡ sharesEntries n (now (bonds .entry)) (now (out .entry)) ⌝ }
 {
-    let reply = block::check(n, bonds);
+    let mut rows = [[0u8; ATOMS]; ATOMS];
+    let opened = block::table(n, bonds, &mut rows);
+    let reply = opened.reply;
     match reply {
         Reply::Refused(refusal) => Shares::Refused(refusal),
-        Reply::Fine => answered(n, bonds, out),
+        Reply::Fine => answered(n, bonds, &opened.near, &rows, out),
     }
 }

@@ -1,21 +1,46 @@
-// Rows of numbers, one for each atom, filled in the order of the atoms' keys.
+// Rows of numbers, one for each atom, filled level by level.
+//
+// A level is the set of the atoms at one distance from the start. A square of four atoms, from atom 1:
+//
+//        1            level 0: {1}       sets[0] = 0001 (binary, atom 1 is the last digit)
+//       / \
+//      2   3          level 1: {2, 3}    sets[1] = 0110
+//       \ /
+//        4            level 2: {4}       sets[2] = 1000, top = 2
+//
+// Path counts go outwards. An atom has what its neighbours in the level before have; only the start has 1 of its own:
+//
+//      atom 1: 1      atom 2: 1 (of 1)      atom 3: 1 (of 1)      atom 4: 1 + 1 = 2 (of 2 and 3)
+//
+// What lies onward goes inwards, by the same sweep over the levels in reverse, 1000, 0110, 0001: each atom has its weight of its own, and what
+// its neighbours one farther have. With D = 2 the weights are 2, 2 and 1 for the atoms 2, 3 and 4, as D over their counts:
+//
+//      atom 4: 1      atom 2: 2 + 1 = 3     atom 3: 2 + 1 = 3     atom 1: 0 + 3 + 3 = 6
+//
+// The bond 2-4 carries what leads to 2 times what lies onward from 4, 1 times 1: half a path of D = 2. The bond 1-2 carries 1 times 3.
 use super::CAP;
 use super::FULL;
 use super::SEATS;
-use super::SIDES;
 use block::ATOMS;
-use block::LIMIT;
+use block::DistanceRow;
+use block::Neighbours;
 ghost use mathlib.Core.Path.{_≡_};
 ghost use mathlib.Core.Bool.{Bool};
 ghost use mathlib.Core.List.{List};
-ghost use Prim.Native.Nat.{ℕ, suc, _+_, _-_, min, _<_, _≤_};
-ghost use lib.Dec.{eqb};
+ghost use Prim.Native.Nat.{ℕ, _+_, _^_, min, _<_, _≤_};
 ghost use lib.ListN.{getD};
-ghost use Rattle.graph.specs.Graph.{Bond, Within, sum};
+ghost use Rattle.graph.specs.Graph.{Bond, Within};
 ghost use Rattle.paths.specs.Paths.{pathCount};
 ghost use Rattle.paths.specs.Notions.{gathered};
-ghost use Rattle.block.specs.Block.{mostAtoms, limit};
-ghost use Rattle.shares.specs.Work.{cap, full, at, there, fromSeats, Shows, Listed, Keyed, Ordered, Rule, Holds, graph, Start};
+ghost use Rattle.block.specs.Block.{mostAtoms};
+ghost use Rattle.block.specs.Sums.{entry};
+ghost use Rattle.shares.specs.Work.{cap, full, at, overSet, heights, Near, Levels, Rule, Holds, graph, Start};
+
+// The atoms at each distance of a row, as sets, and the largest distance.
+pub(crate) struct ByDistance {
+    pub(crate) sets: [u64; SEATS],
+    pub(crate) top: usize,
+}
 
 pub(crate) fn wide(x: u8) -> usize
     ensures { λ r. ⌜ (r ≡ x) × (r < 256) ⌝ }
@@ -31,201 +56,119 @@ fn add(a: u64, b: u64, cap: u64) -> u64
     if b < cap - a { a + b } else { cap }
 }
 
-// How far two levels are apart.
-fn gap(a: u8, b: u8) -> u8
-    ensures { λ r. ⌜ r ≡ (a - b) + (b - a) ⌝ }
-{
-    if a < b { b - a } else { a - b }
-}
-
-// The largest distance of a row.
-pub(crate) fn farthest(n: usize, row: &[u8; ATOMS]) -> u8
+// The first n atoms of a row by their distances.
+pub(crate) fn by_level(n: usize, row: &DistanceRow) -> ByDistance
     requires { ⌜ (n ≤ mostAtoms) × ((j : ℕ) → j < n → getD (now row) j 0 < mostAtoms) ⌝ }
-    ensures { λ r. ⌜ (r < mostAtoms) × ((j : ℕ) → j < n → getD (now (row .entry)) j 0 ≤ r) ⌝ }
+    ensures { λ r. ⌜ Levels n (entry (now (row .entry))) (r .sets) (r .top) ⌝ }
 {
+    let mut sets = [0u64; SEATS];
     let mut top = 0;
     let mut j = 0;
     while j < n {
-        let d = row[j];
+        let d = wide(row[j]);
+        sets[d] = sets[d] | (1u64 << j);
+        j += 1;
         if top < d {
             top = d;
         }
-        j += 1;
     }
-    top
+    ByDistance { sets, top }
 }
 
-// How far each atom of a row is from the level from.
-pub(crate) fn spans(n: usize, row: &[u8; ATOMS], from: u8) -> [u8; SEATS]
-    requires { ⌜ n ≤ mostAtoms ⌝ }
-    ensures { λ r. ⌜ ((j : ℕ) → j < n → at r (suc j) ≡ (from - getD (now (row .entry)) j 0) + (getD (now (row .entry)) j 0 - from)) ⌝ }
+// The levels from the top down.
+fn reversed(sets: &[u64; SEATS], top: usize) -> [u64; SEATS]
+    requires { ⌜ top < mostAtoms ⌝ }
+    ensures { λ r. ⌜ ((n : ℕ) (key : ℕ → ℕ) → Levels n key (now (sets .entry)) top → Levels n (heights top key) r top) ⌝ }
 {
-    let mut key = [0u8; SEATS];
-    let mut j = 0;
-    while j < n {
-        key[j + 1] = gap(from, row[j]);
-        j += 1;
+    let mut back = [0u64; SEATS];
+    let mut d = 0;
+    while d <= top {
+        back[d] = sets[top - d];
+        d += 1;
     }
-    key
+    back
 }
 
-// The atoms at distance 1.
-pub(crate) fn beside(n: usize, row: &[u8; ATOMS]) -> [u8; SEATS]
-    requires { ⌜ n ≤ mostAtoms ⌝ }
-    ensures { λ r. ⌜ ((d : ℕ → ℕ) → Shows n d (now (row .entry)) → Listed n (λ w. eqb (d w) 1) r) ⌝ }
+// What a row has for the atoms of a set, up to the cap.
+fn pull(set: u64, row: &[u64; SEATS], cap: u64) -> u64
+    requires { ⌜ (set < 2 ^ mostAtoms) × ((w : ℕ) → at (now row) w ≤ full) ⌝ }
+    ensures { λ r. ⌜ r ≡ min cap (overSet set (at (now (row .entry)))) ⌝ }
 {
-    let mut list = [0u8; SEATS];
-    let mut c = 0;
-    let mut j = 0;
-    while j < n {
-        if row[j] == 1 {
-            c += 1;
-            list[c] = j as u8 + 1;
-        }
-        j += 1;
-    }
-    list
-}
-
-// What the atom at seat k of a list has on the side of a double row that starts at from.
-fn given(list: &[u8; SEATS], both: &[u64; SIDES], from: usize, k: usize) -> u64
-    requires { ⌜ (from ≤ suc mostAtoms) × (k ≤ mostAtoms) × (at (now list) k ≤ mostAtoms) ⌝ }
-    ensures { λ r. ⌜ r ≡ there (now (both .entry)) from (at (now (list .entry)) k) ⌝ }
-{
-    both[from + wide(list[k])]
-}
-
-// What the listed atoms have on the side of a double row that starts at from, up to the cap.
-fn pull(list: &[u8; SEATS], both: &[u64; SIDES], from: usize, cap: u64) -> u64
-    requires { ⌜ (from ≤ suc mostAtoms) × ((k : ℕ) → Within limit k → at (now list) k ≤ mostAtoms) × ((w : ℕ) → at (now both) w ≤ full) ⌝ }
-    ensures { λ r. ⌜ r ≡ min cap (fromSeats limit (there (now (both .entry)) from) (now (list .entry))) ⌝ }
-{
-    let mut sum = 0;
-    let mut k = 0;
-    while k < LIMIT {
-        k += 1;
-        sum += given(list, both, from, k);
+    let mut rest = set;
+    let mut sum: u64 = 0;
+    while rest != 0 {
+        let a = u64::trailing_zeros(rest) as usize;
+        rest = rest & (rest - 1);
+        sum += row[a + 1];
     }
     if sum < cap { sum } else { cap }
 }
 
-// Both sides of a double row in one.
-fn joined(both: &[u64; SIDES]) -> [u64; SEATS]
-    requires { ⌜ ((w : ℕ) → at (now both) w ≤ full) ⌝ }
-    ensures { λ r. ⌜ ((w : ℕ) → w ≤ mostAtoms → at r w ≡ at (now (both .entry)) w + there (now (both .entry)) (suc mostAtoms) w) ⌝ }
+// The row whose rule gives each atom its own and what its neighbours in the level before have, up to the cap. Of level d the atoms of rest wait;
+// below is the level before.
+fn sweep(
+    near: &Neighbours,
+    sets: &[u64; SEATS],
+    top: usize,
+    own: &[u64; SEATS],
+    cap: u64,
+) -> [u64; SEATS]
+    requires { ⌜ ((n : ℕ) × (B : ℕ → ℕ → Bool) × (key : ℕ → ℕ) × Near n B (now near) × Levels n key (now sets) top × (cap ≤ full)) ⌝ }
+    ensures { λ r. ⌜
+        ((n : ℕ) (B : ℕ → ℕ → Bool) (key F : ℕ → ℕ) → Near n B (now (near .entry)) → Levels n key (now (sets .entry)) top
+        → Rule n B key (at (now (own .entry))) F → Holds n cap F r)
+        ⌝ }
 {
     let mut row = [0u64; SEATS];
-    let mut w = 0;
-    while w < SEATS {
-        row[w] = both[w] + both[SEATS + w];
-        w += 1;
+    let mut below: u64 = 0;
+    let mut rest = sets[0];
+    let mut d = 0;
+    while d <= top {
+        if rest != 0 {
+            let a = u64::trailing_zeros(rest) as usize;
+            rest = rest & (rest - 1);
+            let s = pull(near[a] & below, &row, cap);
+            row[a + 1] = add(s, own[a + 1], cap);
+        } else {
+            below = sets[d];
+            d += 1;
+            rest = sets[d];
+        }
     }
     row
 }
 
-// The row whose rule gives each atom its own and what its neighbours with the next smaller key have. The atoms go in the order of their keys, by the
-// last with each key and, before each atom, the one before it with the same key; 0 is none. v is the next of those with the key level. Every other
-// level stands on the other side of a double row: where those below level stand, at from, its own neighbours have nothing and those above nothing yet.
-fn sweep(
-    near: &[[u8; SEATS]; SEATS],
-    last: &[u8; SEATS],
-    before: &[u8; SEATS],
-    own: &[u64; SEATS],
-    top: usize,
-    cap: u64,
-) -> [u64; SEATS]
-    requires { ⌜ ((n : ℕ) × (B : ℕ → ℕ → Bool) × (key : List ℕ) × Ordered n B (now near) key (now last) (now before) top × (cap ≤ full)) ⌝ }
-    ensures { λ r. ⌜
-        ((n : ℕ) (B : ℕ → ℕ → Bool) (key : List ℕ) (F : ℕ → ℕ) → Ordered n B (now (near .entry)) key (now (last .entry)) (now (before .entry)) top
-        → Rule n B (at key) (at (now (own .entry))) F → Holds n cap F r)
-        ⌝ }
-{
-    let mut both = [0u64; SIDES];
-    let mut from = SEATS;
-    let mut level = 0;
-    let mut v = wide(last[0]);
-    while level <= top {
-        let up = wide(last[level + 1]);
-        if v != 0 {
-            let s = pull(&near[v], &both, from, cap);
-            both[SEATS - from + v] = add(s, own[v], cap);
-            let next = wide(before[v]);
-            if next != 0 {
-                v = next;
-            } else {
-                from = SEATS - from;
-                level += 1;
-                v = up;
-            }
-        } else {
-            from = SEATS - from;
-            level += 1;
-            v = up;
-        }
-    }
-    joined(&both)
-}
-
-// The same, with the atoms 1 to n put in order first.
-fn swept(
-    n: usize,
-    near: &[[u8; SEATS]; SEATS],
-    key: &[u8; SEATS],
-    own: &[u64; SEATS],
-    top: u8,
-    cap: u64,
-) -> [u64; SEATS]
-    requires { ⌜ ((B : ℕ → ℕ → Bool) × Keyed n B (now near) (now key) top × (cap ≤ full)) ⌝ }
-    ensures { λ r. ⌜
-        ((B : ℕ → ℕ → Bool) (F : ℕ → ℕ) → Keyed n B (now (near .entry)) (now (key .entry)) top
-        → Rule n B (at (now (key .entry))) (at (now (own .entry))) F → Holds n cap F r)
-        ⌝ }
-{
-    let mut last = [0u8; SEATS];
-    let mut before = [0u8; SEATS];
-    let mut v = 0;
-    while v < n {
-        v += 1;
-        let k = wide(key[v]);
-        before[v] = last[k];
-        last[k] = v as u8;
-    }
-    sweep(near, &last, &before, own, wide(top), cap)
-}
-
 // The counts of shortest paths from the atom start, up to the cap.
 pub(crate) fn counts(
-    n: usize,
-    near: &[[u8; SEATS]; SEATS],
-    row: &[u8; ATOMS],
+    near: &Neighbours,
+    sets: &[u64; SEATS],
+    top: usize,
     start: usize,
 ) -> [u64; SEATS]
-    requires { ⌜ ((bs : List Bond) × Start n bs (now near) (now row) start) ⌝ }
+    requires { ⌜ ((n : ℕ) × (bs : List Bond) × (row : List ℕ) × Start n bs (now near) row (now sets) top start) ⌝ }
     ensures { λ r. ⌜
-        ((bs : List Bond) → Start n bs (now (near .entry)) (now (row .entry)) start → Holds n cap (pathCount (graph n bs) start) r)
+        ((n : ℕ) (bs : List Bond) (row : List ℕ) → Start n bs (now (near .entry)) row (now (sets .entry)) top start
+        → Holds n cap (pathCount (graph n bs) start) r)
         ⌝ }
 {
-    let top = farthest(n, row);
-    let key = spans(n, row, 0);
     let mut own = [0u64; SEATS];
     own[start] = 1;
-    swept(n, near, &key, &own, top, CAP)
+    sweep(near, sets, top, &own, CAP)
 }
 
-// What lies onward from each atom, away from the start of the row: its weight and theirs, up to what fits.
+// What lies onward from each atom, away from the start: its weight and theirs, up to what fits.
 pub(crate) fn onward(
-    n: usize,
-    near: &[[u8; SEATS]; SEATS],
-    row: &[u8; ATOMS],
+    near: &Neighbours,
+    sets: &[u64; SEATS],
+    top: usize,
     weight: &[u64; SEATS],
 ) -> [u64; SEATS]
-    requires { ⌜ ((bs : List Bond) × (i : ℕ) × Start n bs (now near) (now row) i) ⌝ }
+    requires { ⌜ ((n : ℕ) × (bs : List Bond) × (row : List ℕ) × (i : ℕ) × Start n bs (now near) row (now sets) top i) ⌝ }
     ensures { λ r. ⌜
-        ((bs : List Bond) (i : ℕ) (q : ℕ → ℕ) → Start n bs (now (near .entry)) (now (row .entry)) i
+        ((n : ℕ) (bs : List Bond) (row : List ℕ) (i : ℕ) (q : ℕ → ℕ) → Start n bs (now (near .entry)) row (now (sets .entry)) top i
         → ((v : ℕ) → Within n v → at (now (weight .entry)) v ≡ q v) → Holds n full (gathered (graph n bs) i q) r)
         ⌝ }
 {
-    let top = farthest(n, row);
-    let key = spans(n, row, top);
-    swept(n, near, &key, weight, top, FULL)
+    let back = reversed(sets, top);
+    sweep(near, &back, top, weight, FULL)
 }

@@ -4,11 +4,10 @@ use mathlib.Core.Path.{_≡_, sym, _∙_, ap}
 use native.Mathlib.Omega.{arith}
 use borrow.Author.Needs.{needs}
 use Rattle.paths.specs.Paths.{denominator}
-use Rattle.block.specs.Block.{bondsOf, graphOf}
+use Rattle.block.specs.Block.{graphOf}
 use Rattle.shares.specs.Reply.{most, saidShares}
-use Rattle.shares.specs.Work.{Given}
 use Rattle.shares.specs.declared.Shares.the-variants.{Denominator}
-use Rattle.shares.proofs.Blocks.{few, few-bonds, given, whole, nothing}
+use Rattle.shares.proofs.Blocks.{few-bonds, given, whole, nothing}
 use Rattle.block.specs.Lent.{filled-as}
 use Rattle.shares.proofs.Reply.{reply-short, reply-large, reply-done, entries-stay, entries-done}
 use Rattle.shares.proofs.answered.Statement.{statement}
@@ -20,51 +19,41 @@ refused-requires c κs = tt
 returns : tie.Need-returns
 returns c =
     let a = c .before .before .before .before .args in
-    let e = reply-short (a .n) (a .bonds .now) (c .before .before .before .before .pre) _ (c .before .if1 .taken) in
+    let e = reply-short (a .n) (a .bonds .now) (c .before .before .before .before .pre .0) _ (c .before .if1 .taken) in
     (c .refused .ensures ∙ sym (ap saidShares e), entries-stay (a .n) (a .bonds .now) (a .out .now) e)
-
-rows-requires : tie.Need-rows-requires
-rows-requires c κs = tt
-
-neighbours-requires : tie.Need-neighbours-requires
-neighbours-requires c κs = few (c .before .before .before .before .before .args .n) (c .before .before .before .before .before .args .bonds .now) (c .before .before .before .before .before .pre)
 
 slice-aggregate-fill : tie.Need-slice-aggregate-fill
 slice-aggregate-fill c = search needs
 
--- the lists and the rows
-known : (c : tie.After-neighbours) → let a = c .before .before .before .before .before .before .args in Given (a .n) (bondsOf (a .bonds .now)) (c .neighbours .result) (c .before .before .rows .result)
-known c = let a = c .before .before .before .before .before .before .args in given (a .n) (a .bonds .now) (c .before .before .before .before .before .before .pre) (c .neighbours .result) (c .before .before .rows .result) (c .before .before .rows .ensures) (c .neighbours .ensures)
-
 fill-requires : tie.Need-fill-requires
 fill-requires c κs =
-    let a = c .before .before .before .before .before .before .before .before .before .args in
-    let p = c .before .before .before .before .before .before .before .before .before .pre in
-    (whole (a .n) (a .bonds .now) p, known (c .before .before .before), nothing (a .n) (a .bonds .now) (few-bonds (a .n) (a .bonds .now) p))
+    let a = c .before .before .before .before .args in
+    let p = c .before .before .before .before .pre in
+    (whole (a .n) (a .bonds .now) (p .0), given (a .n) (a .bonds .now) (p .0) (a .near .now) (a .rows .now) (p .1) (p .2), nothing (a .n) (a .bonds .now) (few-bonds (a .n) (a .bonds .now) (p .0)))
 
 refused-requires-2 : tie.Need-refused-requires-2
 refused-requires-2 c κs = tt
 
 returns-2 : tie.Need-returns-2
 returns-2 c =
-    let a = c .before .before .before .before .before .before .before .before .before .before .before .before .before .args in
-    let e = reply-large (a .n) (a .bonds .now) (c .before .before .before .before .before .before .before .before .before .before .before .before .before .pre) _ (c .before .before .before .before .before .before .before .before .before .before .if1 .left) (omega (arith, c .before .if2 .taken, c .before .before .before .fill .ensures .0)) in
+    let a = c .before .before .before .before .before .before .before .before .args in
+    let e = reply-large (a .n) (a .bonds .now) (c .before .before .before .before .before .before .before .before .pre .0) _ (c .before .before .before .before .before .if1 .left) (omega (arith, c .before .if2 .taken, c .before .before .before .fill .ensures .0)) in
     (c .refused2 .ensures ∙ sym (ap saidShares e), entries-stay (a .n) (a .bonds .now) (a .out .now) e)
 
 put-requires : tie.Need-put-requires
-put-requires c κs = (c .before .before .before .before .before .before .before .before .before .before .before .if1 .left, few-bonds (c .before .before .before .before .before .before .before .before .before .before .before .before .before .before .args .n) (c .before .before .before .before .before .before .before .before .before .before .before .before .before .before .args .bonds .now) (c .before .before .before .before .before .before .before .before .before .before .before .before .before .before .pre))
+put-requires c κs = (c .before .before .before .before .before .before .if1 .left, few-bonds (c .before .before .before .before .before .before .before .before .before .args .n) (c .before .before .before .before .before .before .before .before .before .args .bonds .now) (c .before .before .before .before .before .before .before .before .before .pre .0))
 
 same-length : tie.Need-same-length
 same-length c = c .before .before .put .ensures .same
 
 returns-3 : tie.Need-returns-3
 returns-3 c =
-    let a = c .before .before .before .before .before .before .before .before .before .before .before .before .before .before .before .before .before .args in
+    let a = c .before .before .before .before .before .before .before .before .before .before .before .before .args in
     let f = c .before .before .before .before .before .before .before .fill in
     let low : f .result ≤ most = omega (arith, c .before .before .before .before .before .if2 .left) in
     let is : f .result ≡ denominator (graphOf (a .n) (a .bonds .now)) = omega (arith, f .ensures .0) in
-    let r = c .before .before .before .before .before .before .before .before .before .before .before .before .before .before .if1 .left in
-    let e = reply-done (a .n) (a .bonds .now) (c .before .before .before .before .before .before .before .before .before .before .before .before .before .before .before .before .before .pre) _ r (omega arith) in
+    let r = c .before .before .before .before .before .before .before .before .before .if1 .left in
+    let e = reply-done (a .n) (a .bonds .now) (c .before .before .before .before .before .before .before .before .before .before .before .before .pre .0) _ r (omega arith) in
     (ap Denominator is ∙ sym (ap saidShares e), entries-done (a .n) (a .bonds .now) e (filled-as (c .before .before .put .ensures) (f .ensures .1 low)) r)
 
 pub answered-spec : {M : Type 1} → statement M
@@ -73,8 +62,6 @@ answered-spec =
     (tie.spec
     refused-requires
     returns
-    rows-requires
-    neighbours-requires
     slice-aggregate-fill
     fill-requires
     refused-requires-2

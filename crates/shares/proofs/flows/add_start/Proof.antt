@@ -16,14 +16,14 @@ add-start : tie.Need-add-start
 add-start c = search needs
 
 counts-requires : tie.Need-counts-requires
-counts-requires c κs = (_, c .before .before .pre .0)
+counts-requires c κs = (_, _, _, c .before .before .pre .0)
 
 -- the counts of the start, and what was taken in before
 tallied : (c : tie.After-counts) → let a = c .before .before .before .args in
     Tally (a .n) (pathCount (graphOf (a .n) (a .bonds .now)) (a .i + 1)) (lcmStarts (a .n) (pathCount (graphOf (a .n) (a .bonds .now))) (a .i)) (c .counts .result) (a .before)
 tallied c =
     let p = c .before .before .before .pre in
-    tally-of (p .1 .molecule) (c .before .before .before .args .i) (p .0) (c .counts .ensures _ (p .0)) (p .1 .is) (omega (arith, p .1 .low))
+    tally-of (p .1 .molecule) (c .before .before .before .args .i) (p .0) (c .counts .ensures _ _ _ (p .0)) (p .1 .is) (omega (arith, p .1 .low))
 
 common-start-requires : tie.Need-common-start-requires
 common-start-requires c κs = (c .before .before .before .before .pre .0 .start .high, (_, _, tallied (c .before)))
@@ -50,10 +50,10 @@ raise-requires c κs = let p = c .before .before .before .before .before .before
 weights-requires : tie.Need-weights-requires
 weights-requires c κs =
     let p = c .before .before .before .before .before .before .before .before .before .before .before .pre in
-    (p .0 .small, p .0 .start .high, counts-pos (next (c .before .before .before .before .before)) (p .0 .start) (c .before .before .before .before .before .before .before .before .counts .ensures _ (p .0)))
+    (p .0 .small, p .0 .start .high, counts-pos (next (c .before .before .before .before .before)) (p .0 .start) (c .before .before .before .before .before .before .before .before .counts .ensures _ _ _ (p .0)))
 
 onward-requires : tie.Need-onward-requires
-onward-requires c κs = (_, _, c .before .before .before .before .before .before .before .before .before .before .before .before .before .pre .0)
+onward-requires c κs = (_, _, _, _, c .before .before .before .before .before .before .before .before .before .before .before .before .before .pre .0)
 
 -- the rows of this start
 rows : (c : tie.After-onward) → let a = c .before .before .before .before .before .before .before .before .before .before .before .before .before .before .args in
@@ -61,8 +61,8 @@ rows : (c : tie.After-onward) → let a = c .before .before .before .before .bef
 rows c =
     let p = c .before .before .before .before .before .before .before .before .before .before .before .before .before .before .pre in
     let X = next (c .before .before .before .before .before .before .before .before) in
-    let h = c .before .before .before .before .before .before .before .before .before .before .before .counts .ensures _ (p .0) in
-    ready X (p .0 .start) h (p .0) (c .onward .ensures _ _ _ (p .0) (weighs X (p .0 .start) h (c .before .before .weights .ensures)))
+    let h = c .before .before .before .before .before .before .before .before .before .before .before .counts .ensures _ _ _ (p .0) in
+    ready X (p .0 .start) h (p .0) (c .onward .ensures _ _ _ _ _ (p .0) (weighs X (p .0 .start) h (c .before .before .weights .ensures)))
 
 add-flows-requires : tie.Need-add-flows-requires
 add-flows-requires c κs =

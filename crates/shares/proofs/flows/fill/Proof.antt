@@ -9,7 +9,7 @@ use Rattle.paths.specs.Notions.{lcmStarts}
 use Rattle.block.specs.Block.{graphOf}
 use Rattle.shares.specs.Reply.{most}
 use Rattle.shares.specs.Work.{cap, Sofar}
-use Rattle.shares.proofs.Tallying.{start-of, stops-early, starts-done}
+use Rattle.shares.proofs.Tallying.{start-below, start-of, stops-early, starts-done}
 use Rattle.shares.proofs.Starting.{whole-at, sofar-all}
 use Rattle.shares.proofs.flows.fill.Statement.{statement}
 use Rattle.shares.proofs.flows.fill.Tie as tie
@@ -32,18 +32,23 @@ returns c =
     let l = c .before .before .loop in
     (stops-early (c .before .before .before .before .before .pre .0 .molecule) (l .d) (l .i) (l .inv .2) (omega arith), λ h. absurd (omega arith))
 
-mul-add-start : tie.Need-mul-add-start Inv-loop μ-loop
-mul-add-start c = omega arith
+add-row-at : tie.Need-add-row-at Inv-loop μ-loop
+add-row-at c = omega arith
 
-index-1-add-start : tie.Need-index-1-add-start Inv-loop μ-loop
-index-1-add-start c = omega arith
+row-at-requires : tie.Need-row-at-requires Inv-loop μ-loop
+row-at-requires c κs = search needs
+
+by-level-requires : tie.Need-by-level-requires Inv-loop μ-loop
+by-level-requires c κs =
+    let p = c .before .before .before .before .before .before .before .pre in
+    (p .1 .small, start-below (p .1) (c .before .before .before .before .loop .i) (c .before .before .before .loop-test .taken) _ (c .before .row-at .ensures))
 
 add-start-requires : tie.Need-add-start-requires Inv-loop μ-loop
 add-start-requires c κs =
-    let p = c .before .before .before .before .before .before .before .pre in
-    let l = c .before .before .before .before .loop in
-    let low : l .d ≤ most = omega (arith, c .before .before .if1 .left) in
-    (start-of (p .1) (l .i) (c .before .before .before .loop-test .taken), whole-at (p .0) (l .i) (l .d) (l .inv .2) low, l .inv .3 low)
+    let p = c .before .before .before .before .before .before .before .before .before .before .before .before .pre in
+    let l = c .before .before .before .before .before .before .before .before .before .loop in
+    let low : l .d ≤ most = omega (arith, c .before .before .before .before .before .before .before .if1 .left) in
+    (start-of (p .1) (l .i) (c .before .before .before .before .before .before .before .before .loop-test .taken) _ (c .before .before .before .before .before .before .row-at .ensures) (c .before .before .before .before .by-level .ensures), whole-at (p .0) (l .i) (l .d) (l .inv .2) low, l .inv .3 low)
 
 add-i : tie.Need-add-i Inv-loop μ-loop
 add-i c = omega arith
@@ -74,8 +79,9 @@ fill-spec =
     loop-holds
     same-length
     returns
-    mul-add-start
-    index-1-add-start
+    add-row-at
+    row-at-requires
+    by-level-requires
     add-start-requires
     add-i
     loop-less

@@ -8,6 +8,23 @@ use Rattle.shares.proofs.Flowing.{let-pass, let-none}
 use Rattle.shares.proofs.flows.passed.Statement.{statement}
 use Rattle.shares.proofs.flows.passed.Tie as tie
 
+mul-x : tie.Need-mul-x
+mul-x c = omega arith
+
+element-copy-out-x : tie.Need-element-copy-out-x
+element-copy-out-x c = omega arith
+
+mul-x-2 : tie.Need-mul-x-2
+mul-x-2 c = omega arith
+
+element-copy-out-x-2 : tie.Need-element-copy-out-x-2
+element-copy-out-x-2 c = omega arith
+
+mul-x-3 : tie.Need-mul-x-3
+mul-x-3 c =
+    let a = c .before .before .args in
+    product-fits (at (a .c .now) (a .a)) (at (a .t .now) (a .b)) (omega arith) (c .before .before .pre .3)
+
 sub-wide : tie.Need-sub-wide
 sub-wide c = omega arith
 
@@ -29,24 +46,6 @@ element-copy-out-wide-2 c = omega arith
 wide-requires-2 : tie.Need-wide-requires-2
 wide-requires-2 c κs = tt
 
-mul-result : tie.Need-mul-result
-mul-result c = omega arith
-
-element-copy-out-result : tie.Need-element-copy-out-result
-element-copy-out-result c = omega arith
-
-mul-result-2 : tie.Need-mul-result-2
-mul-result-2 c = omega arith
-
-element-copy-out-result-2 : tie.Need-element-copy-out-result-2
-element-copy-out-result-2 c = omega arith
-
-mul-result-3 : tie.Need-mul-result-3
-mul-result-3 c =
-    let a = c .before .before .before .before .before .before .before .args in
-    let p = c .before .before .before .before .before .before .before .pre in
-    product-fits (at (a .c .now) (a .a)) (at (a .t .now) (a .b)) (omega arith) (p .3)
-
 returns : tie.Need-returns
 returns c =
     let a = c .before .before .before .before .before .before .before .args in
@@ -54,14 +53,18 @@ returns c =
 
 returns-2 : tie.Need-returns-2
 returns-2 c =
-    let a = c .before .before .before .before .before .args in
-    let-none (getD (a .row .now) (a .a - 1) 0) (getD (a .row .now) (a .b - 1) 0) (at (a .c .now) (a .a)) (at (a .t .now) (a .b))
-    (λ e. c .if1 .left (omega arith))
+    let a = c .before .before .before .before .before .before .before .args in
+    let-none (getD (a .row .now) (a .a - 1) 0) (getD (a .row .now) (a .b - 1) 0) (at (a .c .now) (a .a)) (at (a .t .now) (a .b)) (λ e. c .if1 .left (omega arith))
 
 pub passed-spec : {M : Type 1} → statement M
 passed-spec =
     tie.close
     (tie.spec
+    mul-x
+    element-copy-out-x
+    mul-x-2
+    element-copy-out-x-2
+    mul-x-3
     sub-wide
     element-copy-out-wide
     wide-requires
@@ -69,10 +72,5 @@ passed-spec =
     sub-wide-2
     element-copy-out-wide-2
     wide-requires-2
-    mul-result
-    element-copy-out-result
-    mul-result-2
-    element-copy-out-result-2
-    mul-result-3
     returns
     returns-2)

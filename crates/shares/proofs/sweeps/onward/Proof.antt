@@ -1,29 +1,17 @@
--- `onward` meets its contract: the heights and the weights give the rule of what is gathered.
-use mathlib.Core.Path.{refl}
+-- `onward` meets its contract: the levels in reverse and the weights give the rule of what is gathered.
 use native.Mathlib.Omega.{arith}
-use Rattle.shares.proofs.Counting.{row-below, keyed, rule-gathered}
-use borrow.Author.Needs.{needs}
+use Rattle.shares.proofs.Counting.{rule-gathered}
 use Rattle.shares.proofs.sweeps.onward.Statement.{statement}
 use Rattle.shares.proofs.sweeps.onward.Tie as tie
 
-farthest-requires : tie.Need-farthest-requires
-farthest-requires c κs = let p = c .pre in (p .2 .small, row-below (p .2))
+reversed-requires : tie.Need-reversed-requires
+reversed-requires c κs = c .pre .4 .levels .low
 
-spans-requires : tie.Need-spans-requires
-spans-requires c κs = search needs
-
-swept-requires : tie.Need-swept-requires
-swept-requires c κs =
-    let p = c .before .before .before .pre in
-    let f = c .before .before .farthest in
-    (_, keyed (p .2) (f .result) (f .result) (c .before .spans .result) (c .before .spans .ensures) (f .ensures .1) (omega arith) (f .ensures .0), omega arith)
+sweep-requires : tie.Need-sweep-requires
+sweep-requires c κs = let p = c .before .before .pre in (_, _, _, p .4 .beside, c .before .reversed .ensures _ _ (p .4 .levels), omega arith)
 
 returns : tie.Need-returns
-returns c bs i q S e =
-    let f = c .before .before .before .farthest in
-    let s = c .before .before .spans in
-    c .swept .ensures _ _ (keyed S (f .result) (f .result) (s .result) (s .ensures) (f .ensures .1) (omega arith) (f .ensures .0))
-    (rule-gathered S (f .result) (f .result) (s .result) (s .ensures) (f .ensures .1) refl e)
+returns c n bs row i q S e = c .sweep .ensures _ _ _ _ (S .beside) (c .before .before .reversed .ensures _ _ (S .levels)) (rule-gathered S e)
 
 pub onward-spec : {M : Type 1} → statement M
-onward-spec = tie.close (tie.spec farthest-requires spans-requires swept-requires returns)
+onward-spec = tie.close (tie.spec reversed-requires sweep-requires returns)

@@ -1,63 +1,83 @@
--- `pull` meets its contract: the entries of as many seats as an atom has bonds fit together.
-use Prim.Native.Nat.{_+_, _*_, _-_, _≤_}
-use mathlib.Core.Path.{_≡_, refl}
+-- `pull` meets its contract: what was taken and what the rest has are what the set has.
+use Prim.Native.Nat.{ℕ, _+_, _*_, _-_, _^_, _≤_, _<_}
+use mathlib.Core.List.{List}
+use mathlib.Core.Path.{_≡_, ap}
+use mathlib.Core.Bool.{Bool, true, false, cond}
 use native.Mathlib.Omega.{arith}
-use native.Mathlib.Numerals.{add-one}
-use Rattle.graph.specs.Graph.{sum}
-use Rattle.block.specs.Block.{limit}
-use Rattle.shares.specs.Work.{full, at, there, fromSeats}
+use lib.Bits.{bitAnd}
+use lib.Pow.{pow-pos}
+use Rattle.graph.specs.Sets.{has, lowest-dropped}
+use Rattle.graph.specs.Sums.{sum-le}
+use Rattle.block.specs.Block.{mostAtoms}
+use Rattle.shares.specs.Work.{full, at, overSet}
+use Rattle.shares.proofs.Sweeping.{first, less, first-low, less-sum, over-less, over-none}
 use Rattle.shares.proofs.sweeps.pull.Statement.{statement}
 use Rattle.shares.proofs.sweeps.pull.Tie as tie
 
 abbrev Inv-loop : tie.InvT-loop
-Inv-loop list both from cap sum₀ k₀ sum k = (k ≤ limit) × (sum ≡ fromSeats k (there both from) list) × (sum ≤ k * full)
+Inv-loop set row cap rest₀ sum₀ rest sum = (rest < 2 ^ mostAtoms) × (sum + overSet rest (at row) ≡ overSet set (at row))
 
 abbrev μ-loop : tie.MeasureT-loop
-μ-loop list both from cap sum₀ k₀ sum k = limit - k
+μ-loop set row cap rest₀ sum₀ rest sum = rest
+
+-- all that a row has is not much
+low : (set : ℕ) (row : List ℕ) → ((w : ℕ) → at row w ≤ full) → overSet set (at row) ≤ mostAtoms * full
+low set row h = sum-le mostAtoms (λ w i. go (has set w) w)
+  where
+    go : (t : Bool) (w : ℕ) → cond t (at row w) 0 ≤ full
+    go true w = h w
+    go false w = omega arith
+
+-- nothing is left
+ended : (set : ℕ) (row : List ℕ) (rest sum : ℕ) → rest ≡ 0 → sum + overSet rest (at row) ≡ overSet set (at row) → sum ≡ overSet set (at row)
+ended set row rest sum z e = omega (arith, e, ap (λ (m : ℕ). overSet m (at row)) z, over-none (at row))
 
 loop-holds : tie.Need-loop-holds Inv-loop μ-loop
-unfolding sum
-loop-holds c = (omega arith, refl, omega arith)
+loop-holds c = (c .pre .0, omega arith)
 
-add-k : tie.Need-add-k Inv-loop μ-loop
-add-k c = omega arith
+small : (c : tie.In-loop Inv-loop μ-loop) → first (c .before .loop .rest) < mostAtoms
+small c = first-low _ (c .loop-test .taken) (c .before .loop .inv .0)
 
-given-requires : tie.Need-given-requires Inv-loop μ-loop
-given-requires c κs =
-    let p = c .before .before .pre in
-    let l = c .before .loop in
-    (p .0, omega arith, p .1 (l .k + 1) (omega arith))
+cast-a : tie.Need-cast-a Inv-loop μ-loop
+cast-a c = omega (arith, small c)
 
--- the seat that is read has at most as much as a row may
-low : (c : tie.After-given Inv-loop μ-loop) → c .given .result ≤ full
-low c =
-    let a = c .before .before .before .args in
-    omega (arith, c .given .ensures, c .before .before .before .pre .2 (a .from + at (a .list .now) (c .before .before .loop .k + 1)))
+sub-rest : tie.Need-sub-rest Inv-loop μ-loop
+sub-rest c = omega (arith, c .loop-test .taken)
 
 add-sum : tie.Need-add-sum Inv-loop μ-loop
-add-sum c = omega (arith, low c)
+add-sum c = omega (arith, small c)
+
+mul-sum : tie.Need-mul-sum Inv-loop μ-loop
+mul-sum c = omega (arith, small c)
+
+element-copy-out-sum : tie.Need-element-copy-out-sum Inv-loop μ-loop
+element-copy-out-sum c = omega (arith, small c)
+
+-- the atom that is taken, and what is left
+step : (c : tie.In-loop Inv-loop μ-loop) → let l = c .before .loop in let a = c .before .before .args in
+    l .sum + at (a .row .now) (first (l .rest) + 1) + overSet (less (l .rest)) (at (a .row .now)) ≡ overSet (a .set) (at (a .row .now))
+step c = omega (arith, c .before .loop .inv .1, over-less _ (c .loop-test .taken) (c .before .loop .inv .0) (at (c .before .before .args .row .now)))
+
+out : (c : tie.In-loop Inv-loop μ-loop) → let l = c .before .loop in bitAnd (l .rest) (l .rest - 1) ≡ less (l .rest)
+out c = lowest-dropped mostAtoms _ (omega (arith, c .loop-test .taken)) (c .before .loop .inv .0)
+
+fewer : (c : tie.In-loop Inv-loop μ-loop) → less (c .before .loop .rest) + 2 ^ first (c .before .loop .rest) ≡ c .before .loop .rest
+fewer c = less-sum _ (c .loop-test .taken) (c .before .loop .inv .0)
+
+add-sum-2 : tie.Need-add-sum-2 Inv-loop μ-loop
+add-sum-2 c = let d = c .before in let a = d .before .before .args in omega (arith, step d, low (a .set) (a .row .now) (d .before .before .pre .1))
 
 loop-less : tie.Need-loop-less Inv-loop μ-loop
-loop-less c = omega arith
+loop-less c = let d = c .before in rw (out d) (omega (arith, fewer d, pow-pos (first (d .before .loop .rest))))
 
 loop-again : tie.Need-loop-again Inv-loop μ-loop
-unfolding sum
-loop-again c =
-    let l = c .before .before .loop in
-    (omega arith, rw (add-one (l .k)) (omega (arith, l .inv .1, rw (add-one (l .k)) at (c .given .ensures))), omega (arith, low c))
-
--- all seats are read
-all : (c : tie.After-loop Inv-loop μ-loop) → let a = c .before .before .args in c .before .loop .sum ≡ fromSeats limit (there (a .both .now) (a .from)) (a .list .now)
-all c =
-    let l = c .before .loop in
-    let e : l .k ≡ limit = omega arith in
-    rw e at (l .inv .1)
+loop-again c = let d = c .before in rw (out d) (omega (arith, fewer d, d .before .loop .inv .0), step d)
 
 returns : tie.Need-returns Inv-loop μ-loop
-returns c = omega (arith, all (c .before), c .if1 .taken)
+returns c = omega (arith, c .if1 .taken, let l = c .before .before .loop in let a = c .before .before .before .args in ended (a .set) (a .row .now) (l .rest) (l .sum) (c .before .loop-test .left) (l .inv .1))
 
 returns-2 : tie.Need-returns-2 Inv-loop μ-loop
-returns-2 c = omega (arith, all (c .before), c .if1 .left)
+returns-2 c = omega (arith, c .if1 .left, let l = c .before .before .loop in let a = c .before .before .before .args in ended (a .set) (a .row .now) (l .rest) (l .sum) (c .before .loop-test .left) (l .inv .1))
 
 pub pull-spec : {M : Type 1} → statement M
 pull-spec =
@@ -66,9 +86,12 @@ pull-spec =
     Inv-loop
     μ-loop
     loop-holds
-    add-k
-    given-requires
+    cast-a
+    sub-rest
     add-sum
+    mul-sum
+    element-copy-out-sum
+    add-sum-2
     loop-less
     loop-again
     returns

@@ -1,189 +1,152 @@
 -- `sweep` meets its contract: the row is right for the atoms passed.
-use Prim.Native.Nat.{ℕ, suc, _+_, _*_, _-_, _≤_}
+use Prim.Native.Nat.{ℕ, suc, _+_, _*_, _-_, _^_, _≤_, _<_}
 use mathlib.Core.Bool.{Bool}
-use mathlib.Core.List.{List}
-use mathlib.Core.Path.{_≡_, refl, sym, _∙_}
+use mathlib.Core.Path.{_≡_, refl, _∙_}
 use native.Mathlib.Omega.{arith}
-use lib.ListN.{length, set, length-set}
-use Rattle.graph.specs.Graph.{Within}
+use lib.Bits.{bitAnd}
+use lib.ListN.{length, length-set}
+use lib.Pow.{pow-pos}
+use Rattle.graph.specs.Sets.{lowest-dropped}
 use Rattle.block.specs.Block.{mostAtoms}
-use Rattle.shares.specs.Work.{at, Ordered}
 use Rattle.block.specs.Lent.{zeros}
+use Rattle.shares.specs.Work.{at, Near, Levels, Rule}
 use Rattle.shares.proofs.Rows.{store-low}
-use Rattle.shares.proofs.Sweeping.{Sweeping, across, seated, sweeping-start, sweeping-level, sweeping-done, sweeping-store}
+use Rattle.shares.proofs.Sweeping.{first, less, first-low, less-sum, wide-set, taken, asked-fits, Sweeping, sweeping-start, sweeping-level, sweeping-take, sweeping-done}
 use Rattle.shares.proofs.sweeps.sweep.Statement.{statement}
 use Rattle.shares.proofs.sweeps.sweep.Tie as tie
 
 abbrev Inv-loop : tie.InvT-loop
-Inv-loop near last before own top cap both₀ from₀ level₀ v₀ both from level v =
-    (level ≤ suc top) × (length both ≡ 2 * suc mostAtoms) × (v ≤ mostAtoms) × (from ≤ suc mostAtoms) × ((w : ℕ) → at both w ≤ cap)
-    × ((n : ℕ) (B : ℕ → ℕ → Bool) (key : List ℕ) → Ordered n B near key last before top → Sweeping n B key own cap level from v both)
+Inv-loop near sets top own cap row₀ below₀ rest₀ d₀ row below rest d =
+    (d ≤ top + 1) × (length row ≡ suc mostAtoms) × ((w : ℕ) → at row w ≤ cap)
+    × ((n : ℕ) (key : ℕ → ℕ) → Levels n key sets top → rest < 2 ^ n)
+    × ((n : ℕ) (B : ℕ → ℕ → Bool) (key F : ℕ → ℕ) → Near n B near → Levels n key sets top → Rule n B key (at own) F → Sweeping n key F top cap d below rest row)
 
 abbrev μ-loop : tie.MeasureT-loop
-μ-loop near last before own top cap both₀ from₀ level₀ v₀ both from level v = (suc top - level) * suc mostAtoms + v
+μ-loop near sets top own cap row₀ below₀ rest₀ d₀ row below rest d = (top + 1 - d) * 2 ^ mostAtoms + rest
 
-element-copy-out-wide : tie.Need-element-copy-out-wide Inv-loop μ-loop
-element-copy-out-wide c = omega arith
-
-wide-requires : tie.Need-wide-requires Inv-loop μ-loop
-wide-requires c κs = tt
+element-copy-out-rest : tie.Need-element-copy-out-rest Inv-loop μ-loop
+element-copy-out-rest c = omega arith
 
 loop-holds : tie.Need-loop-holds Inv-loop μ-loop
-loop-holds c =
-    let a = c .before .before .args in
-    let p = c .before .before .pre in (
-      omega arith,
-      refl,
-      omega (arith, c .wide .ensures, seated (p .3) 0),
-      omega arith,
-      λ w. omega (arith, zeros (2 * suc mostAtoms) w),
-      λ n B k o. rw (c .wide .ensures .0) (sweeping-start o (a .own .now) (a .cap) _ (zeros (2 * suc mostAtoms))),
-    )
+loop-holds c = (omega arith, refl, λ w. omega (arith, zeros (suc mostAtoms) w), λ n key L. L .fits 0, λ n B key F N L R. sweeping-start N L R _)
 
-add-wide : tie.Need-add-wide Inv-loop μ-loop
-add-wide c = omega (arith, c .before .before .before .before .pre .3 .keyed .low)
+-- the atom at hand
+small : (c : tie.Then1 Inv-loop μ-loop) → first (c .before .before .loop .rest) < mostAtoms
+small c =
+    let p = c .before .before .before .before .pre in
+    first-low _ (c .if1 .taken) (wide-set (p .4 .small) (c .before .before .loop .inv .3 _ _ (p .4)))
 
-element-copy-out-wide-2 : tie.Need-element-copy-out-wide-2 Inv-loop μ-loop
-element-copy-out-wide-2 c = omega (arith, c .before .before .before .before .pre .3 .keyed .low)
+cast-a : tie.Need-cast-a Inv-loop μ-loop
+cast-a c = omega (arith, small c)
 
-wide-requires-2 : tie.Need-wide-requires-2 Inv-loop μ-loop
-wide-requires-2 c κs = tt
+sub-rest : tie.Need-sub-rest Inv-loop μ-loop
+sub-rest c = omega (arith, c .if1 .taken)
 
 mul-pull : tie.Need-mul-pull Inv-loop μ-loop
-mul-pull c = omega arith
+mul-pull c = omega (arith, small c)
 
-index-1-pull : tie.Need-index-1-pull Inv-loop μ-loop
-index-1-pull c = omega arith
+element-copy-out-pull : tie.Need-element-copy-out-pull Inv-loop μ-loop
+element-copy-out-pull c = omega (arith, small c)
 
--- the atom at hand, and the lists that it is found in
-taken : (c : tie.Then1 Inv-loop μ-loop) → let p = c .before .before .before .before .before .before .before .pre in Within (p .0) (c .before .before .before .before .loop .v)
-taken c = let p = c .before .before .before .before .before .before .before .pre in c .before .before .before .before .loop .inv .5 (p .0) (p .1) (p .2) (p .3) .next (c .if1 .taken) .0
+-- what is left of those that wait
+out : (c : tie.Then1 Inv-loop μ-loop) → let r = c .before .before .loop .rest in bitAnd r (r - 1) ≡ less r
+out c =
+    let p = c .before .before .before .before .pre in
+    lowest-dropped mostAtoms _ (omega (arith, c .if1 .taken)) (wide-set (p .4 .small) (c .before .before .loop .inv .3 _ _ (p .4)))
+
+fewer : (c : tie.Then1 Inv-loop μ-loop) → let r = c .before .before .loop .rest in less r + 2 ^ first r ≡ r
+fewer c =
+    let p = c .before .before .before .before .pre in
+    less-sum _ (c .if1 .taken) (wide-set (p .4 .small) (c .before .before .loop .inv .3 _ _ (p .4)))
 
 pull-requires : tie.Need-pull-requires Inv-loop μ-loop
 pull-requires c κs =
-    let p = c .before .before .before .before .before .before .before .before .before .pre in
-    let l = c .before .before .before .before .before .before .loop in
-    (l .inv .3, λ k w. omega (arith, p .3 .keyed .small, p .3 .keyed .lists (l .v) (taken (c .before .before)) .each k w), λ w. omega (arith, l .inv .4 w, p .4))
+    let t = c .before .before in
+    let l = t .before .before .loop in
+    let p = t .before .before .before .before .pre in
+    (wide-set (p .4 .small) (asked-fits (p .4 .small) (l .rest) (l .inv .3 _ _ (p .4)) (t .if1 .taken) (l .below) (p .3)), λ w. omega (arith, l .inv .2 w, p .5))
+
+add-add : tie.Need-add-add Inv-loop μ-loop
+add-add c = omega (arith, small (c .before .before .before))
 
 mul-add : tie.Need-mul-add Inv-loop μ-loop
-mul-add c = omega arith
+mul-add c = omega (arith, small (c .before .before .before))
 
 element-copy-out-add : tie.Need-element-copy-out-add Inv-loop μ-loop
-element-copy-out-add c = omega arith
+element-copy-out-add c = omega (arith, small (c .before .before .before))
 
 add-requires : tie.Need-add-requires Inv-loop μ-loop
 add-requires c κs = omega (arith, c .before .pull .ensures)
 
-sub-both : tie.Need-sub-both Inv-loop μ-loop
-sub-both c = omega arith
+add-row : tie.Need-add-row Inv-loop μ-loop
+add-row c = omega (arith, small (c .before .before .before .before .before))
 
-add-both : tie.Need-add-both Inv-loop μ-loop
-add-both c = omega arith
+mul-row : tie.Need-mul-row Inv-loop μ-loop
+mul-row c = omega (arith, small (c .before .before .before .before .before))
 
-mul-both : tie.Need-mul-both Inv-loop μ-loop
-mul-both c = omega arith
-
-array-write-both : tie.Need-array-write-both Inv-loop μ-loop
-array-write-both c = omega arith
-
-element-copy-out-wide-3 : tie.Need-element-copy-out-wide-3 Inv-loop μ-loop
-element-copy-out-wide-3 c = omega arith
-
-wide-requires-3 : tie.Need-wide-requires-3 Inv-loop μ-loop
-wide-requires-3 c κs = tt
-
--- what holds once the atom at hand has its number
-stored : (c : tie.After-wide3 Inv-loop μ-loop)
-    → let a = c .before .before .before .before .before .before .before .before .before .before .before .before .before .before .args in
-    let l = c .before .before .before .before .before .before .before .before .before .before .before .loop in
-    (n : ℕ) (B : ℕ → ℕ → Bool) (key : List ℕ) → Ordered n B (a .near .now) key (a .last .now) (a .before .now) (a .top)
-    → Sweeping n B key (a .own .now) (a .cap) (l .level) (l .from) (at (a .before .now) (l .v)) (set (l .both) (across (l .from) + l .v) (c .before .before .add .result))
-stored c n B k o =
-    let l = c .before .before .before .before .before .before .before .before .before .before .before .loop in
-    let t = c .before .before .before .before .before .before .before .if1 .taken in
-    let s = c .before .before .before .before .pull in
-    sweeping-store o (l .inv .5 n B k o) t (omega arith) (s .result) (c .before .before .add .result) (s .ensures) (c .before .before .add .ensures)
-
-low : (c : tie.After-wide3 Inv-loop μ-loop)
-    → let a = c .before .before .before .before .before .before .before .before .before .before .before .before .before .before .args in
-    let l = c .before .before .before .before .before .before .before .before .before .before .before .loop in
-    (w : ℕ) → at (set (l .both) (across (l .from) + l .v) (c .before .before .add .result)) w ≤ a .cap
-low c =
-    let l = c .before .before .before .before .before .before .before .before .before .before .before .loop in
-    store-low (l .both) (across (l .from) + l .v) (c .before .before .add .result) (omega arith) (l .inv .4) (omega (arith, c .before .before .add .ensures))
+array-write-row : tie.Need-array-write-row Inv-loop μ-loop
+array-write-row c = omega (arith, small (c .before .before .before .before .before))
 
 loop-less : tie.Need-loop-less Inv-loop μ-loop
 loop-less c =
-    let p = c .before .before .before .before .before .before .before .before .before .before .before .before .before .before .before .pre in
-    let l = c .before .before .before .before .before .before .before .before .before .before .before .before .loop in
-    omega (arith, c .before .wide3 .ensures, p .3 .chain .falls (l .v) (taken (c .before .before .before .before .before .before .before .before)))
+    let t = c .before .before .before .before .before in
+    rw (out t) (omega (arith, fewer t, pow-pos (first (t .before .before .loop .rest))))
 
 loop-again : tie.Need-loop-again Inv-loop μ-loop
 loop-again c =
-    let p = c .before .before .before .before .before .before .before .before .before .before .before .before .before .before .before .pre in
-    let l = c .before .before .before .before .before .before .before .before .before .before .before .before .loop in (
-      omega arith,
-      length-set (l .both) (across (l .from) + l .v) (c .before .before .before .add .result) ∙ l .inv .1,
-      omega (arith, c .before .wide3 .ensures, l .inv .2, p .3 .chain .falls (l .v) (taken (c .before .before .before .before .before .before .before .before))),
-      l .inv .3,
-      low (c .before),
-      λ n B k o. rw (c .before .wide3 .ensures .0) (stored (c .before) n B k o),
+    let t = c .before .before .before .before .before in
+    let l = t .before .before .loop in
+    let x = c .add in
+    let s = c .before .before .pull in
+    let far : first (l .rest) + 1 < length (l .row) = omega (arith, small t, l .inv .1) in
+    rw (out t) (
+      l .inv .0,
+      length-set (l .row) (first (l .rest) + 1) (x .result) ∙ l .inv .1,
+      store-low (l .row) (first (l .rest) + 1) (x .result) far (l .inv .2) (omega (arith, x .ensures)),
+      λ n key L. omega (arith, fewer t, l .inv .3 n key L),
+      λ n B key F N L R. sweeping-take N L R (l .d) (l .below) (l .rest) (l .row) (l .inv .4 n B key F N L R) (t .before .loop-test .taken) (t .if1 .taken) (s .result) (x .result) (s .ensures) (x .ensures) far,
     )
 
-sub-from : tie.Need-sub-from Inv-loop μ-loop
-sub-from c = omega arith
+-- the level has a place among the sets
+placed : (c : tie.Else1 Inv-loop μ-loop) → c .before .before .loop .d < mostAtoms
+placed c = omega (arith, c .before .before .before .before .pre .4 .low, c .before .loop-test .taken)
 
-add-level : tie.Need-add-level Inv-loop μ-loop
-add-level c = omega arith
+mul-below : tie.Need-mul-below Inv-loop μ-loop
+mul-below c = omega (arith, placed c)
+
+element-copy-out-below : tie.Need-element-copy-out-below Inv-loop μ-loop
+element-copy-out-below c = omega (arith, placed c)
+
+add-d : tie.Need-add-d Inv-loop μ-loop
+add-d c = omega (arith, placed (c .before))
+
+mul-rest : tie.Need-mul-rest Inv-loop μ-loop
+mul-rest c = omega (arith, placed (c .before))
+
+element-copy-out-rest-2 : tie.Need-element-copy-out-rest-2 Inv-loop μ-loop
+element-copy-out-rest-2 c = omega (arith, placed (c .before))
 
 loop-less-2 : tie.Need-loop-less-2 Inv-loop μ-loop
 loop-less-2 c =
-    let p = c .before .before .before .before .before .before .before .before .before .before .before .before .before .before .before .pre in
-    let l = c .before .before .before .before .before .before .before .before .before .before .before .before .loop in
-    omega (arith, c .before .before .before .before .before .before .before .before .before .wide2 .ensures, seated (p .3) (l .level + 1))
+    let e = c .before .before in
+    let p = e .before .before .before .before .pre in
+    omega (arith, e .before .loop-test .taken, wide-set (p .4 .small) (p .4 .fits (e .before .before .loop .d + 1)))
 
 loop-again-2 : tie.Need-loop-again-2 Inv-loop μ-loop
 loop-again-2 c =
-    let p = c .before .before .before .before .before .before .before .before .before .before .before .before .before .before .before .pre in
-    let l = c .before .before .before .before .before .before .before .before .before .before .before .before .loop in
-    let up = c .before .before .before .before .before .before .before .before .before .wide2 in (
-      omega arith,
-      length-set (l .both) (across (l .from) + l .v) (c .before .before .before .add .result) ∙ l .inv .1,
-      omega (arith, up .ensures, seated (p .3) (l .level + 1)),
-      omega arith,
-      low (c .before),
-      λ n B k o. rw (up .ensures .0) (sweeping-level o (stored (c .before) n B k o) (sym (c .before .wide3 .ensures .0) ∙ c .if2 .left)),
-    )
-
-sub-from-2 : tie.Need-sub-from-2 Inv-loop μ-loop
-sub-from-2 c = omega arith
-
-add-level-2 : tie.Need-add-level-2 Inv-loop μ-loop
-add-level-2 c = omega arith
-
-loop-less-3 : tie.Need-loop-less-3 Inv-loop μ-loop
-loop-less-3 c =
-    let p = c .before .before .before .before .before .before .before .pre in
-    let l = c .before .before .before .before .loop in
-    omega (arith, c .before .wide2 .ensures, seated (p .3) (l .level + 1))
-
-loop-again-3 : tie.Need-loop-again-3 Inv-loop μ-loop
-loop-again-3 c =
-    let p = c .before .before .before .before .before .before .before .pre in
-    let l = c .before .before .before .before .loop in (
-      omega arith,
+    let e = c .before .before in
+    let l = e .before .before .loop in (
+      omega (arith, e .before .loop-test .taken),
       l .inv .1,
-      omega (arith, c .before .wide2 .ensures, seated (p .3) (l .level + 1)),
-      omega arith,
-      l .inv .4,
-      λ n B k o. rw (c .before .wide2 .ensures .0) (sweeping-level o (l .inv .5 n B k o) (c .if1 .left)),
+      l .inv .2,
+      λ n key L. L .fits (l .d + 1),
+      λ n B key F N L R. sweeping-level N L R (l .d) (l .below) (l .rest) (l .row) (l .inv .4 n B key F N L R) (e .before .loop-test .taken) (e .if1 .left),
     )
-
-joined-requires : tie.Need-joined-requires Inv-loop μ-loop
-joined-requires c κs = λ w. omega (arith, c .before .before .loop .inv .4 w, c .before .before .before .before .before .pre .4)
 
 returns : tie.Need-returns Inv-loop μ-loop
-returns c n B k F o r = sweeping-done o (c .before .before .before .loop .inv .5 n B k o) (c .before .before .loop-test .left) F r (c .joined .result) (c .joined .ensures)
+returns c n B key F N L R =
+    let l = c .before .loop in
+    sweeping-done N L R (l .d) (l .below) (l .rest) (l .row) (l .inv .4 n B key F N L R) (c .loop-test .left)
 
 pub sweep-spec : {M : Type 1} → statement M
 sweep-spec =
@@ -191,33 +154,27 @@ sweep-spec =
     (tie.spec
     Inv-loop
     μ-loop
-    element-copy-out-wide
-    wide-requires
+    element-copy-out-rest
     loop-holds
-    add-wide
-    element-copy-out-wide-2
-    wide-requires-2
+    cast-a
+    sub-rest
     mul-pull
-    index-1-pull
+    element-copy-out-pull
     pull-requires
+    add-add
     mul-add
     element-copy-out-add
     add-requires
-    sub-both
-    add-both
-    mul-both
-    array-write-both
-    element-copy-out-wide-3
-    wide-requires-3
+    add-row
+    mul-row
+    array-write-row
     loop-less
     loop-again
-    sub-from
-    add-level
+    mul-below
+    element-copy-out-below
+    add-d
+    mul-rest
+    element-copy-out-rest-2
     loop-less-2
     loop-again-2
-    sub-from-2
-    add-level-2
-    loop-less-3
-    loop-again-3
-    joined-requires
     returns)

@@ -1,0 +1,94 @@
+-- `by_level` meets its contract: the atoms passed stand in their levels.
+use Prim.Native.Nat.{suc, _-_, _≤_, _<_}
+use mathlib.Core.Path.{_≡_, refl}
+use native.Mathlib.Numerals.{add-one}
+use native.Mathlib.Omega.{arith}
+use Rattle.graph.specs.Sets.{shifted}
+use Rattle.block.specs.Block.{mostAtoms}
+use Rattle.block.specs.Lent.{zeros}
+use Rattle.shares.proofs.Layering.{Layered, layered-start, layered-next, layered-end}
+use Rattle.shares.proofs.sweeps.by_level.Statement.{statement}
+use Rattle.shares.proofs.sweeps.by_level.Tie as tie
+
+abbrev Inv-loop : tie.InvT-loop
+Inv-loop n row sets₀ top₀ j₀ sets top j = (j ≤ n) × Layered j row sets top
+
+abbrev μ-loop : tie.MeasureT-loop
+μ-loop n row sets₀ top₀ j₀ sets top j = n - j
+
+loop-holds : tie.Need-loop-holds Inv-loop μ-loop
+loop-holds c = (omega arith, layered-start _ _ refl (zeros (suc mostAtoms)))
+
+element-copy-out-wide : tie.Need-element-copy-out-wide Inv-loop μ-loop
+element-copy-out-wide c = omega arith
+
+wide-requires : tie.Need-wide-requires Inv-loop μ-loop
+wide-requires c κs = tt
+
+-- the distance at hand
+near : (c : tie.After-wide Inv-loop μ-loop) → c .wide .result < mostAtoms
+near c = let l = c .before .before .before .loop in omega (arith, c .wide .ensures, c .before .before .before .before .pre .1 (l .j) (omega arith))
+
+mul-sets : tie.Need-mul-sets Inv-loop μ-loop
+mul-sets c = omega (arith, near c)
+
+array-read-sets : tie.Need-array-read-sets Inv-loop μ-loop
+array-read-sets c = omega (arith, near c)
+
+shl-sets : tie.Need-shl-sets Inv-loop μ-loop
+shl-sets c = omega arith
+
+mul-sets-2 : tie.Need-mul-sets-2 Inv-loop μ-loop
+mul-sets-2 c = omega (arith, near c)
+
+array-write-sets : tie.Need-array-write-sets Inv-loop μ-loop
+array-write-sets c = omega (arith, near c)
+
+add-j : tie.Need-add-j Inv-loop μ-loop
+add-j c = omega arith
+
+loop-less : tie.Need-loop-less Inv-loop μ-loop
+loop-less c = omega arith
+
+loop-again : tie.Need-loop-again Inv-loop μ-loop
+loop-again c =
+    let d = c .before in
+    let l = d .before .before .before .loop in
+    (omega arith, rw (add-one (l .j), shifted mostAtoms (l .j) (shl-sets d)) (layered-next (l .j) _ _ _ (l .inv .1) (d .wide .result) (d .wide .ensures .0) (near d) (d .wide .result) (omega (arith, c .if1 .taken)) (omega arith) (near d)))
+
+loop-less-2 : tie.Need-loop-less-2 Inv-loop μ-loop
+loop-less-2 c = omega arith
+
+loop-again-2 : tie.Need-loop-again-2 Inv-loop μ-loop
+loop-again-2 c =
+    let d = c .before in
+    let l = d .before .before .before .loop in
+    (omega arith, rw (add-one (l .j), shifted mostAtoms (l .j) (shl-sets d)) (layered-next (l .j) _ _ _ (l .inv .1) (d .wide .result) (d .wide .ensures .0) (near d) (l .top) (omega arith) (omega (arith, c .if1 .left)) (l .inv .1 .low)))
+
+returns : tie.Need-returns Inv-loop μ-loop
+returns c =
+    let l = c .before .loop in
+    let a = c .before .before .args in
+    let e : l .j ≡ a .n = omega arith in
+    layered-end _ _ _ _ (c .before .before .pre .0) (rw e at (l .inv .1))
+
+pub by-level-spec : {M : Type 1} → statement M
+by-level-spec =
+    tie.close
+    (tie.spec
+    Inv-loop
+    μ-loop
+    loop-holds
+    element-copy-out-wide
+    wide-requires
+    mul-sets
+    array-read-sets
+    shl-sets
+    mul-sets-2
+    array-write-sets
+    add-j
+    loop-less
+    loop-again
+    loop-less-2
+    loop-again-2
+    returns)
