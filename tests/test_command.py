@@ -250,6 +250,51 @@ class Sheets(Room):
         self.assertEqual([name for name in os.listdir(self.room) if "part" in name], [])
 
 
+class Measuring(Room):
+    NAPHTHALENE = Block(10, [(k, k + 1) for k in range(1, 10)] + [(10, 1), (1, 6)])
+
+    def test_molfile(self):
+        file = self.put("a.mol", self.NAPHTHALENE.molfile())
+        status, said = self.run_command("measure", file)
+        self.assertEqual(status, 0)
+        self.assertTrue(said.startswith(f"{file}: atoms 10 bonds 11 W 109 even 52 odd 57 polarity 12 "), said)
+        for words in ("J 1.925367726", "Szeged 243"):
+            self.assertIn(words, said)
+        self.assertNotIn("Hosoya", said, "the block is no tree")
+        tree = self.put("b.mol", Block(4, [(1, 2), (2, 3), (3, 4)]).molfile())
+        self.assertIn("Hosoya 5 Merrifield-Simmons 8", self.run_command("measure", tree)[1])
+
+    def test_objects(self):
+        said = json.loads(self.run_command("measure", "--json", self.put("a.mol", self.NAPHTHALENE.molfile()))[1])
+        self.assertEqual((said["denominator"], sum(said["contributions"])), (6, 6 * 109))
+        self.assertEqual((sum(said["vertex_sums"]), sum(said["szeged_terms"])), (2 * 109, 243))
+        self.assertEqual((said["indices"]["W"], len(said["bonds_listed"])), (109, 11))
+
+    def test_refusals(self):
+        good, bad = self.put("a.mol", self.NAPHTHALENE.molfile()), self.put("b.mol", b"no molfile")
+        status, said = self.run_command("measure", good, bad, os.path.join(self.decks, "missing"))
+        self.assertEqual((status, [": refused 25 at " in line for line in said.splitlines()]), (2, [False, True, False]))
+        self.assertIn("cannot be read: no such file", said)
+        self.assertEqual(json.loads(self.run_command("measure", "--json", bad)[1])["refusal"]["number"], 25)
+        self.assertEqual(self.run_command("measure")[0], 2)
+
+    @unittest.skipUnless(library.has("read_neighbours"), "the library reads no neighbour texts yet")
+    def test_neighbours(self):
+        file = self.put("a.txt", b"2\n1 2 0\n0\n")
+        for words in ([], ["--as", "neighbours"]):
+            self.assertTrue(self.run_command("measure", *words, file)[1].startswith(f"{file}: atoms 2 bonds 1 W 1 "))
+
+    def test_decks_of_molfiles(self):
+        self.put("ring.mol", Block(6, [(1, 2), (2, 3), (3, 4), (4, 5), (5, 6), (6, 1)]).molfile())
+        text = "[[block]]\nnumber = 1\nmolfile = 'ring.mol'\n[[placement]]\nblock = 1\n"
+        text += "[[placement]]\nblock = 1\nparent = 1\nparent_atom = 1\natom = 1\n"
+        made = os.path.join(self.room, "made")
+        self.assertEqual(self.run_command("deck", self.put("a.toml", text.encode()), "-o", made), (0, ""))
+        self.assertEqual(self.read(made), FORTY)
+        missing = self.put("b.toml", text.replace("ring", "nowhere").encode())
+        self.assertEqual(self.run_command("deck", missing, "-o", made)[0], 2)
+
+
 class Texts(Room):
     def random_deck(self, chance):
         blocks = [(chance.randrange(70000) % 65536, Block(chance.randrange(70), [(chance.randrange(256), chance.randrange(256))

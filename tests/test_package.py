@@ -2,13 +2,14 @@
 
 import os
 import pickle
+import re
 import shutil
 import subprocess
 import sys
 import tempfile
 import unittest
 
-from common import FORTY, HEADER, JUDGED, PYTHON, RIGHT, RING, ROOT, sheet
+from common import FORTY, HEADER, JUDGED, PYTHON, RIGHT, RING, ROOT, sheet, text
 
 import tteuyomal
 from tteuyomal import Block, Deck, NotThere, Placement, Refused, Sheet, Verdict, library
@@ -62,6 +63,23 @@ class Values(unittest.TestCase):
         self.assertRaises(ValueError, Block, 6, [(1, 2, 3)])
         self.assertRaises(Refused, Block(2).measure)
         RING_OF_6.check()
+
+    def test_texts(self):
+        self.assertEqual(Block.from_molfile(RING_OF_6.molfile()), RING_OF_6)
+        self.assertEqual(Block.from_molfile(RING_OF_6.molfile().decode()), RING_OF_6)
+        self.assertRaises(Refused, Block.from_molfile, "")
+
+    def test_indices(self):
+        self.assertEqual(RING_OF_6.balaban(), 1_999_999_998)
+        self.assertEqual(RING_OF_6.szeged(), (54, [9] * 6))
+        self.assertEqual(Block(4, [(1, 2), (2, 3), (3, 4)]).sets(), (5, 8))
+
+    def test_one_version(self):
+        """The library, the package, its project file and the Makefile have the same."""
+        written = [tteuyomal.__version__]
+        for pattern, path in ((r'^version = "(.*)"$', ("python", "pyproject.toml")), (r"^VERSION := (.*)$", ("Makefile",))):
+            written.append(re.search(pattern, text(*path), re.M).group(1))
+        self.assertEqual(written, [library.version()] * 3)
 
     def test_a_function_that_the_library_has_not(self):
         with self.assertRaisesRegex(NotThere, "tteuyomal_no_such"):

@@ -9,9 +9,10 @@ import unittest
 
 from common import FORTY, text
 
-from tteuyomal import command, decktext
+from tteuyomal import Block, command, decktext
 
 README = text("README.md")
+NAPHTHALENE = Block(10, [(k, k + 1) for k in range(1, 10)] + [(10, 1), (1, 6)])
 
 
 class Readme(unittest.TestCase):
@@ -43,18 +44,25 @@ class Readme(unittest.TestCase):
             self.addCleanup(os.chdir, here)
             with open("product.toml", "w", encoding="utf-8") as file:
                 file.write(self.indented("# product.toml"))
-            lines = [line.split("#")[0].split() for line in self.indented("tteuyomal deck").splitlines() if line.startswith("tteuyomal")]
-            self.assertEqual([words[1] for words in lines], ["deck", "sheet", "sheet", "show"])
-            for words in lines:
-                self.assertEqual(self.status(words), 0)
+            with open("naphthalene.mol", "wb") as file:
+                file.write(NAPHTHALENE.molfile())
+            lines = [line.partition("#") for line in self.indented("tteuyomal measure").splitlines() if line.startswith("tteuyomal")]
+            self.assertEqual([line.split()[1] for line, _, _ in lines], ["measure", "deck", "sheet", "sheet", "show"])
+            for line, _, words in lines:
+                said = self.said(line.split())
+                if words.startswith(" atoms"):
+                    self.assertEqual(said, f"{line.split()[2]}:{words}\n")
             os.mkdir("decks")
             os.rename("judged.deck", "decks/product-17.deck")
             lines = [re.split("#|&&", line)[0].split() for line in self.indented("tteuyomal board").splitlines()]
             self.assertEqual([words[1] for words in lines if words], ["board", "judge", "explain", "notice"])
             for words in filter(None, lines):
-                self.assertEqual(self.status(words), 0)
+                self.said(words)
             os.chdir(here)
 
-    def status(self, words):
-        with contextlib.redirect_stdout(io.TextIOWrapper(io.BytesIO())):
-            return command.main(words[1:])
+    def said(self, words):
+        """What a command prints; its exit status is 0."""
+        out = io.TextIOWrapper(io.BytesIO(), "utf-8")
+        with contextlib.redirect_stdout(out):
+            self.assertEqual(command.main(words[1:]), 0)
+        return out.buffer.getvalue().decode()
