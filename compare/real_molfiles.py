@@ -3,6 +3,7 @@
     apt-get install python3-rdkit rdkit-data openbabel
     make python && PYTHONPATH=python /usr/bin/python3 compare/real_molfiles.py FOLDER..
 
+Of a list of SMILES (.smi) RDKit writes each molecule as a molfile, once with all its hydrogens and once without.
 A file that the library reads must have the atoms, the bonds and W that RDKit's own reader finds once each H with one
 bond, to an atom that isn't H, is left out. A refusal is held against the rules by what RDKit sees: 1 is a molecule of
 0 or more than 64 atoms, 6 an atom of too many bonds, 7 one in parts. The last lines are the table of docs/BENCHMARKS.md.
@@ -19,7 +20,17 @@ import tteuyomal
 from tteuyomal import library
 
 RDLogger.DisableLog("rdApp.*")
-ENDINGS = (".mol", ".sdf", ".sd", ".mdl")
+ENDINGS = (".mol", ".sdf", ".sd", ".mdl", ".smi")
+
+
+def made(data):
+    """Molfiles of the molecules of a list of SMILES."""
+    for line in data.decode("latin-1").splitlines():
+        words = line.split()
+        molecule = Chem.MolFromSmiles(words[0]) if words else None
+        if molecule is not None and molecule.GetNumAtoms() > 0:
+            yield Chem.MolToMolBlock(molecule).encode("latin-1")
+            yield Chem.MolToMolBlock(Chem.AddHs(molecule)).encode("latin-1")
 
 
 def records(data):
@@ -85,7 +96,7 @@ def main(folders):
     for path in files:
         with open(path, "rb") as file:
             data = file.read()
-        for at, record in enumerate(records(data)):
+        for at, record in enumerate(made(data) if path.endswith(".smi") else records(data)):
             told["records"] += 1
             begin = time.perf_counter()
             try:

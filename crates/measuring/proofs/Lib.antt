@@ -1,3 +1,2 @@
--- Laws that proofs cite.
-pub mod Said
+-- Laws that the proof cites.
 pub mod Fits

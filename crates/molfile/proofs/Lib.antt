@@ -9,3 +9,4 @@ pub mod Same
 pub mod Filling
 pub mod Chains
 pub mod Symbols
+pub mod Replies

@@ -9,7 +9,7 @@ use Rattle.reply.specs.Read.{read}
 use Rattle.block.specs.Block.{mostBytes}
 use Rattle.block.specs.Index.{indicesReply, saidIndices}
 use Rattle.molfile.specs.Molfile.{atomsOf, bytesOf, molfileReply}
-use Rattle.measuring.proofs.Said.{mol-refused, mol-block}
+use Rattle.molfile.proofs.Replies.{mol-refused, mol-block}
 use Rattle.measuring.proofs.Fits.{measure-refused, measure-read, cut-to}
 use borrow.Author.Needs.{needs}
 use Rattle.measuring.proofs.measure.Statement.{statement}
