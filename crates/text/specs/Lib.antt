@@ -1,19 +1,14 @@
 -- What bytes of text say, and what is put into them.
 --
--- | notion                        | meaning                                                     | the law that matters       |
--- | `isDigit`, `isBlank`, `digit` | one byte                                                    | `unique-digit` ..          |
--- | `saidNumber`                  | the number that one to three characters say                 | `is-number`, `no-number`   |
--- | `lineEnd`, `lineAt`           | where a line ends; its characters and where the next begins | `end-within`, `next-later` |
--- | `startsWith`, `lineStarts`    | whether bytes stand at a place; at the front of a line      | `unique-starts-with`       |
--- Bytes of text.
--- | notion            | meaning                                                        | the law that matters                                  |
--- | `isNumber`        | blanks, then at least one digit                                | `three-below`: three characters say less than 1000    |
--- | `numberOf`        | what they say                                                  | `three-back`: a number of three characters reads back |
--- | `three`, `decimal`| a number as it is written                                      | `decimal-one`, `decimal-two`, `decimal-three`         |
--- | `lineChars`       | the characters of a line, the CR before its line feed left out | `chars-within`                                        |
--- | `nextLine`        | where the next line begins                                     | `next-later`                                          |
--- | `lineStarts`      | whether one of the lines begins with a word                    | `starts-later`                                        |
--- | `Puts`            | a word put into a lent output as far as there is room          | `both`: two words in a row are one; `at-front`        |
+-- | notion                        | meaning                                                        | the law that matters                                  |
+-- | `isDigit`, `isBlank`, `digit` | one byte                                                       | `unique-digit` ..                                     |
+-- | `isNumber`                    | blanks, then at least one digit                                | `three-below`: three characters say less than 1000    |
+-- | `numberOf`, `saidNumber`      | what they say                                                  | `three-back`: a number of three characters reads back |
+-- | `three`, `decimal`            | a number as it is written                                      | `decimal-one`, `decimal-two`, `decimal-three`         |
+-- | `lineEnd`, `lineAt`           | where a line ends; its characters and where the next begins    | `end-within`, `next-later`                            |
+-- | `lineChars`                   | the characters of a line, the CR before its line feed left out | `chars-within`                                        |
+-- | `startsWith`, `lineStarts`    | whether bytes begin with a word; whether one of the lines does | `starts-later`                                        |
+-- | `Puts`                        | a word put into a lent output as far as there is room          | `both`: two words in a row are one; `at-front`        |
 pub mod Text
 pub mod Said
 pub mod Put

@@ -3,4 +3,4 @@ pub mod Laws
 pub mod Beside
 pub mod Shared
 pub mod Indexed
-pub mod Molfiles
+pub mod MolfileReplies

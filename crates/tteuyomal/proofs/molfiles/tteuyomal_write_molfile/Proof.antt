@@ -3,7 +3,7 @@ use mathlib.Core.Path.{sym, _∙_}
 use native.Mathlib.Omega.{arith}
 use denote.Ref.{now}
 use borrow.Author.Needs.{needs}
-use Rattle.tteuyomal.proofs.Molfiles.{text-refused, text-bytes, write-lacking, write-refused, write-fine}
+use Rattle.tteuyomal.proofs.MolfileReplies.{text-refused, text-bytes, write-lacking, write-refused, write-fine}
 use Rattle.tteuyomal.proofs.molfiles.tteuyomal_write_molfile.Statement.{statement}
 use Rattle.tteuyomal.proofs.molfiles.tteuyomal_write_molfile.Tie as tie
 
