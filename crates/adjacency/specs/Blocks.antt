@@ -1,0 +1,198 @@
+-- Laws. The reply to a text's numbers, by the bytes of its bonds. Assumes nothing.
+use Prim.Native.Nat.{ℕ, zero, suc, _+_, _*_, _/_, _%_, _<_, _≤_}
+use mathlib.Core.Bool.{Bool, true, false, _||_, not, cond, true≢false}
+use mathlib.Core.List.{List, [], _∷_, _++_}
+use mathlib.Core.Path.{_≡_, refl, sym, _∙_, ap}
+use native.Mathlib.Omega.{arith}
+use borrow.Author.Tests.{lt-ltb, le-ltb, eq-eqb, ne-eqb}
+use lib.Dec.{ltb}
+use lib.ListN.{length, take, drop, set}
+use lib.Seq.{sets, sets-eq, take-at}
+use Rattle.graph.specs.Graph.{Graph, Bond, connected}
+use Rattle.block.specs.Read.{Read, refused, read, _then_, refuseIf, refuseFor, refusal}
+use Rattle.block.specs.Chain.{not-read}
+use Rattle.block.specs.Block.{mostAtoms, mostBytes, isOutside, bondsOf, bondFault, bondsReply}
+use Rattle.block.specs.declared.Refusal.{Refusal}
+use Rattle.adjacency.specs.Neighbours.{Number, number, numbers, faultAt, shapeFrom, steps, neighboursReply, Step, described, bonded, bondsIn, stepsReply, bondsLength, bondBytes, molecule, blockOf, bytesAfter}
+use Rattle.adjacency.specs.Work.{until, anyHigh, putAt, Sized, labelRefused, highReply}
+use Rattle.adjacency.specs.Judging.{sized}
+
+-- bytes and bonds
+pub bytes-length : (bs : List Bond) → length (bondBytes bs) ≡ 2 * length bs
+unfolding bondBytes
+bytes-length [] = refl
+bytes-length (b ∷ bs) = omega (arith, bytes-length bs)
+
+pub bytes-bonds : (bs : List Bond) → bondsOf (bondBytes bs) ≡ bs
+unfolding bondBytes bondsOf
+bytes-bonds [] = refl
+bytes-bonds (b ∷ bs) = ap (λ (l : List Bond). b ∷ l) (bytes-bonds bs)
+
+puts : (out : List ℕ) (p : ℕ) (bs : List Bond) → putAt out p bs ≡ sets out p (bondBytes bs)
+unfolding putAt bondBytes
+puts out p [] = refl
+puts out p (b ∷ bs) =
+    let one : p + 1 ≡ suc p = omega arith in
+    let two : p + 2 ≡ suc (suc p) = omega arith in
+    rw (one, two) (puts (set (set out p (b .one)) (suc p) (b .two)) (suc (suc p)) bs)
+
+pub put-all : (out : List ℕ) (bs : List Bond) → bondsLength bs ≤ length out → putAt out 0 bs ≡ bondBytes bs ++ drop (bondsLength bs) out
+put-all out bs h =
+    let l = bytes-length bs in
+    let z : 0 + 2 * length bs ≡ 2 * length bs = omega arith in
+    puts out 0 bs ∙ sets-eq (bondBytes bs) out 0 (omega arith) ∙ rw (l, z)
+
+pub front : (out : List ℕ) (bs : List Bond) (n : ℕ) → bondsLength bs ≤ length out → n ≡ bondsLength bs → take n (putAt out 0 bs) ≡ bondBytes bs
+front out bs n h e = rw (put-all out bs h) (take-at (bondBytes bs) (drop (bondsLength bs) out) n (bytes-length bs ∙ sym e))
+
+-- the bonds up to a label above n
+pub until-few : (n : ℕ) (ss : List Step) → length (until n ss) ≤ length (bondsIn ss)
+unfolding until bondsIn
+until-few n [] = omega arith
+until-few n (described x ∷ ss) = go (ltb n x) (until-few n ss)
+  where
+    go : (t : Bool) → length (until n ss) ≤ length (bondsIn ss) → length (cond t [] (until n ss)) ≤ length (bondsIn ss)
+    go true l = omega arith
+    go false l = l
+until-few n (bonded b ∷ ss) = omega (arith, until-few n ss)
+
+pub until-all : (n : ℕ) (ss : List Step) → anyHigh n ss ≡ false → until n ss ≡ bondsIn ss
+unfolding until bondsIn anyHigh
+until-all n [] e = refl
+until-all n (described x ∷ ss) e = go (ltb n x) e (until-all n ss)
+  where
+    go : (t : Bool) → (t || anyHigh n ss) ≡ false → (anyHigh n ss ≡ false → until n ss ≡ bondsIn ss) → cond t [] (until n ss) ≡ bondsIn ss
+    go true q more = absurd (true≢false q)
+    go false q more = more q
+until-all n (bonded b ∷ ss) e = ap (λ (l : List Bond). b ∷ l) (until-all n ss e)
+
+-- label by label and bond by bond is the bonds, then the label
+pub steps-until : (n : ℕ) (before : List Bond) (ss : List Step)
+    → stepsReply n before ss ≡ (bondsReply n before (until n ss) then λ _. refuseIf (anyHigh n ss) 3 (suc (length before + length (until n ss))))
+unfolding stepsReply bondsReply until anyHigh
+steps-until n before [] = refl
+steps-until n before (described x ∷ ss) = go (ltb n x) (steps-until n before ss)
+  where
+    go : (t : Bool) → stepsReply n before ss ≡ (bondsReply n before (until n ss) then λ _. refuseIf (anyHigh n ss) 3 (suc (length before + length (until n ss))))
+        → (refuseIf t 3 (suc (length before)) then λ _. stepsReply n before ss)
+        ≡ (bondsReply n before (cond t [] (until n ss)) then λ _. refuseIf (t || anyHigh n ss) 3 (suc (length before + length (cond t [] (until n ss)))))
+    go true more = ap (λ (k : ℕ). refused (refusal 3 (suc k))) (omega arith)
+    go false more = more
+steps-until n before (bonded b ∷ ss) = go (bondFault n before b) (steps-until n (b ∷ before) ss)
+  where
+    same : suc (length before) + length (until n ss) ≡ length before + suc (length (until n ss))
+    same = omega arith
+
+    go : (f : ℕ) → stepsReply n (b ∷ before) ss ≡ (bondsReply n (b ∷ before) (until n ss) then λ _. refuseIf (anyHigh n ss) 3 (suc (suc (length before) + length (until n ss))))
+        → (refuseFor f (suc (length before)) then λ _. stepsReply n (b ∷ before) ss)
+        ≡ ((refuseFor f (suc (length before)) then λ _. bondsReply n (b ∷ before) (until n ss)) then λ _. refuseIf (anyHigh n ss) 3 (suc (length before + suc (length (until n ss)))))
+    go zero more = more ∙ ap (λ (k : ℕ). bondsReply n (b ∷ before) (until n ss) then λ _. refuseIf (anyHigh n ss) 3 (suc k)) same
+    go (suc f) more = refl
+
+abbrev stop : Refusal → Read (Unit {0})
+stop r = refused r
+
+stopped : (m : Read (Unit {0})) (r : Refusal) (f g : Unit {0} → Read Graph) → ((m then λ _. stop r) then f) ≡ ((m then λ _. stop r) then g)
+stopped (refused q) r f g = refl
+stopped (read u) r f g = refl
+
+abbrev pass : Read (Unit {0})
+pass = read tt
+
+regrouped : (m x : Read (Unit {0})) (f : Unit {0} → Read Graph) → ((m then λ _. pass) then λ _. x then f) ≡ ((m then λ _. x) then f)
+regrouped (refused q) x f = refl
+regrouped (read u) x f = refl
+
+module _ (n : ℕ) (ss : List Step) (room : ℕ) where
+  pub too-few : n ≡ 0 → blockOf n ss room ≡ refused (refusal 1 0)
+  unfolding blockOf
+  too-few e = rw (eq-eqb n 0 e)
+
+  pub too-many : mostAtoms < n → blockOf n ss room ≡ refused (refusal 1 0)
+  unfolding blockOf
+  too-many h = rw (ne-eqb n 0 (omega arith), lt-ltb mostAtoms n h)
+
+  module _ (low : n ≡ 0 → ⊥) (high : n ≤ mostAtoms) where
+    inside : isOutside mostAtoms n ≡ false
+    inside = rw (ne-eqb n 0 low, le-ltb mostAtoms n high)
+
+    pub too-long : mostBytes < bondsLength (bondsIn ss) → blockOf n ss room ≡ refused (refusal 2 0)
+    unfolding blockOf
+    too-long h = rw (inside, lt-ltb mostBytes (bondsLength (bondsIn ss)) h)
+
+    module _ (short : bondsLength (bondsIn ss) ≤ mostBytes) where
+      pub in-size : Sized n (bondBytes (until n ss))
+      in-size =
+          let l = bytes-length (until n ss) in
+          let m : length (bondBytes (until n ss)) % 2 ≡ 0 = omega arith in
+          record { atoms = inside; bytes = rw (eq-eqb (length (bondBytes (until n ss)) % 2) 0 m, le-ltb mostBytes (length (bondBytes (until n ss))) (omega (arith, until-few n ss))) }
+
+      -- the refusals of the bonds up to a label above n, then 9
+      pub judged-first : blockOf n ss room
+          ≡ (highReply n (bondBytes (until n ss)) (anyHigh n ss) then λ _. refuseIf (ltb room (bondsLength (bondsIn ss))) 9 0 then λ _. read (molecule n ss))
+      unfolding blockOf
+      judged-first =
+          rw (inside, le-ltb mostBytes (bondsLength (bondsIn ss)) short)
+          (rw (steps-until n [] ss) (go (anyHigh n ss) refl))
+        where
+          go : (t : Bool) → anyHigh n ss ≡ t
+              → ((bondsReply n [] (until n ss) then λ _. refuseIf t 3 (suc (0 + length (until n ss)))) then λ _. refuseIf (not (connected (molecule n ss))) 7 0 then λ _. refuseIf (ltb room (bondsLength (bondsIn ss))) 9 0 then λ _. read (molecule n ss))
+              ≡ (highReply n (bondBytes (until n ss)) t then λ _. refuseIf (ltb room (bondsLength (bondsIn ss))) 9 0 then λ _. read (molecule n ss))
+          go true e =
+              let l = bytes-length (until n ss) in
+              let place : length (bondBytes (until n ss)) / 2 + 1 ≡ suc (0 + length (until n ss)) = omega arith in
+              rw (bytes-bonds (until n ss), place) (stopped (bondsReply n [] (until n ss)) (refusal 3 (suc (0 + length (until n ss)))) _ _)
+          go false e =
+              let u = until-all n ss e in
+              rw (u, sized n (bondBytes (bondsIn ss)) (rw u at in-size), bytes-bonds (bondsIn ss)) (regrouped (bondsReply n [] (bondsIn ss)) (refuseIf (not (connected (molecule n ss))) 7 0) _)
+
+      -- the ways through the rest
+      pub judged-bad : (r : Refusal) → highReply n (bondBytes (until n ss)) (anyHigh n ss) ≡ refused r → blockOf n ss room ≡ refused r
+      judged-bad r e = judged-first ∙ rw e
+
+      module _ (e : highReply n (bondBytes (until n ss)) (anyHigh n ss) ≡ read tt) where
+        pub no-high : until n ss ≡ bondsIn ss
+        no-high = until-all n ss (go (anyHigh n ss) e)
+          where
+            go : (t : Bool) → highReply n (bondBytes (until n ss)) t ≡ read tt → t ≡ false
+            go false q = refl
+            go true q = deny (bondsReply n [] (bondsOf (bondBytes (until n ss)))) q
+              where
+                deny : (m : Read (Unit {0})) → (m then λ _. labelRefused (bondBytes (until n ss))) ≡ read tt → true ≡ false
+                deny (refused r) q = absurd (not-read q)
+                deny (read u) q = absurd (not-read q)
+
+        pub no-room : room < bondsLength (until n ss) → blockOf n ss room ≡ refused (refusal 9 0)
+        no-room h = judged-first ∙ rw (e, lt-ltb room (bondsLength (bondsIn ss)) (rw no-high at h))
+
+        pub all-read : bondsLength (until n ss) ≤ room → blockOf n ss room ≡ read (molecule n ss)
+        all-read h = judged-first ∙ rw (e, le-ltb room (bondsLength (bondsIn ss)) (rw no-high at h))
+
+-- what a reply leaves in the lent bytes
+module _ {x : Read Graph} (out : List ℕ) where
+  pub stays : {r : Refusal} → x ≡ refused r → out ≡ bytesAfter x out
+  stays e = rw e
+
+  module _ (n : ℕ) (ss : List Step) (e : x ≡ read (molecule n ss)) (u : until n ss ≡ bondsIn ss) where
+    pub put-in : {last : List ℕ} → last ≡ bondBytes (until n ss) ++ drop (length (bondBytes (until n ss))) out → last ≡ bytesAfter x out
+    put-in p = rw (e, ← u) (p ∙ rw (bytes-length (until n ss)))
+
+-- the whole text
+module _ (text : List ℕ) (room : ℕ) where
+  pub reply-fault : faultAt text < length text → neighboursReply text room ≡ refused (refusal 21 (faultAt text))
+  unfolding neighboursReply
+  reply-fault h = rw (lt-ltb (faultAt text) (length text) h)
+
+  module _ (fine : length text ≤ faultAt text) where
+    pub reply-none : numbers text ≡ [] → neighboursReply text room ≡ refused (refusal 22 (length text))
+    unfolding neighboursReply
+    reply-none e = rw (le-ltb (faultAt text) (length text) fine, e)
+
+    module _ (n p : ℕ) (xs : List Number) (e : numbers text ≡ number n p ∷ xs) where
+      pub reply-shape : (r : Refusal) → shapeFrom (length text) 0 xs ≡ refused r → neighboursReply text room ≡ refused r
+      unfolding neighboursReply
+      reply-shape r f = rw (le-ltb (faultAt text) (length text) fine, e, f)
+
+      pub reply-block : shapeFrom (length text) 0 xs ≡ read tt → neighboursReply text room ≡ blockOf n (steps xs) room
+      unfolding neighboursReply
+      reply-block f = rw (le-ltb (faultAt text) (length text) fine, e, f)

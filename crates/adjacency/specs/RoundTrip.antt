@@ -1,0 +1,174 @@
+-- Laws. Reading a written text gives the block's bonds in the order of the text, the smaller end first; writing those gives the same text. Assumes nothing.
+use Prim.Native.Nat.{ℕ, zero, suc, _+_, _*_, _%_, _<_, _≤_}
+use mathlib.Core.Bool.{Bool, true, false, cond, true≢false}
+use mathlib.Core.List.{List, [], _∷_}
+use mathlib.Core.Logic.{_⊎_, inl, inr, ⊎-elim}
+use mathlib.Core.Path.{_≡_, refl, sym, _∙_, ap}
+use native.Mathlib.Omega.{arith}
+use native.Mathlib.Decide.{ℕ-discrete}
+use borrow.Author.Tests.{eq-eqb, le-ltb, ltb-true, ltb-false}
+use lib.Dec.{eqb, ltb}
+use lib.ListN.{length}
+use Rattle.graph.specs.Graph.{Graph, Bond, Within, Sound, Walk, stay, step, bonded, anyJoins, connected, degree, sum}
+use Rattle.graph.specs.Bonds.{any-out, any-none, anyJoins-sym}
+use Rattle.graph.specs.Sums.{sum-cong, sum-add, sum-le, sum-none, sum-pick}
+use Rattle.graph.specs.Connected.{connected-is-linked}
+use Rattle.block.specs.Read.{refused, read, refusal, _then_, refuseFor}
+use Rattle.block.specs.Chain.{not-read}
+use Rattle.block.specs.Faults.{faultless}
+use Rattle.block.specs.Block.{mostAtoms, mostBytes, limit, bondsOf, graphOf, bondFault, bondsReply, blockReply}
+use Rattle.block.specs.Told.{passed, few-atoms, sound, molecule, each-bond}
+use Rattle.adjacency.specs.Neighbours.{steps, bondsLength, bondBytes, neighboursReply}
+use Rattle.adjacency.specs.Written.{writtenText, writeReply}
+use Rattle.adjacency.specs.Canonical.{bondsUpTo, canonical}
+use Rattle.adjacency.specs.Work.{until, anyHigh, highReply}
+use Rattle.adjacency.specs.Blocks.{bytes-length, bytes-bonds, until-all, no-room, all-read}
+use Rattle.adjacency.specs.Writing.{text-same}
+use Rattle.adjacency.specs.Putting.{text-short}
+use Rattle.adjacency.specs.Degrees.{apart, canonical-degree, canonical-few}
+use Rattle.adjacency.specs.Order.{all-out, all-in, order-fine}
+use Rattle.adjacency.specs.Again.{Reread, reread}
+
+-- the ends of bonds that pass, all counted
+ends-counted : (n : ℕ) (done bs : List Bond) → bondsReply n done bs ≡ read tt → sum n (λ v. degree bs v) ≡ 2 * length bs
+unfolding bondsReply degree
+ends-counted n done [] e = sum-none n
+ends-counted n done (b ∷ bs) e = go (bondFault n done b) refl e (ends-counted n (b ∷ done) bs)
+  where
+    go : (f : ℕ) → bondFault n done b ≡ f → (refuseFor f (suc (length done)) then λ _. bondsReply n (b ∷ done) bs) ≡ read tt
+        → (bondsReply n (b ∷ done) bs ≡ read tt → sum n (λ v. degree bs v) ≡ 2 * length bs)
+        → sum n (λ v. cond (eqb (b .one) v) 1 0 + cond (eqb (b .two) v) 1 0 + degree bs v) ≡ 2 * suc (length bs)
+    go zero z q more =
+        let r = faultless n done b z in
+        omega (
+          arith,
+          sum-add n (λ v. cond (eqb (b .one) v) 1 0 + cond (eqb (b .two) v) 1 0) (λ v. degree bs v),
+          sum-add n (λ v. cond (eqb (b .one) v) 1 0) (λ v. cond (eqb (b .two) v) 1 0),
+          sum-pick n (b .one) (λ v. 1) (r .one),
+          sum-pick n (b .two) (λ v. 1) (r .two),
+          more q,
+        )
+    go (suc f) z q more = absurd (not-read q)
+
+module _ (n : ℕ) (xs : List ℕ) (fine : blockReply n xs ≡ read tt) where
+  abbrev bs : List Bond
+  bs = bondsOf xs
+
+  abbrev cs : List Bond
+  cs = bondsUpTo (anyJoins bs) n n
+
+  -- the two lists join the same atoms
+  joins-out : (u v : ℕ) → anyJoins cs u v ≡ true → anyJoins bs u v ≡ true
+  joins-out u v e = ⊎-elim (λ r. r .holds) (λ r. anyJoins-sym bs u v ∙ r .holds) (all-out (anyJoins bs) n n u v e)
+
+  joins-in : (u v : ℕ) → anyJoins bs u v ≡ true → anyJoins cs u v ≡ true
+  unfolding bonded
+  joins-in u v e = go (ℕ-discrete u v)
+    where
+      one : Within n u
+      one = sound n xs fine .ends u v e
+
+      two : Within n v
+      two = sound n xs fine .ends v u (anyJoins-sym bs v u ∙ e)
+
+      order : (a b : ℕ) → (a ≡ b → ⊥) → (a < b) ⊎ (b < a)
+      order a b d = pick (ltb a b) refl
+        where
+          pick : (t : Bool) → ltb a b ≡ t → (a < b) ⊎ (b < a)
+          pick true t = inl (ltb-true a b t)
+          pick false t = let l = ltb-false a b t in inr (omega arith)
+
+      go : Dec (u ≡ v) → anyJoins cs u v ≡ true
+      go (yes d) = absurd (apart n xs fine u (rw (← d) at e))
+      go (no d) =
+          ⊎-elim (λ l. all-in (anyJoins bs) n n u v one two l e)
+          (λ l. anyJoins-sym cs u v ∙ all-in (anyJoins bs) n n v u two one l (anyJoins-sym bs v u ∙ e)) (order u v d)
+
+  pub same-joins : (u v : ℕ) → anyJoins (canonical n bs) u v ≡ anyJoins bs u v
+  unfolding canonical
+  same-joins u v = go (anyJoins cs u v) (anyJoins bs u v) refl refl
+    where
+      go : (s t : Bool) → anyJoins cs u v ≡ s → anyJoins bs u v ≡ t → s ≡ t
+      go true true p q = refl
+      go true false p q = absurd (true≢false (sym (joins-out u v p) ∙ q))
+      go false true p q = absurd (true≢false (sym (joins-in u v q) ∙ p))
+      go false false p q = refl
+
+  -- so it is a molecule still
+  abbrev other : Graph
+  other = record { atoms = n; bonds = cs }
+
+  walk-same : {i j k : ℕ} → Walk (graphOf n xs) i j k → Walk other i j k
+  unfolding bonded
+  walk-same stay = stay
+  walk-same (step {v} {w} p b) = step (walk-same p) (joins-in v w b)
+
+  sound-still : Sound other
+  unfolding bonded
+  sound-still = record { ends = λ v w e. sound n xs fine .ends v w (joins-out v w e) }
+
+  connected-still : connected other ≡ true
+  connected-still =
+      connected-is-linked sound-still .1
+      (record { linked = λ i j v w. let (k, p) = molecule n xs fine .linked i j v w in (k, walk-same p) })
+
+  bonds-pass : bondsReply n [] cs ≡ read tt
+  bonds-pass = order-fine (anyJoins bs) n (canonical-few n xs fine) n (omega arith)
+
+  pub same-count : length (canonical n bs) ≡ length bs
+  unfolding canonical
+  same-count =
+      omega (
+        arith,
+        ends-counted n [] cs bonds-pass,
+        ends-counted n [] bs (passed n xs fine .bonds),
+        sum-cong n {f = λ v. degree cs v} {h = λ v. degree bs v} (λ v w. canonical-degree n xs fine v w),
+      )
+
+  short-still : bondsLength cs ≤ mostBytes
+  short-still =
+      let a = few-atoms n xs fine in
+      omega (arith, ends-counted n [] cs bonds-pass, sum-le n {f = λ v. degree cs v} {c = limit} (λ v w. canonical-few n xs fine v w))
+
+  pub fine-again : blockReply n (bondBytes (canonical n bs)) ≡ read tt
+  unfolding blockReply canonical
+  fine-again =
+      let l = bytes-length cs in
+      let m : length (bondBytes cs) % 2 ≡ 0 = omega arith in
+      rw (passed n xs fine .size, eq-eqb (length (bondBytes cs) % 2) 0 m, le-ltb mostBytes (length (bondBytes cs)) (omega (arith, short-still)), bytes-bonds cs, bonds-pass, connected-still)
+
+  -- it is short enough for what the writer keeps of it
+  pub text-fits : length (writtenText n bs) ≤ 8 * mostAtoms + 2 * mostBytes
+  text-fits = let a = few-atoms n xs fine in omega (arith, text-short (anyJoins bs) n (a .high), short-still)
+
+  until-is : {room : ℕ} (r : Reread (anyJoins bs) n (few-atoms n xs fine .high) room) → until n (steps (r .rest)) ≡ cs
+  until-is r = until-all n (steps (r .rest)) (r .low) ∙ r .bonds
+
+  all-judged : {room : ℕ} (r : Reread (anyJoins bs) n (few-atoms n xs fine .high) room) → highReply n (bondBytes (until n (steps (r .rest)))) (anyHigh n (steps (r .rest))) ≡ read tt
+  unfolding canonical
+  all-judged r = rw (until-is r, r .low) fine-again
+
+  -- READING A WRITTEN TEXT
+  pub reads-back : (room : ℕ) → bondsLength (canonical n bs) ≤ room → neighboursReply (writtenText n bs) room ≡ read (record { atoms = n; bonds = canonical n bs })
+  unfolding canonical
+  reads-back room h =
+      let a = few-atoms n xs fine in
+      let r = reread (anyJoins bs) n (a .high) room in
+      r .reply
+      ∙ all-read n (steps (r .rest)) room (λ z. omega arith) (a .high) (rw (r .bonds) short-still) (all-judged r) (rw (until-is r) h)
+      ∙ ap (λ (l : List Bond). read (record { atoms = n; bonds = l })) (r .bonds)
+
+  pub reads-back-short : (room : ℕ) → room < bondsLength (canonical n bs) → neighboursReply (writtenText n bs) room ≡ refused (refusal 9 0)
+  unfolding canonical
+  reads-back-short room h =
+      let a = few-atoms n xs fine in
+      let r = reread (anyJoins bs) n (a .high) room in
+      r .reply ∙ no-room n (steps (r .rest)) room (λ z. omega arith) (a .high) (rw (r .bonds) short-still) (all-judged r) (rw (until-is r) h)
+
+  -- AND WRITING AGAIN
+  pub writes-same : writtenText n (canonical n bs) ≡ writtenText n bs
+  writes-same = text-same n (anyJoins (canonical n bs)) (anyJoins bs) (λ i j v w l. same-joins i j)
+
+  pub writes-again : (room : ℕ) → writeReply n (bondBytes (canonical n bs)) room ≡ writeReply n xs room
+  unfolding writeReply
+  writes-again room = rw (fine, fine-again, bytes-bonds (canonical n bs), writes-same)

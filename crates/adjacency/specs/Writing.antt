@@ -1,0 +1,88 @@
+-- Laws. The text of a block by the rows of its distances, and the reply. Assumes nothing.
+use Prim.Native.Nat.{ℕ, zero, suc, _+_, _-_, _<_, _≤_}
+use mathlib.Core.Bool.{Bool, true, false, _&&_, true≢false}
+use mathlib.Core.List.{List, _++_}
+use mathlib.Core.Path.{_≡_, refl, sym, _∙_}
+use native.Mathlib.Omega.{arith}
+use borrow.Author.Tests.{lt-ltb, le-ltb, ltb-true, eq-eqb, ne-eqb}
+use lib.Dec.{eqb, ltb}
+use lib.ListN.{length, drop}
+use Rattle.graph.specs.Graph.{Graph, bonded, anyJoins, distance, Walk, stay, step, Within, Molecule}
+use Rattle.graph.specs.Distance.{distance-shortest, distance-zero}
+use Rattle.block.specs.Read.{Read, refused, read, refusal}
+use Rattle.block.specs.Block.{bondsOf, graphOf, blockReply}
+use Rattle.block.specs.Rows.{rowsOf}
+use Rattle.block.specs.Told.{molecule, distance-at}
+use Rattle.block.specs.declared.Refusal.{Refusal}
+use Rattle.adjacency.specs.Written.{upTo, isGreater, greater, lines, textBy, writtenText, writeReply, textAfter}
+use Rattle.adjacency.specs.Work.{joinedIn}
+
+-- where two tests agree, the texts agree
+up-same : (m : ℕ) (p q : ℕ → Bool) → ((j : ℕ) → Within m j → p j ≡ q j) → upTo m p ≡ upTo m q
+unfolding upTo
+up-same zero p q h = refl
+up-same (suc m) p q h = rw (h (suc m) (omega arith), up-same m p q (λ j w. h j (omega arith)))
+
+module _ (n : ℕ) (p q : ℕ → ℕ → Bool) (h : (i j : ℕ) → Within n i → Within n j → i < j → p i j ≡ q i j) where
+  greater-same : (i : ℕ) → Within n i → greater p n i ≡ greater q n i
+  unfolding greater
+  greater-same i w = up-same n (isGreater p i) (isGreater q i) (λ j v. go j v (ltb i j) refl)
+    where
+      go : (j : ℕ) → Within n j → (t : Bool) → ltb i j ≡ t → (t && p i j) ≡ (t && q i j)
+      go j v true e = h i j w v (ltb-true i j e)
+      go j v false e = refl
+
+  lines-same : (m : ℕ) → m ≤ n → lines p n m ≡ lines q n m
+  unfolding lines
+  lines-same zero l = refl
+  lines-same (suc m) l = rw (lines-same m (omega arith), greater-same (suc m) (omega arith))
+
+  pub text-same : textBy p n ≡ textBy q n
+  unfolding textBy
+  text-same = rw (lines-same n (omega arith))
+
+-- a walk of one bond
+walk-none : {g : Graph} {i j k : ℕ} → Walk g i j k → k ≡ 0 → i ≡ j
+walk-none stay e = refl
+walk-none (step w b) e = absurd (omega arith)
+
+walk-one : {g : Graph} {i j k : ℕ} → Walk g i j k → k ≡ 1 → bonded g i j ≡ true
+walk-one stay e = absurd (omega arith)
+walk-one {g} {i} {j} (step {v} w b) e = let same : i ≡ v = walk-none w (omega arith) in rw same b
+
+-- atoms at distance 1 are those that are bonded
+beside : (g : Graph) → Molecule g → (i j : ℕ) → Within (g .atoms) i → Within (g .atoms) j → i < j → eqb (distance g i j) 1 ≡ bonded g i j
+beside g m i j v w l = go (bonded g i j) refl
+  where
+    go : (t : Bool) → bonded g i j ≡ t → eqb (distance g i j) 1 ≡ t
+    go true b =
+        let far = distance-shortest m v w .least 1 (step stay b) in
+        let near : distance g i j ≡ 0 → ⊥ = λ z. let e : i ≡ j = distance-zero m v w z in omega arith in
+        eq-eqb (distance g i j) 1 (omega arith)
+    go false b = ne-eqb (distance g i j) 1 (λ e. true≢false (sym (walk-one (distance-shortest m v w .walk) e) ∙ b))
+
+module _ (n : ℕ) (xs : List ℕ) (fine : blockReply n xs ≡ read tt) where
+  pub by-rows : textBy (joinedIn (rowsOf n xs)) n ≡ writtenText n (bondsOf xs)
+  unfolding bonded
+  by-rows = text-same n (joinedIn (rowsOf n xs)) (anyJoins (bondsOf xs)) (λ i j v w l. rw (distance-at n xs fine v w) (beside (graphOf n xs) (molecule n xs fine) i j v w l))
+
+  module _ (room : ℕ) where
+    pub write-short : room < length (writtenText n (bondsOf xs)) → writeReply n xs room ≡ refused (refusal 9 0)
+    unfolding writeReply
+    write-short h = rw (fine, lt-ltb room (length (writtenText n (bondsOf xs))) h)
+
+    pub write-done : length (writtenText n (bondsOf xs)) ≤ room → writeReply n xs room ≡ read (writtenText n (bondsOf xs))
+    unfolding writeReply
+    write-done h = rw (fine, le-ltb room (length (writtenText n (bondsOf xs))) h)
+
+pub write-refused : (n : ℕ) (xs : List ℕ) (room : ℕ) (r : Refusal) → blockReply n xs ≡ refused r → writeReply n xs room ≡ refused r
+unfolding writeReply
+write-refused n xs room r e = rw e
+
+-- what a reply leaves in the lent bytes
+module _ {x : Read (List ℕ)} (out : List ℕ) where
+  pub text-stays : {r : Refusal} → x ≡ refused r → out ≡ textAfter x out
+  text-stays e = rw e
+
+  pub text-put : {t last : List ℕ} → x ≡ read t → last ≡ t ++ drop (length t) out → last ≡ textAfter x out
+  text-put e p = rw e p
