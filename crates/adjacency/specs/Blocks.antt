@@ -14,7 +14,7 @@ use Rattle.block.specs.Chain.{not-read}
 use Rattle.block.specs.Block.{mostAtoms, mostBytes, isOutside, bondsOf, bondFault, bondsReply}
 use Rattle.block.specs.declared.Refusal.{Refusal}
 use Rattle.adjacency.specs.Neighbours.{Number, number, numbers, faultAt, shapeFrom, steps, neighboursReply, Step, described, bonded, bondsIn, stepsReply, bondsLength, bondBytes, molecule, blockOf, bytesAfter}
-use Rattle.adjacency.specs.Work.{until, anyHigh, putAt, Sized, labelRefused, highReply}
+use Rattle.adjacency.specs.Work.{until, anyHigh, putAt, Fit, Sized, labelRefused, highReply}
 use Rattle.adjacency.specs.Judging.{sized}
 
 -- bytes and bonds
@@ -112,61 +112,60 @@ module _ (n : ℕ) (ss : List Step) (room : ℕ) where
   unfolding blockOf
   too-many h = rw (ne-eqb n 0 (omega arith), lt-ltb mostAtoms n h)
 
-  module _ (low : n ≡ 0 → ⊥) (high : n ≤ mostAtoms) where
+  pub too-long : (n ≡ 0 → ⊥) → n ≤ mostAtoms → mostBytes < bondsLength (bondsIn ss) → blockOf n ss room ≡ refused (refusal 2 0)
+  unfolding blockOf
+  too-long low high h = rw (ne-eqb n 0 low, le-ltb mostAtoms n high, lt-ltb mostBytes (bondsLength (bondsIn ss)) h)
+
+  module _ (f : Fit n ss) where
     inside : isOutside mostAtoms n ≡ false
-    inside = rw (ne-eqb n 0 low, le-ltb mostAtoms n high)
+    inside = rw (ne-eqb n 0 (f .low), le-ltb mostAtoms n (f .high))
 
-    pub too-long : mostBytes < bondsLength (bondsIn ss) → blockOf n ss room ≡ refused (refusal 2 0)
+    pub in-size : Sized n (bondBytes (until n ss))
+    in-size =
+        let l = bytes-length (until n ss) in
+        let m : length (bondBytes (until n ss)) % 2 ≡ 0 = omega arith in
+        record { atoms = inside; bytes = rw (eq-eqb (length (bondBytes (until n ss)) % 2) 0 m, le-ltb mostBytes (length (bondBytes (until n ss))) (omega (arith, f .short, until-few n ss))) }
+
+    -- the refusals of the bonds up to a label above n, then 9
+    pub judged-first : blockOf n ss room
+        ≡ (highReply n (bondBytes (until n ss)) (anyHigh n ss) then λ _. refuseIf (ltb room (bondsLength (bondsIn ss))) 9 0 then λ _. read (molecule n ss))
     unfolding blockOf
-    too-long h = rw (inside, lt-ltb mostBytes (bondsLength (bondsIn ss)) h)
+    judged-first =
+        rw (inside, le-ltb mostBytes (bondsLength (bondsIn ss)) (f .short))
+        (rw (steps-until n [] ss) (go (anyHigh n ss) refl))
+      where
+        go : (t : Bool) → anyHigh n ss ≡ t
+            → ((bondsReply n [] (until n ss) then λ _. refuseIf t 3 (suc (0 + length (until n ss)))) then λ _. refuseIf (not (connected (molecule n ss))) 7 0 then λ _. refuseIf (ltb room (bondsLength (bondsIn ss))) 9 0 then λ _. read (molecule n ss))
+            ≡ (highReply n (bondBytes (until n ss)) t then λ _. refuseIf (ltb room (bondsLength (bondsIn ss))) 9 0 then λ _. read (molecule n ss))
+        go true e =
+            let l = bytes-length (until n ss) in
+            let place : length (bondBytes (until n ss)) / 2 + 1 ≡ suc (0 + length (until n ss)) = omega arith in
+            rw (bytes-bonds (until n ss), place) (stopped (bondsReply n [] (until n ss)) (refusal 3 (suc (0 + length (until n ss)))) _ _)
+        go false e =
+            let u = until-all n ss e in
+            rw (u, sized n (bondBytes (bondsIn ss)) (rw u at in-size), bytes-bonds (bondsIn ss)) (regrouped (bondsReply n [] (bondsIn ss)) (refuseIf (not (connected (molecule n ss))) 7 0) _)
 
-    module _ (short : bondsLength (bondsIn ss) ≤ mostBytes) where
-      pub in-size : Sized n (bondBytes (until n ss))
-      in-size =
-          let l = bytes-length (until n ss) in
-          let m : length (bondBytes (until n ss)) % 2 ≡ 0 = omega arith in
-          record { atoms = inside; bytes = rw (eq-eqb (length (bondBytes (until n ss)) % 2) 0 m, le-ltb mostBytes (length (bondBytes (until n ss))) (omega (arith, until-few n ss))) }
+    -- the ways through the rest
+    pub judged-bad : (r : Refusal) → highReply n (bondBytes (until n ss)) (anyHigh n ss) ≡ refused r → blockOf n ss room ≡ refused r
+    judged-bad r e = judged-first ∙ rw e
 
-      -- the refusals of the bonds up to a label above n, then 9
-      pub judged-first : blockOf n ss room
-          ≡ (highReply n (bondBytes (until n ss)) (anyHigh n ss) then λ _. refuseIf (ltb room (bondsLength (bondsIn ss))) 9 0 then λ _. read (molecule n ss))
-      unfolding blockOf
-      judged-first =
-          rw (inside, le-ltb mostBytes (bondsLength (bondsIn ss)) short)
-          (rw (steps-until n [] ss) (go (anyHigh n ss) refl))
+    module _ (e : highReply n (bondBytes (until n ss)) (anyHigh n ss) ≡ read tt) where
+      pub no-high : until n ss ≡ bondsIn ss
+      no-high = until-all n ss (go (anyHigh n ss) e)
         where
-          go : (t : Bool) → anyHigh n ss ≡ t
-              → ((bondsReply n [] (until n ss) then λ _. refuseIf t 3 (suc (0 + length (until n ss)))) then λ _. refuseIf (not (connected (molecule n ss))) 7 0 then λ _. refuseIf (ltb room (bondsLength (bondsIn ss))) 9 0 then λ _. read (molecule n ss))
-              ≡ (highReply n (bondBytes (until n ss)) t then λ _. refuseIf (ltb room (bondsLength (bondsIn ss))) 9 0 then λ _. read (molecule n ss))
-          go true e =
-              let l = bytes-length (until n ss) in
-              let place : length (bondBytes (until n ss)) / 2 + 1 ≡ suc (0 + length (until n ss)) = omega arith in
-              rw (bytes-bonds (until n ss), place) (stopped (bondsReply n [] (until n ss)) (refusal 3 (suc (0 + length (until n ss)))) _ _)
-          go false e =
-              let u = until-all n ss e in
-              rw (u, sized n (bondBytes (bondsIn ss)) (rw u at in-size), bytes-bonds (bondsIn ss)) (regrouped (bondsReply n [] (bondsIn ss)) (refuseIf (not (connected (molecule n ss))) 7 0) _)
+          go : (t : Bool) → highReply n (bondBytes (until n ss)) t ≡ read tt → t ≡ false
+          go false q = refl
+          go true q = deny (bondsReply n [] (bondsOf (bondBytes (until n ss)))) q
+            where
+              deny : (m : Read (Unit {0})) → (m then λ _. labelRefused (bondBytes (until n ss))) ≡ read tt → true ≡ false
+              deny (refused r) q = absurd (not-read q)
+              deny (read u) q = absurd (not-read q)
 
-      -- the ways through the rest
-      pub judged-bad : (r : Refusal) → highReply n (bondBytes (until n ss)) (anyHigh n ss) ≡ refused r → blockOf n ss room ≡ refused r
-      judged-bad r e = judged-first ∙ rw e
+      pub no-room : room < bondsLength (until n ss) → blockOf n ss room ≡ refused (refusal 9 0)
+      no-room h = judged-first ∙ rw (e, lt-ltb room (bondsLength (bondsIn ss)) (rw no-high at h))
 
-      module _ (e : highReply n (bondBytes (until n ss)) (anyHigh n ss) ≡ read tt) where
-        pub no-high : until n ss ≡ bondsIn ss
-        no-high = until-all n ss (go (anyHigh n ss) e)
-          where
-            go : (t : Bool) → highReply n (bondBytes (until n ss)) t ≡ read tt → t ≡ false
-            go false q = refl
-            go true q = deny (bondsReply n [] (bondsOf (bondBytes (until n ss)))) q
-              where
-                deny : (m : Read (Unit {0})) → (m then λ _. labelRefused (bondBytes (until n ss))) ≡ read tt → true ≡ false
-                deny (refused r) q = absurd (not-read q)
-                deny (read u) q = absurd (not-read q)
-
-        pub no-room : room < bondsLength (until n ss) → blockOf n ss room ≡ refused (refusal 9 0)
-        no-room h = judged-first ∙ rw (e, lt-ltb room (bondsLength (bondsIn ss)) (rw no-high at h))
-
-        pub all-read : bondsLength (until n ss) ≤ room → blockOf n ss room ≡ read (molecule n ss)
-        all-read h = judged-first ∙ rw (e, le-ltb room (bondsLength (bondsIn ss)) (rw no-high at h))
+      pub all-read : bondsLength (until n ss) ≤ room → blockOf n ss room ≡ read (molecule n ss)
+      all-read h = judged-first ∙ rw (e, le-ltb room (bondsLength (bondsIn ss)) (rw no-high at h))
 
 -- what a reply leaves in the lent bytes
 module _ {x : Read Graph} (out : List ℕ) where

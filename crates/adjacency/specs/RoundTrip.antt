@@ -21,7 +21,7 @@ use Rattle.block.specs.Told.{passed, few-atoms, sound, molecule, each-bond}
 use Rattle.adjacency.specs.Neighbours.{steps, bondsLength, bondBytes, neighboursReply}
 use Rattle.adjacency.specs.Written.{writtenText, writeReply}
 use Rattle.adjacency.specs.Canonical.{bondsUpTo, canonical}
-use Rattle.adjacency.specs.Work.{until, anyHigh, highReply}
+use Rattle.adjacency.specs.Work.{until, anyHigh, Fit, highReply}
 use Rattle.adjacency.specs.Blocks.{bytes-length, bytes-bonds, until-all, no-room, all-read}
 use Rattle.adjacency.specs.Writing.{text-same}
 use Rattle.adjacency.specs.Putting.{text-short}
@@ -144,6 +144,9 @@ module _ (n : ℕ) (xs : List ℕ) (fine : blockReply n xs ≡ read tt) where
   until-is : {room : ℕ} (r : Reread (anyJoins bs) n (few-atoms n xs fine .high) room) → until n (steps (r .rest)) ≡ cs
   until-is r = until-all n (steps (r .rest)) (r .low) ∙ r .bonds
 
+  fit : {room : ℕ} (r : Reread (anyJoins bs) n (few-atoms n xs fine .high) room) → Fit n (steps (r .rest))
+  fit r = let a = few-atoms n xs fine in record { low = λ z. omega arith; high = a .high; short = rw (r .bonds) short-still }
+
   all-judged : {room : ℕ} (r : Reread (anyJoins bs) n (few-atoms n xs fine .high) room) → highReply n (bondBytes (until n (steps (r .rest)))) (anyHigh n (steps (r .rest))) ≡ read tt
   unfolding canonical
   all-judged r = rw (until-is r, r .low) fine-again
@@ -155,7 +158,7 @@ module _ (n : ℕ) (xs : List ℕ) (fine : blockReply n xs ≡ read tt) where
       let a = few-atoms n xs fine in
       let r = reread (anyJoins bs) n (a .high) room in
       r .reply
-      ∙ all-read n (steps (r .rest)) room (λ z. omega arith) (a .high) (rw (r .bonds) short-still) (all-judged r) (rw (until-is r) h)
+      ∙ all-read n (steps (r .rest)) room (fit r) (all-judged r) (rw (until-is r) h)
       ∙ ap (λ (l : List Bond). read (record { atoms = n; bonds = l })) (r .bonds)
 
   pub reads-back-short : (room : ℕ) → room < bondsLength (canonical n bs) → neighboursReply (writtenText n bs) room ≡ refused (refusal 9 0)
@@ -163,7 +166,7 @@ module _ (n : ℕ) (xs : List ℕ) (fine : blockReply n xs ≡ read tt) where
   reads-back-short room h =
       let a = few-atoms n xs fine in
       let r = reread (anyJoins bs) n (a .high) room in
-      r .reply ∙ no-room n (steps (r .rest)) room (λ z. omega arith) (a .high) (rw (r .bonds) short-still) (all-judged r) (rw (until-is r) h)
+      r .reply ∙ no-room n (steps (r .rest)) room (fit r) (all-judged r) (rw (until-is r) h)
 
   -- AND WRITING AGAIN
   pub writes-same : writtenText n (canonical n bs) ≡ writtenText n bs

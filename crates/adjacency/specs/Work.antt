@@ -9,7 +9,7 @@ use Rattle.graph.specs.Graph.{Bond}
 use Rattle.block.specs.Read.{Read, refused, read, _then_, refusal}
 use Rattle.block.specs.Block.{blockReply, bondsReply, bondsOf, mostAtoms, mostBytes, isOutside}
 use Rattle.text.specs.Text.{isDigit}
-use Rattle.adjacency.specs.Neighbours.{Number, number, most, grown, none, run, numbersFrom, goodBytes, largeAt, faultAt, shapeFrom, end, Step, described, bonded, stepsFrom, bondsIn}
+use Rattle.adjacency.specs.Neighbours.{Number, number, most, grown, none, run, numbersFrom, goodBytes, largeAt, faultAt, shapeFrom, end, Step, described, bonded, stepsFrom, bondsIn, bondsLength}
 
 -- what digits say that a byte goes on with, and where they begin; 0 and the next place where it is no digit
 abbrev pub valueAfter : ℕ → ℕ → ℕ
@@ -98,7 +98,13 @@ pub record Filling (n : ℕ) (ss : List Step) (first : List ℕ) (label : ℕ) (
   pub high : anyHigh n ss ≡ anyHigh n (stepsFrom label xs)
   pub same : length out ≡ length first
 
--- a block that 1 and 2 do not refuse
+-- an atom count and bonds that 1 and 2 do not refuse
+pub record Fit (n : ℕ) (ss : List Step) : Type 0 where
+  pub low : n ≡ 0 → ⊥
+  pub high : n ≤ mostAtoms
+  pub short : bondsLength (bondsIn ss) ≤ mostBytes
+
+-- the same of a block
 pub record Sized (n : ℕ) (xs : List ℕ) : Type 0 where
   pub atoms : isOutside mostAtoms n ≡ false
   pub bytes : (not (eqb (length xs % 2) 0) || ltb mostBytes (length xs)) ≡ false
