@@ -4,17 +4,17 @@ use mathlib.Core.Bool.{Bool, true, false, _||_, not, cond, true≢false}
 use mathlib.Core.List.{List, [], _∷_, _++_}
 use mathlib.Core.Path.{_≡_, refl, sym, _∙_, ap}
 use native.Mathlib.Omega.{arith}
-use borrow.Author.Tests.{lt-ltb, le-ltb, eq-eqb, ne-eqb}
-use lib.Dec.{ltb}
+use borrow.Author.Tests.{lt-ltb, le-ltb, eq-eqb, ne-eqb, eqb-true}
+use lib.Dec.{eqb, ltb}
 use lib.ListN.{length, take, drop, set}
 use lib.Seq.{sets, sets-eq, take-at}
 use Rattle.graph.specs.Graph.{Graph, Bond, connected}
-use Rattle.block.specs.Read.{Read, refused, read, _then_, refuseIf, refuseFor, refusal}
-use Rattle.block.specs.Chain.{not-read}
-use Rattle.block.specs.Block.{mostAtoms, mostBytes, isOutside, bondsOf, bondFault, bondsReply}
-use Rattle.block.specs.declared.Refusal.{Refusal}
+use Rattle.reply.specs.Read.{Read, refused, read, _then_, refuseIf, refuseFor, refusal, isOutside}
+use Rattle.reply.specs.Chain.{not-read}
+use Rattle.block.specs.Block.{mostAtoms, mostBytes, bondsOf, graphOf, bondFault, bondsReply}
+use Rattle.reply.specs.declared.Refusal.{Refusal}
 use Rattle.adjacency.specs.Neighbours.{Number, number, numbers, faultAt, shapeFrom, steps, neighboursReply, Step, described, bonded, bondsIn, stepsReply, bondsLength, bondBytes, molecule, blockOf, bytesAfter}
-use Rattle.adjacency.specs.Work.{until, anyHigh, putAt, Fit, Sized, labelRefused, highReply}
+use Rattle.adjacency.specs.Work.{until, anyHigh, putAt, Fit, Sized, keptReply, labelRefused, highReply}
 use Rattle.adjacency.specs.Judging.{sized}
 
 -- bytes and bonds
@@ -27,6 +27,13 @@ pub bytes-bonds : (bs : List Bond) → bondsOf (bondBytes bs) ≡ bs
 unfolding bondBytes bondsOf
 bytes-bonds [] = refl
 bytes-bonds (b ∷ bs) = ap (λ (l : List Bond). b ∷ l) (bytes-bonds bs)
+
+-- bytes that come in pairs are those of their bonds
+bonds-bytes : (xs : List ℕ) → length xs % 2 ≡ 0 → bondBytes (bondsOf xs) ≡ xs
+unfolding bondBytes bondsOf
+bonds-bytes [] h = refl
+bonds-bytes (a ∷ []) h = absurd (omega arith)
+bonds-bytes (a ∷ b ∷ xs) h = ap (λ (l : List ℕ). a ∷ b ∷ l) (bonds-bytes xs (omega arith))
 
 puts : (out : List ℕ) (p : ℕ) (bs : List Bond) → putAt out p bs ≡ sets out p (bondBytes bs)
 unfolding putAt bondBytes
@@ -120,14 +127,17 @@ module _ (n : ℕ) (ss : List Step) (room : ℕ) where
     inside : isOutside mostAtoms n ≡ false
     inside = rw (ne-eqb n 0 (f .low), le-ltb mostAtoms n (f .high))
 
+    pub fits : bondsLength (until n ss) ≤ mostBytes
+    fits = omega (arith, f .short, until-few n ss)
+
     pub in-size : Sized n (bondBytes (until n ss))
     in-size =
         let l = bytes-length (until n ss) in
         let m : length (bondBytes (until n ss)) % 2 ≡ 0 = omega arith in
-        record { atoms = inside; bytes = rw (eq-eqb (length (bondBytes (until n ss)) % 2) 0 m, le-ltb mostBytes (length (bondBytes (until n ss))) (omega (arith, f .short, until-few n ss))) }
+        record { atoms = inside; bytes = rw (eq-eqb (length (bondBytes (until n ss)) % 2) 0 m, le-ltb mostBytes (length (bondBytes (until n ss))) (omega (arith, fits))) }
 
     -- the refusals of the bonds up to a label above n, then 9
-    pub judged-first : blockOf n ss room
+    judged-first : blockOf n ss room
         ≡ (highReply n (bondBytes (until n ss)) (anyHigh n ss) then λ _. refuseIf (ltb room (bondsLength (bondsIn ss))) 9 0 then λ _. read (molecule n ss))
     unfolding blockOf
     judged-first =
@@ -145,12 +155,8 @@ module _ (n : ℕ) (ss : List Step) (room : ℕ) where
             let u = until-all n ss e in
             rw (u, sized n (bondBytes (bondsIn ss)) (rw u at in-size), bytes-bonds (bondsIn ss)) (regrouped (bondsReply n [] (bondsIn ss)) (refuseIf (not (connected (molecule n ss))) 7 0) _)
 
-    -- the ways through the rest
-    pub judged-bad : (r : Refusal) → highReply n (bondBytes (until n ss)) (anyHigh n ss) ≡ refused r → blockOf n ss room ≡ refused r
-    judged-bad r e = judged-first ∙ rw e
-
     module _ (e : highReply n (bondBytes (until n ss)) (anyHigh n ss) ≡ read tt) where
-      pub no-high : until n ss ≡ bondsIn ss
+      no-high : until n ss ≡ bondsIn ss
       no-high = until-all n ss (go (anyHigh n ss) e)
         where
           go : (t : Bool) → highReply n (bondBytes (until n ss)) t ≡ read tt → t ≡ false
@@ -167,14 +173,43 @@ module _ (n : ℕ) (ss : List Step) (room : ℕ) where
       pub all-read : bondsLength (until n ss) ≤ room → blockOf n ss room ≡ read (molecule n ss)
       all-read h = judged-first ∙ rw (e, le-ltb room (bondsLength (bondsIn ss)) (rw no-high at h))
 
--- what a reply leaves in the lent bytes
-module _ {x : Read Graph} (out : List ℕ) where
-  pub stays : {r : Refusal} → x ≡ refused r → out ≡ bytesAfter x out
-  stays e = rw e
+    -- so what is kept of the text, up to a label above n, gives the reply
+    pub kept-is : keptReply n (bondBytes (until n ss)) (anyHigh n ss) room ≡ blockOf n ss room
+    kept-is = go (highReply n (bondBytes (until n ss)) (anyHigh n ss)) refl
+      where
+        go : (m : Read (Unit {0})) → highReply n (bondBytes (until n ss)) (anyHigh n ss) ≡ m
+            → (m then λ _. refuseIf (ltb room (length (bondBytes (until n ss)))) 9 0 then λ _. read (graphOf n (bondBytes (until n ss)))) ≡ blockOf n ss room
+        go (refused r) e = sym (judged-first ∙ rw e)
+        go (read u) e = rw (bytes-length (until n ss), bytes-bonds (until n ss), no-high e) (sym (judged-first ∙ rw e))
 
-  module _ (n : ℕ) (ss : List Step) (e : x ≡ read (molecule n ss)) (u : until n ss ≡ bondsIn ss) where
-    pub put-in : {last : List ℕ} → last ≡ bondBytes (until n ss) ++ drop (length (bondBytes (until n ss))) out → last ≡ bytesAfter x out
-    put-in p = rw (e, ← u) (p ∙ rw (bytes-length (until n ss)))
+-- what is kept: the ways through, and what they leave in the lent bytes
+module _ (n : ℕ) (xs : List ℕ) (high : Bool) (room : ℕ) where
+  pub kept-bad : (r : Refusal) → highReply n xs high ≡ refused r → keptReply n xs high room ≡ refused r
+  kept-bad r e = rw e
+
+  module _ (e : highReply n xs high ≡ read tt) where
+    pub kept-short : room < length xs → keptReply n xs high room ≡ refused (refusal 9 0)
+    kept-short h = rw (e, lt-ltb room (length xs) h)
+
+    pub kept-all : length xs ≤ room → keptReply n xs high room ≡ read (graphOf n xs)
+    kept-all h = rw (e, le-ltb room (length xs) h)
+
+pub stays : {x : Read Graph} (out : List ℕ) {r : Refusal} → x ≡ refused r → out ≡ bytesAfter x out
+stays out e = rw e
+
+module _ (n : ℕ) (xs : List ℕ) (s : Sized n xs) where
+  pairs : length xs % 2 ≡ 0
+  pairs = go (eqb (length xs % 2) 0) refl (s .bytes)
+    where
+      go : (t : Bool) → eqb (length xs % 2) 0 ≡ t → (not t || ltb mostBytes (length xs)) ≡ false → length xs % 2 ≡ 0
+      go true e q = eqb-true (length xs % 2) 0 e
+      go false e q = absurd (true≢false q)
+
+  pub half : length xs / 2 ≡ length (bondsOf xs)
+  half = omega (arith, pairs, bytes-length (bondsOf xs), ap length (bonds-bytes xs pairs))
+
+  pub put-in : (out : List ℕ) {x : Read Graph} {last : List ℕ} → x ≡ read (graphOf n xs) → last ≡ xs ++ drop (length xs) out → last ≡ bytesAfter x out
+  put-in out e p = let l : 2 * length (bondsOf xs) ≡ length xs = omega (arith, pairs, half) in rw (e, l, bonds-bytes xs pairs) p
 
 -- the whole text
 module _ (text : List ℕ) (room : ℕ) where

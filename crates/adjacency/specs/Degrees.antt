@@ -11,7 +11,7 @@ use lib.Dec.{eqb, ltb}
 use Rattle.graph.specs.Graph.{Bond, bond, Within, sum, joins, anyJoins, degree}
 use Rattle.graph.specs.Bonds.{both, joins-out, any-out, any-none, anyJoins-sym}
 use Rattle.graph.specs.Sums.{sum-cong, sum-add, sum-none, sum-swap, sum-pick}
-use Rattle.block.specs.Read.{read}
+use Rattle.reply.specs.Read.{read}
 use Rattle.block.specs.Block.{limit, bondsOf, blockReply}
 use Rattle.block.specs.Told.{NewBond, few-bonds, each-bond}
 use Rattle.adjacency.specs.Written.{upTo, isGreater, greater}

@@ -4,7 +4,7 @@ use Prim.Native.String.{String}
 use mathlib.Core.List.{List, [], _∷_}
 use mathlib.Core.Path.{_≡_, refl}
 use Rattle.graph.specs.Graph.{Graph, Bond, bond, joins, anyJoins, bonded, anyAtom, reaches, firstFrom, distance, allAtoms, connected, degree}
-use Rattle.block.specs.Read.{Read, refused, read, refusal}
+use Rattle.reply.specs.Read.{Read, refused, read, refusal}
 use Rattle.block.specs.Block.{bondsOf, bondFault, bondsReply, blockReply}
 use Rattle.text.specs.Text.{ascii, decimalIn, decimal}
 use Rattle.adjacency.specs.Neighbours.{numbersFrom, goodBytes, largeAt, faultAt, shapeFrom, asked, stepsFrom, bondsIn, stepsReply, blockOf, neighboursReply}

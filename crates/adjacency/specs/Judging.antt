@@ -7,10 +7,10 @@ use native.Mathlib.Omega.{arith}
 use lib.Dec.{eqb, leb}
 use lib.ListN.{length}
 use Rattle.graph.specs.Graph.{Bond, anyJoins, degree, connected}
-use Rattle.block.specs.Read.{Read, refused, read, _then_, refuseIf, refuseFor}
-use Rattle.block.specs.Chain.{not-read}
-use Rattle.block.specs.Block.{limit, isOutside, bondsOf, graphOf, bondFault, bondsReply, blockReply}
-use Rattle.block.specs.declared.Refusal.{Refusal}
+use Rattle.reply.specs.Read.{Read, refused, read, _then_, refuseIf, refuseFor, isOutside}
+use Rattle.reply.specs.Chain.{not-read}
+use Rattle.block.specs.Block.{limit, bondsOf, graphOf, bondFault, bondsReply, blockReply}
+use Rattle.reply.specs.declared.Refusal.{Refusal}
 use Rattle.adjacency.specs.Work.{Sized, labelRefused, highReply}
 
 fault-small : (n : ℕ) (before : List Bond) (b : Bond) → bondFault n before b ≤ 6

@@ -5,8 +5,8 @@ use mathlib.Core.List.{List, [], _∷_, _++_}
 use lib.Dec.{eqb, leb, ltb}
 use lib.ListN.{length, drop}
 use Rattle.graph.specs.Graph.{Graph, Bond, bond, connected}
-use Rattle.block.specs.Read.{Read, refused, read, _then_, refuseIf, refuseFor, refusal}
-use Rattle.block.specs.Block.{mostAtoms, mostBytes, isOutside, bondFault}
+use Rattle.reply.specs.Read.{Read, refused, read, _then_, refuseIf, refuseFor, refusal, isOutside}
+use Rattle.block.specs.Block.{mostAtoms, mostBytes, bondFault}
 use Rattle.text.specs.Text.{isDigit, digit, ifElse}
 
 -- THE NUMBERS OF A TEXT. One is a longest run of digits: what it says, and the place of its first digit.

@@ -11,8 +11,8 @@ use lib.Dec.{ltb}
 use lib.ListN.{length}
 use Rattle.graph.specs.Graph.{Bond, bond, Within, joins, anyJoins, degree}
 use Rattle.graph.specs.Bonds.{both, any-out, any-head, any-none, append-out, append-left, append-right}
-use Rattle.block.specs.Read.{read, _then_, refuseFor}
-use Rattle.block.specs.Chain.{not-read}
+use Rattle.reply.specs.Read.{read, _then_, refuseFor}
+use Rattle.reply.specs.Chain.{not-read}
 use Rattle.block.specs.Block.{limit, bondFault, bondsReply}
 use Rattle.adjacency.specs.Written.{upTo, isGreater, greater}
 use Rattle.adjacency.specs.Canonical.{bondsUpTo}

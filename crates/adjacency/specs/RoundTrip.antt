@@ -13,8 +13,8 @@ use Rattle.graph.specs.Graph.{Graph, Bond, Within, Sound, Walk, stay, step, bon
 use Rattle.graph.specs.Bonds.{any-out, any-none, anyJoins-sym}
 use Rattle.graph.specs.Sums.{sum-cong, sum-add, sum-le, sum-none, sum-pick}
 use Rattle.graph.specs.Connected.{connected-is-linked}
-use Rattle.block.specs.Read.{refused, read, refusal, _then_, refuseFor}
-use Rattle.block.specs.Chain.{not-read}
+use Rattle.reply.specs.Read.{refused, read, refusal, _then_, refuseFor}
+use Rattle.reply.specs.Chain.{not-read}
 use Rattle.block.specs.Faults.{faultless}
 use Rattle.block.specs.Block.{mostAtoms, mostBytes, limit, bondsOf, graphOf, bondFault, bondsReply, blockReply}
 use Rattle.block.specs.Told.{passed, few-atoms, sound, molecule, each-bond}

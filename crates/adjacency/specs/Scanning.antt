@@ -159,7 +159,7 @@ module _ {t : List ℕ} {value start i : ℕ} (l : Looking t value start i) wher
             )
         go false e q = absurd (omega arith)
 
-    pub looking-next : isGood (getD t i 0) ≡ true → valueAfter value (getD t i 0) ≤ most → Looking t (valueAfter value (getD t i 0)) (startAfter start i (getD t i 0)) (i + 1)
+    pub looking-next : isGood (getD t i 0) ≡ true → valueAfter value (getD t i 0) ≤ most → Looking t (valueAfter value (getD t i 0)) (startAfter start (i + 1) (getD t i 0)) (i + 1)
     looking-next f = go (isDigit (getD t i 0)) refl
       where
         good : i + goodBytes (drop i t) ≡ i + 1 + goodBytes (drop (i + 1) t)

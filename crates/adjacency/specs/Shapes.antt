@@ -7,7 +7,7 @@ use native.Mathlib.Omega.{arith}
 use borrow.Author.Tests.{ltb-true, le-ltb, le-leb, lt-leb, ne-eqb}
 use lib.Dec.{ltb}
 use Rattle.graph.specs.Graph.{Bond, bond}
-use Rattle.block.specs.Read.{read}
+use Rattle.reply.specs.Read.{read}
 use Rattle.text.specs.Text.{ifElse}
 use Rattle.adjacency.specs.Neighbours.{Number, labelAfter, isLast, lastReply, shapeFrom, Step, bonded, asked, stepsFrom, bondsIn}
 use Rattle.adjacency.specs.Written.{upTo, isGreater, greater}

@@ -8,9 +8,9 @@ use borrow.Author.Tests.{eq-eqb, le-ltb, ltb-false, not-false}
 use lib.Dec.{eqb, ltb}
 use lib.ListN.{length}
 use Rattle.graph.specs.Graph.{Graph, connected}
-use Rattle.block.specs.Read.{read, refuseIf}
-use Rattle.block.specs.Chain.{then-read, if-read}
-use Rattle.block.specs.Block.{mostAtoms, mostBytes, isOutside, bondsReply, blockReply}
+use Rattle.reply.specs.Read.{read, refuseIf, isOutside}
+use Rattle.reply.specs.Chain.{then-read, if-read}
+use Rattle.block.specs.Block.{mostAtoms, mostBytes, bondsReply, blockReply}
 use Rattle.adjacency.specs.Neighbours.{numbers, bytesReply, countReply, Step, steps, bondsIn, stepsReply, bondsLength, bondBytes, molecule, blockOf, neighboursReply}
 use Rattle.adjacency.specs.Work.{until, anyHigh}
 use Rattle.adjacency.specs.Blocks.{bytes-length, bytes-bonds, until-all, steps-until}

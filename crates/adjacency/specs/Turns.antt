@@ -7,7 +7,9 @@ use native.Mathlib.Omega.{arith}
 use lib.Dec.{eqb, leb, ltb}
 use lib.ListN.{length, set}
 use Rattle.graph.specs.Graph.{bond}
-use Rattle.block.specs.Read.{refused, read, refusal, _then_}
+use Rattle.reply.specs.Read.{Read, refused, read, refusal, _then_}
+use Rattle.reply.specs.Chain.{not-read}
+use Rattle.reply.specs.declared.Refusal.{Refusal}
 use Rattle.adjacency.specs.Neighbours.{Number, number, labelAfter, isLast, lastReply, shapeFrom, end, Step, described, bonded, asked, stepsFrom, bondsIn}
 use Rattle.adjacency.specs.Work.{isBond, isHigh, shapedFrom, until, anyHigh, putAt, putOne, putEnd}
 
@@ -104,3 +106,18 @@ module _ (last k label : ℕ) {xs : List Number} where
         go (z ∷ zs) t u g = refl
         go [] true u g = let z : k + 0 + 0 ≡ k = omega arith in rw z
         go [] false u g = absurd (true≢false (sym g))
+
+-- what the reply tells of the shape
+pub shaped-refused : (last k label : ℕ) (xs : List Number) (r : Refusal) → shapedFrom last k label xs ≡ refused r → shapeFrom last label xs ≡ refused r
+shaped-refused last k label xs r e = go (shapeFrom last label xs) e
+  where
+    go : (m : Read (Unit {0})) → (m then λ _. read (k + length (bondsIn (stepsFrom label xs)))) ≡ refused r → m ≡ refused r
+    go (refused q) f = cc
+    go (read u) f = absurd (not-read (sym f))
+
+pub shaped-read : (last k label : ℕ) (xs : List Number) (n : ℕ) → shapedFrom last k label xs ≡ read n → (shapeFrom last label xs ≡ read tt) × (n ≡ k + length (bondsIn (stepsFrom label xs)))
+shaped-read last k label xs n e = go (shapeFrom last label xs) e
+  where
+    go : (m : Read (Unit {0})) → (m then λ _. read (k + length (bondsIn (stepsFrom label xs)))) ≡ read n → (m ≡ read tt) × (n ≡ k + length (bondsIn (stepsFrom label xs)))
+    go (refused q) f = absurd (not-read f)
+    go (read u) f = (refl, cc)

@@ -5,9 +5,9 @@ use mathlib.Core.List.{List, [], _∷_}
 use mathlib.Core.Path.{_≡_}
 use lib.Dec.{eqb, leb, ltb}
 use lib.ListN.{length, getD, drop, set}
-use Rattle.graph.specs.Graph.{Bond}
-use Rattle.block.specs.Read.{Read, refused, read, _then_, refusal}
-use Rattle.block.specs.Block.{blockReply, bondsReply, bondsOf, mostAtoms, mostBytes, isOutside}
+use Rattle.graph.specs.Graph.{Graph, Bond}
+use Rattle.reply.specs.Read.{Read, refused, read, _then_, refuseIf, refusal, isOutside}
+use Rattle.block.specs.Block.{blockReply, bondsReply, bondsOf, graphOf, mostAtoms, mostBytes}
 use Rattle.text.specs.Text.{isDigit}
 use Rattle.adjacency.specs.Neighbours.{Number, number, most, grown, none, run, numbersFrom, goodBytes, largeAt, faultAt, shapeFrom, end, Step, described, bonded, stepsFrom, bondsIn, bondsLength}
 
@@ -16,7 +16,7 @@ abbrev pub valueAfter : ℕ → ℕ → ℕ
 valueAfter v b = cond (isDigit b) (grown v b) 0
 
 abbrev pub startAfter : ℕ → ℕ → ℕ → ℕ
-startAfter start i b = cond (isDigit b) start (i + 1)
+startAfter start next b = cond (isDigit b) start next
 
 -- the bytes before i are good, and the digits right before it, from `start` on, say `value`
 pub record Looking (t : List ℕ) (value start i : ℕ) : Type 0 where
@@ -116,6 +116,14 @@ labelRefused xs = refused (refusal 3 (length xs / 2 + 1))
 abbrev pub highReply : ℕ → List ℕ → Bool → Read (Unit {0})
 highReply n xs false = blockReply n xs
 highReply n xs true = bondsReply n [] (bondsOf xs) then λ _. labelRefused xs
+
+-- the same, then 9 for the bytes that are lent
+abbrev pub keptReply : ℕ → List ℕ → Bool → ℕ → Read Graph
+keptReply n xs high room = highReply n xs high then λ _. refuseIf (ltb room (length xs)) 9 0 then λ _. read (graphOf n xs)
+
+-- a text, or 9 for the bytes that are lent
+abbrev pub givenReply : List ℕ → ℕ → Read (List ℕ)
+givenReply t room = refuseIf (ltb room (length t)) 9 0 then λ _. read t
 
 -- whether two atoms are bonded, by rows of distances
 abbrev pub joinedIn : List (List ℕ) → ℕ → ℕ → Bool

@@ -6,16 +6,19 @@ use mathlib.Core.Path.{_≡_, refl, sym, _∙_}
 use native.Mathlib.Omega.{arith}
 use borrow.Author.Tests.{lt-ltb, le-ltb, ltb-true, eq-eqb, ne-eqb}
 use lib.Dec.{eqb, ltb}
-use lib.ListN.{length, drop}
+use lib.ListN.{length, take, drop}
+use lib.Seq.{take-at}
 use Rattle.graph.specs.Graph.{Graph, bonded, anyJoins, distance, Walk, stay, step, Within, Molecule}
 use Rattle.graph.specs.Distance.{distance-shortest, distance-zero}
-use Rattle.block.specs.Read.{Read, refused, read, refusal}
+use Rattle.reply.specs.Read.{Read, refused, read, refusal}
 use Rattle.block.specs.Block.{bondsOf, graphOf, blockReply}
 use Rattle.block.specs.Rows.{rowsOf}
 use Rattle.block.specs.Told.{molecule, distance-at}
-use Rattle.block.specs.declared.Refusal.{Refusal}
+use Rattle.reply.specs.declared.Refusal.{Refusal}
+use Rattle.text.specs.Put.{Puts}
+use Rattle.text.proofs.Putting.{same-length, at-front}
 use Rattle.adjacency.specs.Written.{upTo, isGreater, greater, lines, textBy, writtenText, writeReply, textAfter}
-use Rattle.adjacency.specs.Work.{joinedIn}
+use Rattle.adjacency.specs.Work.{givenReply, joinedIn}
 
 -- where two tests agree, the texts agree
 up-same : (m : ℕ) (p q : ℕ → Bool) → ((j : ℕ) → Within m j → p j ≡ q j) → upTo m p ≡ upTo m q
@@ -66,23 +69,33 @@ module _ (n : ℕ) (xs : List ℕ) (fine : blockReply n xs ≡ read tt) where
   unfolding bonded
   by-rows = text-same n (joinedIn (rowsOf n xs)) (anyJoins (bondsOf xs)) (λ i j v w l. rw (distance-at n xs fine v w) (beside (graphOf n xs) (molecule n xs fine) i j v w l))
 
-  module _ (room : ℕ) where
-    pub write-short : room < length (writtenText n (bondsOf xs)) → writeReply n xs room ≡ refused (refusal 9 0)
-    unfolding writeReply
-    write-short h = rw (fine, lt-ltb room (length (writtenText n (bondsOf xs))) h)
-
-    pub write-done : length (writtenText n (bondsOf xs)) ≤ room → writeReply n xs room ≡ read (writtenText n (bondsOf xs))
-    unfolding writeReply
-    write-done h = rw (fine, le-ltb room (length (writtenText n (bondsOf xs))) h)
+  pub write-given : (room : ℕ) → writeReply n xs room ≡ givenReply (writtenText n (bondsOf xs)) room
+  unfolding writeReply
+  write-given room = rw fine
 
 pub write-refused : (n : ℕ) (xs : List ℕ) (room : ℕ) (r : Refusal) → blockReply n xs ≡ refused r → writeReply n xs room ≡ refused r
 unfolding writeReply
 write-refused n xs room r e = rw e
 
--- what a reply leaves in the lent bytes
+-- a text that is given out, and what that leaves in the lent bytes
+module _ (t : List ℕ) (room : ℕ) where
+  pub given-short : room < length t → givenReply t room ≡ refused (refusal 9 0)
+  given-short h = rw (lt-ltb room (length t) h)
+
+  pub given-all : length t ≤ room → givenReply t room ≡ read t
+  given-all h = rw (le-ltb room (length t) h)
+
 module _ {x : Read (List ℕ)} (out : List ℕ) where
   pub text-stays : {r : Refusal} → x ≡ refused r → out ≡ textAfter x out
   text-stays e = rw e
 
   pub text-put : {t last : List ℕ} → x ≡ read t → last ≡ t ++ drop (length t) out → last ≡ textAfter x out
   text-put e p = rw e p
+
+-- a text that there is room for stands at the front of what it is put into
+module _ {before last t : List ℕ} {r : ℕ} (p : Puts before 0 t last r) (h : length t ≤ length before) where
+  pub front-within : r ≤ length last
+  front-within = omega (arith, at-front p h .0, same-length p)
+
+  pub front-is : take r last ≡ t
+  front-is = rw (at-front p h .0, at-front p h .1) (take-at t (drop (length t) before) (length t) refl)

@@ -5,7 +5,7 @@ use mathlib.Core.List.{List, [], _∷_, _++_}
 use lib.Dec.{ltb}
 use lib.ListN.{length, drop}
 use Rattle.graph.specs.Graph.{Bond, anyJoins}
-use Rattle.block.specs.Read.{Read, refused, read, _then_, refuseIf}
+use Rattle.reply.specs.Read.{Read, refused, read, _then_, refuseIf}
 use Rattle.block.specs.Block.{bondsOf, blockReply}
 use Rattle.text.specs.Text.{ascii, decimal}
 
