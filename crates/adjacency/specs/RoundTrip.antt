@@ -10,14 +10,14 @@ use borrow.Author.Tests.{eq-eqb, le-ltb, ltb-true, ltb-false}
 use lib.Dec.{eqb, ltb}
 use lib.ListN.{length}
 use Rattle.graph.specs.Graph.{Graph, Bond, Within, Sound, Walk, stay, step, bonded, anyJoins, connected, degree, sum}
-use Rattle.graph.specs.Bonds.{any-out, any-none, anyJoins-sym}
+use Rattle.graph.specs.Bonds.{anyJoins-sym}
 use Rattle.graph.specs.Sums.{sum-cong, sum-add, sum-le, sum-none, sum-pick}
 use Rattle.graph.specs.Connected.{connected-is-linked}
 use Rattle.reply.specs.Read.{refused, read, refusal, _then_, refuseFor}
 use Rattle.reply.specs.Chain.{not-read}
 use Rattle.block.specs.Faults.{faultless}
 use Rattle.block.specs.Block.{mostAtoms, mostBytes, limit, bondsOf, graphOf, bondFault, bondsReply, blockReply}
-use Rattle.block.specs.Told.{passed, few-atoms, sound, molecule, each-bond}
+use Rattle.block.specs.Told.{passed, few-atoms, sound, molecule}
 use Rattle.adjacency.specs.Neighbours.{steps, bondsLength, bondBytes, neighboursReply}
 use Rattle.adjacency.specs.Written.{writtenText, writeReply}
 use Rattle.adjacency.specs.Canonical.{bondsUpTo, canonical}

@@ -1,5 +1,5 @@
 -- Laws. What one number changes, for each function that goes through a text. Assumes nothing.
-use Prim.Native.Nat.{ℕ, _+_, _*_, _<_, _≤_}
+use Prim.Native.Nat.{ℕ, _+_, _*_, _≤_}
 use mathlib.Core.Bool.{Bool, true, false, _&&_, not, cond, true≢false}
 use mathlib.Core.List.{List, [], _∷_, _++_}
 use mathlib.Core.Path.{_≡_, refl, sym}
@@ -115,9 +115,9 @@ shaped-refused last k label xs r e = go (shapeFrom last label xs) e
     go (refused q) f = cc
     go (read u) f = absurd (not-read (sym f))
 
-pub shaped-read : (last k label : ℕ) (xs : List Number) (n : ℕ) → shapedFrom last k label xs ≡ read n → (shapeFrom last label xs ≡ read tt) × (n ≡ k + length (bondsIn (stepsFrom label xs)))
-shaped-read last k label xs n e = go (shapeFrom last label xs) e
+pub shaped-read : (last : ℕ) (xs : List Number) (n : ℕ) → shapedFrom last 0 0 xs ≡ read n → (shapeFrom last 0 xs ≡ read tt) × (n ≡ length (bondsIn (stepsFrom 0 xs)))
+shaped-read last xs n e = go (shapeFrom last 0 xs) e
   where
-    go : (m : Read (Unit {0})) → (m then λ _. read (k + length (bondsIn (stepsFrom label xs)))) ≡ read n → (m ≡ read tt) × (n ≡ k + length (bondsIn (stepsFrom label xs)))
+    go : (m : Read (Unit {0})) → (m then λ _. read (0 + length (bondsIn (stepsFrom 0 xs)))) ≡ read n → (m ≡ read tt) × (n ≡ length (bondsIn (stepsFrom 0 xs)))
     go (refused q) f = absurd (not-read f)
-    go (read u) f = (refl, cc)
+    go (read u) f = let z : n ≡ 0 + length (bondsIn (stepsFrom 0 xs)) = cc in (refl, omega arith)

@@ -1,6 +1,6 @@
 -- Laws. What the numbers of a written text say. Assumes nothing.
 use Prim.Native.Nat.{ℕ, zero, suc, _+_, _-_, _/_, _%_, _<_, _≤_}
-use mathlib.Core.Bool.{Bool, true, false, cond}
+use mathlib.Core.Bool.{Bool, true, false}
 use mathlib.Core.List.{List, [], _∷_, _++_, append-assoc}
 use mathlib.Core.Path.{_≡_, refl, sym, _∙_, ap}
 use native.Mathlib.Omega.{arith}
@@ -8,7 +8,7 @@ use borrow.Author.Tests.{ltb-true, ltb-false, le-leb}
 use lib.Dec.{ltb}
 use Rattle.text.specs.Text.{ascii, decimal, isDigit, ifElse}
 use Rattle.adjacency.specs.Neighbours.{Number, grown, Run, none, run, longer, numbersFrom}
-use Rattle.adjacency.specs.Written.{upTo, isGreater, greater, listed, line, lines, textBy}
+use Rattle.adjacency.specs.Written.{greater, listed, line, lines, textBy}
 use Rattle.adjacency.specs.Putting.{one-digit, two-digits, Below, greater-below}
 
 -- the values alone, whatever the places

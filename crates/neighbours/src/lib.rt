@@ -1,0 +1,175 @@
+// The neighbour text of document 001, table 1, read into a block, and the text of a block.
+ghost use mathlib.Core.Path.{_≡_};
+ghost use Prim.Native.Nat.{_≤_};
+ghost use lib.ListN.{length};
+ghost use Rattle.reply.specs.Read.{read, refusal};
+ghost use Rattle.block.specs.Block.{blockReply};
+ghost use Rattle.adjacency.specs.Neighbours.{bondsIn, blockOf, neighboursReply, bytesAfter};
+ghost use Rattle.adjacency.specs.Written.{writeReply, textAfter};
+ghost use Rattle.adjacency.specs.Work.{stepsAt, Fit, Sized, keptReply, givenReply};
+ghost use Rattle.neighbours.specs.Said.{saidFound, saidWritten};
+use block::ATOMS;
+use block::BYTES;
+use reply::Refusal;
+use reply::Reply;
+
+mod bonds;
+mod scan;
+mod writing;
+
+// How many atoms and bonds a block has.
+pub struct Counts {
+    pub atoms: usize,
+    pub bonds: usize,
+}
+
+// A block's counts, or why there is none.
+pub enum Found {
+    Refused(Refusal),
+    Block(Counts),
+}
+
+// How many bytes were written, or why none.
+pub enum Written {
+    Refused(Refusal),
+    Bytes(usize),
+}
+
+// The first number from a place on, where it stands, and the place behind it.
+struct Token {
+    pub value: usize,
+    pub place: usize,
+    pub next: usize,
+}
+
+// How many bonds the numbers after the count are, or refusal 22.
+enum Shape {
+    Refused(Refusal),
+    Bonds(usize),
+}
+
+// How many bytes were put, and whether a label above the atom count stands behind them.
+struct Reach {
+    pub bytes: usize,
+    pub high: bool,
+}
+
+fn refused(number: usize, place: usize) -> Found
+    ensures { λ r. ⌜ r ≡ Found.Refused (refusal number place) ⌝ }
+{
+    Found::Refused(Refusal { number, place })
+}
+
+// 3 to 7 of bonds after which a label above n stands, or none, then 9.
+fn kept(n: usize, bonds: &[u8], high: bool, out: &mut [u8]) -> Found
+    requires { ⌜ Sized n (now bonds) ⌝ }
+    ensures reply { λ r. ⌜ r ≡ saidFound (keptReply n (now (bonds .entry)) high (length (now (out .entry)))) ⌝ }
+    ensures bytes { λ r. ⌜ now (out .exit) ≡ bytesAfter (keptReply n (now (bonds .entry)) high (length (now (out .entry)))) (now (out .entry)) ⌝ }
+{
+    let reply = bonds::judged(n, bonds, high);
+    match reply {
+        Reply::Refused(refusal) => Found::Refused(refusal),
+        Reply::Fine => {
+            if out.len() < bonds.len() {
+                return refused(9, 0);
+            }
+            text::put(out, 0, bonds);
+            Found::Block(Counts {
+                atoms: n,
+                bonds: bonds.len() / 2,
+            })
+        }
+    }
+}
+
+// 3 to 7 of the numbers from a place on, then 9, where 1 and 2 do not refuse.
+fn bonds_of(text: &[u8], at: usize, n: usize, out: &mut [u8]) -> Found
+    requires { ⌜ (at ≤ length (now text)) × Fit n (stepsAt 0 (now text) at) ⌝ }
+    ensures reply { λ r. ⌜ r ≡ saidFound (blockOf n (stepsAt 0 (now (text .entry)) at) (length (now (out .entry)))) ⌝ }
+    ensures bytes { λ r. ⌜ now (out .exit) ≡ bytesAfter (blockOf n (stepsAt 0 (now (text .entry)) at) (length (now (out .entry)))) (now (out .entry)) ⌝ }
+{
+    let mut bytes = [0u8; BYTES];
+    let reach = bonds::fill(text, at, n, &mut bytes);
+    let len = reach.bytes;
+    kept(n, &bytes[..len], reach.high, out)
+}
+
+// 1 to 7 of the numbers from a place on, after the count n, then 9; `count` of them are bonds.
+fn block_of(text: &[u8], at: usize, n: usize, count: usize, out: &mut [u8]) -> Found
+    requires { ⌜ (at ≤ length (now text)) × (count ≡ length (bondsIn (stepsAt 0 (now text) at))) ⌝ }
+    ensures reply { λ r. ⌜ r ≡ saidFound (blockOf n (stepsAt 0 (now (text .entry)) at) (length (now (out .entry)))) ⌝ }
+    ensures bytes { λ r. ⌜ now (out .exit) ≡ bytesAfter (blockOf n (stepsAt 0 (now (text .entry)) at) (length (now (out .entry)))) (now (out .entry)) ⌝ }
+{
+    if n == 0 {
+        return refused(1, 0);
+    }
+    if ATOMS < n {
+        return refused(1, 0);
+    }
+    if BYTES / 2 < count {
+        return refused(2, 0);
+    }
+    bonds_of(text, at, n, out)
+}
+
+// The block of a text. The bonds stand at the front of the lent bytes, two bytes each, and later bytes stay; a refusal changes none.
+pub fn read(text: &[u8], out: &mut [u8]) -> Found
+    ensures reply { λ r. ⌜ r ≡ saidFound (neighboursReply (now (text .entry)) (length (now (out .entry)))) ⌝ }
+    ensures bytes { λ r. ⌜ now (out .exit) ≡ bytesAfter (neighboursReply (now (text .entry)) (length (now (out .entry)))) (now (out .entry)) ⌝ }
+{
+    let fault = scan::fault(text);
+    if fault < text.len() {
+        return refused(21, fault);
+    }
+    let count = scan::number(text, 0);
+    if text.len() <= count.place {
+        return refused(22, text.len());
+    }
+    let shape = scan::shape(text, count.next);
+    match shape {
+        Shape::Refused(refusal) => Found::Refused(refusal),
+        Shape::Bonds(k) => block_of(text, count.next, count.value, k, out),
+    }
+}
+
+// The most bytes that the text of a block has.
+const TEXT: usize = 8 * ATOMS + 2 * BYTES;
+
+// Puts a text into the lent bytes, or 9.
+fn given(bytes: &[u8], out: &mut [u8]) -> Written
+    ensures reply { λ r. ⌜ r ≡ saidWritten (givenReply (now (bytes .entry)) (length (now (out .entry)))) ⌝ }
+    ensures bytes { λ r. ⌜ now (out .exit) ≡ textAfter (givenReply (now (bytes .entry)) (length (now (out .entry)))) (now (out .entry)) ⌝ }
+{
+    if out.len() < bytes.len() {
+        return Written::Refused(Refusal {
+            number: 9,
+            place: 0,
+        });
+    }
+    text::put(out, 0, bytes);
+    Written::Bytes(bytes.len())
+}
+
+// Writes the text of a block that is not refused.
+fn write_fine(n: usize, bonds: &[u8], out: &mut [u8]) -> Written
+    requires { ⌜ blockReply n (now bonds) ≡ read tt ⌝ }
+    ensures reply { λ r. ⌜ r ≡ saidWritten (writeReply n (now (bonds .entry)) (length (now (out .entry)))) ⌝ }
+    ensures bytes { λ r. ⌜ now (out .exit) ≡ textAfter (writeReply n (now (bonds .entry)) (length (now (out .entry)))) (now (out .entry)) ⌝ }
+{
+    let rows = block::rows(n, bonds);
+    let mut bytes = [0u8; TEXT];
+    let len = writing::text(&mut bytes, &rows, n);
+    given(&bytes[..len], out)
+}
+
+// Writes the text of a block at the front of the lent bytes; later bytes stay, and a refusal changes none.
+pub fn write(n: usize, bonds: &[u8], out: &mut [u8]) -> Written
+    ensures reply { λ r. ⌜ r ≡ saidWritten (writeReply n (now (bonds .entry)) (length (now (out .entry)))) ⌝ }
+    ensures bytes { λ r. ⌜ now (out .exit) ≡ textAfter (writeReply n (now (bonds .entry)) (length (now (out .entry)))) (now (out .entry)) ⌝ }
+{
+    let reply = block::check(n, bonds);
+    match reply {
+        Reply::Refused(refusal) => Written::Refused(refusal),
+        Reply::Fine => write_fine(n, bonds, out),
+    }
+}
