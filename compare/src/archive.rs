@@ -89,6 +89,23 @@ mod c {
             length: *mut u64,
             length_len: usize,
         ) -> u64;
+        pub fn tteuyomal_read_neighbours(
+            text: *const u8,
+            text_len: usize,
+            bonds: *mut u8,
+            bonds_len: usize,
+            counts: *mut u64,
+            counts_len: usize,
+        ) -> u64;
+        pub fn tteuyomal_write_neighbours(
+            atoms: usize,
+            bonds: *const u8,
+            bonds_len: usize,
+            text: *mut u8,
+            text_len: usize,
+            length: *mut u64,
+            length_len: usize,
+        ) -> u64;
     }
 }
 
@@ -154,4 +171,15 @@ pub fn write_molfile(atoms: usize, bonds: &[u8], text: &mut [u8], length: &mut [
 
 pub fn count_sets(atoms: usize, bonds: &[u8], counts: &mut [u64]) -> u64 {
     unsafe { c::tteuyomal_count_sets(atoms, bonds.as_ptr(), bonds.len(), counts.as_mut_ptr(), counts.len()) }
+}
+
+pub fn read_neighbours(text: &[u8], bonds: &mut [u8], counts: &mut [u64]) -> u64 {
+    let (out, room) = (bonds.as_mut_ptr(), bonds.len());
+    unsafe { c::tteuyomal_read_neighbours(text.as_ptr(), text.len(), out, room, counts.as_mut_ptr(), counts.len()) }
+}
+
+pub fn write_neighbours(atoms: usize, bonds: &[u8], text: &mut [u8], length: &mut [u64]) -> u64 {
+    let (out, room) = (text.as_mut_ptr(), text.len());
+    let (told, entries) = (length.as_mut_ptr(), length.len());
+    unsafe { c::tteuyomal_write_neighbours(atoms, bonds.as_ptr(), bonds.len(), out, room, told, entries) }
 }

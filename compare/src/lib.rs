@@ -15,6 +15,7 @@ pub mod line;
 pub mod make;
 pub mod molecule;
 pub mod molfile;
+pub mod neighbours;
 pub mod polynomial;
 pub mod refusal;
 pub mod shares;

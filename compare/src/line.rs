@@ -4,6 +4,7 @@ use crate::answers::{compose, judge, Verdict};
 use crate::block::read_block;
 use crate::molecule::Measurer;
 use crate::molfile;
+use crate::neighbours;
 use crate::refusal::Refusal;
 
 /// What `sheet` prints for a deck without a sheet.
@@ -13,10 +14,22 @@ pub fn sheet_line(measurer: &mut Measurer, deck: &[u8]) -> String {
 
 /// What `measure` prints for a molfile.
 pub fn measure_line(file: &[u8]) -> String {
+    measured_line(file, molfile::read)
+}
+
+/// What `measure_neighbours` prints for a neighbour text.
+pub fn neighbours_line(file: &[u8]) -> String {
+    measured_line(file, neighbours::read)
+}
+
+/// The reader of a kind of files: the text, the room for bonds, and for the counts.
+type Reader = fn(&[u8], usize, usize) -> Result<(usize, Vec<u8>), Refusal>;
+
+fn measured_line(file: &[u8], reader: Reader) -> String {
     if file.len() > 1 << 20 {
         return String::from("longer than 1048576 bytes");
     }
-    let read = molfile::read(file, usize::MAX, 2);
+    let read = reader(file, usize::MAX, 2);
     let fields = read.map(|(atoms, bonds)| read_block(atoms, &bonds).expect("a block that was read").indices().fields());
     fields_line(fields)
 }

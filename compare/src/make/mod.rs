@@ -5,6 +5,7 @@ pub mod damage;
 pub mod damage_bytes;
 pub mod decks;
 pub mod molfiles;
+pub mod neighbours;
 pub mod plan;
 pub mod random;
 pub mod shapes;

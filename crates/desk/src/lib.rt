@@ -1,4 +1,4 @@
-// What the programs share: a deck or a molfile from standard input or from each file that is named, and one line for it.
+// What the programs share: a deck, a molfile or a neighbour text from standard input or from each file that is named, and one line for it.
 ghost use mathlib.Core.Path.{_≡_};
 ghost use Prim.Native.Nat.{_≤_};
 ghost use lib.ListN.{length};
@@ -11,10 +11,10 @@ use line::Line;
 // One byte more than the longest deck, so that a longer one is seen to be longer.
 const ROOM: usize = deck::LONGEST + 1;
 
-// The longest molfile that is read, and one byte more.
-const LONGEST_MOLFILE: usize = 1048576;
+// The longest text that is read, and one byte more.
+const LONGEST_TEXT: usize = 1048576;
 
-const MOLFILE_ROOM: usize = LONGEST_MOLFILE + 1;
+const TEXT_ROOM: usize = LONGEST_TEXT + 1;
 
 // The longest argument that Linux hands over, and behind it `: ` and the longest line.
 const WIDTH: usize = 131072 + 2 + line::LONGEST;
@@ -22,7 +22,13 @@ const WIDTH: usize = 131072 + 2 + line::LONGEST;
 // What is asked of each input.
 enum Asked {
     Deck(Form),
+    Text(Kind),
+}
+
+// What a text that is measured is.
+enum Kind {
     Molfile,
+    Neighbours,
 }
 
 // How many bytes were read, and whether no read failed.
@@ -74,20 +80,28 @@ fn deck_line(form: Form, fd: i32) -> Line
     line::deck_line(form, &deck[..n])
 }
 
-// The line of a molfile that stands in a descriptor.
-fn molfile_line(fd: i32) -> Line
+// What is measured of a text.
+fn measured(kind: Kind, text: &[u8]) -> Measured {
+    match kind {
+        Kind::Molfile => measuring::measure(text),
+        Kind::Neighbours => measuring::measure_neighbours(text),
+    }
+}
+
+// The line of a text that stands in a descriptor.
+fn text_line(kind: Kind, fd: i32) -> Line
     ensures { λ r. ⌜ Counts (r .len) (r .text) ⌝ }
 {
-    let mut text = [0u8; MOLFILE_ROOM];
+    let mut text = [0u8; TEXT_ROOM];
     let got = read_whole(fd, &mut text);
     if !got.whole {
         return line::unread_line();
     }
     let n = got.n;
-    if LONGEST_MOLFILE < n {
+    if LONGEST_TEXT < n {
         return line::longer_line();
     }
-    line::measured_line(measuring::measure(&text[..n]))
+    line::measured_line(measured(kind, &text[..n]))
 }
 
 fn input_line(asked: Asked, fd: i32) -> Line
@@ -95,7 +109,7 @@ fn input_line(asked: Asked, fd: i32) -> Line
 {
     match asked {
         Asked::Deck(form) => deck_line(form, fd),
-        Asked::Molfile => molfile_line(fd),
+        Asked::Text(kind) => text_line(kind, fd),
     }
 }
 
@@ -174,5 +188,12 @@ pub fn serve(form: Form)
 pub fn serve_molfiles()
     ensures { λ r. ⌜ r ≡ tt ⌝ }
 {
-    serve_each(Asked::Molfile)
+    serve_each(Asked::Text(Kind::Molfile))
+}
+
+// The line of each neighbour text.
+pub fn serve_neighbours()
+    ensures { λ r. ⌜ r ≡ tt ⌝ }
+{
+    serve_each(Asked::Text(Kind::Neighbours))
 }

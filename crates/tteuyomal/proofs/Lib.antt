@@ -4,3 +4,4 @@ pub mod Beside
 pub mod Shared
 pub mod Indexed
 pub mod MolfileReplies
+pub mod Texts

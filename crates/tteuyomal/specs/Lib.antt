@@ -11,6 +11,7 @@ pub mod Szeged
 pub mod Balaban
 pub mod CountSets
 pub mod Molfiles
+pub mod Texts
 pub mod Version
 pub mod Bounded
 pub mod Recovered

@@ -24,6 +24,7 @@ mod balaban_j;
 mod count_sets;
 mod molfiles;
 mod szeged_terms;
+mod texts;
 mod version;
 
 const PLACES: usize = 72_057_594_037_927_936;

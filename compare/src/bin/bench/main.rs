@@ -4,6 +4,7 @@
 mod archive;
 mod limits;
 mod molfiles;
+mod neighbours;
 mod plain;
 mod stack;
 mod szeged;
@@ -48,6 +49,7 @@ fn main() {
     time_balaban("64 atoms, 128 bonds", &shapes::double_ring(64), 1.0 / 1.5);
     time_sets("path of 64", &shapes::path(64), 1.0 / 1.5);
     let growth = molfiles::times();
+    neighbours::times();
     println!();
     println!("{growth}");
     println!();
@@ -56,6 +58,7 @@ fn main() {
     println!();
     limits::stack(&[&decks[0].1, &decks[1].1]);
     molfiles::stack_rows();
+    neighbours::stack_rows();
     println!();
     limits::heap();
 }

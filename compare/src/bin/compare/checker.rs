@@ -7,6 +7,7 @@ use opinion::balaban;
 use opinion::count_sets;
 use opinion::molecule::Measurer;
 use opinion::molfile;
+use opinion::neighbours;
 use opinion::refusal::Refusal;
 use opinion::szeged;
 use std::fmt::Display;
@@ -246,5 +247,27 @@ impl Checker {
         let right = count_sets::count_sets(atoms, bonds, room);
         let fault = out.fault(&written(&right, |counts| counts.to_vec()));
         self.agree(|| format!("count_sets {atoms} room {room} {}", hex(bonds)), code(&right), reply, fault);
+    }
+
+    pub fn read_neighbours(&mut self, text: &[u8], room: usize, entries: usize) {
+        let (lent, mut out, mut counts) = (Shown::new(text), Lent::new(room), Lent::new(entries));
+        let reply = archive::read_neighbours(lent.part(), out.part(), counts.part());
+        self.holds(lent.is_still(text), "an input was changed");
+        let right = neighbours::read(text, room, entries);
+        let bonds_fault = out.fault(&written(&right, |(_, bytes)| bytes.clone()));
+        let counts_fault = counts.fault(&written(&right, |(atoms, bytes)| vec![*atoms as u64, bytes.len() as u64 / 2]));
+        let call = || format!("read_neighbours room {room} and {entries} {:?}", String::from_utf8_lossy(text));
+        self.agree(call, code(&right), reply, bonds_fault.or(counts_fault));
+    }
+
+    pub fn write_neighbours(&mut self, atoms: usize, bonds: &[u8], room: usize, entries: usize) {
+        let (lent, mut out, mut length) = (Shown::new(bonds), Lent::new(room), Lent::new(entries));
+        let reply = archive::write_neighbours(atoms, lent.part(), out.part(), length.part());
+        self.holds(lent.is_still(bonds), "an input was changed");
+        let right = neighbours::write(atoms, bonds, room, entries);
+        let text_fault = out.fault(&written(&right, |text| text.clone().into_bytes()));
+        let length_fault = length.fault(&written(&right, |text| vec![text.len() as u64]));
+        let call = || format!("write_neighbours {atoms} room {room} and {entries} {}", hex(bonds));
+        self.agree(call, code(&right), reply, text_fault.or(length_fault));
     }
 }

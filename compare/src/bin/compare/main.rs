@@ -11,6 +11,7 @@ mod checker;
 mod fixed;
 mod lent;
 mod molfiles;
+mod neighbours;
 mod programs;
 mod random;
 
@@ -54,6 +55,7 @@ fn main() -> ExitCode {
     fixed::run(checker);
     random::run(checker, options.seed, options.first, options.cases);
     molfiles::run(checker, options.seed, options.first, options.cases);
+    neighbours::run(checker, options.seed, options.first, options.cases);
     if let Some(folder) = &options.programs {
         programs::run(checker, folder, options.seed);
     }
@@ -74,7 +76,7 @@ fn report(checker: &mut Checker, options: &Options) {
         let seen = checker.differed[field] > 0;
         checker.case(format!("differs {field}"), |checker| checker.holds(seen, "never met"));
     }
-    for number in (1..=20).chain(23..=27).chain([34]) {
+    for number in (1..=27).chain([34]) {
         println!("refused {number}: {} times", checker.refused.0[number]);
         let seen = checker.refused.0[number] > 0;
         checker.case(format!("refusal {number}"), |checker| checker.holds(seen, "never met"));

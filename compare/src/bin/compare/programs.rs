@@ -1,11 +1,12 @@
-//! The programs `sheet` and `judge`, run on decks, and `measure`, run on molfiles: from standard input in pieces, and from files.
+//! The programs `sheet` and `judge`, run on decks, `measure`, run on molfiles, and `measure_neighbours`, run on neighbour texts: from standard input in pieces, and from files.
 
 use crate::checker::Checker;
 use opinion::documents::FORTY;
-use opinion::line::{judge_line, measure_line, sheet_line};
+use opinion::line::{judge_line, measure_line, neighbours_line, sheet_line};
 use opinion::make::damage_bytes::damage_bytes;
 use opinion::make::decks::random_deck;
 use opinion::make::molfiles::{damage_molfile, random_molfile};
+use opinion::make::neighbours::{damage_text, random_text};
 use opinion::make::random::Random;
 use opinion::make::specimens;
 use opinion::molecule::Measurer;
@@ -28,6 +29,9 @@ pub fn run(checker: &mut Checker, folder: &Path, seed: u64) {
     program(checker, &folder.join("judge"), &room, &decks, verdicts);
     let measured = files.iter().map(|file| measure_line(file)).collect();
     program(checker, &folder.join("measure"), &room, &files, measured);
+    let texts = texts(seed);
+    let measured = texts.iter().map(|text| neighbours_line(text)).collect();
+    program(checker, &folder.join("measure_neighbours"), &room, &texts, measured);
     fs::remove_dir_all(&room).expect("the folder is ours");
 }
 
@@ -68,6 +72,21 @@ fn molfiles(seed: u64) -> Vec<Vec<u8>> {
         files.push(file.bytes());
     }
     files
+}
+
+/// Texts whose length is about the most that is read, and random ones, some damaged.
+fn texts(seed: u64) -> Vec<Vec<u8>> {
+    let lengths = [(1 << 20) - 1, 1 << 20, (1 << 20) + 1];
+    let mut texts: Vec<Vec<u8>> = lengths.iter().map(|&length| [b"1\n0\n", &vec![b' '; length - 4][..]].concat()).collect();
+    for case in 0..RANDOM_DECKS {
+        let random = &mut Random::for_case(seed, case);
+        let mut text = random_text(random);
+        if random.once_in(2) {
+            damage_text(random, &mut text);
+        }
+        texts.push(text.bytes(random));
+    }
+    texts
 }
 
 /// The specimens, and random decks with and without sheets, some damaged.
