@@ -68,6 +68,9 @@ enum tteuyomal_refusal {
                                        placement or atom as was asked about */
     TTEUYOMAL_JOIN_OVER_LIMIT = 19, /* the join is one bond too many for an atom: its seventh, earlier joins counted */
     TTEUYOMAL_DECK_LENGTH = 20,     /* the deck is longer than 32,768 bytes */
+    TTEUYOMAL_TEXT_FAULT = 21,      /* a byte of the neighbour text is no digit, blank, tab, CR or LF, or a number is above
+                                       999 */
+    TTEUYOMAL_TEXT_SHAPE = 22,      /* the neighbour text ends before its last 0, or a number follows it */
     TTEUYOMAL_NO_PARENT = 23,       /* a later placement has the parent 0 */
     TTEUYOMAL_LATER_PARENT = 24,    /* a later placement has a parent that is not earlier */
     TTEUYOMAL_MOLFILE_LINE = 25,    /* a line of the molfile is missing or too short */
@@ -79,8 +82,9 @@ enum tteuyomal_refusal {
 /* The place of a refusal. Lone block: the number of the bond, from 1, for 3 to 6, else 0. Deck: the first byte of
  * the record, from 0; of the bond for 3 to 6; of the placement for 16 to 19, 23 and 24; the deck's length where a
  * record is expected and the deck ends; the first byte too many. Molfile: for 25 to 27 the first byte of
- * the line, or the file's length where it is missing; for 3 to 6 the number of the kept bond. 0 for 8, 9, 10, 20 and
- * 34. */
+ * the line, or the file's length where it is missing; for 3 to 6 the number of the kept bond. Neighbour
+ * text: for 21 and 22 that byte or the number's first, or the text's length where it ends too early; for 3 to 6 the
+ * number of the bond. 0 for 8, 9, 10, 20 and 34. */
 
 /* 0, a refusal's number, or TTEUYOMAL_DIFFERS. */
 static inline unsigned tteuyomal_what(tteuyomal_reply reply) { return (unsigned)(reply % 256); }
@@ -172,6 +176,25 @@ tteuyomal_reply tteuyomal_read_molfile(const uint8_t *text, size_t text_len, uin
  * Refusals: the block's, then 9 (text_len below that, or length_len 0). */
 tteuyomal_reply tteuyomal_write_molfile(size_t atoms, const uint8_t *bonds, size_t bonds_len, uint8_t *text,
                                         size_t text_len, uint64_t *length, size_t length_len);
+
+/* ---- Neighbour texts ---- */
+
+/* Reads a neighbour text as a block: the atom count, then for each described atom its label, its neighbours and a 0, and
+ * a last 0; blanks, tabs, CR and LF set numbers apart. Writes the bonds, two bytes each, label first, in the order of the
+ * text, and two numbers, the atom count and the number of bonds. A neighbour smaller than its label is passed over, an
+ * equal one is 4. Any bytes may be lent, of any length.
+ * Refusals: 21 over the whole text, 22, the block's, among them 3 for a described label above the atom count, in its turn
+ * among the bonds, then 9 (bonds_len below two bytes a bond, or counts_len below 2). 512 bytes are room for the bonds of
+ * every block. */
+tteuyomal_reply tteuyomal_read_neighbours(const uint8_t *text, size_t text_len, uint8_t *bonds, size_t bonds_len,
+                                          uint64_t *counts, size_t counts_len);
+
+/* Writes a block as a neighbour text and one number, its length: a line for the atom count, for each atom that has
+ * greater neighbours with these, and for the last 0; labels and neighbours ascending. Reading it gives the block's bonds
+ * in that order, smaller end first, and writing those gives the same bytes. 1024 bytes are room for every block.
+ * Refusals: the block's, then 9 (text_len below that length, or length_len 0). */
+tteuyomal_reply tteuyomal_write_neighbours(size_t atoms, const uint8_t *bonds, size_t bonds_len, uint8_t *text,
+                                           size_t text_len, uint64_t *length, size_t length_len);
 
 /* ---- Trees ---- */
 

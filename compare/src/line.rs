@@ -30,7 +30,8 @@ fn measured_line(file: &[u8], reader: Reader) -> String {
         return String::from("longer than 1048576 bytes");
     }
     let read = reader(file, usize::MAX, 2);
-    let fields = read.map(|(atoms, bonds)| read_block(atoms, &bonds).expect("a block that was read").indices().fields());
+    let fields =
+        read.map(|(atoms, bonds)| read_block(atoms, &bonds).expect("a block that was read").indices().fields());
     fields_line(fields)
 }
 

@@ -117,6 +117,8 @@ WORDS = {
     18: "a join atom is 0 or above its block's atom count; at place 0: no such placement or atom as was asked about",
     19: "the join is one bond too many for an atom: its seventh, earlier joins counted",
     20: "the deck is longer than 32,768 bytes",
+    21: "a byte of the neighbour text is no digit, blank, tab, CR or LF, or a number is above 999",
+    22: "the neighbour text ends before its last 0, or a number follows it",
     23: "a later placement has the parent 0",
     24: "a later placement has a parent that is not earlier",
     25: "a line of the molfile is missing or too short",

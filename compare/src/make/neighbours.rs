@@ -16,11 +16,11 @@ impl TextPlan {
         let plain = random.once_in(2);
         let mut text = String::new();
         if random.once_in(6) {
-            text.push_str(random.pick(&[" ", "\n", "\t\r\n "]));
+            text.push_str(*random.pick(&[" ", "\n", "\t\r\n "]));
         }
         for number in &self.numbers {
             text.push_str(number);
-            text.push_str(if plain { " " } else { random.pick(&[" ", "\n", "\r\n", "\t", "  ", " 	 ", "\r"]) });
+            text.push_str(if plain { " " } else { *random.pick(&[" ", "\n", "\r\n", "\t", "  ", " \t ", "\r"]) });
         }
         if random.once_in(3) {
             text.truncate(text.trim_end().len());
@@ -91,7 +91,10 @@ pub fn damage_text(random: &mut Random, text: &mut TextPlan) {
         1 => text.numbers.insert(at, random.below(70).to_string()),
         2 => text.numbers[at] = String::from("0"),
         3 => text.numbers[at] = (text.atoms + random.below(3)).to_string(),
-        4 => text.numbers[at] = random.pick(&["255", "256", "257", "258", "999", "1000", "00001000", "65537", "4294967297"]).to_string(),
+        4 => {
+            text.numbers[at] =
+                random.pick(&["255", "256", "257", "258", "999", "1000", "00001000", "65537", "4294967297"]).to_string()
+        }
         5 => text.numbers.push(random.below(3).to_string()),
         6 => text.numbers.truncate(at + 1),
         7 => {

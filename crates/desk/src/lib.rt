@@ -3,6 +3,7 @@ ghost use mathlib.Core.Path.{_≡_};
 ghost use Prim.Native.Nat.{_≤_};
 ghost use lib.ListN.{length};
 ghost use Rattle.io.specs.Counts.{Counts};
+use block::Measured;
 use deck::Form;
 use libc::STDIN_FILENO;
 use libc::STDOUT_FILENO;

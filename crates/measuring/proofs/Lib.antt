@@ -1,2 +1,3 @@
 -- Laws that the proof cites.
 pub mod Fits
+pub mod Texts

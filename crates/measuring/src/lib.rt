@@ -1,9 +1,11 @@
-// The indices of the block that a molfile holds.
+// The indices of the block that a molfile or a neighbour text holds.
 ghost use mathlib.Core.Path.{_≡_};
 ghost use Rattle.block.specs.Index.{saidIndices};
 ghost use Rattle.measuring.specs.Measuring.{measureReply};
+ghost use Rattle.measuring.specs.Texts.{textReply};
 use block::Measured;
 use molfile::MolRead;
+use neighbours::Found;
 
 // Atom count, W, even part, odd part and polarity of the block of a molfile, or its refusal: the lines', then the block's.
 pub fn measure(text: &[u8]) -> Measured
@@ -14,6 +16,21 @@ pub fn measure(text: &[u8]) -> Measured
     match seen {
         MolRead::Refused(r) => Measured::Refused(r),
         MolRead::Block(x) => {
+            let len = 2 * x.bonds;
+            block::measure(x.atoms, &bonds[..len])
+        }
+    }
+}
+
+// The same of a neighbour text: its refusals, then the block's.
+pub fn measure_neighbours(text: &[u8]) -> Measured
+    ensures { λ r. ⌜ r ≡ saidIndices (textReply (now (text .entry))) ⌝ }
+{
+    let mut bonds = [0u8; block::BYTES];
+    let seen = neighbours::read(text, &mut bonds);
+    match seen {
+        Found::Refused(r) => Measured::Refused(r),
+        Found::Block(x) => {
             let len = 2 * x.bonds;
             block::measure(x.atoms, &bonds[..len])
         }

@@ -2,4 +2,5 @@
 -- Definitions
 pub mod Said
 -- Laws
+pub mod Told
 pub mod Unique

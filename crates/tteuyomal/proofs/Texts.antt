@@ -3,7 +3,6 @@ use Prim.Native.Nat.{ℕ, _≤_, _<_}
 use mathlib.Core.Bool.{Bool, true, false, not}
 use mathlib.Core.List.{List, [], _∷_}
 use mathlib.Core.Path.{_≡_, refl, sym, _∙_, ap}
-use native.Mathlib.Omega.{arith}
 use borrow.Author.Tests.{lt-ltb, le-ltb}
 use lib.Dec.{ltb}
 use lib.ListN.{length, set}
@@ -14,32 +13,12 @@ use Rattle.block.specs.Block.{mostAtoms, mostBytes, bondsOf, blockReply}
 use Rattle.adjacency.specs.Neighbours.{Counted, numbers, bytesReply, countReply, Step, steps, bondsIn, stepsReply, bondsLength, bondBytes, molecule, blockOf, neighboursReply, bytesAfter}
 use Rattle.adjacency.specs.Written.{writtenText, writeReply, textAfter}
 use Rattle.adjacency.specs.Blocks.{bytes-length}
-use Rattle.neighbours.specs.Said.{saidFound, saidWritten}
 use Rattle.neighbours.specs.declared.Counts.{Counts}
-use Rattle.neighbours.specs.declared.Found.the-variants as found
-use Rattle.neighbours.specs.declared.Written.the-variants as text
 use Rattle.tteuyomal.specs.Convention.{code, coded, over, after}
 use Rattle.tteuyomal.specs.Replies.{thenNine, unlentReply}
 use Rattle.tteuyomal.specs.Texts.{textReply, unlentText, TextRead, toldReply, TextWritten}
 use Rattle.tteuyomal.proofs.Laws.{both-put}
 use Rattle.tteuyomal.proofs.Shared.{first-put}
-
--- what a reply of the code says of the definition
-pub found-refused : (R : Read Graph) {r : Refusal} → saidFound R ≡ found.Refused r → R ≡ refused r
-found-refused (refused s) e = ap refused (cc)
-found-refused (read g) e = let z : _≡_ {A = ℕ} 0 1 = cc in absurd (omega arith)
-
-pub found-block : (R : Read Graph) {c : Counts} → saidFound R ≡ found.Block c → (g : Graph) × (R ≡ read g) × (g .atoms ≡ c .atoms) × (length (g .bonds) ≡ c .bonds)
-found-block (refused s) e = let z : _≡_ {A = ℕ} 0 1 = cc in absurd (omega arith)
-found-block (read g) e = (g, refl, cc, cc)
-
-pub text-refused : (R : Read (List ℕ)) {r : Refusal} → saidWritten R ≡ text.Refused r → R ≡ refused r
-text-refused (refused s) e = ap refused (cc)
-text-refused (read t) e = let z : _≡_ {A = ℕ} 0 1 = cc in absurd (omega arith)
-
-pub text-bytes : (R : Read (List ℕ)) {k : ℕ} → saidWritten R ≡ text.Bytes k → (t : List ℕ) × (R ≡ read t) × (length t ≡ k)
-text-bytes (refused s) e = let z : _≡_ {A = ℕ} 0 1 = cc in absurd (omega arith)
-text-bytes (read t) e = (t, refl, cc)
 
 -- READING. What comes before 9, whatever the room is.
 nine-last : (A B C D : Read (Unit {0})) (g : Graph) (s t : Bool)

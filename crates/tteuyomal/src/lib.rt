@@ -23,8 +23,8 @@ use shares::Shares;
 mod balaban_j;
 mod count_sets;
 mod molfiles;
+mod neighbour_text;
 mod szeged_terms;
-mod texts;
 mod version;
 
 const PLACES: usize = 72_057_594_037_927_936;

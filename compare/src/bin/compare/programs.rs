@@ -77,7 +77,8 @@ fn molfiles(seed: u64) -> Vec<Vec<u8>> {
 /// Texts whose length is about the most that is read, and random ones, some damaged.
 fn texts(seed: u64) -> Vec<Vec<u8>> {
     let lengths = [(1 << 20) - 1, 1 << 20, (1 << 20) + 1];
-    let mut texts: Vec<Vec<u8>> = lengths.iter().map(|&length| [b"1\n0\n", &vec![b' '; length - 4][..]].concat()).collect();
+    let mut texts: Vec<Vec<u8>> =
+        lengths.iter().map(|&length| [b"1\n0\n", &vec![b' '; length - 4][..]].concat()).collect();
     for case in 0..RANDOM_DECKS {
         let random = &mut Random::for_case(seed, case);
         let mut text = random_text(random);

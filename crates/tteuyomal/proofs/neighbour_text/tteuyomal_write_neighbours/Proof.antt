@@ -5,9 +5,10 @@ use denote.Ref.{now}
 use lib.ListN.{length}
 use borrow.Author.Needs.{needs}
 use Rattle.adjacency.specs.Written.{writeReply}
-use Rattle.tteuyomal.proofs.Texts.{text-refused, text-bytes, write-lacking, write-refused, write-fine}
-use Rattle.tteuyomal.proofs.texts.tteuyomal_write_neighbours.Statement.{statement}
-use Rattle.tteuyomal.proofs.texts.tteuyomal_write_neighbours.Tie as tie
+use Rattle.neighbours.specs.Told.{text-refused, text-bytes}
+use Rattle.tteuyomal.proofs.Texts.{write-lacking, write-refused, write-fine}
+use Rattle.tteuyomal.proofs.neighbour_text.tteuyomal_write_neighbours.Statement.{statement}
+use Rattle.tteuyomal.proofs.neighbour_text.tteuyomal_write_neighbours.Tie as tie
 
 unlent-requires : tie.Need-unlent-requires
 unlent-requires c κs = search needs

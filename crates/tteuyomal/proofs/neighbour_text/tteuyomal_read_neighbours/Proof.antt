@@ -5,9 +5,10 @@ use denote.Ref.{now}
 use lib.ListN.{length}
 use borrow.Author.Needs.{needs}
 use Rattle.adjacency.specs.Neighbours.{neighboursReply}
-use Rattle.tteuyomal.proofs.Texts.{found-refused, found-block, read-lacking, read-refused, read-fine}
-use Rattle.tteuyomal.proofs.texts.tteuyomal_read_neighbours.Statement.{statement}
-use Rattle.tteuyomal.proofs.texts.tteuyomal_read_neighbours.Tie as tie
+use Rattle.neighbours.specs.Told.{found-refused, found-block}
+use Rattle.tteuyomal.proofs.Texts.{read-lacking, read-refused, read-fine}
+use Rattle.tteuyomal.proofs.neighbour_text.tteuyomal_read_neighbours.Statement.{statement}
+use Rattle.tteuyomal.proofs.neighbour_text.tteuyomal_read_neighbours.Tie as tie
 
 unlent-text-requires : tie.Need-unlent-text-requires
 unlent-text-requires c κs = search needs
