@@ -1,4 +1,4 @@
--- Laws. Texts and their replies.
+-- Work. Texts and their replies, by computing.
 use Prim.Native.Nat.{ℕ}
 use Prim.Native.String.{String}
 use mathlib.Core.List.{List, [], _∷_}

@@ -1,4 +1,4 @@
--- Definitions. The neighbour text of document 001, table 1: the atom count, then for each described atom its label, its neighbours and a 0, and a last 0. Read into a block.
+-- Definitions. The neighbour text of [Juvan, Mohar], table 1 (docs/RULES.md): the atom count, then for each described atom its label, its neighbours and a 0, and a last 0. Read into a block.
 use Prim.Native.Nat.{ℕ, suc, _+_, _*_, min}
 use mathlib.Core.Bool.{Bool, _||_, _&&_, not, cond}
 use mathlib.Core.List.{List, [], _∷_, _++_}

@@ -16,12 +16,12 @@ use Rattle.graph.specs.Connected.{connected-is-linked}
 use Rattle.reply.specs.Read.{refused, read, refusal, _then_, refuseFor}
 use Rattle.reply.specs.Chain.{not-read}
 use Rattle.block.specs.Faults.{faultless}
-use Rattle.block.specs.Block.{mostAtoms, mostBytes, limit, bondsOf, graphOf, bondFault, bondsReply, blockReply}
+use Rattle.block.specs.Block.{mostBytes, limit, bondsOf, graphOf, bondFault, bondsReply, blockReply}
 use Rattle.block.specs.Told.{passed, few-atoms, sound, molecule}
 use Rattle.adjacency.specs.Neighbours.{steps, bondsLength, bondBytes, neighboursReply}
 use Rattle.adjacency.specs.Written.{writtenText, writeReply}
 use Rattle.adjacency.specs.Canonical.{bondsUpTo, canonical}
-use Rattle.adjacency.specs.Work.{until, anyHigh, Fit, highReply}
+use Rattle.adjacency.specs.Work.{longest, until, anyHigh, Fit, highReply}
 use Rattle.adjacency.specs.Blocks.{bytes-length, bytes-bonds, until-all, no-room, all-read}
 use Rattle.adjacency.specs.Writing.{text-same}
 use Rattle.adjacency.specs.Putting.{text-short}
@@ -138,7 +138,7 @@ module _ (n : ℕ) (xs : List ℕ) (fine : blockReply n xs ≡ read tt) where
       rw (passed n xs fine .size, eq-eqb (length (bondBytes cs) % 2) 0 m, le-ltb mostBytes (length (bondBytes cs)) (omega (arith, short-still)), bytes-bonds cs, bonds-pass, connected-still)
 
   -- it is short enough for what the writer keeps of it
-  pub text-fits : length (writtenText n bs) ≤ 8 * mostAtoms + 2 * mostBytes
+  pub text-fits : length (writtenText n bs) ≤ longest
   text-fits = let a = few-atoms n xs fine in omega (arith, text-short (anyJoins bs) n (a .high), short-still)
 
   until-is : {room : ℕ} (r : Reread (anyJoins bs) n (few-atoms n xs fine .high) room) → until n (steps (r .rest)) ≡ cs

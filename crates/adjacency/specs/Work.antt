@@ -1,13 +1,15 @@
 -- Work. What the functions that go through a text do.
-use Prim.Native.Nat.{ℕ, _+_, _*_, _-_, _/_, _%_, _<_, _≤_, min}
+use Prim.Native.Nat.{ℕ, _+_, _*_, _/_, _%_, _<_, _≤_, min}
 use mathlib.Core.Bool.{Bool, true, false, _&&_, _||_, not, cond}
 use mathlib.Core.List.{List, [], _∷_}
 use mathlib.Core.Path.{_≡_}
 use lib.Dec.{eqb, leb, ltb}
 use lib.ListN.{length, getD, drop, set}
 use Rattle.graph.specs.Graph.{Graph, Bond}
+use Rattle.graph.specs.Sets.{has}
 use Rattle.reply.specs.Read.{Read, refused, read, _then_, refuseIf, refusal, isOutside}
 use Rattle.block.specs.Block.{blockReply, bondsReply, bondsOf, graphOf, mostAtoms, mostBytes}
+use Rattle.block.specs.Near.{around}
 use Rattle.text.specs.Text.{isDigit}
 use Rattle.adjacency.specs.Neighbours.{Number, number, most, grown, none, run, numbersFrom, goodBytes, largeAt, faultAt, shapeFrom, end, Step, described, bonded, stepsFrom, bondsIn, bondsLength}
 
@@ -125,6 +127,10 @@ keptReply n xs high room = highReply n xs high then λ _. refuseIf (ltb room (le
 abbrev pub givenReply : List ℕ → ℕ → Read (List ℕ)
 givenReply t room = refuseIf (ltb room (length t)) 9 0 then λ _. read t
 
--- whether two atoms are bonded, by rows of distances
-abbrev pub joinedIn : List (List ℕ) → ℕ → ℕ → Bool
-joinedIn rows i j = eqb (getD (getD rows (i - 1) []) (j - 1) 0) 1
+-- whether two atoms are bonded, by sets of neighbours
+abbrev pub joinedIn : List ℕ → ℕ → ℕ → Bool
+joinedIn near i j = has (around near i) j
+
+-- the most bytes that the text of a block has
+abbrev pub longest : ℕ
+longest = 8 * mostAtoms + 2 * mostBytes

@@ -1,19 +1,21 @@
--- Laws. The text of a block by the rows of its distances, and the reply. Assumes nothing.
-use Prim.Native.Nat.{ℕ, zero, suc, _+_, _-_, _<_, _≤_}
-use mathlib.Core.Bool.{Bool, true, false, _&&_, true≢false}
+-- Laws. The text of a block by the sets of its neighbours, and the reply. Assumes nothing.
+use Prim.Native.Nat.{ℕ, zero, suc, _<_, _≤_}
+use mathlib.Core.Bool.{Bool, true, false, _&&_}
 use mathlib.Core.List.{List, _++_}
-use mathlib.Core.Path.{_≡_, refl, sym, _∙_}
+use mathlib.Core.Path.{_≡_, refl, _∙_, ap}
 use native.Mathlib.Omega.{arith}
-use borrow.Author.Tests.{lt-ltb, le-ltb, ltb-true, eq-eqb, ne-eqb}
-use lib.Dec.{eqb, ltb}
+use borrow.Author.Tests.{lt-ltb, le-ltb, ltb-true}
+use lib.Dec.{ltb}
 use lib.ListN.{length, take, drop}
 use lib.Seq.{take-at}
-use Rattle.graph.specs.Graph.{Graph, bonded, anyJoins, distance, Walk, stay, step, Within, Molecule}
-use Rattle.graph.specs.Distance.{distance-shortest, distance-zero}
-use Rattle.reply.specs.Read.{Read, refused, read, refusal}
+use Rattle.graph.specs.Graph.{bonded, anyJoins, Within}
+use Rattle.reply.specs.Read.{Read, refused, read, refusal, _then_}
+use Rattle.reply.specs.declared.Reply.the-variants.{Fine, Refused}
 use Rattle.block.specs.Block.{bondsOf, graphOf, blockReply}
-use Rattle.block.specs.Rows.{rowsOf}
-use Rattle.block.specs.Told.{molecule, distance-at}
+use Rattle.block.specs.Opened.{neighboursOf, openedReply, saidOpened}
+use Rattle.block.specs.Drawn.{has-neighbour}
+use Rattle.block.specs.Told.{few-atoms}
+use Rattle.block.specs.declared.Opened.{Opened}
 use Rattle.reply.specs.declared.Refusal.{Refusal}
 use Rattle.text.specs.Put.{Puts}
 use Rattle.text.proofs.Putting.{same-length, at-front}
@@ -44,30 +46,31 @@ module _ (n : ℕ) (p q : ℕ → ℕ → Bool) (h : (i j : ℕ) → Within n i 
   unfolding textBy
   text-same = rw (lines-same n (omega arith))
 
--- a walk of one bond
-walk-none : {g : Graph} {i j k : ℕ} → Walk g i j k → k ≡ 0 → i ≡ j
-walk-none stay e = refl
-walk-none (step w b) e = absurd (omega arith)
+-- what a block's reading tells: its refusal, or its neighbours
+module _ (n : ℕ) (xs : List ℕ) (o : Opened) (is : o ≡ saidOpened (openedReply n xs)) where
+  pub opened-refused : (r : Refusal) → Refused r ≡ o .reply → blockReply n xs ≡ refused r
+  unfolding openedReply
+  opened-refused r e = go (blockReply n xs) (e ∙ ap (λ (p : Opened). p .reply) is)
+    where
+      go : (m : Read (Unit {0})) → Refused r ≡ saidOpened (m then λ _. read (neighboursOf (graphOf n xs))) .reply → m ≡ refused r
+      go (refused q) f = cc
+      go (read u) f = let z : _≡_ {A = ℕ} 0 1 = cc in absurd (omega arith)
 
-walk-one : {g : Graph} {i j k : ℕ} → Walk g i j k → k ≡ 1 → bonded g i j ≡ true
-walk-one stay e = absurd (omega arith)
-walk-one {g} {i} {j} (step {v} w b) e = let same : i ≡ v = walk-none w (omega arith) in rw same b
-
--- atoms at distance 1 are those that are bonded
-beside : (g : Graph) → Molecule g → (i j : ℕ) → Within (g .atoms) i → Within (g .atoms) j → i < j → eqb (distance g i j) 1 ≡ bonded g i j
-beside g m i j v w l = go (bonded g i j) refl
-  where
-    go : (t : Bool) → bonded g i j ≡ t → eqb (distance g i j) 1 ≡ t
-    go true b =
-        let far = distance-shortest m v w .least 1 (step stay b) in
-        let near : distance g i j ≡ 0 → ⊥ = λ z. let e : i ≡ j = distance-zero m v w z in omega arith in
-        eq-eqb (distance g i j) 1 (omega arith)
-    go false b = ne-eqb (distance g i j) 1 (λ e. true≢false (sym (walk-one (distance-shortest m v w .walk) e) ∙ b))
+  pub opened-fine : Fine ≡ o .reply → (blockReply n xs ≡ read tt) × (o .near ≡ neighboursOf (graphOf n xs))
+  unfolding openedReply
+  opened-fine e = go (blockReply n xs) (e ∙ ap (λ (p : Opened). p .reply) is) (ap (λ (p : Opened). p .near) is)
+    where
+      go : (m : Read (Unit {0})) → Fine ≡ saidOpened (m then λ _. read (neighboursOf (graphOf n xs))) .reply → o .near ≡ saidOpened (m then λ _. read (neighboursOf (graphOf n xs))) .near
+          → (m ≡ read tt) × (o .near ≡ neighboursOf (graphOf n xs))
+      go (refused q) f g = let z : _≡_ {A = ℕ} 0 1 = cc in absurd (omega arith)
+      go (read u) f g = (refl, g)
 
 module _ (n : ℕ) (xs : List ℕ) (fine : blockReply n xs ≡ read tt) where
-  pub by-rows : textBy (joinedIn (rowsOf n xs)) n ≡ writtenText n (bondsOf xs)
+  pub by-sets : (near : List ℕ) → near ≡ neighboursOf (graphOf n xs) → textBy (joinedIn near) n ≡ writtenText n (bondsOf xs)
   unfolding bonded
-  by-rows = text-same n (joinedIn (rowsOf n xs)) (anyJoins (bondsOf xs)) (λ i j v w l. rw (distance-at n xs fine v w) (beside (graphOf n xs) (molecule n xs fine) i j v w l))
+  by-sets near e =
+      let a = few-atoms n xs fine in
+      rw e (text-same n (joinedIn (neighboursOf (graphOf n xs))) (anyJoins (bondsOf xs)) (λ i j v w l. has-neighbour (graphOf n xs) i j (omega arith) w))
 
   pub write-given : (room : ℕ) → writeReply n xs room ≡ givenReply (writtenText n (bondsOf xs)) room
   unfolding writeReply

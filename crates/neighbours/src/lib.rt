@@ -2,14 +2,15 @@
 ghost use mathlib.Core.Path.{_≡_};
 ghost use Prim.Native.Nat.{_≤_};
 ghost use lib.ListN.{length};
-ghost use Rattle.reply.specs.Read.{read, refusal};
-ghost use Rattle.block.specs.Block.{blockReply};
+ghost use Rattle.reply.specs.Read.{refusal};
+ghost use Rattle.block.specs.Block.{mostAtoms};
 ghost use Rattle.adjacency.specs.Neighbours.{bondsIn, blockOf, neighboursReply, bytesAfter};
-ghost use Rattle.adjacency.specs.Written.{writeReply, textAfter};
-ghost use Rattle.adjacency.specs.Work.{stepsAt, Fit, Sized, keptReply, givenReply};
+ghost use Rattle.adjacency.specs.Written.{textBy, writeReply, textAfter};
+ghost use Rattle.adjacency.specs.Work.{stepsAt, Fit, Sized, keptReply, givenReply, joinedIn, longest};
 ghost use Rattle.neighbours.specs.Said.{saidFound, saidWritten};
 use block::ATOMS;
 use block::BYTES;
+use block::Neighbours;
 use reply::Refusal;
 use reply::Reply;
 
@@ -150,15 +151,14 @@ fn given(bytes: &[u8], out: &mut [u8]) -> Written
     Written::Bytes(bytes.len())
 }
 
-// Writes the text of a block that is not refused.
-fn write_fine(n: usize, bonds: &[u8], out: &mut [u8]) -> Written
-    requires { ⌜ blockReply n (now bonds) ≡ read tt ⌝ }
-    ensures reply { λ r. ⌜ r ≡ saidWritten (writeReply n (now (bonds .entry)) (length (now (out .entry)))) ⌝ }
-    ensures bytes { λ r. ⌜ now (out .exit) ≡ textAfter (writeReply n (now (bonds .entry)) (length (now (out .entry)))) (now (out .entry)) ⌝ }
+// Writes the text of a block by its neighbours.
+fn write_fine(n: usize, near: &Neighbours, out: &mut [u8]) -> Written
+    requires { ⌜ (n ≤ mostAtoms) × (length (textBy (joinedIn (now near)) n) ≤ longest) ⌝ }
+    ensures reply { λ r. ⌜ r ≡ saidWritten (givenReply (textBy (joinedIn (now (near .entry))) n) (length (now (out .entry)))) ⌝ }
+    ensures bytes { λ r. ⌜ now (out .exit) ≡ textAfter (givenReply (textBy (joinedIn (now (near .entry))) n) (length (now (out .entry)))) (now (out .entry)) ⌝ }
 {
-    let rows = block::rows(n, bonds);
     let mut bytes = [0u8; TEXT];
-    let len = writing::text(&mut bytes, &rows, n);
+    let len = writing::text(&mut bytes, near, n);
     given(&bytes[..len], out)
 }
 
@@ -167,9 +167,10 @@ pub fn write(n: usize, bonds: &[u8], out: &mut [u8]) -> Written
     ensures reply { λ r. ⌜ r ≡ saidWritten (writeReply n (now (bonds .entry)) (length (now (out .entry)))) ⌝ }
     ensures bytes { λ r. ⌜ now (out .exit) ≡ textAfter (writeReply n (now (bonds .entry)) (length (now (out .entry)))) (now (out .entry)) ⌝ }
 {
-    let reply = block::check(n, bonds);
+    let opened = block::neighbours(n, bonds);
+    let reply = opened.reply;
     match reply {
         Reply::Refused(refusal) => Written::Refused(refusal),
-        Reply::Fine => write_fine(n, bonds, out),
+        Reply::Fine => write_fine(n, &opened.near, out),
     }
 }

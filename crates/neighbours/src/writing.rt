@@ -1,5 +1,5 @@
 // The text of a block, byte by byte.
-use block::DistanceMatrix;
+use block::Neighbours;
 use text::put;
 use text::put_byte;
 use text::put_decimal;
@@ -16,35 +16,35 @@ ghost use Rattle.adjacency.specs.Written.{isGreater, greater, listed, line, lin
 ghost use Rattle.adjacency.specs.Work.{joinedIn};
 
 // Whether j is a greater neighbour of i.
-fn is_greater(rows: &DistanceMatrix, i: usize, j: usize) -> bool
+fn is_greater(near: &Neighbours, i: usize, j: usize) -> bool
     requires { ⌜ Within mostAtoms i × Within mostAtoms j ⌝ }
-    ensures { λ r. ⌜ r ≡ isGreater (joinedIn (now (rows .entry))) i j ⌝ }
+    ensures { λ r. ⌜ r ≡ isGreater (joinedIn (now (near .entry))) i j ⌝ }
 {
     if i < j {
         let x = i - 1;
         let y = j - 1;
-        return rows[x][y] == 1;
+        return (near[x] >> y) % 2 == 1;
     }
     false
 }
 
-fn one_if_greater(rows: &DistanceMatrix, i: usize, j: usize) -> usize
+fn one_if_greater(near: &Neighbours, i: usize, j: usize) -> usize
     requires { ⌜ Within mostAtoms i × Within mostAtoms j ⌝ }
-    ensures { λ r. ⌜ r ≡ cond (isGreater (joinedIn (now (rows .entry))) i j) 1 0 ⌝ }
+    ensures { λ r. ⌜ r ≡ cond (isGreater (joinedIn (now (near .entry))) i j) 1 0 ⌝ }
 {
-    if is_greater(rows, i, j) { 1 } else { 0 }
+    if is_greater(near, i, j) { 1 } else { 0 }
 }
 
 // How many greater neighbours an atom has.
-fn count(rows: &DistanceMatrix, n: usize, i: usize) -> usize
+fn count(near: &Neighbours, n: usize, i: usize) -> usize
     requires { ⌜ (n ≤ mostAtoms) × Within mostAtoms i ⌝ }
-    ensures { λ r. ⌜ r ≡ length (greater (joinedIn (now (rows .entry))) n i) ⌝ }
+    ensures { λ r. ⌜ r ≡ length (greater (joinedIn (now (near .entry))) n i) ⌝ }
 {
     let mut k = 0;
     let mut j = 0;
     while j < n {
         j += 1;
-        k = k + one_if_greater(rows, i, j);
+        k = k + one_if_greater(near, i, j);
     }
     k
 }
@@ -58,11 +58,11 @@ fn number(out: &mut [u8], at: usize, v: usize) -> usize
 }
 
 // Puts a blank and a number where j is a greater neighbour of i.
-fn neighbour(out: &mut [u8], at: usize, rows: &DistanceMatrix, i: usize, j: usize) -> usize
+fn neighbour(out: &mut [u8], at: usize, near: &Neighbours, i: usize, j: usize) -> usize
     requires { ⌜ Within mostAtoms i × Within mostAtoms j ⌝ }
-    ensures { λ r. ⌜ Puts (now (out .entry)) at (listed (cond (isGreater (joinedIn (now (rows .entry))) i j) (j ∷ []) [])) (now (out .exit)) r ⌝ }
+    ensures { λ r. ⌜ Puts (now (out .entry)) at (listed (cond (isGreater (joinedIn (now (near .entry))) i j) (j ∷ []) [])) (now (out .exit)) r ⌝ }
 {
-    if is_greater(rows, i, j) {
+    if is_greater(near, i, j) {
         let next = put_byte(out, at, b' ');
         return number(out, next, j);
     }
@@ -70,53 +70,53 @@ fn neighbour(out: &mut [u8], at: usize, rows: &DistanceMatrix, i: usize, j: usiz
 }
 
 // Puts the greater neighbours of an atom.
-fn neighbours(out: &mut [u8], from: usize, rows: &DistanceMatrix, n: usize, i: usize) -> usize
+fn neighbours(out: &mut [u8], from: usize, near: &Neighbours, n: usize, i: usize) -> usize
     requires { ⌜ (n ≤ mostAtoms) × Within mostAtoms i ⌝ }
-    ensures { λ r. ⌜ Puts (now (out .entry)) from (listed (greater (joinedIn (now (rows .entry))) n i)) (now (out .exit)) r ⌝ }
+    ensures { λ r. ⌜ Puts (now (out .entry)) from (listed (greater (joinedIn (now (near .entry))) n i)) (now (out .exit)) r ⌝ }
 {
     let mut at = from;
     let mut j = 0;
     while j < n {
         j += 1;
-        at = neighbour(out, at, rows, i, j);
+        at = neighbour(out, at, near, i, j);
     }
     at
 }
 
 // Puts the line of an atom, if it has greater neighbours.
-fn line(out: &mut [u8], at: usize, rows: &DistanceMatrix, n: usize, i: usize) -> usize
+fn line(out: &mut [u8], at: usize, near: &Neighbours, n: usize, i: usize) -> usize
     requires { ⌜ (n ≤ mostAtoms) × Within mostAtoms i ⌝ }
-    ensures { λ r. ⌜ Puts (now (out .entry)) at (line i (greater (joinedIn (now (rows .entry))) n i)) (now (out .exit)) r ⌝ }
+    ensures { λ r. ⌜ Puts (now (out .entry)) at (line i (greater (joinedIn (now (near .entry))) n i)) (now (out .exit)) r ⌝ }
 {
-    if count(rows, n, i) == 0 {
+    if count(near, n, i) == 0 {
         return at;
     }
     let a = number(out, at, i);
-    let b = neighbours(out, a, rows, n, i);
+    let b = neighbours(out, a, near, n, i);
     put(out, b, b" 0\n")
 }
 
 // Puts the lines of all atoms.
-fn lines(out: &mut [u8], from: usize, rows: &DistanceMatrix, n: usize) -> usize
+fn lines(out: &mut [u8], from: usize, near: &Neighbours, n: usize) -> usize
     requires { ⌜ n ≤ mostAtoms ⌝ }
-    ensures { λ r. ⌜ Puts (now (out .entry)) from (lines (joinedIn (now (rows .entry))) n n) (now (out .exit)) r ⌝ }
+    ensures { λ r. ⌜ Puts (now (out .entry)) from (lines (joinedIn (now (near .entry))) n n) (now (out .exit)) r ⌝ }
 {
     let mut at = from;
     let mut i = 0;
     while i < n {
         i += 1;
-        at = line(out, at, rows, n, i);
+        at = line(out, at, near, n, i);
     }
     at
 }
 
 // Puts the whole text, as far as there is room, and answers the place past it.
-pub(crate) fn text(out: &mut [u8], rows: &DistanceMatrix, n: usize) -> usize
+pub(crate) fn text(out: &mut [u8], near: &Neighbours, n: usize) -> usize
     requires { ⌜ n ≤ mostAtoms ⌝ }
-    ensures { λ r. ⌜ Puts (now (out .entry)) 0 (textBy (joinedIn (now (rows .entry))) n) (now (out .exit)) r ⌝ }
+    ensures { λ r. ⌜ Puts (now (out .entry)) 0 (textBy (joinedIn (now (near .entry))) n) (now (out .exit)) r ⌝ }
 {
     let a = number(out, 0, n);
     let b = put_byte(out, a, b'\n');
-    let c = lines(out, b, rows, n);
+    let c = lines(out, b, near, n);
     put(out, c, b"0\n")
 }

@@ -1,16 +1,16 @@
 -- `write` meets its contract. Assumes nothing.
 use mathlib.Core.Path.{sym, _∙_, ap}
 use lib.ListN.{length}
-use Rattle.block.specs.Block.{blockReply}
-use Rattle.block.proofs.Replies.{said-fine, said-refused}
+use Rattle.block.specs.Told.{few-atoms}
+use Rattle.adjacency.specs.Writing.{opened-refused, opened-fine, by-sets, write-given, write-refused, text-stays}
+use Rattle.adjacency.specs.RoundTrip.{text-fits}
 use Rattle.neighbours.specs.Said.{saidWritten}
-use Rattle.adjacency.specs.Writing.{write-refused, text-stays}
 use borrow.Author.Needs.{needs}
 use Rattle.neighbours.proofs.write.Statement.{statement}
 use Rattle.neighbours.proofs.write.Tie as tie
 
-check-requires : tie.Need-check-requires
-check-requires c κs = search needs
+neighbours-requires : tie.Need-neighbours-requires
+neighbours-requires c κs = search needs
 
 enum-known-reply : tie.Need-enum-known-reply
 enum-known-reply c = search needs
@@ -19,28 +19,27 @@ enum-told : tie.Need-enum-told
 enum-told c = search needs
 
 write-fine-requires : tie.Need-write-fine-requires
-write-fine-requires c κs = let a = c .before .before .before .before .before .before .args in said-fine (blockReply (a .n) (a .bonds .now)) (sym (c .before .enum-told .given .1) ∙ c .before .before .before .check .ensures)
+write-fine-requires c κs =
+    let a = c .before .before .before .before .before .before .before .before .args in
+    let f = opened-fine (a .n) (a .bonds .now) (c .before .before .before .before .before .neighbours .result) (c .before .before .before .before .before .neighbours .ensures) (sym (c .before .before .before .enum-told .given .1)) in
+    (few-atoms (a .n) (a .bonds .now) (f .0) .high, rw (by-sets (a .n) (a .bonds .now) (f .0) _ (f .1)) (text-fits (a .n) (a .bonds .now) (f .0)))
 
 returns : tie.Need-returns
 returns c =
     let a = c .before .before .before .before .before .before .args in
-    let e = write-refused (a .n) (a .bonds .now) (length (a .out .now)) _ (said-refused (blockReply (a .n) (a .bonds .now)) _ (sym (c .before .reply .given .1) ∙ c .before .before .before .check .ensures)) in
-    (sym (ap saidWritten e), text-stays (a .out .now) e)
+    let e = opened-refused (a .n) (a .bonds .now) (c .before .before .before .neighbours .result) (c .before .before .before .neighbours .ensures) _ (sym (c .before .reply .given .1)) in
+    let w = write-refused (a .n) (a .bonds .now) (length (a .out .now)) _ e in
+    (sym (ap saidWritten w), text-stays (a .out .now) w)
 
 same-length : tie.Need-same-length
 same-length c = search needs
 
 returns-2 : tie.Need-returns-2
-returns-2 c = search needs
+returns-2 c =
+    let a = c .before .before .before .before .before .before .before .before .before .before .before .args in
+    let f = opened-fine (a .n) (a .bonds .now) (c .before .before .before .before .before .before .before .before .neighbours .result) (c .before .before .before .before .before .before .before .before .neighbours .ensures) (sym (c .before .before .before .before .before .before .enum-told .given .1)) in
+    let e = rw (sym (by-sets (a .n) (a .bonds .now) (f .0) _ (f .1))) at (write-given (a .n) (a .bonds .now) (f .0) (length (a .out .now))) in
+    (c .before .before .write-fine .ensures .0 ∙ sym (ap saidWritten e), c .before .before .write-fine .ensures .1 ∙ rw e)
 
 pub write-spec : {M : Type 1} → statement M
-write-spec =
-    tie.close
-    (tie.spec
-    check-requires
-    enum-known-reply
-    enum-told
-    write-fine-requires
-    returns
-    same-length
-    returns-2)
+write-spec = tie.close (tie.spec neighbours-requires enum-known-reply enum-told write-fine-requires returns same-length returns-2)

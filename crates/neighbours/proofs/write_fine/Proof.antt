@@ -1,34 +1,24 @@
--- `write_fine` meets its contract. Assumes nothing.
+-- `write_fine` meets its contract: the text is put into bytes that have room for it, and given out. Assumes nothing.
 use Prim.Native.Nat.{_≤_}
 use mathlib.Core.Path.{_≡_, sym, _∙_, ap}
 use lib.ListN.{length, take}
 use lib.Seq.{length-take-le}
-use Rattle.block.specs.Block.{bondsOf}
-use Rattle.block.specs.Told.{few-atoms}
-use Rattle.adjacency.specs.Written.{writtenText}
-use Rattle.adjacency.specs.Writing.{by-rows, write-given, front-within, front-is}
-use Rattle.adjacency.specs.RoundTrip.{text-fits}
-use Rattle.neighbours.specs.Said.{saidWritten}
+use Rattle.adjacency.specs.Written.{textBy}
+use Rattle.adjacency.specs.Work.{joinedIn}
+use Rattle.adjacency.specs.Writing.{front-within, front-is}
 use borrow.Author.Needs.{needs}
 use Rattle.neighbours.proofs.write_fine.Statement.{statement}
 use Rattle.neighbours.proofs.write_fine.Tie as tie
-
-rows-requires : tie.Need-rows-requires
-rows-requires c κs = search needs
 
 slice-aggregate-text : tie.Need-slice-aggregate-text
 slice-aggregate-text c = search needs
 
 text-requires : tie.Need-text-requires
-text-requires c κs = few-atoms (c .before .before .before .before .before .args .n) (c .before .before .before .before .before .args .bonds .now) (c .before .before .before .before .before .pre) .high
+text-requires c κs = c .before .before .pre .0
 
 -- what is put is the text
-front : (c : tie.After-text) → let a = c .before .before .before .before .before .before .args in (c .text .result ≤ length (c .text .last .0)) × (take (c .text .result) (c .text .last .0) ≡ writtenText (a .n) (bondsOf (a .bonds .now)))
-front c =
-    let a = c .before .before .before .before .before .before .args in
-    let p = rw (c .before .before .before .rows .ensures, by-rows (a .n) (a .bonds .now) (c .before .before .before .before .before .before .pre)) at (c .text .ensures) in
-    let h = text-fits (a .n) (a .bonds .now) (c .before .before .before .before .before .before .pre) in
-    (front-within p h, front-is p h)
+front : (c : tie.After-text) → let a = c .before .before .before .args in (c .text .result ≤ length (c .text .last .0)) × (take (c .text .result) (c .text .last .0) ≡ textBy (joinedIn (a .near .now)) (a .n))
+front c = let h = c .before .before .before .pre .1 in (front-within (c .text .ensures) h, front-is (c .text .ensures) h)
 
 array-share-prefix-bytes : tie.Need-array-share-prefix-bytes
 array-share-prefix-bytes c = front (c .before) .0
@@ -43,10 +33,7 @@ same-length : tie.Need-same-length
 same-length c = search needs
 
 returns : tie.Need-returns
-returns c =
-    let a = c .before .before .before .before .before .before .before .before .before .before .before .before .args in
-    let e = rw (sym (front (c .before .before .before .before .before .before) .1)) at (write-given (a .n) (a .bonds .now) (c .before .before .before .before .before .before .before .before .before .before .before .before .pre) (length (a .out .now))) in
-    (c .before .before .given .ensures .0 ∙ sym (ap saidWritten e), c .before .before .given .ensures .1 ∙ rw e)
+returns c = let f = sym (front (c .before .before .before .before .before .before) .1) in (c .before .before .given .ensures .0 ∙ rw f, c .before .before .given .ensures .1 ∙ rw f)
 
 pub write-fine-spec : {M : Type 1} → statement M
-write-fine-spec = tie.close (tie.spec rows-requires slice-aggregate-text text-requires array-share-prefix-bytes slice-aggregate-given given-requires same-length returns)
+write-fine-spec = tie.close (tie.spec slice-aggregate-text text-requires array-share-prefix-bytes slice-aggregate-given given-requires same-length returns)

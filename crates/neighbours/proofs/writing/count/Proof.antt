@@ -11,10 +11,10 @@ use Rattle.neighbours.proofs.writing.count.Statement.{statement}
 use Rattle.neighbours.proofs.writing.count.Tie as tie
 
 abbrev Inv-loop : tie.InvT-loop
-Inv-loop rows n i k₀ j₀ k j = (k ≡ length (upTo j (isGreater (joinedIn rows) i))) × (j ≤ n)
+Inv-loop near n i k₀ j₀ k j = (k ≡ length (upTo j (isGreater (joinedIn near) i))) × (j ≤ n)
 
 abbrev μ-loop : tie.MeasureT-loop
-μ-loop rows n i k₀ j₀ k j = n - j
+μ-loop near n i k₀ j₀ k j = n - j
 
 loop-holds : tie.Need-loop-holds Inv-loop μ-loop
 unfolding upTo
@@ -27,13 +27,13 @@ one-if-greater-requires : tie.Need-one-if-greater-requires Inv-loop μ-loop
 one-if-greater-requires c κs = (c .before .before .pre .1, omega arith)
 
 add-k : tie.Need-add-k Inv-loop μ-loop
-add-k c = let l = c .before .before .loop in let p = isGreater (joinedIn (c .before .before .before .args .rows .now)) (c .before .before .before .args .i) in record { fits = omega (arith, c .one-if-greater .ensures, up-count (l .j) p, up-short (l .j + 1) p, l .inv) }
+add-k c = let l = c .before .before .loop in let p = isGreater (joinedIn (c .before .before .before .args .near .now)) (c .before .before .before .args .i) in record { fits = omega (arith, c .one-if-greater .ensures, up-count (l .j) p, up-short (l .j + 1) p, l .inv) }
 
 loop-less : tie.Need-loop-less Inv-loop μ-loop
 loop-less c = omega arith
 
 loop-again : tie.Need-loop-again Inv-loop μ-loop
-loop-again c = let l = c .before .before .loop in let p = isGreater (joinedIn (c .before .before .before .args .rows .now)) (c .before .before .before .args .i) in (omega (arith, c .one-if-greater .ensures, up-count (l .j) p, l .inv .0), omega arith)
+loop-again c = let l = c .before .before .loop in let p = isGreater (joinedIn (c .before .before .before .args .near .now)) (c .before .before .before .args .i) in (omega (arith, c .one-if-greater .ensures, up-count (l .j) p, l .inv .0), omega arith)
 
 returns : tie.Need-returns Inv-loop μ-loop
 unfolding greater

@@ -14,7 +14,7 @@ count-requires c κs = search needs
 returns : tie.Need-returns
 returns c =
     let a = c .before .before .before .args in
-    rw (line-none (a .i) (greater (joinedIn (a .rows .now)) (a .n) (a .i)) (sym (c .before .count .ensures) ∙ c .if1 .taken)) none
+    rw (line-none (a .i) (greater (joinedIn (a .near .now)) (a .n) (a .i)) (sym (c .before .count .ensures) ∙ c .if1 .taken)) none
 
 number-requires : tie.Need-number-requires
 number-requires c κs = search needs
@@ -34,7 +34,7 @@ same-length c = search needs
 returns-2 : tie.Need-returns-2
 returns-2 c =
     let a = c .before .before .before .before .before .before .before .before .before .before .before .before .before .before .before .before .args in
-    rw (line-some (a .i) (greater (joinedIn (a .rows .now)) (a .n) (a .i)) (λ e. c .before .before .before .before .before .before .before .before .before .before .before .before .before .if1 .left (c .before .before .before .before .before .before .before .before .before .before .before .before .before .before .count .ensures ∙ e)))
+    rw (line-some (a .i) (greater (joinedIn (a .near .now)) (a .n) (a .i)) (λ e. c .before .before .before .before .before .before .before .before .before .before .before .before .before .if1 .left (c .before .before .before .before .before .before .before .before .before .before .before .before .before .before .count .ensures ∙ e)))
     (both (both (c .before .before .before .before .before .before .before .before .before .before .before .number .ensures) (c .before .before .before .before .before .before .before .neighbours .ensures)) (c .before .before .put .ensures))
 
 pub line-spec : {M : Type 1} → statement M

@@ -12,10 +12,10 @@ use Rattle.neighbours.proofs.writing.lines.Statement.{statement}
 use Rattle.neighbours.proofs.writing.lines.Tie as tie
 
 abbrev Inv-loop : tie.InvT-loop
-Inv-loop out₀ from rows n at₀ i₀ out at i = Puts out₀ from (lines (joinedIn rows) n i) out at × (i ≤ n)
+Inv-loop out₀ from near n at₀ i₀ out at i = Puts out₀ from (lines (joinedIn near) n i) out at × (i ≤ n)
 
 abbrev μ-loop : tie.MeasureT-loop
-μ-loop out₀ from rows n at₀ i₀ out at i = n - i
+μ-loop out₀ from near n at₀ i₀ out at i = n - i
 
 loop-holds : tie.Need-loop-holds Inv-loop μ-loop
 unfolding lines
@@ -34,7 +34,7 @@ loop-again : tie.Need-loop-again Inv-loop μ-loop
 loop-again c =
     let l = c .before .before .before .before .before .loop in
     let a = c .before .before .before .before .before .before .before .args in
-    (rw (lines-next (joinedIn (a .rows .now)) (a .n) (l .i)) (putting.both (l .inv .0) (c .before .before .line .ensures)), omega arith)
+    (rw (lines-next (joinedIn (a .near .now)) (a .n) (l .i)) (putting.both (l .inv .0) (c .before .before .line .ensures)), omega arith)
 
 same-length : tie.Need-same-length Inv-loop μ-loop
 same-length c = putting.same-length (c .before .loop .inv .0)

@@ -12,10 +12,10 @@ use Rattle.neighbours.proofs.writing.neighbours.Statement.{statement}
 use Rattle.neighbours.proofs.writing.neighbours.Tie as tie
 
 abbrev Inv-loop : tie.InvT-loop
-Inv-loop out₀ from rows n i at₀ j₀ out at j = Puts out₀ from (listed (upTo j (isGreater (joinedIn rows) i))) out at × (j ≤ n)
+Inv-loop out₀ from near n i at₀ j₀ out at j = Puts out₀ from (listed (upTo j (isGreater (joinedIn near) i))) out at × (j ≤ n)
 
 abbrev μ-loop : tie.MeasureT-loop
-μ-loop out₀ from rows n i at₀ j₀ out at j = n - j
+μ-loop out₀ from near n i at₀ j₀ out at j = n - j
 
 loop-holds : tie.Need-loop-holds Inv-loop μ-loop
 unfolding upTo listed
@@ -34,7 +34,7 @@ loop-again : tie.Need-loop-again Inv-loop μ-loop
 loop-again c =
     let l = c .before .before .before .before .before .loop in
     let a = c .before .before .before .before .before .before .before .args in
-    (rw (listed-next (l .j) (isGreater (joinedIn (a .rows .now)) (a .i))) at (putting.both (l .inv .0) (c .before .before .neighbour .ensures)), omega arith)
+    (rw (listed-next (l .j) (isGreater (joinedIn (a .near .now)) (a .i))) at (putting.both (l .inv .0) (c .before .before .neighbour .ensures)), omega arith)
 
 same-length : tie.Need-same-length Inv-loop μ-loop
 same-length c = putting.same-length (c .before .loop .inv .0)
