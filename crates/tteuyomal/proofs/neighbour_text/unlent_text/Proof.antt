@@ -25,14 +25,14 @@ enum-told c = search needs
 
 returns : tie.Need-returns
 returns c =
-    let t = c .before .before .before .before .before .before .args .text .now in
-    let (g, e, n, k) = found-block (neighboursReply t 1) (sym (c .before .before .before .read .ensures .0) ∙ c .enum-told .given .1) in
-    nine-told t g e
+    let t = c .before .before .before .before .before .before .before .before .args .text .now in
+    refusal-told t _ (c .code-of .result) (found-refused (neighboursReply t 1) (sym (c .before .before .before .before .before .read .ensures .0) ∙ c .before .before .answer .given .1)) (c .code-of .ensures)
 
 returns-2 : tie.Need-returns-2
 returns-2 c =
-    let t = c .before .before .before .before .before .before .before .before .args .text .now in
-    refusal-told t _ (c .code-of .result) (found-refused (neighboursReply t 1) (sym (c .before .before .before .before .before .read .ensures .0) ∙ c .before .before .answer .given .1)) (c .code-of .ensures)
+    let t = c .before .before .before .before .before .before .args .text .now in
+    let (g, e, n, k) = found-block (neighboursReply t 1) (sym (c .before .before .before .read .ensures .0) ∙ c .enum-told .given .1) in
+    nine-told t g e
 
 pub unlent-text-spec : {M : Type 1} → statement M
 unlent-text-spec = tie.close (tie.spec slice-aggregate-read read-requires enum-known-answer code-of-requires enum-told returns returns-2)
