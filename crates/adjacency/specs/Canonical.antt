@@ -1,4 +1,4 @@
--- Work. A block's bonds in the order of its written text: by the smaller end, then by the greater, the smaller end first.
+-- Definitions. A block's bonds in the order of its written text: by the smaller end, then by the greater, the smaller end first.
 use Prim.Native.Nat.{ℕ, zero, suc}
 use mathlib.Core.Bool.{Bool}
 use mathlib.Core.List.{List, [], _++_, map}
