@@ -2,7 +2,6 @@
 use super::code_of;
 use super::unlent;
 use szeged::Szeged;
-ghost use lib.ListN.{length};
 ghost use Rattle.tteuyomal.specs.Szeged.{SzegedLent};
 
 #[no_mangle]
