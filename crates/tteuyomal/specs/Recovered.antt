@@ -1,7 +1,7 @@
 -- Laws. What the one number of a C reply tells, with nothing assumed: it is 0 exactly where the library refuses nothing (for a judged deck: where it accepts),
 -- and else says which refusal it is, of 1 to 253, with its place, or which field differs.
 use Prim.Native.Nat.{ℕ, zero, suc, _+_, _*_, _/_, _%_, _≤_, _<_}
-use mathlib.Core.Bool.{Bool, true, false, _||_, cond}
+use mathlib.Core.Bool.{Bool, true, false, _||_, not, cond}
 use mathlib.Core.List.{List, [], _∷_}
 use mathlib.Core.Path.{_≡_, refl, ap}
 use native.Mathlib.Omega.{arith}
@@ -16,6 +16,7 @@ use Rattle.block.specs.Block.{mostBytes, bondsOf, graphOf, blockReply}
 use Rattle.block.specs.Index.{indicesOf, indicesReply, vertexOf, vertexReply}
 use Rattle.shares.specs.Reply.{most, sharesReply}
 use Rattle.poly.specs.Poly.{unusable, valuesReply, polynomialReply}
+use Rattle.sets.specs.Reply.{treeReply, setsReply}
 use Rattle.deck.specs.Deck.{longestDeck, Deck, deckReply}
 use Rattle.deck.specs.Molecule.{moleculeOf}
 use Rattle.deck.specs.declared.Form.{Form}
@@ -26,6 +27,7 @@ use Rattle.climb.specs.Placed.{isMissing, placedReply}
 use Rattle.molecule.specs.Molecule.{judgeReply, saidVerdict, writeReply}
 use Rattle.tteuyomal.specs.Convention.{places, code, coded, verdictCode, fitting}
 use Rattle.tteuyomal.specs.Replies.{indicesList, composedList, placedList, sumsOf, vertexList, valuesList, polynomialList, contributionsReply}
+use Rattle.tteuyomal.specs.CountSets.{setsNumbers, setsList}
 use Rattle.tteuyomal.specs.Bounded.{mostNumber, Small, Bounded, then-bounded, if-bounded, wider, block-bounded, deck-bounded}
 
 -- the two parts of a number that is put together so
@@ -109,6 +111,12 @@ polynomial-bounded n xs x =
     then-bounded places (blockReply n xs) _ (block-here n xs) (λ u e.
     then-bounded places (refuseIf (unusable x) 10 0) _ (if-bounded places (unusable x) 10 0 (omega arith)) (λ v f. tt))
 
+sets-bounded : (n : ℕ) (xs : List ℕ) → Bounded places (setsReply n xs)
+unfolding setsReply treeReply
+sets-bounded n xs =
+    then-bounded places (blockReply n xs) _ (block-here n xs) (λ u e.
+    then-bounded places (refuseIf (not (eqb (suc (length (bondsOf xs))) n)) 34 0) _ (if-bounded places (not (eqb (suc (length (bondsOf xs))) n)) 34 0 (omega arith)) (λ v f. tt))
+
 shares-bounded : (n : ℕ) (xs : List ℕ) (room : ℕ) → Bounded places (sharesReply n xs room)
 unfolding sharesReply
 shares-bounded n xs room =
@@ -187,6 +195,9 @@ vertex-tells n xs a room = lent room (vertexList n xs a) (listed (vertexReply n 
 
 pub polynomial-tells : (n : ℕ) (xs : List ℕ) (x : Float) (room : ℕ) → Tells (fitting room (polynomialList n xs x))
 polynomial-tells n xs x room = lent room (polynomialList n xs x) (listed (polynomialReply n xs x) valuesList (polynomial-bounded n xs x))
+
+pub count-sets-tells : (n : ℕ) (xs : List ℕ) (room : ℕ) → Tells (fitting room (setsList n xs))
+count-sets-tells n xs room = lent room (setsList n xs) (listed (setsReply n xs) setsNumbers (sets-bounded n xs))
 
 pub contributions-tells : (n : ℕ) (xs : List ℕ) (room entries : ℕ) → Tells (contributionsReply n xs room entries)
 contributions-tells n xs room entries = tells (contributionsReply n xs room entries) (contributions-bounded n xs room entries)
