@@ -14,6 +14,10 @@ use Rattle.reply.specs.declared.Refusal.{Refusal}
 use Rattle.paths.specs.Paths.{denominator}
 use Rattle.block.specs.Block.{mostBytes, bondsOf, graphOf, blockReply}
 use Rattle.block.specs.Index.{indicesOf, indicesReply, vertexOf, vertexReply}
+use Rattle.szeged.specs.Reply.{szegedReply}
+use Rattle.balaban.specs.Balaban.{balabanReply}
+use Rattle.sets.specs.Reply.{setsOf, treeReply, setsReply}
+use Rattle.molwriter.specs.Written as molwriter
 use Rattle.shares.specs.Reply.{most, sharesReply}
 use Rattle.poly.specs.Poly.{unusable, valuesReply, polynomialReply}
 use Rattle.sets.specs.Reply.{treeReply, setsReply}
@@ -26,6 +30,10 @@ use Rattle.compose.specs.Fields.{fieldsReply}
 use Rattle.climb.specs.Placed.{isMissing, placedReply}
 use Rattle.molecule.specs.Molecule.{judgeReply, saidVerdict, writeReply}
 use Rattle.tteuyomal.specs.Convention.{places, code, coded, verdictCode, fitting}
+use Rattle.tteuyomal.specs.Beside.{besideReply}
+use Rattle.tteuyomal.specs.Balaban.{balabanList}
+use Rattle.tteuyomal.specs.CountSets.{setsNumbers, setsList}
+use Rattle.tteuyomal.specs.Molfiles.{writtenReply}
 use Rattle.tteuyomal.specs.Replies.{indicesList, composedList, placedList, sumsOf, vertexList, valuesList, polynomialList, contributionsReply}
 use Rattle.tteuyomal.specs.CountSets.{setsNumbers, setsList}
 use Rattle.tteuyomal.specs.Bounded.{mostNumber, Small, Bounded, then-bounded, if-bounded, wider, block-bounded, deck-bounded}
@@ -124,10 +132,35 @@ shares-bounded n xs room =
     then-bounded places (refuseIf (ltb room (length (bondsOf xs))) 9 0) _ (if-bounded places (ltb room (length (bondsOf xs))) 9 0 (omega arith)) (λ v f.
     then-bounded places (refuseIf (ltb most (denominator (graphOf n xs))) 8 0) _ (if-bounded places (ltb most (denominator (graphOf n xs))) 8 0 (omega arith)) (λ w g. tt)))
 
-contributions-bounded : (n : ℕ) (xs : List ℕ) (room entries : ℕ) → Bounded places (contributionsReply n xs room entries)
-contributions-bounded n xs room entries =
+szeged-bounded : (n : ℕ) (xs : List ℕ) (room : ℕ) → Bounded places (szegedReply n xs room)
+unfolding szegedReply
+szeged-bounded n xs room =
     then-bounded places (blockReply n xs) _ (block-here n xs) (λ u e.
-    then-bounded places (refuseIf (ltb entries 1) 9 0) _ (if-bounded places (ltb entries 1) 9 0 (omega arith)) (λ v f. shares-bounded n xs room))
+    then-bounded places (refuseIf (ltb room (length (bondsOf xs))) 9 0) _ (if-bounded places (ltb room (length (bondsOf xs))) 9 0 (omega arith)) (λ v f. tt))
+
+-- one number beside those of the bonds
+beside-bounded : (n : ℕ) (xs : List ℕ) (entries : ℕ) (x : Read ℕ) → Bounded places x → Bounded places (besideReply n xs entries x)
+beside-bounded n xs entries x s =
+    then-bounded places (blockReply n xs) _ (block-here n xs) (λ u e.
+    then-bounded places (refuseIf (ltb entries 1) 9 0) _ (if-bounded places (ltb entries 1) 9 0 (omega arith)) (λ v f. s))
+
+balaban-bounded : (n : ℕ) (xs : List ℕ) → Bounded places (balabanReply n xs)
+unfolding balabanReply
+balaban-bounded n xs = then-bounded places (blockReply n xs) _ (block-here n xs) (λ u e. tt)
+
+sets-bounded : (n : ℕ) (xs : List ℕ) → Bounded places (setsReply n xs)
+unfolding setsReply treeReply
+sets-bounded n xs =
+    let t = not (eqb (suc (length (bondsOf xs))) n) in
+    then-bounded places (blockReply n xs) _ (block-here n xs) (λ u e.
+    then-bounded places (refuseIf t 34 0) (λ _. read (setsOf (graphOf n xs))) (if-bounded places t 34 0 (omega arith)) (λ v f. tt))
+
+text-bounded : (n : ℕ) (xs : List ℕ) (room : ℕ) → Bounded places (molwriter.writeReply n xs room)
+unfolding molwriter.writeReply
+text-bounded n xs room =
+    let t = ltb room (length (molwriter.molfileText n (bondsOf xs))) in
+    then-bounded places (blockReply n xs) _ (block-here n xs) (λ u e.
+    then-bounded places (refuseIf t 9 0) _ (if-bounded places t 9 0 (omega arith)) (λ v f. tt))
 
 fields-bounded : (form : Form) (d : List ℕ) → Bounded places (fieldsReply form d)
 unfolding fieldsReply
@@ -200,7 +233,22 @@ pub count-sets-tells : (n : ℕ) (xs : List ℕ) (room : ℕ) → Tells (fitting
 count-sets-tells n xs room = lent room (setsList n xs) (listed (setsReply n xs) setsNumbers (sets-bounded n xs))
 
 pub contributions-tells : (n : ℕ) (xs : List ℕ) (room entries : ℕ) → Tells (contributionsReply n xs room entries)
-contributions-tells n xs room entries = tells (contributionsReply n xs room entries) (contributions-bounded n xs room entries)
+contributions-tells n xs room entries = tells (contributionsReply n xs room entries) (beside-bounded n xs entries (sharesReply n xs room) (shares-bounded n xs room))
+
+pub szeged-tells : (n : ℕ) (xs : List ℕ) (room entries : ℕ) → Tells (besideReply n xs entries (szegedReply n xs room))
+szeged-tells n xs room entries = tells (besideReply n xs entries (szegedReply n xs room)) (beside-bounded n xs entries (szegedReply n xs room) (szeged-bounded n xs room))
+
+pub balaban-tells : (n : ℕ) (xs : List ℕ) (room : ℕ) → Tells (fitting room (balabanList n xs))
+balaban-tells n xs room = lent room (balabanList n xs) (listed (balabanReply n xs) (λ j. j ∷ []) (balaban-bounded n xs))
+
+pub sets-tells : (n : ℕ) (xs : List ℕ) (room : ℕ) → Tells (fitting room (setsList n xs))
+sets-tells n xs room = lent room (setsList n xs) (listed (setsReply n xs) setsNumbers (sets-bounded n xs))
+
+pub molfile-written-tells : (n : ℕ) (xs : List ℕ) (room entries : ℕ) → Tells (writtenReply n xs room entries)
+molfile-written-tells n xs room entries =
+    tells (writtenReply n xs room entries)
+    (then-bounded places (molwriter.writeReply n xs room) _ (text-bounded n xs room) (λ k e.
+    then-bounded places (refuseIf (ltb entries 1) 9 0) (λ _. read k) (if-bounded places (ltb entries 1) 9 0 (omega arith)) (λ v f. tt)))
 
 pub compose-tells : (d : List ℕ) (room : ℕ) → Tells (fitting room (composedList d))
 compose-tells d room = lent room (composedList d) (listed (fieldsReply Composed d) fieldsOf (fields-bounded Composed d))
