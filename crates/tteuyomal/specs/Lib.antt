@@ -15,3 +15,4 @@ pub mod Texts
 pub mod Version
 pub mod Bounded
 pub mod Recovered
+pub mod Told

@@ -16,7 +16,6 @@ use Rattle.block.specs.Block.{mostBytes, bondsOf, graphOf, blockReply}
 use Rattle.block.specs.Index.{indicesOf, indicesReply, vertexOf, vertexReply}
 use Rattle.szeged.specs.Reply.{szegedReply}
 use Rattle.balaban.specs.Balaban.{balabanReply}
-use Rattle.sets.specs.Reply.{setsOf, treeReply, setsReply}
 use Rattle.molwriter.specs.Written as molwriter
 use Rattle.shares.specs.Reply.{most, sharesReply}
 use Rattle.poly.specs.Poly.{unusable, valuesReply, polynomialReply}
@@ -32,7 +31,6 @@ use Rattle.molecule.specs.Molecule.{judgeReply, saidVerdict, writeReply}
 use Rattle.tteuyomal.specs.Convention.{places, code, coded, verdictCode, fitting}
 use Rattle.tteuyomal.specs.Beside.{besideReply}
 use Rattle.tteuyomal.specs.Balaban.{balabanList}
-use Rattle.tteuyomal.specs.CountSets.{setsNumbers, setsList}
 use Rattle.tteuyomal.specs.Molfiles.{writtenReply}
 use Rattle.tteuyomal.specs.Replies.{indicesList, composedList, placedList, sumsOf, vertexList, valuesList, polynomialList, contributionsReply}
 use Rattle.tteuyomal.specs.CountSets.{setsNumbers, setsList}
@@ -148,13 +146,6 @@ balaban-bounded : (n : ℕ) (xs : List ℕ) → Bounded places (balabanReply n x
 unfolding balabanReply
 balaban-bounded n xs = then-bounded places (blockReply n xs) _ (block-here n xs) (λ u e. tt)
 
-sets-bounded : (n : ℕ) (xs : List ℕ) → Bounded places (setsReply n xs)
-unfolding setsReply treeReply
-sets-bounded n xs =
-    let t = not (eqb (suc (length (bondsOf xs))) n) in
-    then-bounded places (blockReply n xs) _ (block-here n xs) (λ u e.
-    then-bounded places (refuseIf t 34 0) (λ _. read (setsOf (graphOf n xs))) (if-bounded places t 34 0 (omega arith)) (λ v f. tt))
-
 text-bounded : (n : ℕ) (xs : List ℕ) (room : ℕ) → Bounded places (molwriter.writeReply n xs room)
 unfolding molwriter.writeReply
 text-bounded n xs room =
@@ -240,9 +231,6 @@ szeged-tells n xs room entries = tells (besideReply n xs entries (szegedReply n 
 
 pub balaban-tells : (n : ℕ) (xs : List ℕ) (room : ℕ) → Tells (fitting room (balabanList n xs))
 balaban-tells n xs room = lent room (balabanList n xs) (listed (balabanReply n xs) (λ j. j ∷ []) (balaban-bounded n xs))
-
-pub sets-tells : (n : ℕ) (xs : List ℕ) (room : ℕ) → Tells (fitting room (setsList n xs))
-sets-tells n xs room = lent room (setsList n xs) (listed (setsReply n xs) setsNumbers (sets-bounded n xs))
 
 pub molfile-written-tells : (n : ℕ) (xs : List ℕ) (room entries : ℕ) → Tells (writtenReply n xs room entries)
 molfile-written-tells n xs room entries =
