@@ -18,7 +18,7 @@ use Rattle.tteuyomal.specs.Convention.{code, coded, over, after}
 use Rattle.tteuyomal.specs.Replies.{thenNine, unlentReply}
 use Rattle.tteuyomal.specs.Texts.{textReply, unlentText, TextRead, toldReply, TextWritten}
 use Rattle.tteuyomal.proofs.Laws.{both-put}
-use Rattle.tteuyomal.proofs.Shared.{first-put}
+use Rattle.tteuyomal.proofs.Beside.{first-put}
 
 -- READING. What comes before 9, whatever the room is.
 nine-last : (A B C D : Read (Unit {0})) (g : Graph) (s t : Bool)
