@@ -71,13 +71,15 @@ module _ (m : ℕ) (some : m ≢ 0) (fits : m < 2 ^ mostAtoms) where
 pub over-none : (f : ℕ → ℕ) → overSet 0 f ≡ 0
 over-none f = sum-cong mostAtoms (λ w h. rw (has-none w) refl) ∙ sum-none mostAtoms
 
--- below are the atoms of the level before d, rest those of level d that wait; the row has F for all others up to d
-pub record Sweeping (n : ℕ) (key F : ℕ → ℕ) (top cap d below rest : ℕ) (row : List ℕ) : Type 0 where
+-- below are the atoms of the level before d, rest those of level d that wait; the row has F for all others up to d, and for those that wait and all later what they have of their own
+pub record Sweeping (n : ℕ) (key own F : ℕ → ℕ) (top cap d below rest : ℕ) (row : List ℕ) : Type 0 where
   pub waits : rest < 2 ^ n
   pub lower : (w : ℕ) → Within n w → key w < d → at row w ≡ min cap (F w)
   pub under : d ≤ top → (w : ℕ) → Within n w → has below w ≡ eqb (suc (key w)) d
   pub here : d ≤ top → (w : ℕ) → Within n w → has rest w ≡ true → key w ≡ d
   pub passed : d ≤ top → (w : ℕ) → Within n w → key w ≡ d → has rest w ≡ false → at row w ≡ min cap (F w)
+  pub waiting : d ≤ top → (w : ℕ) → Within n w → has rest w ≡ true → at row w ≡ own w
+  pub later : (w : ℕ) → Within n w → d < key w → at row w ≡ own w
 
 -- who is in a level
 module _ {n : ℕ} {key : ℕ → ℕ} {sets : List ℕ} {top : ℕ} (L : Levels n key sets top) where
@@ -118,21 +120,23 @@ module _ {n : ℕ} (small : n ≤ mostAtoms) (rest : ℕ) (waits : rest < 2 ^ n)
 
 module _ {n : ℕ} {B : ℕ → ℕ → Bool} {near : List ℕ} {key own F : ℕ → ℕ} {sets : List ℕ} {top cap : ℕ}
     (N : Near n B near) (L : Levels n key sets top) (R : Rule n B key own F) where
-  pub sweeping-start : (row : List ℕ) → Sweeping n key F top cap 0 0 (at sets 0) row
-  sweeping-start row = record {
+  pub sweeping-start : (row : List ℕ) → ((w : ℕ) → at row w ≡ own w) → Sweeping n key own F top cap 0 0 (at sets 0) row
+  sweeping-start row o = record {
     waits = L .fits 0;
     lower = λ w h l. absurd (omega arith);
     under = λ l w h. has-none w ∙ sym (ne-eqb (suc (key w)) 0 (omega arith));
     here = at-here L 0;
     passed = λ l w h k e. absurd (at-passed L 0 l w h k e);
+    waiting = λ l w h e. o w;
+    later = λ w h l. o w;
   }
 
-  module _ (d below rest : ℕ) (row : List ℕ) (S : Sweeping n key F top cap d below rest row) where
+  module _ (d below rest : ℕ) (row : List ℕ) (S : Sweeping n key own F top cap d below rest row) where
     pub sweeping-done : top < d → Holds n cap F row
     sweeping-done l = record { holds = λ w h. S .lower w h (omega (arith, L .high w h)) }
 
     -- no atom of the level waits
-    pub sweeping-level : d ≤ top → rest ≡ 0 → Sweeping n key F top cap (d + 1) (at sets d) (at sets (d + 1)) row
+    pub sweeping-level : d ≤ top → rest ≡ 0 → Sweeping n key own F top cap (d + 1) (at sets d) (at sets (d + 1)) row
     sweeping-level l z = record {
       waits = L .fits (d + 1);
       lower = λ w h k. elim (decLt (key w) d) [
@@ -142,6 +146,8 @@ module _ {n : ℕ} {B : ℕ → ℕ → Bool} {near : List ℕ} {key own F : ℕ
       under = λ m w h. at-level L d l w h ∙ up (key w);
       here = at-here L (d + 1);
       passed = λ m w h k e. absurd (at-passed L (d + 1) m w h k e);
+      waiting = λ m w h e. S .later w h (omega (arith, at-here L (d + 1) m w h e));
+      later = λ w h k. S .later w h (omega arith);
     }
       where
         up : (k : ℕ) → eqb k d ≡ eqb (suc k) (d + 1)
@@ -189,14 +195,15 @@ module _ {n : ℕ} {B : ℕ → ℕ → Bool} {near : List ℕ} {key own F : ℕ
           ∙ sum-split n (mostAtoms - n) (λ w. cond (has from w) (at row w) 0)
           ∙ omega (arith, sum-cong (mostAtoms - n) {f = λ j. cond (has from (n + j)) (at row (n + j)) 0} {h = λ j. 0} (λ j h. rw (beyond n from (n + j) from-fits (omega arith)) refl), sum-none (mostAtoms - n))
 
-      module _ (s x : ℕ) (pulls : s ≡ min cap (overSet from (at row))) (adds : x ≡ min cap (s + own (first rest + 1))) where
+      module _ (s x : ℕ) (pulls : s ≡ min cap (overSet from (at row))) (adds : x ≡ min cap (s + at row (first rest + 1))) where
         right : x ≡ min cap (F v)
         right =
             omega (
               arith,
               pulls,
               adds,
-              ap own (add-one (first rest)),
+              ap (at row) (add-one (first rest)),
+              S .waiting l v mine (its-first (L .small) rest (S .waits) some),
               all-of,
               R .rule v mine,
               sum-cong n {f = λ w. cond (has from w) (at row w) 0} {h = λ w. min cap (term w)} gives,
@@ -206,7 +213,7 @@ module _ {n : ℕ} {B : ℕ → ℕ → Bool} {near : List ℕ} {key own F : ℕ
             term : ℕ → ℕ
             term w = cond (B v w && eqb (suc (key w)) (key v)) (F w) 0
 
-        stored : v < length row → Sweeping n key F top cap d below (less rest) (set row v x)
+        stored : v < length row → Sweeping n key own F top cap d below (less rest) (set row v x)
         stored long = record {
           waits = omega (arith, S .waits, less-sum rest some rest-fits);
           lower = λ w h k. getD-set-other row v w x 0 (λ e. omega (arith, ap key e, its-key)) ∙ S .lower w h k;
@@ -216,6 +223,8 @@ module _ {n : ℕ} {B : ℕ → ℕ → Bool} {near : List ℕ} {key own F : ℕ
             | yes q ↦ subst⁻¹ (λ (y : ℕ). at (set row v x) y ≡ min cap (F y)) q (getD-set-same row v x 0 long ∙ right)
             | no ne ↦ getD-set-other row v w x 0 ne ∙ S .passed m w h k (still w h ne e)
           ];
+          waiting = λ m w h e. getD-set-other row v w x 0 (other w h e) ∙ S .waiting m w h (both w h e);
+          later = λ w h k. getD-set-other row v w x 0 (λ e. omega (arith, ap key e, its-key)) ∙ S .later w h k;
         }
           where
             both : (w : ℕ) → Within n w → has (less rest) w ≡ true → has rest w ≡ true
@@ -225,6 +234,14 @@ module _ {n : ℕ} {B : ℕ → ℕ → Bool} {near : List ℕ} {key own F : ℕ
                 go true q = refl
                 go false q = absurd (false≢true q)
 
+            -- who still waits is another
+            other : (w : ℕ) → Within n w → has (less rest) w ≡ true → w ≡ v → ⊥
+            other w h e q = go (has rest w) (rw (eq-eqb w v q) at (sym (has-less rest some rest-fits w (h .low)) ∙ e))
+              where
+                go : (t : Bool) → (t && not true) ≡ true → ⊥
+                go true r = false≢true r
+                go false r = false≢true r
+
             still : (w : ℕ) → Within n w → (w ≡ v → ⊥) → has (less rest) w ≡ false → has rest w ≡ false
             still w h ne e = go (has rest w) (rw (ne-eqb w v ne) at (sym (has-less rest some rest-fits w (h .low)) ∙ e))
               where
@@ -232,5 +249,5 @@ module _ {n : ℕ} {B : ℕ → ℕ → Bool} {near : List ℕ} {key own F : ℕ
                 go true q = absurd (true≢false q)
                 go false q = refl
 
-        pub sweeping-take : first rest + 1 < length row → Sweeping n key F top cap d below (less rest) (set row (first rest + 1) x)
+        pub sweeping-take : first rest + 1 < length row → Sweeping n key own F top cap d below (less rest) (set row (first rest + 1) x)
         sweeping-take far = rw (add-one (first rest)) (stored (let k : v < length row = omega arith in k))

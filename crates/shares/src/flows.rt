@@ -27,7 +27,7 @@ ghost use Rattle.shares.specs.Work.{cap, full, at, carried, Start, Given
 // What each atom after start weighs: its part of d.
 fn weights(n: usize, c: &[u64; SEATS], start: usize, d: u64) -> [u64; SEATS]
     requires { ⌜ (n ≤ mostAtoms) × (start ≤ n) × ((v : ℕ) → Within n v → 0 < at (now c) v) ⌝ }
-    ensures { λ r. ⌜ ((v : ℕ) → Within n v → at r v ≡ cond (ltb start v) (d / at (now (c .entry)) v) 0) ⌝ }
+    ensures { λ r. ⌜ ((v : ℕ) → Within n v → at r v ≡ cond (ltb start v) (d / at (now (c .entry)) v) 0) × ((w : ℕ) → at r w ≤ d) ⌝ }
 {
     let mut row = [0u64; SEATS];
     let mut v = start;
@@ -116,8 +116,8 @@ fn add_start(
         return d;
     }
     raise(bonds.len() / 2, d / before, out);
-    let q = weights(n, &c, start, d);
-    let t = sweeps::onward(near, sets, top, &q);
+    let mut t = weights(n, &c, start, d);
+    sweeps::onward(near, sets, top, &mut t);
     add_flows(bonds, row, &c, &t, out);
     d
 }

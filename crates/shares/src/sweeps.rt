@@ -27,8 +27,8 @@ use block::Neighbours;
 ghost use mathlib.Core.Path.{_≡_};
 ghost use mathlib.Core.Bool.{Bool};
 ghost use mathlib.Core.List.{List};
-ghost use Prim.Native.Nat.{ℕ, _+_, _^_, min, _<_, _≤_};
-ghost use lib.ListN.{getD};
+ghost use Prim.Native.Nat.{ℕ, suc, _+_, _^_, min, _<_, _≤_};
+ghost use lib.ListN.{length, getD};
 ghost use Rattle.graph.specs.Graph.{Bond, Within};
 ghost use Rattle.paths.specs.Paths.{pathCount};
 ghost use Rattle.paths.specs.Notions.{gathered};
@@ -90,8 +90,8 @@ fn reversed(sets: &[u64; SEATS], top: usize) -> [u64; SEATS]
 }
 
 // What a row has for the atoms of a set, up to the cap.
-fn pull(set: u64, row: &[u64; SEATS], cap: u64) -> u64
-    requires { ⌜ (set < 2 ^ mostAtoms) × ((w : ℕ) → at (now row) w ≤ full) ⌝ }
+fn pull(set: u64, row: &[u64], cap: u64) -> u64
+    requires { ⌜ (set < 2 ^ mostAtoms) × (length (now row) ≡ suc mostAtoms) × ((w : ℕ) → at (now row) w ≤ full) ⌝ }
     ensures { λ r. ⌜ r ≡ min cap (overSet set (at (now (row .entry)))) ⌝ }
 {
     let mut rest = set;
@@ -104,22 +104,18 @@ fn pull(set: u64, row: &[u64; SEATS], cap: u64) -> u64
     if sum < cap { sum } else { cap }
 }
 
-// The row whose rule gives each atom its own and what its neighbours in the level before have, up to the cap. Of level d the atoms of rest wait;
-// below is the level before.
-fn sweep(
-    near: &Neighbours,
-    sets: &[u64; SEATS],
-    top: usize,
-    own: &[u64; SEATS],
-    cap: u64,
-) -> [u64; SEATS]
-    requires { ⌜ ((n : ℕ) × (B : ℕ → ℕ → Bool) × (key : ℕ → ℕ) × Near n B (now near) × Levels n key (now sets) top × (cap ≤ full)) ⌝ }
-    ensures { λ r. ⌜
+// A row has what each atom has of its own; the sweep puts the rule's row in its place: for each atom its own and what its neighbours in the level
+// before have, up to the cap. Of level d the atoms of rest wait; below is the level before.
+fn sweep(near: &Neighbours, sets: &[u64; SEATS], top: usize, row: &mut [u64], cap: u64)
+    requires { ⌜
+        ((n : ℕ) × (B : ℕ → ℕ → Bool) × (key : ℕ → ℕ) × Near n B (now near) × Levels n key (now sets) top × (cap ≤ full))
+        × (length (now row) ≡ suc mostAtoms) × ((w : ℕ) → at (now row) w ≤ cap)
+        ⌝ }
+    ensures { λ _. ⌜
         ((n : ℕ) (B : ℕ → ℕ → Bool) (key F : ℕ → ℕ) → Near n B (now (near .entry)) → Levels n key (now (sets .entry)) top
-        → Rule n B key (at (now (own .entry))) F → Holds n cap F r)
+        → Rule n B key (at (now (row .entry))) F → Holds n cap F (now (row .exit)))
         ⌝ }
 {
-    let mut row = [0u64; SEATS];
     let mut below: u64 = 0;
     let mut rest = sets[0];
     let mut d = 0;
@@ -127,15 +123,14 @@ fn sweep(
         if rest != 0 {
             let a = u64::trailing_zeros(rest) as usize;
             rest = rest & (rest - 1);
-            let s = pull(near[a] & below, &row, cap);
-            row[a + 1] = add(s, own[a + 1], cap);
+            let s = pull(near[a] & below, row, cap);
+            row[a + 1] = add(s, row[a + 1], cap);
         } else {
             below = sets[d];
             d += 1;
             rest = sets[d];
         }
     }
-    row
 }
 
 // The counts of shortest paths from the atom start, up to the cap.
@@ -151,22 +146,21 @@ pub(crate) fn counts(
         → Holds n cap (pathCount (graph n bs) start) r)
         ⌝ }
 {
-    let mut own = [0u64; SEATS];
-    own[start] = 1;
-    sweep(near, sets, top, &own, CAP)
+    let mut row = [0u64; SEATS];
+    row[start] = 1;
+    sweep(near, sets, top, &mut row, CAP);
+    row
 }
 
-// What lies onward from each atom, away from the start: its weight and theirs, up to what fits.
-pub(crate) fn onward(
-    near: &Neighbours,
-    sets: &[u64; SEATS],
-    top: usize,
-    weight: &[u64; SEATS],
-) -> [u64; SEATS]
-    requires { ⌜ ((n : ℕ) × (bs : List Bond) × (row : List ℕ) × (i : ℕ) × Start n bs (now near) row (now sets) top i) ⌝ }
-    ensures { λ r. ⌜
+// What lies onward from each atom, away from the start, in place of its weight: its weight and theirs, up to what fits.
+pub(crate) fn onward(near: &Neighbours, sets: &[u64; SEATS], top: usize, weight: &mut [u64])
+    requires { ⌜
+        ((n : ℕ) × (bs : List Bond) × (row : List ℕ) × (i : ℕ) × Start n bs (now near) row (now sets) top i)
+        × (length (now weight) ≡ suc mostAtoms) × ((w : ℕ) → at (now weight) w ≤ full)
+        ⌝ }
+    ensures { λ _. ⌜
         ((n : ℕ) (bs : List Bond) (row : List ℕ) (i : ℕ) (q : ℕ → ℕ) → Start n bs (now (near .entry)) row (now (sets .entry)) top i
-        → ((v : ℕ) → Within n v → at (now (weight .entry)) v ≡ q v) → Holds n full (gathered (graph n bs) i q) r)
+        → ((v : ℕ) → Within n v → at (now (weight .entry)) v ≡ q v) → Holds n full (gathered (graph n bs) i q) (now (weight .exit)))
         ⌝ }
 {
     let back = reversed(sets, top);

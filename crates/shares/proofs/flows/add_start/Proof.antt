@@ -1,11 +1,13 @@
 -- `add_start` meets its contract: D takes the counts in, the entries grow with it, and the rows of the start are ready.
-use Prim.Native.Nat.{_+_, min, _≤_}
+use Prim.Native.Nat.{ℕ, _+_, min, _≤_}
+use mathlib.Core.List.{List}
 use mathlib.Core.Path.{_≡_, _∙_}
 use native.Mathlib.Omega.{arith}
+use Rattle.graph.specs.Graph.{Within}
 use Rattle.paths.specs.Paths.{pathCount}
-use Rattle.paths.specs.Notions.{lcmStarts}
+use Rattle.paths.specs.Notions.{weight, gathered, lcmStarts}
 use Rattle.block.specs.Block.{graphOf}
-use Rattle.shares.specs.Work.{cap, Tally, Whole, Ready}
+use Rattle.shares.specs.Work.{cap, full, at, Holds, Tally, Whole, Ready}
 use Rattle.shares.proofs.Tallying.{tally-of, start-next}
 use Rattle.shares.proofs.Starting.{counts-pos, weighs, ready, whole-pos, whole-at, sofar-room, raise-fits, raised, added}
 use borrow.Author.Needs.{needs}
@@ -52,32 +54,49 @@ weights-requires c κs =
     let p = c .before .before .before .before .before .before .before .before .before .before .before .pre in
     (p .0 .small, p .0 .start .high, counts-pos (next (c .before .before .before .before .before)) (p .0 .start) (c .before .before .before .before .before .before .before .before .counts .ensures _ _ _ (p .0)))
 
-onward-requires : tie.Need-onward-requires
-onward-requires c κs = (_, _, _, _, c .before .before .before .before .before .before .before .before .before .before .before .before .before .pre .0)
+slice-aggregate-onward : tie.Need-slice-aggregate-onward
+slice-aggregate-onward c = search needs
 
--- the rows of this start
-rows : (c : tie.After-onward) → let a = c .before .before .before .before .before .before .before .before .before .before .before .before .before .before .args in
-    Ready (a .n) (a .bonds .now) (a .row .now) (c .before .before .before .before .before .before .before .before .before .before .before .counts .result) (c .onward .result) (a .i + 1) (c .before .before .before .before .before .before .before .before .before .common-start .result)
-rows c =
+onward-requires : tie.Need-onward-requires
+onward-requires c κs = ((_, _, _, _, c .before .before .before .before .before .before .before .before .before .before .before .before .before .pre .0), search needs, λ w. omega (arith, c .before .weights .ensures .1 w, c .before .before .before .before .before .before .before .if1 .left))
+
+-- the weights of this start, and its rows
+weighed : (c : tie.After-onward) → let a = c .before .before .before .before .before .before .before .before .before .before .before .before .before .before .args in (v : ℕ) → Within (a .n) v
+    → at (c .before .before .weights .result) v ≡ weight (graphOf (a .n) (a .bonds .now)) (c .before .before .before .before .before .before .before .before .before .common-start .result) (a .i + 1) v
+weighed c =
     let p = c .before .before .before .before .before .before .before .before .before .before .before .before .before .before .pre in
-    let X = next (c .before .before .before .before .before .before .before .before) in
-    let h = c .before .before .before .before .before .before .before .before .before .before .before .counts .ensures _ _ _ (p .0) in
-    ready X (p .0 .start) h (p .0) (c .onward .ensures _ _ _ _ _ (p .0) (weighs X (p .0 .start) h (c .before .before .weights .ensures)))
+    weighs (next (c .before .before .before .before .before .before .before .before)) (p .0 .start) (c .before .before .before .before .before .before .before .before .before .before .before .counts .ensures _ _ _ (p .0)) (c .before .before .weights .ensures .0)
+
+rows : (c : tie.After-onward) {t : List ℕ} → let a = c .before .before .before .before .before .before .before .before .before .before .before .before .before .before .args in
+    Holds (a .n) full (gathered (graphOf (a .n) (a .bonds .now)) (a .i + 1) (weight (graphOf (a .n) (a .bonds .now)) (c .before .before .before .before .before .before .before .before .before .common-start .result) (a .i + 1))) t
+    → Ready (a .n) (a .bonds .now) (a .row .now) (c .before .before .before .before .before .before .before .before .before .before .before .counts .result) t (a .i + 1) (c .before .before .before .before .before .before .before .before .before .common-start .result)
+rows c h =
+    let p = c .before .before .before .before .before .before .before .before .before .before .before .before .before .before .pre in
+    ready (next (c .before .before .before .before .before .before .before .before)) (p .0 .start) (c .before .before .before .before .before .before .before .before .before .before .before .counts .ensures _ _ _ (p .0)) (p .0) h
 
 add-flows-requires : tie.Need-add-flows-requires
 add-flows-requires c κs =
-    let p = c .before .before .before .before .before .before .before .before .before .before .before .before .before .before .before .before .before .pre in
-    let e = c .before .before .before .before .before .before .before .before .before .before .before in
-    ((_, _, _, rows (c .before .before .before)), sofar-room (next e) (c .before .before .before .before .before .before .before .before .before .before .before .before .before .before .before .before .before .args .i) (few e) (raised (p .1) (next e) (few e) (p .2) (c .before .before .before .before .before .before .before .before .before .raise .ensures)))
+    let p = c .before .before .before .before .before .before .before .before .before .before .before .before .before .before .before .before .before .before .pre in
+    let e = c .before .before .before .before .before .before .before .before .before .before .before .before in
+    let o = c .before .before .before .before in (
+      (_, _, _, rows o (o .onward .ensures _ _ _ _ _ (p .0) (weighed o))),
+      sofar-room (next e) (c .before .before .before .before .before .before .before .before .before .before .before .before .before .before .before .before .before .before .args .i) (few e) (raised (p .1) (next e) (few e) (p .2) (c .before .before .before .before .before .before .before .before .before .before .raise .ensures)),
+    )
 
 same-length : tie.Need-same-length
-same-length c = c .before .before .add-flows .ensures _ _ _ (rows (c .before .before .before .before .before .before)) .same ∙ c .before .before .before .before .before .before .before .before .before .before .before .before .raise .ensures .same
+same-length c =
+    let p = c .before .before .before .before .before .before .before .before .before .before .before .before .before .before .before .before .before .before .before .before .before .pre in
+    let o = c .before .before .before .before .before .before .before in
+    c .before .before .add-flows .ensures _ _ _ (rows o (o .onward .ensures _ _ _ _ _ (p .0) (weighed o))) .same ∙ c .before .before .before .before .before .before .before .before .before .before .before .before .before .raise .ensures .same
 
 returns-2 : tie.Need-returns-2
 returns-2 c =
-    let p = c .before .before .before .before .before .before .before .before .before .before .before .before .before .before .before .before .before .before .before .before .pre in
-    let e = c .before .before .before .before .before .before .before .before .before .before .before .before .before .before in
-    (found (c .before .before .before .before .before .before .before .before .before .before .before .before .before .before .before), λ l. added (raised (p .1) (next e) (few e) (p .2) (c .before .before .before .before .before .before .before .before .before .before .before .before .raise .ensures)) (c .before .before .add-flows .ensures _ _ _ (rows (c .before .before .before .before .before .before))))
+    let p = c .before .before .before .before .before .before .before .before .before .before .before .before .before .before .before .before .before .before .before .before .before .pre in
+    let e = c .before .before .before .before .before .before .before .before .before .before .before .before .before .before .before in
+    let o = c .before .before .before .before .before .before .before in (
+      found (c .before .before .before .before .before .before .before .before .before .before .before .before .before .before .before .before),
+      λ l. added (raised (p .1) (next e) (few e) (p .2) (c .before .before .before .before .before .before .before .before .before .before .before .before .before .raise .ensures)) (c .before .before .add-flows .ensures _ _ _ (rows o (o .onward .ensures _ _ _ _ _ (p .0) (weighed o)))),
+    )
 
 pub add-start-spec : {M : Type 1} → statement M
 add-start-spec =
@@ -90,6 +109,7 @@ add-start-spec =
     div-raise
     raise-requires
     weights-requires
+    slice-aggregate-onward
     onward-requires
     add-flows-requires
     same-length

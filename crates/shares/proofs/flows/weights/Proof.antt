@@ -2,6 +2,7 @@
 use Prim.Native.Nat.{ℕ, suc, _+_, _-_, _/_, _≤_}
 use mathlib.Core.Bool.{Bool, cond}
 use mathlib.Core.Path.{_≡_, refl, sym, _∙_, ap}
+use native.Mathlib.Nat.{div-le-self}
 use native.Mathlib.Omega.{arith}
 use borrow.Author.Needs.{needs}
 use borrow.Author.Tests.{lt-ltb, le-ltb}
@@ -11,12 +12,12 @@ use Rattle.graph.specs.Graph.{Within}
 use Rattle.block.specs.Block.{mostAtoms}
 use Rattle.shares.specs.Work.{at}
 use Rattle.block.specs.Lent.{zeros}
-use Rattle.shares.proofs.Rows.{seated-next}
+use Rattle.shares.proofs.Rows.{store-low, seated-next}
 use Rattle.shares.proofs.flows.weights.Statement.{statement}
 use Rattle.shares.proofs.flows.weights.Tie as tie
 
 abbrev Inv-loop : tie.InvT-loop
-Inv-loop n c start d row₀ v₀ row v = (start ≤ v) × (v ≤ n) × (length row ≡ suc mostAtoms) × ((u : ℕ) → Within v u → at row u ≡ cond (ltb start u) (d / at c u) 0)
+Inv-loop n c start d row₀ v₀ row v = (start ≤ v) × (v ≤ n) × (length row ≡ suc mostAtoms) × ((u : ℕ) → Within v u → at row u ≡ cond (ltb start u) (d / at c u) 0) × ((w : ℕ) → at row w ≤ d)
 
 abbrev μ-loop : tie.MeasureT-loop
 μ-loop n c start d row₀ v₀ row v = n - v
@@ -27,6 +28,7 @@ loop-holds c = (
   omega arith,
   refl,
   λ u w. zeros (suc mostAtoms) u ∙ sym (ap (λ (t : Bool). cond t (c .args .d / at (c .args .c .now) u) 0) (le-ltb (c .args .start) u (w .high))),
+  λ w. omega (arith, zeros (suc mostAtoms) w),
 )
 
 add-v : tie.Need-add-v Inv-loop μ-loop
@@ -59,10 +61,11 @@ loop-again c =
       search needs,
       seated-next (l .row) (l .v) (a .d / at (a .c .now) (l .v + 1)) (λ u. cond (ltb (a .start) u) (a .d / at (a .c .now) u) 0) (omega arith) (l .inv .3)
           (sym (ap (λ (t : Bool). cond t (a .d / at (a .c .now) (l .v + 1)) 0) (lt-ltb (a .start) (l .v + 1) (omega arith)))),
+      store-low (l .row) (l .v + 1) (a .d / at (a .c .now) (l .v + 1)) (omega arith) (l .inv .4) (div-le-self (a .d) (at (a .c .now) (l .v + 1))),
     )
 
 returns : tie.Need-returns Inv-loop μ-loop
-returns c u w = c .before .loop .inv .3 u (record { low = w .low; high = omega arith })
+returns c = (λ u w. c .before .loop .inv .3 u (record { low = w .low; high = omega arith }), c .before .loop .inv .4)
 
 pub weights-spec : {M : Type 1} → statement M
 weights-spec =

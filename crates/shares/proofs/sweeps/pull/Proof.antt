@@ -50,8 +50,8 @@ add-sum c = omega (arith, small c)
 mul-sum : tie.Need-mul-sum Inv-loop μ-loop
 mul-sum c = omega (arith, small c)
 
-element-copy-out-sum : tie.Need-element-copy-out-sum Inv-loop μ-loop
-element-copy-out-sum c = omega (arith, small c)
+shared-slice-read-sum : tie.Need-shared-slice-read-sum Inv-loop μ-loop
+shared-slice-read-sum c = omega (arith, small (c .before), c .before .before .before .pre .1)
 
 -- the atom that is taken, and what is left
 step : (c : tie.In-loop Inv-loop μ-loop) → let l = c .before .loop in let a = c .before .before .args in
@@ -65,7 +65,7 @@ fewer : (c : tie.In-loop Inv-loop μ-loop) → less (c .before .loop .rest) + 2 
 fewer c = less-sum _ (c .loop-test .taken) (c .before .loop .inv .0)
 
 add-sum-2 : tie.Need-add-sum-2 Inv-loop μ-loop
-add-sum-2 c = let d = c .before in let a = d .before .before .args in omega (arith, step d, low (a .set) (a .row .now) (d .before .before .pre .1))
+add-sum-2 c = let d = c .before in let a = d .before .before .args in omega (arith, step d, low (a .set) (a .row .now) (d .before .before .pre .2))
 
 loop-less : tie.Need-loop-less Inv-loop μ-loop
 loop-less c = let d = c .before in rw (out d) (omega (arith, fewer d, pow-pos (first (d .before .loop .rest))))
@@ -90,7 +90,7 @@ pull-spec =
     sub-rest
     add-sum
     mul-sum
-    element-copy-out-sum
+    shared-slice-read-sum
     add-sum-2
     loop-less
     loop-again

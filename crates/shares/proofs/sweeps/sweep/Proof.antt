@@ -8,7 +8,6 @@ use lib.ListN.{length, length-set}
 use lib.Pow.{pow-pos}
 use Rattle.graph.specs.Sets.{lowest-dropped}
 use Rattle.block.specs.Block.{mostAtoms}
-use Rattle.block.specs.Lent.{zeros}
 use Rattle.shares.specs.Work.{at, Near, Levels, Rule}
 use Rattle.shares.proofs.Rows.{store-low}
 use Rattle.shares.proofs.Sweeping.{first, less, first-low, less-sum, wide-set, taken, asked-fits, Sweeping, sweeping-start, sweeping-level, sweeping-take, sweeping-done}
@@ -16,24 +15,24 @@ use Rattle.shares.proofs.sweeps.sweep.Statement.{statement}
 use Rattle.shares.proofs.sweeps.sweep.Tie as tie
 
 abbrev Inv-loop : tie.InvT-loop
-Inv-loop near sets top own cap row₀ below₀ rest₀ d₀ row below rest d =
+Inv-loop near sets top row₀ cap below₀ rest₀ d₀ row below rest d =
     (d ≤ top + 1) × (length row ≡ suc mostAtoms) × ((w : ℕ) → at row w ≤ cap)
     × ((n : ℕ) (key : ℕ → ℕ) → Levels n key sets top → rest < 2 ^ n)
-    × ((n : ℕ) (B : ℕ → ℕ → Bool) (key F : ℕ → ℕ) → Near n B near → Levels n key sets top → Rule n B key (at own) F → Sweeping n key F top cap d below rest row)
+    × ((n : ℕ) (B : ℕ → ℕ → Bool) (key F : ℕ → ℕ) → Near n B near → Levels n key sets top → Rule n B key (at row₀) F → Sweeping n key (at row₀) F top cap d below rest row)
 
 abbrev μ-loop : tie.MeasureT-loop
-μ-loop near sets top own cap row₀ below₀ rest₀ d₀ row below rest d = (top + 1 - d) * 2 ^ mostAtoms + rest
+μ-loop near sets top row₀ cap below₀ rest₀ d₀ row below rest d = (top + 1 - d) * 2 ^ mostAtoms + rest
 
 element-copy-out-rest : tie.Need-element-copy-out-rest Inv-loop μ-loop
 element-copy-out-rest c = omega arith
 
 loop-holds : tie.Need-loop-holds Inv-loop μ-loop
-loop-holds c = (omega arith, refl, λ w. omega (arith, zeros (suc mostAtoms) w), λ n key L. L .fits 0, λ n B key F N L R. sweeping-start N L R _)
+loop-holds c = let p = c .before .before .pre in (omega arith, p .1, p .2, λ n key L. L .fits 0, λ n B key F N L R. sweeping-start N L R _ (λ w. refl))
 
 -- the atom at hand
 small : (c : tie.Then1 Inv-loop μ-loop) → first (c .before .before .loop .rest) < mostAtoms
 small c =
-    let p = c .before .before .before .before .pre in
+    let p = c .before .before .before .before .before .pre .0 in
     first-low _ (c .if1 .taken) (wide-set (p .4 .small) (c .before .before .loop .inv .3 _ _ (p .4)))
 
 cast-a : tie.Need-cast-a Inv-loop μ-loop
@@ -51,20 +50,20 @@ element-copy-out-pull c = omega (arith, small c)
 -- what is left of those that wait
 out : (c : tie.Then1 Inv-loop μ-loop) → let r = c .before .before .loop .rest in bitAnd r (r - 1) ≡ less r
 out c =
-    let p = c .before .before .before .before .pre in
+    let p = c .before .before .before .before .before .pre .0 in
     lowest-dropped mostAtoms _ (omega (arith, c .if1 .taken)) (wide-set (p .4 .small) (c .before .before .loop .inv .3 _ _ (p .4)))
 
 fewer : (c : tie.Then1 Inv-loop μ-loop) → let r = c .before .before .loop .rest in less r + 2 ^ first r ≡ r
 fewer c =
-    let p = c .before .before .before .before .pre in
+    let p = c .before .before .before .before .before .pre .0 in
     less-sum _ (c .if1 .taken) (wide-set (p .4 .small) (c .before .before .loop .inv .3 _ _ (p .4)))
 
 pull-requires : tie.Need-pull-requires Inv-loop μ-loop
 pull-requires c κs =
     let t = c .before .before in
     let l = t .before .before .loop in
-    let p = t .before .before .before .before .pre in
-    (wide-set (p .4 .small) (asked-fits (p .4 .small) (l .rest) (l .inv .3 _ _ (p .4)) (t .if1 .taken) (l .below) (p .3)), λ w. omega (arith, l .inv .2 w, p .5))
+    let p = t .before .before .before .before .before .pre .0 in
+    (wide-set (p .4 .small) (asked-fits (p .4 .small) (l .rest) (l .inv .3 _ _ (p .4)) (t .if1 .taken) (l .below) (p .3)), l .inv .1, λ w. omega (arith, l .inv .2 w, p .5))
 
 add-add : tie.Need-add-add Inv-loop μ-loop
 add-add c = omega (arith, small (c .before .before .before))
@@ -72,8 +71,8 @@ add-add c = omega (arith, small (c .before .before .before))
 mul-add : tie.Need-mul-add Inv-loop μ-loop
 mul-add c = omega (arith, small (c .before .before .before))
 
-element-copy-out-add : tie.Need-element-copy-out-add Inv-loop μ-loop
-element-copy-out-add c = omega (arith, small (c .before .before .before))
+slice-read-add : tie.Need-slice-read-add Inv-loop μ-loop
+slice-read-add c = omega (arith, small (c .before .before .before .before), c .before .before .before .before .before .before .loop .inv .1)
 
 add-requires : tie.Need-add-requires Inv-loop μ-loop
 add-requires c κs = omega (arith, c .before .pull .ensures)
@@ -84,8 +83,8 @@ add-row c = omega (arith, small (c .before .before .before .before .before))
 mul-row : tie.Need-mul-row Inv-loop μ-loop
 mul-row c = omega (arith, small (c .before .before .before .before .before))
 
-array-write-row : tie.Need-array-write-row Inv-loop μ-loop
-array-write-row c = omega (arith, small (c .before .before .before .before .before))
+slice-write-row : tie.Need-slice-write-row Inv-loop μ-loop
+slice-write-row c = omega (arith, small (c .before .before .before .before .before), c .before .before .before .before .before .before .before .loop .inv .1)
 
 loop-less : tie.Need-loop-less Inv-loop μ-loop
 loop-less c =
@@ -109,7 +108,7 @@ loop-again c =
 
 -- the level has a place among the sets
 placed : (c : tie.Else1 Inv-loop μ-loop) → c .before .before .loop .d < mostAtoms
-placed c = omega (arith, c .before .before .before .before .pre .4 .low, c .before .loop-test .taken)
+placed c = omega (arith, c .before .before .before .before .before .pre .0 .4 .low, c .before .loop-test .taken)
 
 mul-below : tie.Need-mul-below Inv-loop μ-loop
 mul-below c = omega (arith, placed c)
@@ -129,7 +128,7 @@ element-copy-out-rest-2 c = omega (arith, placed (c .before))
 loop-less-2 : tie.Need-loop-less-2 Inv-loop μ-loop
 loop-less-2 c =
     let e = c .before .before in
-    let p = e .before .before .before .before .pre in
+    let p = e .before .before .before .before .before .pre .0 in
     omega (arith, e .before .loop-test .taken, wide-set (p .4 .small) (p .4 .fits (e .before .before .loop .d + 1)))
 
 loop-again-2 : tie.Need-loop-again-2 Inv-loop μ-loop
@@ -142,6 +141,9 @@ loop-again-2 c =
       λ n key L. L .fits (l .d + 1),
       λ n B key F N L R. sweeping-level N L R (l .d) (l .below) (l .rest) (l .row) (l .inv .4 n B key F N L R) (e .before .loop-test .taken) (e .if1 .left),
     )
+
+same-length : tie.Need-same-length Inv-loop μ-loop
+same-length c = omega (arith, c .before .loop .inv .1, c .before .before .before .before .pre .1)
 
 returns : tie.Need-returns Inv-loop μ-loop
 returns c n B key F N L R =
@@ -163,11 +165,11 @@ sweep-spec =
     pull-requires
     add-add
     mul-add
-    element-copy-out-add
+    slice-read-add
     add-requires
     add-row
     mul-row
-    array-write-row
+    slice-write-row
     loop-less
     loop-again
     mul-below
@@ -177,4 +179,5 @@ sweep-spec =
     element-copy-out-rest-2
     loop-less-2
     loop-again-2
+    same-length
     returns)
