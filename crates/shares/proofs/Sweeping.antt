@@ -195,7 +195,7 @@ module _ {n : ℕ} {B : ℕ → ℕ → Bool} {near : List ℕ} {key own F : ℕ
           ∙ sum-split n (mostAtoms - n) (λ w. cond (has from w) (at row w) 0)
           ∙ omega (arith, sum-cong (mostAtoms - n) {f = λ j. cond (has from (n + j)) (at row (n + j)) 0} {h = λ j. 0} (λ j h. rw (beyond n from (n + j) from-fits (omega arith)) refl), sum-none (mostAtoms - n))
 
-      module _ (s x : ℕ) (pulls : s ≡ min cap (overSet from (at row))) (adds : x ≡ min cap (s + at row (first rest + 1))) where
+      module _ (s x : ℕ) (pulls : s ≡ overSet from (at row)) (adds : x ≡ min cap (s + at row (first rest + 1))) where
         right : x ≡ min cap (F v)
         right =
             omega (

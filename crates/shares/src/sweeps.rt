@@ -27,7 +27,7 @@ use block::Neighbours;
 ghost use mathlib.Core.Path.{_≡_};
 ghost use mathlib.Core.Bool.{Bool};
 ghost use mathlib.Core.List.{List};
-ghost use Prim.Native.Nat.{ℕ, suc, _+_, _^_, min, _<_, _≤_};
+ghost use Prim.Native.Nat.{ℕ, suc, _+_, _*_, _^_, min, _<_, _≤_};
 ghost use lib.ListN.{length, getD};
 ghost use Rattle.graph.specs.Graph.{Bond, Within};
 ghost use Rattle.paths.specs.Paths.{pathCount};
@@ -50,10 +50,11 @@ pub(crate) fn wide(x: u8) -> usize
 
 // The sum, and the cap where it is more.
 fn add(a: u64, b: u64, cap: u64) -> u64
-    requires { ⌜ a ≤ cap ⌝ }
+    requires { ⌜ (a ≤ mostAtoms * full) × (b ≤ full) ⌝ }
     ensures { λ r. ⌜ r ≡ min cap (a + b) ⌝ }
 {
-    if b < cap - a { a + b } else { cap }
+    let sum = a + b;
+    if sum < cap { sum } else { cap }
 }
 
 // The first n atoms of a row by their distances.
@@ -89,10 +90,10 @@ fn reversed(sets: &[u64; SEATS], top: usize) -> [u64; SEATS]
     back
 }
 
-// What a row has for the atoms of a set, up to the cap.
-fn pull(set: u64, row: &[u64], cap: u64) -> u64
+// What a row has for the atoms of a set.
+fn pull(set: u64, row: &[u64]) -> u64
     requires { ⌜ (set < 2 ^ mostAtoms) × (length (now row) ≡ suc mostAtoms) × ((w : ℕ) → at (now row) w ≤ full) ⌝ }
-    ensures { λ r. ⌜ r ≡ min cap (overSet set (at (now (row .entry)))) ⌝ }
+    ensures { λ r. ⌜ (r ≡ overSet set (at (now (row .entry)))) × (r ≤ mostAtoms * full) ⌝ }
 {
     let mut rest = set;
     let mut sum: u64 = 0;
@@ -101,7 +102,7 @@ fn pull(set: u64, row: &[u64], cap: u64) -> u64
         rest = rest & (rest - 1);
         sum += row[a + 1];
     }
-    if sum < cap { sum } else { cap }
+    sum
 }
 
 // A row has what each atom has of its own; the sweep puts the rule's row in its place: for each atom its own and what its neighbours in the level
@@ -123,7 +124,7 @@ fn sweep(near: &Neighbours, sets: &[u64; SEATS], top: usize, row: &mut [u64], ca
         if rest != 0 {
             let a = u64::trailing_zeros(rest) as usize;
             rest = rest & (rest - 1);
-            let s = pull(near[a] & below, row, cap);
+            let s = pull(near[a] & below, row);
             row[a + 1] = add(s, row[a + 1], cap);
         } else {
             below = sets[d];

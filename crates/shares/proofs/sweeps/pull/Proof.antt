@@ -15,10 +15,10 @@ use Rattle.shares.proofs.sweeps.pull.Statement.{statement}
 use Rattle.shares.proofs.sweeps.pull.Tie as tie
 
 abbrev Inv-loop : tie.InvT-loop
-Inv-loop set row cap rest₀ sum₀ rest sum = (rest < 2 ^ mostAtoms) × (sum + overSet rest (at row) ≡ overSet set (at row))
+Inv-loop set row rest₀ sum₀ rest sum = (rest < 2 ^ mostAtoms) × (sum + overSet rest (at row) ≡ overSet set (at row))
 
 abbrev μ-loop : tie.MeasureT-loop
-μ-loop set row cap rest₀ sum₀ rest sum = rest
+μ-loop set row rest₀ sum₀ rest sum = rest
 
 -- all that a row has is not much
 low : (set : ℕ) (row : List ℕ) → ((w : ℕ) → at row w ≤ full) → overSet set (at row) ≤ mostAtoms * full
@@ -74,10 +74,11 @@ loop-again : tie.Need-loop-again Inv-loop μ-loop
 loop-again c = let d = c .before in rw (out d) (omega (arith, fewer d, d .before .loop .inv .0), step d)
 
 returns : tie.Need-returns Inv-loop μ-loop
-returns c = omega (arith, c .if1 .taken, let l = c .before .before .loop in let a = c .before .before .before .args in ended (a .set) (a .row .now) (l .rest) (l .sum) (c .before .loop-test .left) (l .inv .1))
-
-returns-2 : tie.Need-returns-2 Inv-loop μ-loop
-returns-2 c = omega (arith, c .if1 .left, let l = c .before .before .loop in let a = c .before .before .before .args in ended (a .set) (a .row .now) (l .rest) (l .sum) (c .before .loop-test .left) (l .inv .1))
+returns c =
+    let l = c .before .loop in
+    let a = c .before .before .args in
+    let e = ended (a .set) (a .row .now) (l .rest) (l .sum) (c .loop-test .left) (l .inv .1) in
+    (e, omega (arith, e, low (a .set) (a .row .now) (c .before .before .pre .2)))
 
 pub pull-spec : {M : Type 1} → statement M
 pull-spec =
@@ -94,5 +95,4 @@ pull-spec =
     add-sum-2
     loop-less
     loop-again
-    returns
-    returns-2)
+    returns)

@@ -75,7 +75,9 @@ slice-read-add : tie.Need-slice-read-add Inv-loop μ-loop
 slice-read-add c = omega (arith, small (c .before .before .before .before), c .before .before .before .before .before .before .loop .inv .1)
 
 add-requires : tie.Need-add-requires Inv-loop μ-loop
-add-requires c κs = omega (arith, c .before .pull .ensures)
+add-requires c κs =
+    let l = c .before .before .before .before .before .before .loop in
+    (c .before .pull .ensures .1, omega (arith, l .inv .2 (first (l .rest) + 1), c .before .before .before .before .before .before .before .before .before .pre .0 .5))
 
 add-row : tie.Need-add-row Inv-loop μ-loop
 add-row c = omega (arith, small (c .before .before .before .before .before))
@@ -103,7 +105,7 @@ loop-again c =
       length-set (l .row) (first (l .rest) + 1) (x .result) ∙ l .inv .1,
       store-low (l .row) (first (l .rest) + 1) (x .result) far (l .inv .2) (omega (arith, x .ensures)),
       λ n key L. omega (arith, fewer t, l .inv .3 n key L),
-      λ n B key F N L R. sweeping-take N L R (l .d) (l .below) (l .rest) (l .row) (l .inv .4 n B key F N L R) (t .before .loop-test .taken) (t .if1 .taken) (s .result) (x .result) (s .ensures) (x .ensures) far,
+      λ n B key F N L R. sweeping-take N L R (l .d) (l .below) (l .rest) (l .row) (l .inv .4 n B key F N L R) (t .before .loop-test .taken) (t .if1 .taken) (s .result) (x .result) (s .ensures .0) (x .ensures) far,
     )
 
 -- the level has a place among the sets
