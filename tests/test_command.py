@@ -418,13 +418,23 @@ class Boards(Room):
         self.assertEqual(sorted(os.listdir(self.decks)), ["a", "sub"])
         self.assertEqual(self.run_command("board", os.path.join(self.decks, "a"), "-o", os.path.join(self.room, "b"))[0], 2)
 
+    def wait_for_library(self, one):
+        """Until a process has loaded the library: an interpreter that is interrupted before that has no say in its status."""
+        for _ in range(6000):
+            if one.poll() is not None:
+                return
+            with open(f"/proc/{one.pid}/maps") as maps:
+                if "libtteuyomal" in maps.read():
+                    return
+            time.sleep(0.01)
+
     def test_an_interrupt_leaves_no_half_file(self):
         for number in range(3000):
             self.put(f"{number:05d}", GOOD)
         for sign, status in ((signal.SIGINT, 130), (signal.SIGTERM, 143)):
             output = self.put("old.html", b"yesterday", self.room)
             one = self.process("board", self.decks, "-o", output, stderr=subprocess.DEVNULL)
-            time.sleep(0.4)
+            self.wait_for_library(one)
             one.send_signal(sign)
             self.assertIn(one.wait(60), (status, -sign, 0))
             left = self.read(output)
