@@ -9,6 +9,7 @@
 -- | `atomOf`                    | a placed atom's number in the molecule written out               | `apart-later`, `apart-earlier`                           |
 -- | sets of atoms               | one number of 64 bits, atom v at the digit v - 1                 | Sets; a search's levels are the distances: Search        |
 pub mod Graph
+pub mod Farthest
 pub mod Assembly
 pub mod Sets
 pub mod Examples
@@ -20,8 +21,10 @@ pub mod Sums
 pub mod BondSums
 pub mod Connected
 pub mod Tree
+pub mod Splits
 pub mod Join
 pub mod Rules
+pub mod Largest
 pub mod Climb
 pub mod Bounds
 pub mod Parts
