@@ -1,8 +1,8 @@
 -- Definitions. Two parts joined by a bond, for any numbers: those that no assembly comes near count as the largest.
 use Prim.Native.Nat.{ℕ, min}
 use Rattle.tables.specs.Parts.{grow, joinSix}
-use Rattle.tables.specs.declared.Indices.{Indices}
-use Rattle.tables.specs.declared.Vertex.{Vertex}
+use Rattle.block.specs.declared.Indices.{Indices}
+use Rattle.block.specs.declared.Vertex.{Vertex}
 
 -- the largest number that is counted from an atom, and the largest field: 2^29 - 1 and 2^60 - 1
 abbrev pub mostCounted : ℕ

@@ -3,8 +3,8 @@ use Prim.Native.Nat.{ℕ, _^_, _≤_, min}
 use mathlib.Core.Path.{_≡_, ap₂}
 use native.Mathlib.Omega.{arith}
 use Rattle.tables.specs.Parts.{grow, joinSix}
-use Rattle.tables.specs.declared.Indices.{Indices}
-use Rattle.tables.specs.declared.Vertex.{Vertex}
+use Rattle.block.specs.declared.Indices.{Indices}
+use Rattle.block.specs.declared.Vertex.{Vertex}
 use Rattle.joining.specs.Joining.{mostCounted, mostField, counted, held, grownOf, joinedOf}
 
 -- each number that is counted is no more than n

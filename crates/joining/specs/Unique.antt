@@ -1,8 +1,8 @@
 -- Laws. Each promise determines the reply: two replies that satisfy it are equal. Assumes nothing.
 use Prim.Native.Nat.{ℕ}
 use mathlib.Core.Path.{_≡_, sym, _∙_}
-use Rattle.tables.specs.declared.Indices.{Indices}
-use Rattle.tables.specs.declared.Vertex.{Vertex}
+use Rattle.block.specs.declared.Indices.{Indices}
+use Rattle.block.specs.declared.Vertex.{Vertex}
 use Rattle.joining.specs.Joining.{grownOf, joinedOf}
 
 pub unique-grown : (v o : Vertex) (d : ℕ) (r s : Vertex) → r ≡ grownOf v d o → s ≡ grownOf v d o → r ≡ s

@@ -1,6 +1,6 @@
 // What is counted from an atom, and the six fields, as they grow when two are joined by a bond. For any numbers: larger ones than can be are cut down.
-use tables::Indices;
-use tables::Vertex;
+use block::Indices;
+use block::Vertex;
 ghost use mathlib.Core.Path.{_≡_};
 ghost use Prim.Native.Nat.{_+_, _*_, _^_, _<_, _≤_, max, min};
 ghost use Rattle.graph.specs.Graph.{isAt};

@@ -10,8 +10,8 @@ use Rattle.graph.specs.Graph.{Within, isEven, isAt}
 use Rattle.graph.specs.Assembly.{Join}
 use Rattle.tables.specs.Parts.{Part, evenBeyond, oddBeyond, beyond, both, grow, evenAcross, oddAcross, joinSix, farIn, sightIn, sixIn}
 use Rattle.tables.specs.Whole.{far-old, far-on, far-off, far-new, sight-old, sight-new}
-use Rattle.tables.specs.declared.Indices.{Indices}
-use Rattle.tables.specs.declared.Vertex.{Vertex}
+use Rattle.block.specs.declared.Indices.{Indices}
+use Rattle.block.specs.declared.Vertex.{Vertex}
 
 -- what an atom of n placements counts is small
 pub record Held (n : ℕ) (v : Vertex) : Type 0 where

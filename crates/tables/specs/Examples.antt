@@ -9,28 +9,11 @@ use Rattle.graph.specs.Farthest.{most, mostPairs}
 use Rattle.graph.specs.Assembly.{Join}
 use Rattle.tables.specs.Table.{Table, tableOf, totalBy, seenBy, largestBy, farthestBy, sixOf, sightOf, farJoined, joinedBy, startBy, writtenBy}
 use Rattle.tables.specs.Parts.{Part, evenBeyond, oddBeyond, beyond, both, grow, evenAcross, oddAcross, joinSix, farIn, sightIn, sixIn}
-use Rattle.tables.specs.declared.Indices.{Indices}
+use Rattle.block.specs.declared.Indices.{Indices}
 
 -- what is kept of a table that is told
 abbrev pub partOf : Table → Part
 partOf t = record { six = sixOf t; sight = sightOf t; far = t .far }
-
--- the six fields of a graph's table are the graph's
-pub six-w : (g : Graph) → sixOf (tableOf g) .w ≡ wiener g
-unfolding sixOf totalBy total
-six-w g = refl
-
-pub six-even : (g : Graph) → sixOf (tableOf g) .even ≡ evenPart g
-unfolding sixOf totalBy total
-six-even g = refl
-
-pub six-odd : (g : Graph) → sixOf (tableOf g) .odd ≡ oddPart g
-unfolding sixOf totalBy total
-six-odd g = refl
-
-pub six-polarity : (g : Graph) → sixOf (tableOf g) .polarity ≡ polarity g
-unfolding sixOf totalBy total
-six-polarity g = refl
 
 abbrev ring : Graph
 ring = record { atoms = 6; bonds = bond 1 2 ∷ bond 2 3 ∷ bond 3 4 ∷ bond 4 5 ∷ bond 5 6 ∷ bond 6 1 ∷ [] }
@@ -49,7 +32,7 @@ unfolding sixOf totalBy largestBy most mostPairs farJoined joinedBy startBy writ
 two-rings = refl
 
 two-rings-kept : sixIn (λ k. partOf (rings k)) onto 1 ≡ six 12 198 96 102 14 7
-unfolding sixOf totalBy largestBy most mostPairs distance firstFrom reaches anyAtom bonded anyJoins joins sum sumPairs evenOf oddOf evenOne oddOne isAt sightOf seenBy farthestBy sixIn sightIn farIn joinSix evenAcross oddAcross
+unfolding sixOf totalBy largestBy most mostPairs distance firstFrom reaches anyAtom bonded anyJoins joins sum sumPairs evenOf oddOf evenOne oddOne isAt seenBy farthestBy sixIn sightIn farIn joinSix evenAcross oddAcross
 two-rings-kept = refl
 
 -- two atoms 200 apart, three times in a row: no molecule has them
@@ -60,5 +43,5 @@ abbrev chain : ℕ → Join
 chain k = record { parent = k; site = 2; own = 1 }
 
 far-apart : sixOf (writtenBy (λ k. wide) chain 2) ≡ sixIn (λ k. partOf wide) chain 2
-unfolding sixOf totalBy largestBy most mostPairs farJoined joinedBy startBy writtenBy sum sumPairs evenOf oddOf evenOne oddOne isAt sightOf seenBy farthestBy sixIn sightIn farIn joinSix evenAcross oddAcross grow both beyond evenBeyond oddBeyond
+unfolding sixOf totalBy largestBy most mostPairs farJoined joinedBy startBy writtenBy sum sumPairs evenOf oddOf evenOne oddOne isAt seenBy farthestBy sixIn sightIn farIn joinSix evenAcross oddAcross grow both beyond evenBeyond oddBeyond
 far-apart = refl

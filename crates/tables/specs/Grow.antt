@@ -11,8 +11,8 @@ use Rattle.tables.specs.Table.{Table, totalBy, seenBy, largestBy, farthe
 use Rattle.graph.specs.Splits.{Term, Splits, products, splits-even, splits-odd, splits-even-one, splits-odd-one, splits-at0, splits-at1, splits-at2, splits-at3}
 use Rattle.tables.specs.Rules.{seen-first, seen-second, total-joined, farthest-first, farthest-second, largest-joined}
 use Rattle.tables.specs.Parts.{evenBeyond, oddBeyond, beyond, both, grow, evenAcross, oddAcross, joinSix}
-use Rattle.tables.specs.declared.Indices.{Indices}
-use Rattle.tables.specs.declared.Vertex.{Vertex}
+use Rattle.block.specs.declared.Indices.{Indices}
+use Rattle.block.specs.declared.Vertex.{Vertex}
 
 -- one record's fields for another's
 pub same-sight : {v w : Vertex} → v .sum ≡ w .sum → v .even ≡ w .even → v .odd ≡ w .odd → v .evens ≡ w .evens → v .odds ≡ w .odds → v .ones ≡ w .ones → v .twos ≡ w .twos → v .farthest ≡ w .farthest → v ≡ w

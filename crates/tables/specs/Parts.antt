@@ -5,8 +5,8 @@ use mathlib.Core.Bool.{true, false, cond}
 use lib.Dec.{eqb}
 use Rattle.graph.specs.Graph.{isEven, isAt}
 use Rattle.graph.specs.Assembly.{Join}
-use Rattle.tables.specs.declared.Indices.{Indices}
-use Rattle.tables.specs.declared.Vertex.{Vertex}
+use Rattle.block.specs.declared.Indices.{Indices}
+use Rattle.block.specs.declared.Vertex.{Vertex}
 
 -- what is kept of a block
 pub record Part : Type 0 where

@@ -8,8 +8,8 @@ use Rattle.graph.specs.Graph.{Graph, Within, distance, sum, sumPairs, itself, e
 use Rattle.graph.specs.Farthest.{most, mostPairs}
 use Rattle.graph.specs.Assembly.{Join}
 use Rattle.tables.specs.Parts.{Part}
-use Rattle.tables.specs.declared.Indices.{Indices}
-use Rattle.tables.specs.declared.Vertex.{Vertex}
+use Rattle.block.specs.declared.Indices.{Indices}
+use Rattle.block.specs.declared.Vertex.{Vertex}
 
 pub record Table : Type 0 where
   pub atoms : ℕ

@@ -6,7 +6,8 @@ use mathlib.Core.Path.{_≡_, refl, sym, _∙_, ap, ap₂}
 use native.Mathlib.Omega.{arith}
 use borrow.Author.Tests.{leb-true, leb-false}
 use lib.Dec.{leb}
-use Rattle.graph.specs.Graph.{Graph, Within, Molecule, distance, itself, evenOf, oddOf, evenOne, oddOne, isAt, vertex}
+use Rattle.graph.specs.Graph.{Graph, Within, Molecule, distance, itself, evenOf, oddOf, evenOne, oddOne, isAt, total, vertex}
+use Rattle.graph.specs.Farthest.{farthest, largest}
 use Rattle.graph.specs.Assembly.{Join, joined, startAt, written, Assembled}
 use Rattle.graph.specs.Distance.{distance-sym}
 use Rattle.graph.specs.Join.{distance-first, distance-second, distance-cross, distance-back}
@@ -14,11 +15,21 @@ use Rattle.graph.specs.Climb.{sooner, site-placed, placed-within, written-molec
 use Rattle.graph.specs.Sums.{sum-cong, sumPairs-cong}
 use Rattle.graph.specs.Largest.{most-cong, mostPairs-cong}
 use Rattle.graph.specs.Parts.{count-at-0}
+use Rattle.block.specs.Index.{indicesOf, vertexOf}
 use Rattle.tables.specs.Parts.{Part, grow, joinSix, sixIn}
 use Rattle.tables.specs.Table.{Table, tableOf, totalBy, seenBy, largestBy, farthestBy, sixOf, sightOf, farJoined, joinedBy, startBy, writtenBy, Told}
 use Rattle.tables.specs.Rules.{far-first, far-cross, far-back, far-second}
 use Rattle.tables.specs.Grow.{same-six, same-sight, sight-first, sight-second, six-joined}
 use Rattle.tables.specs.Whole.{whole}
+
+-- the six fields of a graph's table are the graph's, and so is what is counted from an atom
+pub six-is : (g : Graph) → sixOf (tableOf g) ≡ indicesOf g
+unfolding sixOf indicesOf totalBy total largestBy largest
+six-is g = refl
+
+pub sight-is : (g : Graph) (a : ℕ) → sightOf (tableOf g) a ≡ vertexOf g a
+unfolding vertexOf seenBy vertex farthestBy farthest
+sight-is g a = refl
 
 -- Tables that are the distances of graphs.
 pub record Agrees (t : Table) (g : Graph) : Type 0 where
@@ -113,18 +124,22 @@ module _ {g h : Graph} {a b : ℕ} (mg : Molecule g) (mh : Molecule h) (ha : Wit
   some : {n v : ℕ} → Within n v → 1 ≤ n
   some w = omega (arith, w .low, w .high)
 
-  pub six-molecules : sixOf (tableOf (joined g h a b)) ≡ joinSix (sixOf (tableOf g)) (sixOf (tableOf h)) (sightOf (tableOf g) a) (sightOf (tableOf h) b)
-  six-molecules = sym (six-agrees agrees) ∙ six-joined (tableOf g) (tableOf h) a b (some ha) (some hb) (alone-molecule mg ha) (alone-molecule mh hb)
+  pub six-molecules : indicesOf (joined g h a b) ≡ joinSix (indicesOf g) (indicesOf h) (vertexOf g a) (vertexOf h b)
+  six-molecules =
+      sym (six-is (joined g h a b)) ∙ sym (six-agrees agrees) ∙ six-joined (tableOf g) (tableOf h) a b (some ha) (some hb) (alone-molecule mg ha) (alone-molecule mh hb)
+      ∙ rw (six-is g, six-is h, sight-is g a, sight-is h b)
 
-  pub first-molecules : {c : ℕ} → Within (g .atoms) c → sightOf (tableOf (joined g h a b)) c ≡ grow (sightOf (tableOf g) c) (distance g a c) (sightOf (tableOf h) b)
+  pub first-molecules : {c : ℕ} → Within (g .atoms) c → vertexOf (joined g h a b) c ≡ grow (vertexOf g c) (distance g a c) (vertexOf h b)
   unfolding joined
-  first-molecules {c} w = sym (sight-agrees agrees c (omega (arith, w .low, w .high))) ∙ sight-first (tableOf g) (tableOf h) a b c (w .high) (some hb) (alone-molecule mh hb)
+  first-molecules {c} w =
+      sym (sight-is (joined g h a b) c) ∙ sym (sight-agrees agrees c (omega (arith, w .low, w .high)))
+      ∙ sight-first (tableOf g) (tableOf h) a b c (w .high) (some hb) (alone-molecule mh hb) ∙ rw (sight-is g c, sight-is h b)
 
-  pub second-molecules : {c : ℕ} → Within (h .atoms) c
-      → sightOf (tableOf (joined g h a b)) (g .atoms + c) ≡ grow (sightOf (tableOf h) c) (distance h b c) (sightOf (tableOf g) a)
+  pub second-molecules : {c : ℕ} → Within (h .atoms) c → vertexOf (joined g h a b) (g .atoms + c) ≡ grow (vertexOf h c) (distance h b c) (vertexOf g a)
   unfolding joined
   second-molecules {c} w =
-      sym (sight-agrees agrees (g .atoms + c) (omega (arith, w .low, w .high))) ∙ sight-second (tableOf g) (tableOf h) a b c (w .low) (some ha) (alone-molecule mg ha)
+      sym (sight-is (joined g h a b) (g .atoms + c)) ∙ sym (sight-agrees agrees (g .atoms + c) (omega (arith, w .low, w .high)))
+      ∙ sight-second (tableOf g) (tableOf h) a b c (w .low) (some ha) (alone-molecule mg ha) ∙ rw (sight-is h c, sight-is g a)
 
 module _ {tables : ℕ → Table} {blocks : ℕ → Graph} {joins : ℕ → Join} where
   pub written-agrees : (m : ℕ) → Assembled blocks joins m → ((k : ℕ) → k ≤ m → Agrees (tables k) (blocks k)) → Agrees (writtenBy tables joins m) (written blocks joins m)
@@ -138,7 +153,7 @@ module _ {tables : ℕ → Table} {blocks : ℕ → Graph} {joins : ℕ → Join
 
 -- THE FIELDS WRITTEN OUT: of an assembly of molecules whose tables are kept, composing gives the six fields of the one molecule.
 pub fields-written : {parts : ℕ → Part} {blocks : ℕ → Graph} {joins : ℕ → Join} (m : ℕ) → Assembled blocks joins m → ((k : ℕ) → k ≤ m → Told (parts k) (tableOf (blocks k)))
-    → sixIn parts joins m ≡ sixOf (tableOf (written blocks joins m))
+    → sixIn parts joins m ≡ indicesOf (written blocks joins m)
 fields-written {parts} {blocks} {joins} m a t =
     whole m t (λ k h q. let s = a .stands k h q in record { parent = s .parent; site = s .site; own = s .own }) .six
-    ∙ six-agrees (written-agrees m a (λ k h. agrees-self (blocks k)))
+    ∙ six-agrees (written-agrees m a (λ k h. agrees-self (blocks k))) ∙ six-is (written blocks joins m)
