@@ -106,7 +106,7 @@ pub(crate) fn right(letter: u8, n: usize, bonds: &[u8], row: Row) -> bool {
         b'c' => checked(n, bonds, row),
         b'i' => measured(n, bonds, row),
         b'v' => around(n, bonds, row),
-        b'f' => farthest(n, bonds, row),
+        b'r' => farthest(n, bonds, row),
         b'l' => largest(n, bonds, row),
         b'a' => apart(n, bonds, row),
         b'd' | b'e' => shared(letter, n, bonds, row),
