@@ -13,7 +13,7 @@ unfolding pairPlace noPair placeOf startOf
 places = (refl, refl, refl, refl, refl, refl, refl)
 
 -- three atoms in a row
-unfoldable path : ℕ → ℕ → ℕ
+unfoldable pub path : ℕ → ℕ → ℕ
 path i j = cond (ltb 3 (max i j)) 0 (max i j - min i j)
 
 pub reads : (length (halfOf path) ≡ 2016) × (halfAt (halfOf path) 1 3 ≡ 2) × (halfAt (halfOf path) 3 1 ≡ 2) × (halfAt (halfOf path) 3 2 ≡ 1) × (halfAt (halfOf path) 2 2 ≡ 0)
