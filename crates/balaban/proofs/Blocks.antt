@@ -9,10 +9,12 @@ use lib.Seq.{getD-set-same, getD-set-other}
 use Rattle.graph.specs.Graph.{Graph, Within, sum, sumBonds, vertex}
 use Rattle.graph.specs.Sums.{sum-cong}
 use Rattle.reply.specs.Read.{read}
+use Rattle.half.specs.Half.{halfRow}
 use Rattle.block.specs.Block.{mostAtoms, mostBytes, bondsOf, graphOf, blockReply}
-use Rattle.block.specs.Rows.{rowOf, rowsOf}
+use Rattle.block.specs.Rows.{rowOf, tableOf}
 use Rattle.block.specs.Sums.{entry}
-use Rattle.block.specs.Told.{few-atoms, row-at, entry-at}
+use Rattle.block.specs.Told.{few-atoms, entry-at}
+use Rattle.block.specs.Halved.{table-row}
 use Rattle.block.specs.Numbered.{bondAt, rest, bonds-length, rest-sum, rest-over, few-bytes, least-bonds, bond-within}
 use Rattle.block.specs.Lent.{one-more}
 use Rattle.balaban.specs.Balaban.{bound, largestRoot, term, reckoned}
@@ -30,10 +32,10 @@ summed-next {row} {j} {total} d S e l =
     record { is = rw (add-one j) (ap₂ _+_ (S .is) (e ∙ ap (λ (i : ℕ). getD row i 0) (sym k))); low = omega (arith, S .low) }
 
 -- one row more
-pub sums-next : {n i : ℕ} {rows : List (List ℕ)} {sums : List ℕ} (r : ℕ) → Sums n rows sums i → i < length sums → Summed (getD rows i []) n r → Sums n rows (set sums i r) (i + 1)
-sums-next {n} {i} {rows} {sums} r S l h = record {
-  is = one-more i (λ k m. subst (Summed (getD rows k []) n) (sym (getD-set-other sums i k r 0 (λ z. omega arith))) (S .is k m))
-      (subst (Summed (getD rows i []) n) (sym (getD-set-same sums i r 0 l)) h);
+pub sums-next : {n i : ℕ} {half sums : List ℕ} (r : ℕ) → Sums n half sums i → i < length sums → Summed (halfRow half (i + 1)) n r → Sums n half (set sums i r) (i + 1)
+sums-next {n} {i} {half} {sums} r S l h = record {
+  is = one-more i (λ k m. subst (Summed (halfRow half (k + 1)) n) (sym (getD-set-other sums i k r 0 (λ z. omega arith))) (S .is k m))
+      (subst (Summed (halfRow half (i + 1)) n) (sym (getD-set-same sums i r 0 l)) h);
 }
 
 module _ (n : ℕ) (xs : List ℕ) (fine : blockReply n xs ≡ read tt) where
@@ -44,16 +46,18 @@ module _ (n : ℕ) (xs : List ℕ) (fine : blockReply n xs ≡ read tt) where
   few = few-atoms n xs fine .high
 
   -- the sums of the rows are the vertex sums
-  pub task : (rows : List (List ℕ)) (sums : List ℕ) → rows ≡ rowsOf n xs → Sums n rows sums n → Task n xs sums
+  pub task : (half sums : List ℕ) → half ≡ tableOf n xs → Sums n half sums n → Task n xs sums
   unfolding vertex
-  task rows sums e S = record {
+  task half sums e S = record {
     fine = fine;
     is = λ v w. here v w .is ∙ sum-cong n (λ j x. entry-at n xs fine v x);
     low = λ v w. omega (arith, here v w .low, few);
   }
     where
       here : (v : ℕ) → Within n v → Summed (rowOf g v) n (entry sums v)
-      here v w = subst (λ (row : List ℕ). Summed row n (entry sums v)) (ap (λ (r : List (List ℕ)). getD r (v - 1) []) e ∙ row-at n xs fine w) (S .is (v - 1) (omega arith))
+      here v w =
+          let k : (v - 1) + 1 ≡ v = omega arith in
+          subst (λ (row : List ℕ). Summed row n (entry sums v)) (ap₂ halfRow e k ∙ table-row n xs fine w) (S .is (v - 1) (omega arith))
 
 -- the first k bonds are added up
 pub record Adding (n : ℕ) (xs : List ℕ) (total k : ℕ) : Type 0 where

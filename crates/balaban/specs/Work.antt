@@ -1,10 +1,11 @@
 -- Work. How the answer is worked out: the vertex sums in a list, and roots rounded down.
 use Prim.Native.Nat.{ℕ, _+_, _*_, _^_, _≤_, _<_}
-use mathlib.Core.List.{List, []}
+use mathlib.Core.List.{List}
 use mathlib.Core.Path.{_≡_}
 use lib.ListN.{getD}
 use Rattle.graph.specs.Graph.{Within, sum, vertexSum}
 use Rattle.reply.specs.Read.{read}
+use Rattle.half.specs.Half.{halfRow}
 use Rattle.block.specs.Block.{mostAtoms, graphOf, blockReply}
 use Rattle.block.specs.Sums.{entry}
 
@@ -30,8 +31,8 @@ pub record Summed (row : List ℕ) (n r : ℕ) : Type 0 where
   pub low : r ≤ n * 255
 
 -- a list whose first i entries are what the rows of i atoms add up to, over n atoms each
-pub record Sums (n : ℕ) (rows : List (List ℕ)) (sums : List ℕ) (i : ℕ) : Type 0 where
-  pub is : (k : ℕ) → k < i → Summed (getD rows k []) n (getD sums k 0)
+pub record Sums (n : ℕ) (half sums : List ℕ) (i : ℕ) : Type 0 where
+  pub is : (k : ℕ) → k < i → Summed (halfRow half (k + 1)) n (getD sums k 0)
 
 -- a block that is not refused, and a list of its vertex sums
 pub record Task (n : ℕ) (xs sums : List ℕ) : Type 0 where

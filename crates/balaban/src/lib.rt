@@ -4,13 +4,14 @@ ghost use Prim.Native.Nat.{_+_, _-_, _*_, _/_, _≤_};
 ghost use Rattle.graph.specs.Graph.{Within};
 ghost use Rattle.reply.specs.Read.{read};
 ghost use Rattle.block.specs.Block.{mostAtoms, mostBytes, graphOf, blockReply};
-ghost use Rattle.block.specs.Rows.{rowsOf};
+ghost use Rattle.block.specs.Rows.{tableOf};
 ghost use Rattle.block.specs.Sums.{entry};
 ghost use Rattle.balaban.specs.Balaban.{bound, largestRoot, reckoned, balabanReply, saidBalaban};
 ghost use Rattle.balaban.specs.Work.{unit, mostSum, Summed, Sums, Task};
 use block::ATOMS;
-use block::DistanceMatrix;
 use block::DistanceRow;
+use half::Half;
+use half::PAIRS;
 use reply::Refusal;
 use reply::Reply;
 use reply::wide;
@@ -37,15 +38,16 @@ fn row_sum(row: &DistanceRow, n: usize) -> u64
     total
 }
 
-// The vertex sums of the first n atoms, by their rows.
-fn vertex_sums(n: usize, rows: &DistanceMatrix) -> [u64; ATOMS]
+// The vertex sums of the first n atoms, by half of their distances.
+fn vertex_sums(n: usize, half: &Half) -> [u64; ATOMS]
     requires { ⌜ n ≤ mostAtoms ⌝ }
-    ensures { λ r. ⌜ Sums n (now (rows .entry)) r n ⌝ }
+    ensures { λ r. ⌜ Sums n (now (half .entry)) r n ⌝ }
 {
     let mut sums = [0u64; ATOMS];
     let mut i = 0;
     while i < n {
-        sums[i] = row_sum(&rows[i], n);
+        let row = half::row(half, i + 1);
+        sums[i] = row_sum(&row, n);
         i += 1;
     }
     sums
@@ -94,12 +96,12 @@ fn reckon(n: usize, bonds: &[u8], sums: &[u64; ATOMS]) -> u64
     divided(m, total, n)
 }
 
-// The answer for a block that is not refused, by its rows.
-fn answered(n: usize, bonds: &[u8], rows: &DistanceMatrix) -> u64
-    requires { ⌜ (blockReply n (now bonds) ≡ read tt) × (now rows ≡ rowsOf n (now bonds)) ⌝ }
+// The answer for a block that is not refused, by half of its distances.
+fn answered(n: usize, bonds: &[u8], half: &Half) -> u64
+    requires { ⌜ (blockReply n (now bonds) ≡ read tt) × (now half ≡ tableOf n (now bonds)) ⌝ }
     ensures { λ r. ⌜ r ≡ reckoned 1 (graphOf n (now (bonds .entry))) ⌝ }
 {
-    let sums = vertex_sums(n, rows);
+    let sums = vertex_sums(n, half);
     reckon(n, bonds, &sums)
 }
 
@@ -107,13 +109,14 @@ fn answered(n: usize, bonds: &[u8], rows: &DistanceMatrix) -> u64
 pub fn index(n: usize, bonds: &[u8]) -> Balaban
     ensures { λ r. ⌜ r ≡ saidBalaban (balabanReply n (now (bonds .entry))) ⌝ }
 {
-    let mut rows = [[0u8; ATOMS]; ATOMS];
-    let opened = block::table(n, bonds, &mut rows);
+    let mut half = [0u8; PAIRS];
+    let mut far = [0u8; ATOMS];
+    let opened = block::table(n, bonds, &mut half, &mut far);
     let reply = opened.reply;
     match reply {
         Reply::Refused(refusal) => Balaban::Refused(refusal),
         Reply::Fine => {
-            let j = answered(n, bonds, &rows);
+            let j = answered(n, bonds, &half);
             Balaban::Of(j)
         }
     }

@@ -9,9 +9,9 @@ use Rattle.graph.specs.Graph.{Graph, Bond, bond, Within, Molecule, bonded, dist
 use Rattle.graph.specs.Sets.{has}
 use Rattle.paths.specs.Paths.{pathCount, pathsUsing}
 use Rattle.paths.specs.Notions.{Plain, weight, gathered, lcmStarts}
+use Rattle.half.specs.Half.{halfRow}
 use Rattle.block.specs.Block.{mostAtoms, bondsOf, graphOf}
 use Rattle.block.specs.Numbered.{bondAt}
-use Rattle.block.specs.Rows.{rowAt}
 use Rattle.block.specs.Opened.{setOf}
 use Rattle.block.specs.Near.{around}
 use Rattle.shares.specs.Reply.{most}
@@ -73,12 +73,12 @@ pub record Start (n : ℕ) (bs : List Bond) (near row sets : List ℕ) (top i : 
   pub levels : Levels n (distance (graph n bs) i) sets top
   pub start : Within n i
 
--- the neighbours of a block, and its rows
-pub record Given (n : ℕ) (bs : List Bond) (near : List ℕ) (rows : List (List ℕ)) : Type 0 where
+-- the neighbours of a block, and half of its distances
+pub record Given (n : ℕ) (bs : List Bond) (near half : List ℕ) : Type 0 where
   pub small : n ≤ mostAtoms
   pub molecule : Molecule (graph n bs)
   pub beside : Near n (bonded (graph n bs)) near
-  pub far : (i : ℕ) → Within n i → Shows n (distance (graph n bs) i) (rowAt rows i)
+  pub far : (i : ℕ) → Within n i → Shows n (distance (graph n bs) i) (halfRow half i)
 
 -- positive counts f and a positive number m, up to the cap
 pub record Tally (n : ℕ) (f : ℕ → ℕ) (m : ℕ) (c : List ℕ) (before : ℕ) : Type 0 where

@@ -6,10 +6,9 @@ use super::SEATS;
 use super::common;
 use super::sweeps;
 use super::sweeps::wide;
-use block::DistanceMatrix;
 use block::DistanceRow;
 use block::Neighbours;
-use block::row_at;
+use half::Half;
 ghost use mathlib.Core.Path.{_≡_};
 ghost use mathlib.Core.Bool.{cond};
 ghost use Prim.Native.Nat.{ℕ, suc, _+_, _*_, _-_, _/_, min, _<_, _≤_};
@@ -123,14 +122,8 @@ fn add_start(
 }
 
 // D, up to just above the most that it may be, and, where it is not above that, the share of each bond over D in the lent entries, which are 0.
-pub(crate) fn fill(
-    n: usize,
-    bonds: &[u8],
-    near: &Neighbours,
-    rows: &DistanceMatrix,
-    out: &mut [u64],
-) -> u64
-    requires { ⌜ Whole n (now bonds) 0 1 × Given n (bondsOf (now bonds)) (now near) (now rows) × Sofar n (now bonds) 0 1 (now out) ⌝ }
+pub(crate) fn fill(n: usize, bonds: &[u8], near: &Neighbours, half: &Half, out: &mut [u64]) -> u64
+    requires { ⌜ Whole n (now bonds) 0 1 × Given n (bondsOf (now bonds)) (now near) (now half) × Sofar n (now bonds) 0 1 (now out) ⌝ }
     ensures { λ r. ⌜
         (r ≡ min cap (denominator (graphOf n (now (bonds .entry)))))
         × (r ≤ most → (k : ℕ) → k < length (now (bonds .entry)) / 2 → getD (now (out .exit)) k 0 ≡ share (graphOf n (now (bonds .entry))) (bondAt (now (bonds .entry)) k))
@@ -142,7 +135,7 @@ pub(crate) fn fill(
         if MOST < d {
             return CAP;
         }
-        let row = row_at(rows, i + 1);
+        let row = half::row(half, i + 1);
         let levels = sweeps::by_level(n, &row);
         let next = add_start(n, bonds, near, &row, &levels.sets, levels.top, i, d, out);
         d = next;

@@ -11,19 +11,19 @@ use Rattle.balaban.proofs.vertex_sums.Statement.{statement}
 use Rattle.balaban.proofs.vertex_sums.Tie as tie
 
 abbrev Inv-loop : tie.InvT-loop
-Inv-loop n rows sums₀ i₀ sums i = (length sums ≡ mostAtoms) × (i ≤ n) × Sums n rows sums i
+Inv-loop n half sums₀ i₀ sums i = (length sums ≡ mostAtoms) × (i ≤ n) × Sums n half sums i
 
 abbrev μ-loop : tie.MeasureT-loop
-μ-loop n rows sums₀ i₀ sums i = n - i
+μ-loop n half sums₀ i₀ sums i = n - i
 
 loop-holds : tie.Need-loop-holds Inv-loop μ-loop
 loop-holds c = (refl, omega arith, record { is = λ k h. absurd (omega arith) })
 
-mul-row-sum : tie.Need-mul-row-sum Inv-loop μ-loop
-mul-row-sum c = search needs
+add-row : tie.Need-add-row Inv-loop μ-loop
+add-row c = omega arith
 
-index-1-row-sum : tie.Need-index-1-row-sum Inv-loop μ-loop
-index-1-row-sum c = search needs
+row-requires : tie.Need-row-requires Inv-loop μ-loop
+row-requires c κs = search needs
 
 row-sum-requires : tie.Need-row-sum-requires Inv-loop μ-loop
 row-sum-requires c κs = search needs
@@ -42,8 +42,8 @@ loop-less c = search needs
 
 loop-again : tie.Need-loop-again Inv-loop μ-loop
 loop-again c =
-    let l = c .before .before .before .loop in
-    (length-set (l .sums) (l .i) (c .row-sum .result) ∙ l .inv .0, omega arith, sums-next (c .row-sum .result) (l .inv .2) (omega arith) (c .row-sum .ensures))
+    let l = c .before .before .before .before .loop in
+    (length-set (l .sums) (l .i) (c .row-sum .result) ∙ l .inv .0, omega arith, sums-next (c .row-sum .result) (l .inv .2) (omega arith) (rw (c .before .before .row .ensures) at (c .row-sum .ensures)))
 
 returns : tie.Need-returns Inv-loop μ-loop
 returns c = let e : c .before .loop .i ≡ c .before .before .args .n = omega arith in rw e at (c .before .loop .inv .2)
@@ -55,8 +55,8 @@ vertex-sums-spec =
     Inv-loop
     μ-loop
     loop-holds
-    mul-row-sum
-    index-1-row-sum
+    add-row
+    row-requires
     row-sum-requires
     mul-sums
     array-write-sums
