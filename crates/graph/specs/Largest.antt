@@ -121,13 +121,13 @@ unfolding most
 most-split n zero f = ap (λ (k : ℕ). most k f) (add-zero n) ∙ omega arith
 most-split n (suc m) f = ap (λ (k : ℕ). most k f) (add-suc n m) ∙ omega (arith, most-split n m f, ap f (add-suc n m))
 
-most-max : (n : ℕ) (f h : ℕ → ℕ) → most n (λ i. max (f i) (h i)) ≡ max (most n f) (most n h)
+pub most-max : (n : ℕ) (f h : ℕ → ℕ) → most n (λ i. max (f i) (h i)) ≡ max (most n f) (most n h)
 unfolding most
 most-max zero f h = refl
 most-max (suc n) f h = omega (arith, most-max n f h)
 
 -- a number added to each of at least one
-most-add : (n : ℕ) (f : ℕ → ℕ) (c : ℕ) → 1 ≤ n → most n (λ i. c + f i) ≡ c + most n f
+pub most-add : (n : ℕ) (f : ℕ → ℕ) (c : ℕ) → 1 ≤ n → most n (λ i. c + f i) ≡ c + most n f
 unfolding most
 most-add zero f c h = absurd (omega arith)
 most-add (suc zero) f c h = omega arith
@@ -145,7 +145,7 @@ right : (x y z : ℕ) → max (max x y) z ≡ max x (max y z)
 right x y z = omega arith
 
 -- the pairs of 1 to n + m: those of the first n, those of the last m, and those across
-mostPairs-split : (n m : ℕ) (f : ℕ → ℕ → ℕ)
+pub mostPairs-split : (n m : ℕ) (f : ℕ → ℕ → ℕ)
     → mostPairs (n + m) f ≡ max (max (mostPairs n f) (mostPairs m (λ i j. f (n + i) (n + j)))) (most n (λ i. most m (λ j. f i (n + j))))
 unfolding mostPairs most
 mostPairs-split n zero f = ap (λ (k : ℕ). mostPairs k f) (add-zero n) ∙ omega (arith, most-none n)

@@ -22,6 +22,7 @@ pub mod Sums
 pub mod BondSums
 pub mod Connected
 pub mod Tree
+pub mod Splits
 pub mod Join
 pub mod Rules
 pub mod Largest

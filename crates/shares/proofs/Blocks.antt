@@ -9,10 +9,10 @@ use Rattle.paths.specs.Notions.{Plain, lcmStarts}
 use Rattle.reply.specs.Read.{Read, refused, read, _then_}
 use Rattle.half.specs.Half.{halfRow}
 use Rattle.block.specs.Block.{mostAtoms, mostBytes, bondsOf, graphOf, blockReply}
-use Rattle.block.specs.Rows.{rowOf, tableOf}
+use Rattle.block.specs.Rows.{rowOf, farOf, tableOf}
 use Rattle.block.specs.Opened.{neighboursOf, openedReply, saidOpened}
 use Rattle.block.specs.Drawn.{neighbour-fits, has-neighbour}
-use Rattle.block.specs.Told.{few-atoms, molecule, each-bond, entry-at}
+use Rattle.block.specs.Told.{few-atoms, molecule, each-bond, entry-at, farthest-at}
 use Rattle.block.specs.Halved.{table-row}
 use Rattle.block.specs.Numbered.{few-bytes}
 use Rattle.block.specs.Lent.{zeros}
@@ -51,13 +51,15 @@ module _ (n : ℕ) (xs : List ℕ) (fine : blockReply n xs ≡ read tt) where
   pub few : n ≤ mostAtoms
   few = few-atoms n xs fine .high
 
-  -- its neighbours and half of its distances
-  pub given : (near half : List ℕ) → near ≡ neighboursOf (graphOf n xs) → half ≡ tableOf n xs → Given n (bondsOf xs) near half
-  given near half e h = record {
+  -- its neighbours, half of its distances, and the largest from each atom
+  pub given : (near half fars : List ℕ) → near ≡ neighboursOf (graphOf n xs) → half ≡ tableOf n xs → fars ≡ farOf n xs
+      → Given n (bondsOf xs) near half fars
+  given near half fars e h f = record {
     small = few;
     molecule = molecule n xs fine;
     beside = rw e (record { each = λ v w a b. has-neighbour (graphOf n xs) v w (inner a) b; fits = λ v a. neighbour-fits (graphOf n xs) v (inner a) });
     far = λ i a. rw h (record { shows = λ j l. row-shows i a j l });
+    largest = λ i a. rw f (farthest-at n xs fine a);
   }
     where
       inner : {v : ℕ} → Within n v → Within mostAtoms v

@@ -7,6 +7,7 @@ use super::common;
 use super::sweeps;
 use super::sweeps::wide;
 use block::DistanceRow;
+use block::Farthest;
 use block::Neighbours;
 use half::Half;
 ghost use mathlib.Core.Path.{_≡_};
@@ -122,8 +123,15 @@ fn add_start(
 }
 
 // D, up to just above the most that it may be, and, where it is not above that, the share of each bond over D in the lent entries, which are 0.
-pub(crate) fn fill(n: usize, bonds: &[u8], near: &Neighbours, half: &Half, out: &mut [u64]) -> u64
-    requires { ⌜ Whole n (now bonds) 0 1 × Given n (bondsOf (now bonds)) (now near) (now half) × Sofar n (now bonds) 0 1 (now out) ⌝ }
+pub(crate) fn fill(
+    n: usize,
+    bonds: &[u8],
+    near: &Neighbours,
+    half: &Half,
+    far: &Farthest,
+    out: &mut [u64],
+) -> u64
+    requires { ⌜ Whole n (now bonds) 0 1 × Given n (bondsOf (now bonds)) (now near) (now half) (now far) × Sofar n (now bonds) 0 1 (now out) ⌝ }
     ensures { λ r. ⌜
         (r ≡ min cap (denominator (graphOf n (now (bonds .entry)))))
         × (r ≤ most → (k : ℕ) → k < length (now (bonds .entry)) / 2 → getD (now (out .exit)) k 0 ≡ share (graphOf n (now (bonds .entry))) (bondAt (now (bonds .entry)) k))
@@ -137,7 +145,8 @@ pub(crate) fn fill(n: usize, bonds: &[u8], near: &Neighbours, half: &Half, out: 
         }
         let row = half::row(half, i + 1);
         let levels = sweeps::by_level(n, &row);
-        let next = add_start(n, bonds, near, &row, &levels.sets, levels.top, i, d, out);
+        let top = wide(far[i]);
+        let next = add_start(n, bonds, near, &row, &levels, top, i, d, out);
         d = next;
         i += 1;
     }

@@ -3,11 +3,12 @@ ghost use mathlib.Core.Path.{_≡_};
 ghost use lib.ListN.{length};
 ghost use Rattle.reply.specs.Read.{read, refusal};
 ghost use Rattle.block.specs.Block.{graphOf, blockReply};
-ghost use Rattle.block.specs.Rows.{tableOf};
+ghost use Rattle.block.specs.Rows.{farOf, tableOf};
 ghost use Rattle.block.specs.Opened.{neighboursOf};
 ghost use Rattle.shares.specs.Reply.{sharesReply, saidShares, sharesEntries};
 use block::ATOMS;
 use block::BYTES;
+use block::Farthest;
 use block::Neighbours;
 use half::Half;
 use half::PAIRS;
@@ -46,8 +47,17 @@ fn refused(number: usize) -> Shares
 }
 
 // The answer for a block that is not refused.
-fn answered(n: usize, bonds: &[u8], near: &Neighbours, half: &Half, out: &mut [u64]) -> Shares
-    requires { ⌜ (blockReply n (now bonds) ≡ read tt) × (now near ≡ neighboursOf (graphOf n (now bonds))) × (now half ≡ tableOf n (now bonds)) ⌝ }
+fn answered(
+    n: usize,
+    bonds: &[u8],
+    near: &Neighbours,
+    half: &Half,
+    far: &Farthest,
+    out: &mut [u64],
+) -> Shares
+    requires { ⌜
+        (blockReply n (now bonds) ≡ read tt) × (now near ≡ neighboursOf (graphOf n (now bonds))) × (now half ≡ tableOf n (now bonds)) × (now far ≡ farOf n (now bonds))
+        ⌝ }
     ensures reply { λ r. ⌜ r ≡ saidShares (sharesReply n (now (bonds .entry)) (length (now (out .entry)))) ⌝ }
     ensures entries { λ _. ⌜ now (out .exit) ≡ sharesEntries n (now (bonds .entry)) (now (out .entry)) ⌝ }
 {
@@ -55,7 +65,7 @@ fn answered(n: usize, bonds: &[u8], near: &Neighbours, half: &Half, out: &mut [u
         return refused(9);
     }
     let mut entries = [0u64; BONDS];
-    let d = flows::fill(n, bonds, near, half, &mut entries);
+    let d = flows::fill(n, bonds, near, half, far, &mut entries);
     if MOST < d {
         return refused(8);
     }
@@ -75,6 +85,6 @@ pub fn contributions(n: usize, bonds: &[u8], out: &mut [u64]) -> Shares
     let reply = opened.reply;
     match reply {
         Reply::Refused(refusal) => Shares::Refused(refusal),
-        Reply::Fine => answered(n, bonds, &opened.near, &half, out),
+        Reply::Fine => answered(n, bonds, &opened.near, &half, &far, out),
     }
 }

@@ -18,10 +18,10 @@ enum-told c = search needs
 
 answered-requires : tie.Need-answered-requires
 answered-requires c κs =
-    let a = c .before .before .before .before .before .before .before .before .before .before .before .args in
-    let t = c .before .before .before .before .before .before .table in
-    let o = opened-in (a .n) (a .bonds .now) (t .result) (t .ensures .0) (c .before .before .before .before .enum-told .given .1) in
-    (o .0, o .1, t .ensures .1 .0)
+    let a = c .before .before .before .before .before .before .before .before .before .before .before .before .args in
+    let t = c .before .before .before .before .before .before .before .table in
+    let o = opened-in (a .n) (a .bonds .now) (t .result) (t .ensures .0) (c .before .before .before .before .before .enum-told .given .1) in
+    (o .0, o .1, t .ensures .1 .0, t .ensures .1 .1)
 
 returns : tie.Need-returns
 returns c =
