@@ -29,13 +29,13 @@ fn row_sum(row: &DistanceRow, n: usize) -> u64
     requires { ⌜ n ≤ mostAtoms ⌝ }
     ensures { λ r. ⌜ Summed (now (row .entry)) n r ⌝ }
 {
-    let mut total: u64 = 0;
+    let mut total: u16 = 0;
     let mut j = 0;
     while j < n {
-        total += wide(row[j]);
+        total += wide(row[j]) as u16;
         j += 1;
     }
-    total
+    total as u64
 }
 
 // The vertex sums of the first n atoms, by half of their distances.

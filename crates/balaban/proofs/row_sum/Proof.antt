@@ -23,6 +23,9 @@ element-copy-out-wide c = omega arith
 wide-requires : tie.Need-wide-requires Inv-loop μ-loop
 wide-requires c κs = search needs
 
+cast-total : tie.Need-cast-total Inv-loop μ-loop
+cast-total c = omega (arith, c .wide .ensures .1)
+
 add-total : tie.Need-add-total Inv-loop μ-loop
 add-total c = let S = c .before .before .before .loop .inv .1 .low in omega (arith, c .wide .ensures .1)
 
@@ -34,6 +37,9 @@ loop-less c = omega arith
 
 loop-again : tie.Need-loop-again Inv-loop μ-loop
 loop-again c = let l = c .before .before .before .loop in (omega arith, summed-next (c .wide .result) (l .inv .1) (c .wide .ensures .0) (c .wide .ensures .1))
+
+cast-result : tie.Need-cast-result Inv-loop μ-loop
+cast-result c = omega (arith, c .before .loop .inv .1 .low, c .before .before .pre)
 
 returns : tie.Need-returns Inv-loop μ-loop
 returns c = let e : c .before .loop .j ≡ c .before .before .args .n = omega arith in rw e at (c .before .loop .inv .1)
@@ -47,8 +53,10 @@ row-sum-spec =
     loop-holds
     element-copy-out-wide
     wide-requires
+    cast-total
     add-total
     add-j
     loop-less
     loop-again
+    cast-result
     returns)
