@@ -14,7 +14,8 @@ use Rattle.graph.specs.Graph.{Graph, Within, distance}
 use Rattle.graph.specs.Assembly.{Stands}
 use Rattle.block.specs.Block.{mostAtoms}
 use Rattle.block.specs.Index.{indicesOf, vertexOf}
-use Rattle.block.specs.Told.{row-at, distance-at, farthest-at}
+use Rattle.block.specs.Told.{entry-at, farthest-at}
+use Rattle.block.specs.Halved.{table-row}
 use Rattle.block.specs.Told as told
 use Rattle.block.specs.Measures.{indices-are, vertex-is, all-atoms}
 use Rattle.assembly.specs.Book.{bondBytes, blockGraph}
@@ -112,13 +113,13 @@ module _ {d xs : List ℕ} {bs : List BlockAt} {count placements : ℕ} {ls : Li
           → entry rs' e j ≡ distance (graphs (endAt ls e .home)) (endAt ls e .atom) j
       row-here e h m p j w =
           let b = same-block (endAt ls e .home) f (inside e h m .home) p in
-          rw (c .taken e h m p, t, b) (distance-at _ _ (r .fine f l) (rw b at (inside e h m .atom)) (rw b at w))
+          rw (c .taken e h m p, t, b, table-row _ _ (r .fine f l) (rw b at (inside e h m .atom))) (entry-at _ _ (r .fine f l) (endAt ls e .atom) (rw b at w))
 
       counts-here : (e : ℕ) → 2 ≤ e → e < 2 * placements → homeOf ls e ≡ f → countsAt vs' e ≡ vertexOf (graphs (endAt ls e .home)) (endAt ls e .atom)
       counts-here e h m p =
           let b = same-block (endAt ls e .home) f (inside e h m .home) p in
           let w = rw b at (inside e h m .atom) in
-          ap countsOf (v .taken e h m p) ∙ rw (t, b, all-atoms _ _ (r .fine f l), row-at _ _ (r .fine f l) w, farthest-at _ _ (r .fine f l) w) (vertex-is _ _ (r .fine f l) (endAt ls e .atom))
+          ap countsOf (v .taken e h m p) ∙ rw (t, b, all-atoms _ _ (r .fine f l), table-row _ _ (r .fine f l) w, farthest-at _ _ (r .fine f l) w) (vertex-is _ _ (r .fine f l) (endAt ls e .atom))
 
       pub fill-one : Filled (f + 1) rs' vs' (set ns f x)
       fill-one = record {

@@ -6,9 +6,10 @@ use mathlib.Core.Path.{_≡_}
 use lib.Dec.{eqb}
 use lib.ListN.{length, getD}
 use Rattle.graph.specs.Graph.{Within}
+use Rattle.half.specs.Half.{halfAt, halfRow}
 use Rattle.block.specs.Block.{mostAtoms}
-use Rattle.block.specs.Sums.{entry, pairEntry, indicesBy, vertexBy}
-use Rattle.block.specs.Rows.{rowsOf, farOf}
+use Rattle.block.specs.Sums.{entry, indicesBy, vertexBy}
+use Rattle.block.specs.Rows.{tableOf, farOf}
 use Rattle.block.specs.declared.Indices.{Indices}
 use Rattle.assembly.specs.Placements.{mostPlacements}
 use Rattle.compose.specs.declared.ends.End.{End}
@@ -30,22 +31,19 @@ pub record Ranged (ls : List (List ℕ)) (count : ℕ) : Type 0 where
   pub home : (e : ℕ) → 2 ≤ e → e < 2 * count → endAt ls e .home < mostPlacements
   pub atom : (e : ℕ) → 2 ≤ e → e < 2 * count → Within mostAtoms (endAt ls e .atom)
 
--- what a table has for an atom, and what is counted from it
-abbrev pub rowIn : List (List ℕ) → ℕ → List ℕ
-rowIn table a = getD table (a - 1) []
+-- what is counted from an atom, by half of the distances
+abbrev pub countsIn : ℕ → List ℕ → List ℕ → ℕ → List ℕ
+countsIn n half far a = countRow (vertexBy (min n mostAtoms) (entry (halfRow half a)) (getD far (a - 1) 0))
 
-abbrev pub countsIn : ℕ → List (List ℕ) → List ℕ → ℕ → List ℕ
-countsIn n table far a = countRow (vertexBy (min n mostAtoms) (entry (rowIn table a)) (getD far (a - 1) 0))
-
--- the same of a block, and its six numbers
+-- the row of an atom of a block, what is counted from it, and the block's six numbers
 abbrev pub rowFrom : ℕ → List ℕ → ℕ → List ℕ
-rowFrom n xs = rowIn (rowsOf n xs)
+rowFrom n xs = halfRow (tableOf n xs)
 
 abbrev pub countsFrom : ℕ → List ℕ → ℕ → List ℕ
-countsFrom n xs = countsIn n (rowsOf n xs) (farOf n xs)
+countsFrom n xs = countsIn n (tableOf n xs) (farOf n xs)
 
 abbrev pub numbersFrom : ℕ → List ℕ → Indices
-numbersFrom n xs = indicesBy (min n mostAtoms) (pairEntry (rowsOf n xs)) (entry (farOf n xs))
+numbersFrom n xs = indicesBy (min n mostAtoms) (halfAt (tableOf n xs)) (entry (farOf n xs))
 
 -- the ends in the block that the placement at index f has first have what X says of their atoms, the others keep what they have
 pub record Copied (ls : List (List ℕ)) (count f : ℕ) (X : ℕ → List ℕ) (old new : List (List ℕ)) : Type 0 where

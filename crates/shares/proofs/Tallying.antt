@@ -17,8 +17,8 @@ use Rattle.paths.specs.Notions.{Gcd, Pair, lcmStarts}
 use Rattle.paths.specs.Lcm.{over-pos, lcm-cap, starts-pos, starts-all, starts-le}
 use Rattle.paths.specs.Steps.{count-pos}
 use Rattle.paths.specs.Backwards.{pair-pos}
+use Rattle.half.specs.Half.{halfRow}
 use Rattle.block.specs.Block.{mostAtoms}
-use Rattle.block.specs.Rows.{rowAt}
 use Rattle.block.specs.Sums.{entry}
 use Rattle.shares.specs.Work.{cap, full, at, Shows, Tops, Levels, Holds, graph, Start, Tally, Given}
 use Rattle.shares.proofs.Counting.{shown-at, row-below, by-distance}
@@ -59,7 +59,7 @@ module _ {n : ℕ} {f : ℕ → ℕ} {m : ℕ} {c : List ℕ} {before : ℕ} (t 
         ∙ rw (next, last)
 
 -- a start's arrays, of all
-module _ {n : ℕ} {bs : List Bond} {near : List ℕ} {rows : List (List ℕ)} {fars : List ℕ} (G : Given n bs near rows fars) (i : ℕ) (l : i < n) (row : List ℕ) (is : row ≡ rowAt rows (i + 1)) where
+module _ {n : ℕ} {bs : List Bond} {near : List ℕ} {half fars : List ℕ} (G : Given n bs near half fars) (i : ℕ) (l : i < n) (row : List ℕ) (is : row ≡ halfRow half (i + 1)) where
   first : Within n (i + 1)
   first = record { low = omega arith; high = omega arith }
 

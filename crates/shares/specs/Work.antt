@@ -10,9 +10,9 @@ use Rattle.graph.specs.Farthest.{farthest}
 use Rattle.graph.specs.Sets.{has}
 use Rattle.paths.specs.Paths.{pathCount, pathsUsing}
 use Rattle.paths.specs.Notions.{Plain, weight, gathered, lcmStarts}
+use Rattle.half.specs.Half.{halfRow}
 use Rattle.block.specs.Block.{mostAtoms, bondsOf, graphOf}
 use Rattle.block.specs.Numbered.{bondAt}
-use Rattle.block.specs.Rows.{rowAt}
 use Rattle.block.specs.Opened.{setOf}
 use Rattle.block.specs.Near.{around}
 use Rattle.shares.specs.Reply.{most}
@@ -79,12 +79,12 @@ pub record Start (n : ℕ) (bs : List Bond) (near row sets : List ℕ) (top i : 
   pub levels : Levels n (distance (graph n bs) i) sets top
   pub start : Within n i
 
--- the neighbours of a block, its rows, and the largest of each
-pub record Given (n : ℕ) (bs : List Bond) (near : List ℕ) (rows : List (List ℕ)) (fars : List ℕ) : Type 0 where
+-- the neighbours of a block, half of its distances, and the largest from each atom
+pub record Given (n : ℕ) (bs : List Bond) (near half fars : List ℕ) : Type 0 where
   pub small : n ≤ mostAtoms
   pub molecule : Molecule (graph n bs)
   pub beside : Near n (bonded (graph n bs)) near
-  pub far : (i : ℕ) → Within n i → Shows n (distance (graph n bs) i) (rowAt rows i)
+  pub far : (i : ℕ) → Within n i → Shows n (distance (graph n bs) i) (halfRow half i)
   pub largest : (i : ℕ) → Within n i → getD fars (i - 1) 0 ≡ farthest (graph n bs) i
 
 -- positive counts f and a positive number m, up to the cap

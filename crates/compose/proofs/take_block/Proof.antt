@@ -1,7 +1,7 @@
 -- `compose::take_block` meets its contract. Assumes nothing.
 use mathlib.Core.Path.{_∙_, ap}
 use borrow.Author.Needs.{needs}
-use Rattle.block.specs.Rows.{rowsOf, farOf}
+use Rattle.block.specs.Rows.{tableOf, farOf}
 use Rattle.compose.proofs.take_block.Statement.{statement}
 use Rattle.compose.proofs.take_block.Tie as tie
 
@@ -11,8 +11,8 @@ cast-n c = search needs
 bonds-part-requires : tie.Need-bonds-part-requires
 bonds-part-requires c κs = search needs
 
-rows-requires : tie.Need-rows-requires
-rows-requires c κs = search needs
+table-requires : tie.Need-table-requires
+table-requires c κs = search needs
 
 copy-ends-requires : tie.Need-copy-ends-requires
 copy-ends-requires c κs = search needs
@@ -34,12 +34,12 @@ returns : tie.Need-returns
 returns c =
     let o = c .before .before .before .before .before .before in
     let t = o .before .before .before .before .before in
-    let a = t .before .before .before .before .before .args in
-    let e = t .before .before .bonds-part .ensures .bytes in
-    let rows = t .rows .ensures .0 ∙ ap (rowsOf (a .b .atoms)) e in
-    let far = t .rows .ensures .1 ∙ ap (farOf (a .b .atoms)) e in
-    (c .number-row .ensures ∙ c .before .sums .ensures ∙ rw (rows, far), (rw (rows) at (o .copy-ends .ensures .0), rw (rows, far) at (o .copy-ends .ensures .1)))
+    let a = t .before .before .before .before .before .before .args in
+    let e = t .before .before .before .bonds-part .ensures .bytes in
+    let half = t .table .ensures .1 .0 ∙ ap (tableOf (a .b .atoms)) e in
+    let far = t .table .ensures .1 .1 ∙ ap (farOf (a .b .atoms)) e in
+    (c .number-row .ensures ∙ c .before .sums .ensures ∙ rw (half, far), (rw half at (o .copy-ends .ensures .0), rw (half, far) at (o .copy-ends .ensures .1)))
 
 pub take-block-spec : {M : Type 1} → statement M
 take-block-spec =
-    tie.close (tie.spec cast-n bonds-part-requires rows-requires copy-ends-requires sums-requires number-row-requires same-length same-length-2 returns)
+    tie.close (tie.spec cast-n bonds-part-requires table-requires copy-ends-requires sums-requires number-row-requires same-length same-length-2 returns)

@@ -1,24 +1,29 @@
 -- `compose::ends::copy_ends` meets its contract. The loop's invariant: the ends before e are copied, those of other blocks are kept. Assumes nothing.
-use Prim.Native.Nat.{ℕ, _-_, _/_, _≤_, _<_}
+use Prim.Native.Nat.{ℕ, _-_, _/_, _≤_, _<_, min}
+use mathlib.Core.List.{List}
 use mathlib.Core.Logic.{⊎-elim}
 use mathlib.Core.Path.{_≡_, sym, _∙_, ap}
 use native.Mathlib.Omega.{arith}
 use lib.Dec.{lit<}
+use lib.ListN.{getD}
 use Rattle.assembly.specs.Placements.{mostPlacements}
+use Rattle.half.specs.Half.{halfRow}
+use Rattle.block.specs.Block.{mostAtoms}
+use Rattle.block.specs.Sums.{entry, vertexBy}
 use Rattle.compose.specs.declared.ends.End.{End}
 use Rattle.compose.specs.Joints.{ends, link, countRow}
-use Rattle.compose.specs.Tables.{endAt, homeOf, rowIn, countsIn}
+use Rattle.compose.specs.Tables.{endAt, homeOf, countsIn}
 use Rattle.compose.proofs.Stored.{row-at}
 use Rattle.compose.proofs.Copying.{Copying, copy-start, copy-one, copy-none}
 use Rattle.compose.proofs.ends.copy_ends.Statement.{statement}
 use Rattle.compose.proofs.ends.copy_ends.Tie as tie
 
 abbrev Inv-loop : tie.InvT-loop
-Inv-loop table far atoms links count f rows₀ counts₀ n e₀ rows counts e =
-    (2 ≤ e) × Copying links f (rowIn table) rows₀ e rows × Copying links f (countsIn atoms table far) counts₀ e counts
+Inv-loop half far atoms links count f rows₀ counts₀ n e₀ rows counts e =
+    (2 ≤ e) × Copying links f (halfRow half) rows₀ e rows × Copying links f (countsIn atoms half far) counts₀ e counts
 
 abbrev μ-loop : tie.MeasureT-loop
-μ-loop table far atoms links count f rows₀ counts₀ n e₀ rows counts e = n - e
+μ-loop half far atoms links count f rows₀ counts₀ n e₀ rows counts e = n - e
 
 mul-n : tie.Need-mul-n Inv-loop μ-loop
 mul-n c = omega (arith, c .pre .0 .few)
@@ -54,41 +59,25 @@ index-1-if1 c = home-small c
 index-2-if1 : tie.Need-index-2-if1 Inv-loop μ-loop
 index-2-if1 c = lit< tt
 
--- its atom is one of a block
-atom-small : (c : tie.After-struct-known Inv-loop μ-loop) → (1 ≤ c .before .before .before .end-of .result .atom) × (c .before .before .before .end-of .result .atom ≤ 64)
+row-requires : tie.Need-row-requires Inv-loop μ-loop
+row-requires c κs = tt
+
+-- its atom is one of a block, and the end is one of all
+atom-small : (c : tie.After-row2 Inv-loop μ-loop) → (1 ≤ c .before .before .before .before .end-of .result .atom) × (c .before .before .before .before .end-of .result .atom ≤ 64)
 atom-small c =
-    let o = c .before .before .before in
+    let o = c .before .before .before .before in
     let s = o .before .before in
     let w = s .before .pre .0 .atom (s .loop .e) (s .loop .inv .0) (o .before .loop-test .taken) in
     (omega (arith, atom o), omega (arith, atom o))
 
-sub-a : tie.Need-sub-a Inv-loop μ-loop
-sub-a c = atom-small c .0
-
-mul-rows : tie.Need-mul-rows Inv-loop μ-loop
-mul-rows c = omega (arith, atom-small c)
-
-element-copy-out-rows : tie.Need-element-copy-out-rows Inv-loop μ-loop
-element-copy-out-rows c = omega (arith, atom-small c)
-
--- and the end is one of all
 end-small : (c : tie.In-loop Inv-loop μ-loop) → c .before .loop .e < ends
 end-small c = omega (arith, c .before .before .pre .0 .few, c .loop-test .taken)
 
-mul-t25 : tie.Need-mul-t25 Inv-loop μ-loop
-mul-t25 c = omega (arith, end-small (c .before .before .before .before .before))
-
-slice-set-from-rows : tie.Need-slice-set-from-rows Inv-loop μ-loop
-slice-set-from-rows c = let s = c .before .before .before .before .before in omega (arith, end-small s, s .before .loop .inv .1 .long)
-
-mul-around-row : tie.Need-mul-around-row Inv-loop μ-loop
-mul-around-row c = omega (arith, atom-small (c .before))
-
-index-1-around-row : tie.Need-index-1-around-row Inv-loop μ-loop
-index-1-around-row c = omega (arith, atom-small (c .before))
+sub-around-row : tie.Need-sub-around-row Inv-loop μ-loop
+sub-around-row c = atom-small c .0
 
 element-copy-out-around-row : tie.Need-element-copy-out-around-row Inv-loop μ-loop
-element-copy-out-around-row c = omega (arith, atom-small (c .before .before))
+element-copy-out-around-row c = omega (arith, atom-small c)
 
 around-row-requires : tie.Need-around-row-requires Inv-loop μ-loop
 around-row-requires c κs = tt
@@ -96,11 +85,17 @@ around-row-requires c κs = tt
 count-row-requires : tie.Need-count-row-requires Inv-loop μ-loop
 count-row-requires c κs = tt
 
-mul-t25-2 : tie.Need-mul-t25-2 Inv-loop μ-loop
-mul-t25-2 c = omega (arith, end-small (c .before .before .before .before .before .before .before .before .before))
+mul-t30 : tie.Need-mul-t30 Inv-loop μ-loop
+mul-t30 c = omega (arith, end-small (c .before .before .before .before .before .before .before .before))
 
 slice-set-from-counts : tie.Need-slice-set-from-counts Inv-loop μ-loop
-slice-set-from-counts c = let s = c .before .before .before .before .before .before .before .before .before in omega (arith, end-small s, s .before .loop .inv .2 .long)
+slice-set-from-counts c = let s = c .before .before .before .before .before .before .before .before in omega (arith, end-small s, s .before .loop .inv .2 .long)
+
+mul-t30-2 : tie.Need-mul-t30-2 Inv-loop μ-loop
+mul-t30-2 c = omega (arith, end-small (c .before .before .before .before .before .before .before .before))
+
+slice-set-from-rows : tie.Need-slice-set-from-rows Inv-loop μ-loop
+slice-set-from-rows c = let s = c .before .before .before .before .before .before .before .before in omega (arith, end-small s, s .before .loop .inv .1 .long)
 
 add-e : tie.Need-add-e Inv-loop μ-loop
 add-e c = omega arith
@@ -117,13 +112,15 @@ loop-again c =
     let at : link (a .links .now) (o .end-of .result .home) .block ≡ homeOf (a .links .now) e = ap (λ (h : ℕ). link (a .links .now) h .block) (home o) in (
       omega arith,
       ⊎-elim
-          (λ w. rw (w .7) (copy-one e (s .loop .inv .1) _ (end-small (o .before)) (sym at ∙ w .0 .taken) (ap (rowIn (a .table .now)) (atom o))))
+          (λ w. rw (w .6) (copy-one e (s .loop .inv .1) _ (end-small (o .before)) (sym at ∙ w .0 .taken) (w .1 .ensures ∙ ap (halfRow (a .half .now)) (atom o))))
           (λ w. rw (w .1) (copy-none e (s .loop .inv .1) (λ q. w .0 .left (at ∙ q))))
           (c .if1 .came),
       ⊎-elim
-          (λ w. rw (w .8)
+          (λ w. rw (w .7)
           (copy-one e (s .loop .inv .2) _ (end-small (o .before)) (sym at ∙ w .0 .taken)
-          (w .6 .ensures ∙ ap countRow (w .5 .ensures) ∙ ap (countsIn (a .atoms) (a .table .now) (a .far .now)) (atom o))))
+          (w .5 .ensures ∙ ap countRow (w .4 .ensures)
+          ∙ ap (λ (row : List ℕ). countRow (vertexBy (min (a .atoms) mostAtoms) (entry row) (getD (a .far .now) (o .end-of .result .atom - 1) 0))) (w .1 .ensures)
+          ∙ ap (countsIn (a .atoms) (a .half .now) (a .far .now)) (atom o))))
           (λ w. rw (w .2) (copy-none e (s .loop .inv .2) (λ q. w .0 .left (at ∙ q))))
           (c .if1 .came),
     )
@@ -154,18 +151,15 @@ copy-ends-spec =
     mul-if1
     index-1-if1
     index-2-if1
-    sub-a
-    mul-rows
-    element-copy-out-rows
-    mul-t25
-    slice-set-from-rows
-    mul-around-row
-    index-1-around-row
+    row-requires
+    sub-around-row
     element-copy-out-around-row
     around-row-requires
     count-row-requires
-    mul-t25-2
+    mul-t30
     slice-set-from-counts
+    mul-t30-2
+    slice-set-from-rows
     add-e
     loop-less
     loop-again
