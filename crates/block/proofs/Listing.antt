@@ -13,16 +13,11 @@ use lib.ListN.{length, getD, length-set}
 use lib.Pow.{pow-lt}
 use lib.Seq.{getD-set-same, getD-set-other}
 use Rattle.graph.specs.Graph.{Bond, bond, Within, anyJoins, degree}
-use Rattle.graph.specs.Bonds.{both, both-true, one-of, first-of, second-of, any-out, any-head, any-tail}
+use Rattle.graph.specs.Bonds.{both, both-true, one-of, first-of, second-of, same-test, any-out, any-head, any-tail}
 use Rattle.graph.specs.Sets.{has, alone, has-or, has-alone}
 use Rattle.block.specs.Block.{limit}
 use Rattle.block.specs.Near.{around, counted, putting, counting, Draws, Holds}
 use Rattle.block.specs.Faults.{Faultless}
-
-pub same-test : (p q : Bool) → (p ≡ true → q ≡ true) → (q ≡ true → p ≡ true) → p ≡ q
-same-test true q f g = sym (f refl)
-same-test false true f g = g refl
-same-test false false f g = refl
 
 -- how many bonds an atom has
 module _ {n : ℕ} {bs : List Bond} {near count : List ℕ} (H : Holds n bs near count) (u : ℕ) (w : Within n u) where

@@ -10,14 +10,14 @@ use lib.ListN.{length, getD, replicate}
 use lib.Pow.{pow-pos}
 use Rattle.graph.specs.Graph.{Bond, bond, Within, anyJoins, bonded, degree}
 use Rattle.graph.specs.Sets.{has, has-none}
-use Rattle.graph.specs.Bonds.{any-out, any-head, any-tail, any-none}
+use Rattle.graph.specs.Bonds.{same-test, any-out, any-head, any-tail, any-none}
 use Rattle.reply.specs.Read.{refused, read, _then_, refuseFor, refusal}
 use Rattle.block.specs.Block.{limit, mostAtoms, bondsOf, graphOf, bondFault, bondsReply}
 use Rattle.block.specs.Near.{counted, putting, counting, Draws, Holds, Shows}
 use Rattle.block.specs.Faults.{Faultless, faultless}
 use Rattle.block.specs.Numbered.{bondAt, rest, rest-cons, rest-none}
 use Rattle.block.specs.Lent.{zeros}
-use Rattle.block.proofs.Listing.{same-test, put-holds, room-one, room-two}
+use Rattle.block.proofs.Listing.{put-holds, room-one, room-two}
 
 -- the first k bonds, the last of them first
 unfoldable pub before : List ℕ → ℕ → List Bond

@@ -28,6 +28,12 @@ first-of a b p = ap (λ (t : Bool). t || b) p
 pub second-of : (a b : Bool) → b ≡ true → (a || b) ≡ true
 second-of a b q = ap (λ (t : Bool). a || t) q ∙ or-true a
 
+-- two tests of which each follows from the other
+pub same-test : (p q : Bool) → (p ≡ true → q ≡ true) → (q ≡ true → p ≡ true) → p ≡ q
+same-test true q f g = sym (f refl)
+same-test false true f g = g refl
+same-test false false f g = refl
+
 -- what a bond joins, as equations
 abbrev pub Joins : Bond → ℕ → ℕ → Type 0
 Joins b u v = ((b .one ≡ u) × (b .two ≡ v)) ⊎ ((b .one ≡ v) × (b .two ≡ u))
@@ -66,7 +72,7 @@ unfolding anyJoins
 any-none u v e = false≢true e
 
 -- a bond may be read from either end
-joins-sym : (b : Bond) (u v : ℕ) → joins b u v ≡ joins b v u
+pub joins-sym : (b : Bond) (u v : ℕ) → joins b u v ≡ joins b v u
 unfolding joins
 joins-sym b u v = or-comm (eqb (b .one) u && eqb (b .two) v) (eqb (b .one) v && eqb (b .two) u)
 

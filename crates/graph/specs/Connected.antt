@@ -14,7 +14,7 @@ use Rattle.graph.specs.Distance.{not-true, walk-of-distance, distance-be
 use Rattle.graph.specs.Sums.{wider, last}
 
 -- a test on all atoms, as facts
-all-out : (n : ℕ) (p : ℕ → Bool) → allAtoms n p ≡ true → (v : ℕ) → Within n v → p v ≡ true
+pub all-out : (n : ℕ) (p : ℕ → Bool) → allAtoms n p ≡ true → (v : ℕ) → Within n v → p v ≡ true
 unfolding allAtoms
 all-out zero p e v w = absurd (omega arith)
 all-out (suc n) p e v w =

@@ -1,5 +1,5 @@
--- Laws. Shortest paths read backwards: counts are the same both ways, and each count divides D. Assumes nothing.
-use Prim.Native.Nat.{ℕ, zero, suc, _<_, _∣_}
+-- Laws. Shortest paths read backwards: as many lead back, as many of them use a bond, and each count divides D. Assumes nothing.
+use Prim.Native.Nat.{ℕ, zero, suc, _+_, _<_, _∣_}
 use mathlib.Core.Bool.{Bool, true, false, cond}
 use mathlib.Core.List.{[], _∷_}
 use mathlib.Core.Logic.{_↔_}
@@ -9,18 +9,18 @@ use native.Mathlib.Omega.{arith}
 use borrow.Author.Tests.{ltb-true, ltb-false}
 use lib.Dec.{eqb, ltb}
 use lib.ListN.{length}
-use Rattle.graph.specs.Graph.{Graph, Within, Molecule, bonded, distance, sum}
-use Rattle.graph.specs.Bonds.{anyJoins-sym}
+use Rattle.graph.specs.Graph.{Graph, Bond, Within, Molecule, joins, bonded, distance, sum}
+use Rattle.graph.specs.Bonds.{joins-sym, anyJoins-sym}
 use Rattle.graph.specs.Distance.{distance-sym}
-use Rattle.graph.specs.Sums.{sum-cong, sum-swap, sum-pick}
-use Rattle.paths.specs.Paths.{walks, shortestPaths, pathCount, denominator}
+use Rattle.graph.specs.Sums.{sum-cong, sum-add, sum-swap, sum-pick}
+use Rattle.paths.specs.Paths.{walks, shortestPaths, uses, count, pathCount, pathsUsing, denominator}
 use Rattle.paths.specs.Notions.{Pair}
 use Rattle.paths.specs.Choices.{eqb-sym, cond-swap, cond-sum}
-use Rattle.paths.specs.Steps.{walks-length, count-self, count-pos}
+use Rattle.paths.specs.Steps.{walks-length, walks-suc, uses-suc, count-self, count-pos}
 use Rattle.paths.specs.Lcm.{pairs-dvd}
 
 -- how many ways lead from i to j in k steps along m
-power : ℕ → (ℕ → ℕ → Bool) → ℕ → ℕ → ℕ → ℕ
+unfoldable pub power : ℕ → (ℕ → ℕ → Bool) → ℕ → ℕ → ℕ → ℕ
 power n m zero i j = cond (eqb i j) 1 0
 power n m (suc k) i j = sum n (λ v. cond (m v j) (power n m k i v) 0)
 
@@ -38,13 +38,13 @@ module _ (n : ℕ) (m : ℕ → ℕ → Bool) where
       ∙ sum-swap n n (λ v u. cond (m v j) (cond (m i u) (power n m k u v) 0) 0)
       ∙ sum-cong n (λ u w. sum-cong n (λ v x. cond-swap (m v j) (m i u) (power n m k u v)) ∙ sym (cond-sum n (m i u) (λ v. cond (m v j) (power n m k u v) 0)))
 
-  power-sym : ((u v : ℕ) → m u v ≡ m v u) → (k i j : ℕ) → Within n i → Within n j → power n m k i j ≡ power n m k j i
+  pub power-sym : ((u v : ℕ) → m u v ≡ m v u) → (k i j : ℕ) → Within n i → Within n j → power n m k i j ≡ power n m k j i
   unfolding power
   power-sym s zero i j hi hj = ap {B = ℕ} (λ (t : Bool). cond t 1 0) (eqb-sym i j)
   power-sym s (suc k) i j hi hj =
       sum-cong n (λ v w. ap₂ (λ (t : Bool) (x : ℕ). cond t x 0) (s v j) (power-sym s k i v hi w)) ∙ sym (power-first k j i hj hi)
 
-walks-power : (g : Graph) (k i j : ℕ) → length (walks g k i j) ≡ power (g .atoms) (bonded g) k i j
+pub walks-power : (g : Graph) (k i j : ℕ) → length (walks g k i j) ≡ power (g .atoms) (bonded g) k i j
 unfolding walks power
 walks-power g zero i j = go (eqb i j)
   where
@@ -52,6 +52,31 @@ walks-power g zero i j = go (eqb i j)
     go true = refl
     go false = refl
 walks-power g (suc k) i j = walks-length g k i j ∙ sum-cong (g .atoms) (λ v w. ap (λ (x : ℕ). cond (bonded g v j) x 0) (walks-power g k i v))
+
+-- the bonds but e
+abbrev pub without : Graph → Bond → ℕ → ℕ → Bool
+without g e u v = cond (joins e u v) false (bonded g u v)
+
+-- the walks that use e, and those along the other bonds, are all
+pub uses-power : (g : Graph) (e : Bond) (k i j : ℕ) → count (uses e) (walks g k i j) + power (g .atoms) (without g e) k i j ≡ power (g .atoms) (bonded g) k i j
+unfolding power
+uses-power g e zero i j = unfold walks count uses in go (eqb i j)
+  where
+    go : (t : Bool) → count (uses e) (cond t ((j ∷ []) ∷ []) []) + cond t 1 0 ≡ cond t 1 0
+    go true = unfold count uses in refl
+    go false = unfold count in refl
+uses-power g e (suc k) i j =
+    ap (λ (x : ℕ). x + power (g .atoms) (without g e) (suc k) i j)
+    (walks-suc g k i j (uses e) ∙ sum-cong (g .atoms) (λ v w. ap (λ (x : ℕ). cond (bonded g v j) x 0) (uses-suc g e k i v j)))
+    ∙ sym (sum-add (g .atoms) (λ v. cond (bonded g v j) (cond (joins e v j) (length (walks g k i v)) (count (uses e) (walks g k i v))) 0)
+    (λ v. cond (without g e v j) (power (g .atoms) (without g e) k i v) 0))
+    ∙ sum-cong (g .atoms) (λ v w. step (bonded g v j) (joins e v j) _ _ _ _ (walks-power g k i v) (uses-power g e k i v))
+  where
+    step : (b t : Bool) (l u q p : ℕ) → l ≡ p → u + q ≡ p → cond b (cond t l u) 0 + cond (cond t false b) q 0 ≡ cond b p 0
+    step true true l u q p e f = omega arith
+    step true false l u q p e f = f
+    step false true l u q p e f = refl
+    step false false l u q p e f = refl
 
 module _ {g : Graph} (m : Molecule g) {i j : ℕ} (hi : Within (g .atoms) i) (hj : Within (g .atoms) j) where
   walks-sym : (k : ℕ) → length (walks g k i j) ≡ length (walks g k j i)
@@ -61,6 +86,24 @@ module _ {g : Graph} (m : Molecule g) {i j : ℕ} (hi : Within (g .atoms) i) (hj
   pub count-sym : pathCount g i j ≡ pathCount g j i
   unfolding pathCount shortestPaths
   count-sym = walks-sym (distance g i j) ∙ ap (λ (k : ℕ). length (walks g k j i)) (distance-sym m hi hj)
+
+  -- as many use a bond from i to j as back
+  pub using-sym : (e : Bond) → pathsUsing g e i j ≡ pathsUsing g e j i
+  unfolding pathsUsing shortestPaths bonded
+  using-sym e = at (distance g i j) ∙ ap (λ (k : ℕ). count (uses e) (walks g k j i)) (distance-sym m hi hj)
+    where
+      others : (u v : ℕ) → without g e u v ≡ without g e v u
+      others u v = ap₂ (λ (x y : Bool). cond x false y) (joins-sym e u v) (anyJoins-sym (g .bonds) u v)
+
+      at : (k : ℕ) → count (uses e) (walks g k i j) ≡ count (uses e) (walks g k j i)
+      at k =
+          omega (
+            arith,
+            uses-power g e k i j,
+            uses-power g e k j i,
+            power-sym (g .atoms) (bonded g) (anyJoins-sym (g .bonds)) k i j hi hj,
+            power-sym (g .atoms) (without g e) others k i j hi hj,
+          )
 
 module _ {g : Graph} (m : Molecule g) where
   pub pair-pos : (i j : ℕ) → Pair (g .atoms) i j → 0 < pathCount g i j

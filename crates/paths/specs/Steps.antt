@@ -96,7 +96,7 @@ walks-of-walk {g} {i} s (step {v = v} {w = j} {k = k} p b) =
     )
 
 -- whether e is used by a walk to v that goes on to j
-uses-suc : (g : Graph) (e : Bond) (k i v j : ℕ)
+pub uses-suc : (g : Graph) (e : Bond) (k i v j : ℕ)
     → count (λ p. uses e (j ∷ p)) (walks g k i v) ≡ cond (joins e v j) (length (walks g k i v)) (count (uses e) (walks g k i v))
 unfolding walks count uses
 uses-suc g e zero i v j = go (eqb i v) (joins e v j) refl

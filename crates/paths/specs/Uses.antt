@@ -19,7 +19,7 @@ use Rattle.paths.specs.Steps.{near-cong, near-none, count-step, using-st
 use Rattle.paths.specs.Backwards.{count-dvd}
 
 -- a bond that is not in the list again joins no pair that the list joins
-join-other : (bs : List Bond) (b : Bond) (u v : ℕ) → joins b u v ≡ true → anyJoins bs (b .one) (b .two) ≡ false → anyJoins bs u v ≡ false
+pub join-other : (bs : List Bond) (b : Bond) (u v : ℕ) → joins b u v ≡ true → anyJoins bs (b .one) (b .two) ≡ false → anyJoins bs u v ≡ false
 join-other bs b u v e d =
     ⊎-elim (λ w. ap₂ (anyJoins bs) (sym (w .0)) (sym (w .1)) ∙ d)
     (λ w. anyJoins-sym bs u v ∙ ap₂ (anyJoins bs) (sym (w .0)) (sym (w .1)) ∙ d) (joins-out b u v e)
