@@ -117,8 +117,8 @@ fn many_paths(random: &mut Random, atoms: usize) -> BlockPlan {
     }
 }
 
-/// Numbers the atoms anew, turns bonds round and lists them in another order.
-fn scramble(random: &mut Random, block: &mut BlockPlan) {
+/// Numbers the atoms anew, turns bonds round and lists them in another order. Says the new number of each atom.
+pub fn scramble(random: &mut Random, block: &mut BlockPlan) -> Vec<u8> {
     let mut names: Vec<u8> = (1..=block.atoms as u8).collect();
     random.shuffle(&mut names);
     for bond in &mut block.bonds {
@@ -126,4 +126,5 @@ fn scramble(random: &mut Random, block: &mut BlockPlan) {
         *bond = if random.once_in(2) { (u, v) } else { (v, u) };
     }
     random.shuffle(&mut block.bonds);
+    names
 }

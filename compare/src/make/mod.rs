@@ -8,5 +8,6 @@ pub mod molfiles;
 pub mod neighbours;
 pub mod plan;
 pub mod random;
+pub mod relisted;
 pub mod shapes;
 pub mod specimens;

@@ -14,6 +14,7 @@ mod molfiles;
 mod neighbours;
 mod programs;
 mod random;
+mod relisted;
 
 use checker::Checker;
 use std::path::PathBuf;
@@ -56,6 +57,7 @@ fn main() -> ExitCode {
     random::run(checker, options.seed, options.first, options.cases);
     molfiles::run(checker, options.seed, options.first, options.cases);
     neighbours::run(checker, options.seed, options.first, options.cases);
+    relisted::run(checker, options.seed, options.first, options.cases);
     if let Some(folder) = &options.programs {
         programs::run(checker, folder, options.seed);
     }
