@@ -16,11 +16,11 @@ use Rattle.block.specs.Block.{mostAtoms, mostBytes, limit, bondsOf, graphOf, bo
 use Rattle.records.specs.Records.{blockKind, assemblyKind, lengthAt, kindAt, endAt, wanted, payloadAt, kindReply, lengthReply, recordReply}
 use Rattle.records.specs.Taken.{taken}
 use Rattle.records.specs.declared.Kind.{Kind}
-use Rattle.assembly.specs.Book.{Book, used, bondBytes, bookOf}
+use Rattle.assembly.specs.Book.{Book, used, bondBytes, bookOf, mostBlocks}
 use Rattle.assembly.specs.Placements.{mostPlacements, placementCount, placementAt, isFull, firstFault, parentFault, joinFault, laterFault, fault, placedReply, assemblyReply}
 use Rattle.assembly.specs.declared.Placement.{Placement}
 use Rattle.assembly.specs.declared.BlockAt.{BlockAt}
-use Rattle.deck.specs.Deck.{longestDeck, mostBlocks, kindsAfter, sheetKinds, Deck, blockAt, moved, bondPlace, blockPlace, placementPlace, blockReplyAt, deckAt, ifElse, blocksFrom, blocksReply, assemblyReplyAt, endReply, sheetReply, deckReply}
+use Rattle.deck.specs.Deck.{longestDeck, kindsAfter, sheetKinds, Deck, blockAt, moved, bondPlace, blockPlace, placementPlace, blockReplyAt, deckAt, ifElse, blocksFrom, blocksReply, assemblyReplyAt, endReply, sheetReply, deckReply}
 use Rattle.deck.specs.Kept.{kept}
 use Rattle.deck.specs.declared.Form.{Form}
 use Rattle.deck.specs.declared.Form.the-variants.{Composed, Judged}
