@@ -64,7 +64,7 @@ fault-chain false false true s = omega arith
 fault-chain false false false true = omega arith
 fault-chain false false false false = omega arith
 
-bond-number : (n : ℕ) (before : List Bond) (b : Bond) → bondFault n before b ≤ mostNumber
+pub bond-number : (n : ℕ) (before : List Bond) (b : Bond) → bondFault n before b ≤ mostNumber
 unfolding bondFault
 bond-number n before b =
     fault-chain (isOutside n (b .one) || isOutside n (b .two)) (eqb (b .one) (b .two)) (anyJoins before (b .one) (b .two))

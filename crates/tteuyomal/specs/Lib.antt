@@ -16,3 +16,4 @@ pub mod Version
 pub mod Bounded
 pub mod Recovered
 pub mod Told
+pub mod ToldTexts
