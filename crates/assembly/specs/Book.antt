@@ -9,6 +9,10 @@ use Rattle.records.specs.Bytes.{part}
 use Rattle.records.specs.Records.{blockKind}
 use Rattle.assembly.specs.declared.BlockAt.{BlockAt}
 
+-- the most blocks of a deck
+abbrev pub mostBlocks : ℕ
+mostBlocks = 16
+
 pub record Book : Type 0 where
   pub has : ℕ → Bool
   pub graph : ℕ → Graph

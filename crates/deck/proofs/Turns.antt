@@ -16,9 +16,9 @@ use Rattle.reply.specs.declared.Refusal.{Refusal}
 use Rattle.records.specs.Bytes.{part}
 use Rattle.records.specs.Records.{blockKind, kindAt, endAt, kindReply, recordReply}
 use Rattle.records.specs.declared.Kind.{Kind}
-use Rattle.assembly.specs.Book.{noBlock, used, bondBytes}
+use Rattle.assembly.specs.Book.{noBlock, used, bondBytes, mostBlocks}
 use Rattle.assembly.specs.declared.BlockAt.{BlockAt}
-use Rattle.deck.specs.Deck.{mostBlocks, kindsAfter, blockAt, moved, blockPlace, blockReplyAt, deckAt, blocksFrom}
+use Rattle.deck.specs.Deck.{kindsAfter, blockAt, moved, blockPlace, blockReplyAt, deckAt, blocksFrom}
 use Rattle.deck.specs.Said.{tableOf, tabledDeck, movedReply, saidDeck}
 
 -- a kind that is named twice

@@ -13,16 +13,13 @@ use Rattle.records.specs.declared.Kind.{Kind}
 use Rattle.records.specs.declared.Sheet.the-variants.{Five, Six}
 use Rattle.records.specs.Records.{headBytes, blockKind, assemblyKind, sheetKind, kindAt, payloadAt, endAt, recordReply}
 use Rattle.assembly.specs.declared.BlockAt.{BlockAt}
-use Rattle.assembly.specs.Book.{used, find, bondBytes, bookOf}
+use Rattle.assembly.specs.Book.{used, find, bondBytes, bookOf, mostBlocks}
 use Rattle.assembly.specs.Placements.{placementCount, assemblyReply}
 use Rattle.deck.specs.declared.Form.{Form}
 use Rattle.deck.specs.declared.Form.the-variants.{Composed, Judged}
 
 abbrev pub longestDeck : ℕ
 longestDeck = 32768
-
-abbrev pub mostBlocks : ℕ
-mostBlocks = 16
 
 -- what stands where in a deck: its blocks, its assembly, how many placements that has, and the first byte after it
 pub record Deck : Type 0 where

@@ -13,9 +13,9 @@ use Rattle.block.specs.Index.{indicesOf}
 use Rattle.block.specs.declared.Indices.{Indices}
 use Rattle.records.specs.Bytes.{little}
 use Rattle.records.specs.Records.{kindReply, lengthReply, recordReply}
-use Rattle.assembly.specs.Book.{find, bookOf}
+use Rattle.assembly.specs.Book.{find, bookOf, mostBlocks}
 use Rattle.assembly.specs.Placements.{mostPlacements, placementAt, joinOf, joinEnds, joinsOn, bondsOn, firstFault, parentFault, joinFault, laterFault, fault, placedReply, assemblyReply}
-use Rattle.deck.specs.Deck.{longestDeck, mostBlocks, Deck, blockReplyAt, assemblyReplyAt, blocksFrom, blocksReply, endReply, sheetReply, deckReply, payload, blockSpan, blockPart}
+use Rattle.deck.specs.Deck.{longestDeck, Deck, blockReplyAt, assemblyReplyAt, blocksFrom, blocksReply, endReply, sheetReply, deckReply, payload, blockSpan, blockPart}
 use Rattle.deck.specs.Molecule.{placedIn, graphAt, joinAt, moleculeOf}
 use Rattle.deck.specs.declared.Form.{Form}
 use Rattle.deck.specs.declared.Form.the-variants.{Composed, Judged}

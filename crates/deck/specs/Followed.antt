@@ -19,10 +19,10 @@ use Rattle.records.specs.Taken.{taken, sheet-stands, sheet-wants, sheet-told}
 use Rattle.records.specs.Longer.{Counted, little-same, little-behind, part-same, kind-same, end-same, payload-same, record-same}
 use Rattle.records.specs.declared.Kind.{Kind}
 use Rattle.records.specs.declared.Sheet.{Sheet}
-use Rattle.assembly.specs.Book.{Book, find, used, bondBytes, bookOf}
+use Rattle.assembly.specs.Book.{Book, find, used, bondBytes, bookOf, mostBlocks}
 use Rattle.assembly.specs.Placements.{placementAt, joinOn, graphOn, assemblyReply}
 use Rattle.assembly.specs.declared.BlockAt.{BlockAt}
-use Rattle.deck.specs.Deck.{longestDeck, mostBlocks, kindsAfter, Deck, blockAt, moved, blockPlace, blockReplyAt, assemblyReplyAt, blocksFrom, blocksReply, endReply, sheetReply, deckReply}
+use Rattle.deck.specs.Deck.{longestDeck, kindsAfter, Deck, blockAt, moved, blockPlace, blockReplyAt, assemblyReplyAt, blocksFrom, blocksReply, endReply, sheetReply, deckReply}
 use Rattle.deck.specs.Kept.{Each, Standing, kept, chosen, fit, stands}
 use Rattle.deck.specs.Sound.{parts}
 use Rattle.deck.specs.Molecule.{placedIn, graphAt, joinAt, moleculeOf}

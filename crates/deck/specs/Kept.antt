@@ -15,9 +15,9 @@ use Rattle.reply.specs.declared.Refusal.{Refusal}
 use Rattle.records.specs.Records.{blockKind, lengthAt, kindAt, endAt, wanted, recordReply}
 use Rattle.records.specs.Taken.{taken, of-first, of-other, of-one}
 use Rattle.records.specs.declared.Kind.{Kind}
-use Rattle.assembly.specs.Book.{used, bondBytes}
+use Rattle.assembly.specs.Book.{used, bondBytes, mostBlocks}
 use Rattle.assembly.specs.declared.BlockAt.{BlockAt}
-use Rattle.deck.specs.Deck.{mostBlocks, kindsAfter, blockAt, moved, blockPlace, blockReplyAt, Deck, deckAt, ifElse, blocksFrom, blocksReply}
+use Rattle.deck.specs.Deck.{kindsAfter, blockAt, moved, blockPlace, blockReplyAt, Deck, deckAt, ifElse, blocksFrom, blocksReply}
 
 -- each block of a list
 unfoldable pub Each : (BlockAt → Type 0) → List BlockAt → Type 0

@@ -9,8 +9,8 @@ use Rattle.reply.specs.declared.Reply.the-variants.{Fine, Refused}
 use Rattle.records.specs.Records.{payloadAt, endAt}
 use Rattle.assembly.specs.Placements.{placementCount}
 use Rattle.assembly.specs.declared.BlockAt.{BlockAt}
-use Rattle.assembly.specs.Book.{noBlock}
-use Rattle.deck.specs.Deck.{Deck, mostBlocks}
+use Rattle.assembly.specs.Book.{noBlock, mostBlocks}
+use Rattle.deck.specs.Deck.{Deck}
 use Rattle.deck.specs.declared.Layout.{Layout}
 use Rattle.deck.specs.declared.DeckRead.{DeckRead}
 

@@ -23,10 +23,10 @@ use Rattle.records.specs.Records.{headBytes, blockKind, assemblyKind, lengthAt,
 use Rattle.records.specs.Bytes.{little, le16, part}
 use Rattle.records.specs.Taken.{of-first, of-one}
 use Rattle.records.specs.declared.Kind.{Kind}
-use Rattle.assembly.specs.Book.{bondBytes}
+use Rattle.assembly.specs.Book.{bondBytes, mostBlocks}
 use Rattle.assembly.specs.Placements.{mostPlacements, placementCount}
 use Rattle.assembly.specs.declared.BlockAt.{BlockAt}
-use Rattle.deck.specs.Deck.{mostBlocks, kindsAfter, Deck, blockAt, blockReplyAt, deckAt, blocksFrom, blocksReply, sheetReply, endReply, deckReply}
+use Rattle.deck.specs.Deck.{kindsAfter, Deck, blockAt, blockReplyAt, deckAt, blocksFrom, blocksReply, sheetReply, endReply, deckReply}
 use Rattle.deck.specs.Kept.{Standing, Fit, fit, stands, kept, chosen}
 use Rattle.deck.specs.Sound.{parts, whole}
 use Rattle.deck.specs.Molecule.{graphAt, joinAt, moleculeOf}

@@ -15,12 +15,12 @@ use Rattle.reply.specs.Chain.{then-read, if-read}
 use Rattle.block.specs.Block.{mostAtoms, limit}
 use Rattle.block.specs.Told as told
 use Rattle.records.specs.Records.{assemblyKind, payloadAt}
-use Rattle.assembly.specs.Book.{find, isNumbered, used, bookOf}
+use Rattle.assembly.specs.Book.{find, isNumbered, used, bookOf, mostBlocks}
 use Rattle.assembly.specs.Placements.{mostPlacements, placementCount, placementAt, joinOn, graphOn, bondsOn, assemblyReply}
 use Rattle.assembly.specs.Degrees.{degree-is}
 use Rattle.assembly.specs.Sound as assembly
 use Rattle.assembly.specs.declared.BlockAt.{BlockAt}
-use Rattle.deck.specs.Deck.{longestDeck, mostBlocks, Deck, placementPlace, blocksReply, assemblyReplyAt, sheetReply, deckReply}
+use Rattle.deck.specs.Deck.{longestDeck, Deck, placementPlace, blocksReply, assemblyReplyAt, sheetReply, deckReply}
 use Rattle.deck.specs.Kept.{Each, Standing, kept, unmoved}
 use Rattle.deck.specs.Molecule.{placedIn, graphAt, joinAt, moleculeOf}
 use Rattle.deck.specs.declared.Form.{Form}

@@ -9,7 +9,7 @@ use lib.ListN.{length, length-append}
 use lib.Dec.{T, ltb, ltb→lt, nltb→le, lit<, lit≤}
 use borrow.Author.Tests.{lt-ltb}
 use Rattle.io.specs.Digits.{digits, glyph, Fewest}
-use Rattle.line.specs.Text.{decimalIn, decimal, mostDigits}
+use Rattle.text.specs.Text.{decimalIn, decimal, mostDigits}
 
 digit : (d : ℕ) → d < 10 → glyph d ≡ 48 + d
 digit d h = ap (λ (b : Bool). cond b (48 + d) (87 + d)) (lt-ltb d 10 h)

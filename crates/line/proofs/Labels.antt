@@ -8,18 +8,19 @@ use lib.Seq.{paste, length-take-le}
 use borrow.Author.Tests.{le-leb, lt-leb}
 use Rattle.io.specs.Counts.{Counts}
 use Rattle.line.specs.Label.{colon, labelEnd, hasRoom, labelReply, labelled}
-use Rattle.line.specs.Put.{Pasted, Put}
-use Rattle.line.proofs.Lines.{paste-twice}
+use Rattle.text.specs.Put.{Puts}
+use Rattle.line.specs.Put.{Pasted}
+use Rattle.line.proofs.Lines.{pasted, paste-twice}
 
 abbrev Promise : List ℕ → ℕ → List ℕ → List ℕ → ℕ → Type 0
 Promise out n words after r = (r ≡ labelReply out n words) × ((after ≡ labelled out n words) × Counts r after)
 
 pub label-put : (out : List ℕ) (n : ℕ) (words middle after : List ℕ) (at r : ℕ) → labelEnd n words ≤ length out → length middle ≡ length out → length after ≡ length out
-    → Put out n colon middle at → Put middle at words after r → Promise out n words after r
+    → Puts out n colon middle at → Puts middle at words after r → Promise out n words after r
 unfolding hasRoom
 label-put out n words middle after at r room same same' first second =
-    let p : Pasted out n colon middle at = first (omega arith) in
-    let q : Pasted middle at words after r = second (omega (arith, p .end)) in
+    let p : Pasted out n colon middle at = pasted first (omega arith) in
+    let q : Pasted middle at words after r = pasted second (omega (arith, p .end)) in
     let end : r ≡ labelEnd n words = omega (arith, p .end, q .end) in
     let text : after ≡ take n out ++ (colon ++ words) ++ drop (labelEnd n words) out =
     q .text ∙ ap₂ (λ (d : List ℕ) (k : ℕ). paste d k words (length words)) (p .text) (p .end) ∙ paste-twice out colon words n (omega arith) in

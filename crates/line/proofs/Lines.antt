@@ -4,11 +4,12 @@ use mathlib.Core.Path.{_≡_, sym, ap, ap₂, _∙_}
 use mathlib.Core.List.{List, [], _++_, append-assoc}
 use native.Mathlib.Omega.{arith}
 use lib.ListN.{length, take, drop, length-append, length-replicate, replicate-append-replicate}
-use lib.Seq.{paste, take-paste, drop-paste, take-length, take-append-seam, drop-append-add, drop-drop, drop-at}
+use lib.Seq.{sets-eq, paste, take-paste, drop-paste, take-length, take-append-seam, drop-append-add, drop-drop, drop-at}
 use Rattle.io.specs.Counts.{Counts}
 use Rattle.line.specs.declared.Line.{Line}
 use Rattle.line.specs.Text.{longest, zeros, padded, lined}
-use Rattle.line.specs.Put.{Pasted, Put, Adds}
+use Rattle.text.specs.Put.{Puts}
+use Rattle.line.specs.Put.{Pasted, Adds}
 
 drop-zeros : (k n : ℕ) → k ≤ n → drop k (zeros n) ≡ zeros (n - k)
 drop-zeros k n h =
@@ -30,11 +31,18 @@ pub length-padded : (t : List ℕ) → length t ≤ longest → length (padded t
 unfolding padded
 length-padded t h = simp (length-append, length-replicate) (omega arith)
 
+-- a word that there is room for is put whole
+pub pasted : {before word after : List ℕ} {at r : ℕ} → Puts before at word after r → at + length word ≤ length before → Pasted before at word after r
+pasted {before} {word} {after} {at} p room = record {
+  end = omega (arith, p .end);
+  text = p .bytes ∙ sets-eq word before at room ∙ ap (λ (w : List ℕ). take at before ++ w ++ drop (at + length word) before) (sym (take-length word));
+}
+
 -- a word put behind a line's text is added to the line
-pub adds : (line : Line) (word after : List ℕ) (r : ℕ) → Put (line .text) (line .len) word after r → Adds line word (record { text = after; len = r })
+pub adds : (line : Line) (word after : List ℕ) (r : ℕ) → Puts (line .text) (line .len) word after r → Adds line word (record { text = after; len = r })
 adds line word after r put t is room =
     let whole : length (t ++ word) ≡ length t + length word = length-append t word in
-    let p : Pasted (padded t) (length t) word after r = rw is at put (omega (arith, length-padded t (omega arith))) in
+    let p : Pasted (padded t) (length t) word after r = pasted (rw is at put) (omega (arith, length-padded t (omega arith))) in
     ap₂ (λ (b : List ℕ) (k : ℕ). record { text = b; len = k }) (p .text ∙ paste-padded t word room) (p .end ∙ sym whole)
 
 -- one word after the other

@@ -4,7 +4,7 @@ use mathlib.Core.Bool.{Bool, cond}
 use mathlib.Core.List.{List, _++_}
 use lib.Dec.{leb}
 use lib.ListN.{length, take, drop}
-use Rattle.line.specs.Text.{ascii}
+use Rattle.text.specs.Text.{ascii}
 
 abbrev pub colon : List ℕ
 colon = ascii ": "

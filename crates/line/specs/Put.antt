@@ -1,4 +1,4 @@
--- Work. What the functions that put words into a line do.
+-- Work. A word behind the others of a line.
 use Prim.Native.Nat.{ℕ, _+_, _≤_}
 use mathlib.Core.Path.{_≡_}
 use mathlib.Core.List.{List, _++_}
@@ -11,9 +11,6 @@ use Rattle.line.specs.Text.{longest, lined}
 pub record Pasted (before : List ℕ) (at : ℕ) (word after : List ℕ) (r : ℕ) : Type 0 where
   pub end : r ≡ at + length word
   pub text : after ≡ paste before at word (length word)
-
-abbrev pub Put : List ℕ → ℕ → List ℕ → List ℕ → ℕ → Type 0
-Put before at word after r = at + length word ≤ length before → Pasted before at word after r
 
 -- a word added to a line, where there is room for it
 abbrev pub Adds : Line → List ℕ → Line → Type 0

@@ -1,11 +1,7 @@
 -- Definitions. The line that is printed for a reply, byte by byte: docs/RULES.md, "Numbers to check against".
-use Prim.Native.Nat.{ℕ, zero, suc, _+_, _*_, _-_, _/_, _%_}
-use Prim.Native.Char.{code}
+use Prim.Native.Nat.{ℕ, _+_, _*_, _-_}
 use Prim.Native.String.{String}
-use Prim.Native.String as S
-use mathlib.Core.Bool.{true, false}
-use mathlib.Core.List.{List, [], _∷_, _++_}
-use lib.Dec.{ltb}
+use mathlib.Core.List.{List, _++_}
 use lib.ListN.{length, replicate}
 use Rattle.reply.specs.declared.Refusal.{Refusal}
 use Rattle.block.specs.declared.Indices.{Indices}
@@ -18,24 +14,8 @@ use Rattle.compose.specs.Fields.{fieldsReply}
 use Rattle.molecule.specs.Molecule.{judgeReply, saidVerdict}
 use Rattle.molecule.specs.declared.Verdict.{Verdict}
 use Rattle.molecule.specs.declared.Verdict.the-variants as verdict
+use Rattle.text.specs.Text.{ascii, mostDigits, decimal}
 use Rattle.line.specs.declared.Line.{Line}
-
--- the bytes of a text in ASCII
-abbrev pub ascii : String → List ℕ
-ascii S.[] = []
-ascii (S._∷_ c s) = code c ∷ ascii s
-
--- the decimal digits of a number that has at most f + 1 of them, with no leading zero
-unfoldable pub decimalIn : ℕ → ℕ → List ℕ
-decimalIn zero n = (48 + n) ∷ []
-decimalIn (suc f) n = elim (ltb n 10) [ true ↦ (48 + n) ∷ [] | false ↦ decimalIn f (n / 10) ++ ((48 + n % 10) ∷ []) ]
-
--- of a number of 64 bits, which has at most 20
-abbrev pub mostDigits : ℕ
-mostDigits = 20
-
-unfoldable pub decimal : ℕ → List ℕ
-decimal n = decimalIn (mostDigits - 1) n
 
 -- a word, then a number
 abbrev pub named : String → ℕ → List ℕ

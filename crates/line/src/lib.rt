@@ -4,14 +4,16 @@ ghost use mathlib.Core.List.{[], _++_};
 ghost use Prim.Native.Nat.{_+_};
 ghost use lib.Dec.{leb};
 ghost use Rattle.io.specs.Counts.{Counts};
-ghost use Rattle.line.specs.Text.{decimal, indicesText, refusalText, measuredText, differsText, verdictText, deckText, unreadText, longerText, lined};
+ghost use Rattle.text.specs.Text.{decimal};
+ghost use Rattle.line.specs.Text.{indicesText, refusalText, measuredText, differsText, verdictText, deckText, unreadText, longerText, lined};
 ghost use Rattle.line.specs.Label.{labelReply, labelled};
-ghost use Rattle.line.specs.Put.{Put, Adds};
+ghost use Rattle.line.specs.Put.{Adds};
 use block::Indices;
 use block::Measured;
 use deck::Form;
 use molecule::Verdict;
 use reply::Refusal;
+use text::put;
 
 // The digits of the largest number, and the bytes of the longest line.
 const DIGITS: usize = 20;
@@ -22,20 +24,6 @@ pub const LONGEST: usize = 31 + 5 * DIGITS;
 pub struct Line {
     pub text: [u8; LONGEST],
     pub len: usize,
-}
-
-// Puts as much of a word into out, from index `at` on, as there is room for, and answers the index past it.
-fn put(out: &mut [u8], at: usize, word: &[u8]) -> usize
-    ensures { λ r. ⌜ Put (now (out .entry)) at (now (word .entry)) (now (out .exit)) r ⌝ }
-{
-    let mut k = at;
-    let mut i = 0;
-    while i < word.len() && k < out.len() {
-        out[k] = word[i];
-        k += 1;
-        i += 1;
-    }
-    k
 }
 
 fn empty() -> Line

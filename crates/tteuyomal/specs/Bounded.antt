@@ -16,11 +16,11 @@ use Rattle.block.specs.Block.{mostAtoms, mostBytes, limit, bondsOf, graphOf, bo
 use Rattle.records.specs.Records.{blockKind, assemblyKind, lengthAt, kindAt, endAt, wanted, payloadAt, kindReply, lengthReply, recordReply}
 use Rattle.records.specs.Taken.{taken}
 use Rattle.records.specs.declared.Kind.{Kind}
-use Rattle.assembly.specs.Book.{Book, used, bondBytes, bookOf}
+use Rattle.assembly.specs.Book.{Book, used, bondBytes, bookOf, mostBlocks}
 use Rattle.assembly.specs.Placements.{mostPlacements, placementCount, placementAt, isFull, firstFault, parentFault, joinFault, laterFault, fault, placedReply, assemblyReply}
 use Rattle.assembly.specs.declared.Placement.{Placement}
 use Rattle.assembly.specs.declared.BlockAt.{BlockAt}
-use Rattle.deck.specs.Deck.{longestDeck, mostBlocks, kindsAfter, sheetKinds, Deck, blockAt, moved, bondPlace, blockPlace, placementPlace, blockReplyAt, deckAt, ifElse, blocksFrom, blocksReply, assemblyReplyAt, endReply, sheetReply, deckReply}
+use Rattle.deck.specs.Deck.{longestDeck, kindsAfter, sheetKinds, Deck, blockAt, moved, bondPlace, blockPlace, placementPlace, blockReplyAt, deckAt, ifElse, blocksFrom, blocksReply, assemblyReplyAt, endReply, sheetReply, deckReply}
 use Rattle.deck.specs.Kept.{kept}
 use Rattle.deck.specs.declared.Form.{Form}
 use Rattle.deck.specs.declared.Form.the-variants.{Composed, Judged}
@@ -64,7 +64,7 @@ fault-chain false false true s = omega arith
 fault-chain false false false true = omega arith
 fault-chain false false false false = omega arith
 
-bond-number : (n : ℕ) (before : List Bond) (b : Bond) → bondFault n before b ≤ mostNumber
+pub bond-number : (n : ℕ) (before : List Bond) (b : Bond) → bondFault n before b ≤ mostNumber
 unfolding bondFault
 bond-number n before b =
     fault-chain (isOutside n (b .one) || isOutside n (b .two)) (eqb (b .one) (b .two)) (anyJoins before (b .one) (b .two))

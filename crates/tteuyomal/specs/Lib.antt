@@ -17,3 +17,4 @@ pub mod Version
 pub mod Bounded
 pub mod Recovered
 pub mod Told
+pub mod ToldTexts

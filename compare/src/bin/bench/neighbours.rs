@@ -92,7 +92,7 @@ fn text_of(block: &BlockPlan) -> Vec<u8> {
 /// Rows of the table beside plain code, each with the goal of a reader within 2 times.
 pub fn times() {
     let (mut bonds, mut counts) = ([0; 512], [0; 2]);
-    for block in [NAPHTHALENE.block(), shapes::path(64), shapes::double_ring(64)] {
+    for block in [shapes::ring(6), NAPHTHALENE.block(), shapes::path(64), shapes::double_ring(64)] {
         let text = text_of(&block);
         let mut plain = Plain::default();
         assert_eq!(archive::read_neighbours(&text, &mut bonds, &mut counts), 0);

@@ -4,18 +4,18 @@ use mathlib.Core.Path.{_≡_, refl, sym, _∙_}
 use native.Mathlib.Omega.{arith}
 use lib.ListN.{length, take, drop, length-take}
 use borrow.Author.Needs.{needs}
-use Rattle.assembly.specs.Book.{find}
+use Rattle.assembly.specs.Book.{mostBlocks, find}
 use Rattle.assembly.proofs.Walks.{find-over, find-here, find-next}
 use Rattle.assembly.proofs.find_block.Statement.{statement}
 use Rattle.assembly.proofs.find_block.Tie as tie
 
 abbrev Inv-loop : tie.InvT-loop
-Inv-loop count number blocks i₀ i = (i ≤ 16) × (find (take count blocks) number ≡ find (drop i (take count blocks)) number)
+Inv-loop count number blocks i₀ i = (i ≤ mostBlocks) × (find (take count blocks) number ≡ find (drop i (take count blocks)) number)
 
 abbrev μ-loop : tie.MeasureT-loop
-μ-loop count number blocks i₀ i = 16 - i
+μ-loop count number blocks i₀ i = mostBlocks - i
 
-table : (s : tie.Start Inv-loop μ-loop) → length (s .args .t1) ≡ 16
+table : (s : tie.Start Inv-loop μ-loop) → length (s .args .t1) ≡ mostBlocks
 table s = search needs
 
 more : (c : tie.Else1 Inv-loop μ-loop) → let l = c .before .before in let a = l .before .args in l .loop .i < length (take (a .count) (a .t1))

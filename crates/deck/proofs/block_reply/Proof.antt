@@ -11,9 +11,9 @@ use Rattle.reply.specs.Read.{refusal, saidReply}
 use Rattle.reply.specs.Chain.{refused-read}
 use Rattle.reply.specs.declared.Reply.the-variants.{Refused}
 use Rattle.block.specs.Block.{blockReply}
-use Rattle.assembly.specs.Book.{used, bondBytes}
+use Rattle.assembly.specs.Book.{used, bondBytes, mostBlocks}
 use Rattle.assembly.specs.declared.BlockAt.{BlockAt}
-use Rattle.deck.specs.Deck.{mostBlocks, blockAt, moved, blockPlace, blockReplyAt}
+use Rattle.deck.specs.Deck.{blockAt, moved, blockPlace, blockReplyAt}
 use Rattle.deck.specs.Said.{movedReply}
 use Rattle.deck.proofs.Turns.{unfit, number-unfit, number-fit, moved-said, place-low}
 use Rattle.deck.proofs.block_reply.Statement.{statement}

@@ -13,9 +13,9 @@ use Rattle.reply.specs.Chain.{fine-read, refused-read}
 use Rattle.records.specs.Records.{blockKind, kindAt, endAt, recordReply}
 use Rattle.records.specs.Taken.{taken}
 use Rattle.records.specs.declared.Kind.{Kind}
-use Rattle.assembly.specs.Book.{noBlock}
+use Rattle.assembly.specs.Book.{noBlock, mostBlocks}
 use Rattle.assembly.specs.declared.BlockAt.{BlockAt}
-use Rattle.deck.specs.Deck.{mostBlocks, kindsAfter, blockReplyAt, blocksFrom, blocksReply}
+use Rattle.deck.specs.Deck.{kindsAfter, blockReplyAt, blocksFrom, blocksReply}
 use Rattle.deck.specs.Said.{refusedDeck, saidDeck}
 use Rattle.deck.specs.Kept.{fit}
 use Rattle.deck.proofs.Turns.{second, no-record, no-block, bad-block, one-block, said, table-is, table-grows, table-next}

@@ -4,7 +4,7 @@ use Prim.Native.Nat.{ℕ}
 use mathlib.Core.Path.{_≡_, _∙_, subst}
 use mathlib.Core.List.{List}
 use lib.ListN.{take}
-use Rattle.line.specs.Text.{decimal}
+use Rattle.text.specs.Text.{decimal}
 use Rattle.line.specs.Put.{Adds}
 use Rattle.line.proofs.Decimal.{digits-are}
 use Rattle.line.proofs.Line.digits.Statement.{statement}
