@@ -1,4 +1,4 @@
--- Laws. The joined rings of the rules by tables and by what is kept of them, computed; and tables that no molecule has. Assumes nothing.
+-- Work. The joined rings of the rules by tables and by what is kept of them, computed; and tables that no molecule has.
 use Prim.Native.Nat.{ℕ}
 use mathlib.Core.Path.{_≡_, refl}
 use mathlib.Core.Bool.{cond}
