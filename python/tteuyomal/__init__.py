@@ -26,7 +26,7 @@ from .decks import (
 from .library import NotThere, Refused
 from .library import version as library_version
 
-__version__ = "1.0.0"
+__version__ = "2.0.0"
 
 __all__ = [
     "Block",
