@@ -14,7 +14,7 @@ use Rattle.reply.specs.Read.{read, _then_, refuseIf}
 use Rattle.reply.specs.Chain.{not-read, then-read, if-read}
 use Rattle.block.specs.Block.{graphOf, blockReply}
 use Rattle.records.specs.Bytes.{le16}
-use Rattle.records.specs.Records.{headBytes, blockKind, assemblyKind, sheetKind, lengthAt, kindAt, endAt, payloadAt, wanted, kindReply, lengthReply, recordReply}
+use Rattle.records.specs.Records.{headBytes, blockKind, assemblyKind, sheetKind, lengthAt, kindAt, endAt, payloadAt, wanted, kindReply, isWrong, lengthReply, recordReply}
 use Rattle.records.specs.Taken.{taken}
 use Rattle.records.specs.Longer.{Counted, little-same, little-behind, part-same, kind-same, end-same, payload-same, record-same}
 use Rattle.records.specs.declared.Kind.{Kind}
@@ -29,15 +29,15 @@ use Rattle.deck.specs.declared.Form.the-variants.{Composed, Judged}
 
 module _ (d s : List ℕ) where
   -- a block that stands in the deck
-  bonds-same : (b : BlockAt) → b .start + blockKind .fixed + blockKind .item * b .bonds ≤ length d → bondBytes (d ++ s) b ≡ bondBytes d b
+  pub bonds-same : (b : BlockAt) → b .start + blockKind .fixed + blockKind .item * b .bonds ≤ length d → bondBytes (d ++ s) b ≡ bondBytes d b
   bonds-same b h = part-same d s (b .start + blockKind .fixed) (blockKind .item * b .bonds) h
 
-  block-same : (at : ℕ) → at + headBytes + blockKind .fixed ≤ length d → blockAt (d ++ s) at ≡ blockAt d at
+  pub block-same : (at : ℕ) → at + headBytes + blockKind .fixed ≤ length d → blockAt (d ++ s) at ≡ blockAt d at
   block-same at h =
       let start = at + headBytes in
       rw (little-same d s 2 start (omega arith), little-same d s 2 (start + 2) (omega arith), little-same d s 2 (start + blockKind .count) (omega arith))
 
-  reply-same : (at : ℕ) (done : List BlockAt) → Standing d (blockAt d at) → blockReplyAt (d ++ s) at done ≡ blockReplyAt d at done
+  pub reply-same : (at : ℕ) (done : List BlockAt) → Standing d (blockAt d at) → blockReplyAt (d ++ s) at done ≡ blockReplyAt d at done
   unfolding blockReplyAt
   reply-same at done t =
       let e = block-same at (omega (arith, t .within)) in
@@ -74,7 +74,7 @@ module _ (d s : List ℕ) where
       go true more = bonds-same b (t .0 .within)
       go false more = more
 
-  book-same : (bs : List BlockAt) → Each (Standing d) bs → bookOf (d ++ s) bs ≡ bookOf d bs
+  pub book-same : (bs : List BlockAt) → Each (Standing d) bs → bookOf (d ++ s) bs ≡ bookOf d bs
   unfolding bookOf
   book-same bs t = λ i. record { has = used bs; graph = λ x. graphOf (find bs x .atoms) (found-same bs x t i) }
 
@@ -85,7 +85,7 @@ pub record IsSheet (s : List ℕ) : Type 0 where
   pub kind : le16 s 2 ≡ sheetKind .number
 
 sheet-behind : (d s : List ℕ) → IsSheet s → sheetReply Judged (d ++ s) (length d) ≡ read tt
-unfolding sheetReply recordReply kindReply lengthReply endReply
+unfolding sheetReply recordReply kindReply isWrong lengthReply endReply
 sheet-behind d s i =
     let z : length d + 0 ≡ length d = omega arith in
     let n : lengthAt (d ++ s) (length d) ≡ sheetKind .fixed = ap (le16 (d ++ s)) (sym z) ∙ little-behind d s 2 0 ∙ i .payload in
