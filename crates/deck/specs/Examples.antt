@@ -5,6 +5,7 @@ use mathlib.Core.List.{List, [], _∷_, _++_, map}
 use lib.ListN.{length, replicate}
 use borrow.Author.Tests.{lt-ltb}
 use Rattle.graph.specs.Graph.{joins, anyJoins, bonded, anyAtom, reaches, firstFrom, distance, allAtoms, connected, degree, sum, sumPairs, evenOf, oddOf, isAt, total}
+use Rattle.graph.specs.Farthest.{most, mostPairs, largest}
 use Rattle.graph.specs.Assembly.{shifted, joined, startAt, written}
 use Rattle.reply.specs.Read.{Read, refused, read, refusal, _then_}
 use Rattle.block.specs.Block.{mostAtoms, limit, mostBytes, bondsOf, bondFault, bondsReply, blockReply}
@@ -73,8 +74,8 @@ told form d = said (deckReply form d)
 indicesFor : List ℕ → Read Deck → Read Indices
 indicesFor d r = r then λ k. read (indicesOf (moleculeOf d k))
 
-written-out : indicesFor document (deckReply Composed document) ≡ read (record { atoms = 12; w = 198; even = 96; odd = 102; polarity = 14 })
-unfolding indicesFor document joins anyJoins bonded anyAtom reaches firstFrom distance allAtoms connected degree sum bondsOf bondFault bondsReply blockReply little kindReply isWrong lengthReply recordReply find bookOf placementAt joinOf joinEnds joinsOn bondsOn firstFault parentFault joinFault laterFault fault placedReply assemblyReply blockReplyAt assemblyReplyAt blocksFrom blocksReply endReply sheetReply deckReply shifted joined startAt written sumPairs evenOf oddOf isAt total indicesOf placedIn graphAt joinAt moleculeOf
+written-out : indicesFor document (deckReply Composed document) ≡ read (record { atoms = 12; w = 198; even = 96; odd = 102; polarity = 14; largest = 7 })
+unfolding indicesFor document joins anyJoins bonded anyAtom reaches firstFrom distance allAtoms connected degree sum bondsOf bondFault bondsReply blockReply little kindReply isWrong lengthReply recordReply find bookOf placementAt joinOf joinEnds joinsOn bondsOn firstFault parentFault joinFault laterFault fault placedReply assemblyReply blockReplyAt assemblyReplyAt blocksFrom blocksReply endReply sheetReply deckReply shifted joined startAt written sumPairs evenOf oddOf isAt total most mostPairs largest indicesOf placedIn graphAt joinAt moleculeOf
 written-out = refl
 
 same-bytes : document ≡ ring ++ assembly 2 (first ++ joinTo 1 1 1)

@@ -1,0 +1,73 @@
+// A product joined arm by arm to the core.
+use super::kept::Arm;
+use super::kept::Core;
+use super::kept::Distances;
+use super::kept::Seen;
+use block::Indices;
+use block::Vertex;
+use joining::grown;
+use joining::joined;
+use products::SITES;
+use products::Site;
+ghost use mathlib.Core.Path.{_≡_};
+ghost use Prim.Native.Nat.{ℕ, _≤_, _<_};
+ghost use lib.ListN.{getD};
+ghost use Rattle.products.specs.Library.{mostSites};
+ghost use Rattle.products.specs.Products.{choiceAt};
+ghost use Rattle.catalogue.specs.Said.{noSite};
+ghost use Rattle.catalogue.specs.Table.{sitesIn};
+ghost use Rattle.library.specs.Kept.{growAll, stemOf, choiceIn};
+
+// The fields of the core with some arms joined to it, and what is then counted from each site's atom.
+pub(crate) struct Stem {
+    pub(crate) six: Indices,
+    pub(crate) seen: Seen,
+}
+
+// What each site's atom counts once an arm is joined, o being counted from the arm's end, and `row` leading to where it is joined.
+fn grow_all(seen: Seen, row: Distances, o: Vertex) -> Seen
+    ensures { λ r. ⌜ r ≡ growAll seen row o ⌝ }
+{
+    let v0 = grown(seen[0], row[0], o);
+    let v1 = grown(seen[1], row[1], o);
+    let v2 = grown(seen[2], row[2], o);
+    let v3 = grown(seen[3], row[3], o);
+    [v0, v1, v2, v3]
+}
+
+// The core with the first m arms.
+pub(crate) fn stem(core: &Core, arms: &[Arm; SITES], m: usize) -> Stem
+    requires { ⌜ m ≤ mostSites ⌝ }
+    ensures { λ r. ⌜ r ≡ stemOf (now (core .entry)) (now (arms .entry)) m ⌝ }
+{
+    let mut six = core.six;
+    let mut seen = core.seen;
+    let mut k = 0;
+    while k < m {
+        let arm = arms[k];
+        let fields = joined(six, arm.six, seen[k], arm.end);
+        let next = grow_all(seen, core.apart[k], arm.end);
+        six = fields;
+        seen = next;
+        k += 1;
+    }
+    Stem { six, seen }
+}
+
+// The choice at a position: for each of the first n sites the index of a candidate.
+pub(crate) fn choose(sites: [Site; SITES], n: usize, position: usize) -> [usize; SITES]
+    requires { ⌜ (n ≤ mostSites) × ((k : ℕ) → k < n → 1 ≤ getD sites k noSite .many) ⌝ }
+    ensures { λ r. ⌜ choiceIn r n ≡ choiceAt (sitesIn sites n) position ⌝ }
+{
+    let mut digits = [0usize; SITES];
+    let mut k = n;
+    let mut p = position;
+    while 0 < k {
+        k -= 1;
+        let s = sites[k];
+        let many = s.many as usize;
+        digits[k] = p % many;
+        p = p / many;
+    }
+    digits
+}
