@@ -21,7 +21,7 @@ use Rattle.tables.specs.Written.{six-molecules, first-molecules}
 use Rattle.joining.specs.Joining.{mostCounted, grownOf, joinedOf}
 use Rattle.joining.specs.Small.{Small, Room, grown-small, joined-small}
 use Rattle.products.specs.Library.{mostSites}
-use Rattle.library.specs.Kept.{noVertex, noArm, armOf, growAll, stemOf}
+use Rattle.library.specs.Kept.{noVertex, noLine, noArm, armOf, growAll, stemOf}
 use Rattle.library.specs.declared.kept.Arm.{Arm}
 use Rattle.library.specs.declared.kept.Core.{Core}
 
@@ -86,21 +86,21 @@ module _ {product : ℕ → Graph} {core : Graph} {block : ℕ → Graph} {site 
   grown (suc k) h =
       let g = grown k (omega arith) in
       let at = within g (t .at k (omega arith)) in
-      let own = t .arm-at k (omega arith) in
+      let ends = t .arm-at k (omega arith) in
       let arm = t .arm k (omega arith) in
       rw (t .grows k (omega arith)) (record {
-        molecule = joined-molecule (g .molecule) arm at own;
+        molecule = joined-molecule (g .molecule) arm at ends;
         atoms = omega (arith, g .atoms, t .arm-atoms k (omega arith));
         wide = omega (arith, g .wide);
-        far = λ i j v w. distance-first (g .molecule) arm at own (within g v) (within g w) ∙ g .far i j v w;
+        far = λ i j v w. distance-first (g .molecule) arm at ends (within g v) (within g w) ∙ g .far i j v w;
       })
 
   -- what is kept of them
-  pub record Keeps (c : Core) (arms : List Arm) : Type 0 where
+  pub record Keeps (c : Core) (as' : List Arm) : Type 0 where
     pub six : c .six ≡ indicesOf core
     pub seen : (l : ℕ) → l < n → getD (c .seen) l noVertex ≡ vertexOf core (site l)
-    pub apart : (k l : ℕ) → k < n → l < n → getD (getD (c .apart) k []) l 0 ≡ distance core (site k) (site l)
-    pub arms : (k : ℕ) → k < n → getD arms k noArm ≡ armOf (block k) (own k)
+    pub apart : (k l : ℕ) → k < n → l < n → getD (getD (c .apart) k noLine .to) l 0 ≡ distance core (site k) (site l)
+    pub arms : (k : ℕ) → k < n → getD as' k noArm ≡ armOf (block k) (own k)
 
   few-atoms : (k : ℕ) → k ≤ n → product k .atoms ≤ mostJoined
   few-atoms k h = omega (arith, grown k h .atoms, t .few)
@@ -110,12 +110,12 @@ module _ {product : ℕ → Graph} {core : Graph} {block : ℕ → Graph} {site 
   six-grows k h =
       let g = grown k (omega arith) in
       let at = within g (t .at k h) in
-      let own = t .arm-at k h in
+      let ends = t .arm-at k h in
       let arm = t .arm k h in
       let few = few-atoms k (omega arith) in
       let arm-few : block k .atoms ≤ mostJoined = omega (arith, t .arm-atoms k h) in
-      joined-small (room (g .molecule) few (omega (arith, at .low, at .high))) (room arm arm-few (omega (arith, own .low, own .high))) (small (g .molecule) few at) (small arm arm-few own)
-      ∙ sym (six-molecules (g .molecule) arm at own)
+      joined-small (room (g .molecule) few (omega (arith, at .low, at .high))) (room arm arm-few (omega (arith, ends .low, ends .high))) (small (g .molecule) few at) (small arm arm-few ends)
+      ∙ sym (six-molecules (g .molecule) arm at ends)
       ∙ ap indicesOf (sym (t .grows k h))
 
   seen-grows : (k l : ℕ) → k < n → l < n → grownOf (vertexOf (product k) (site l)) (distance core (site k) (site l)) (vertexOf (block k) (own k)) ≡ vertexOf (product (suc k)) (site l)
@@ -123,14 +123,14 @@ module _ {product : ℕ → Graph} {core : Graph} {block : ℕ → Graph} {site 
       let g = grown k (omega arith) in
       let at = within g (t .at k h) in
       let from = within g (t .at l i) in
-      let own = t .arm-at k h in
+      let ends = t .arm-at k h in
       let arm = t .arm k h in
       let few = few-atoms k (omega arith) in
       let arm-few : block k .atoms ≤ mostJoined = omega (arith, t .arm-atoms k h) in
       let near : distance core (site k) (site l) ≤ mostCounted = omega (arith, distance-below (t .molecule) (t .at k h) (t .at l i), t .atoms) in
-      grown-small (small (g .molecule) few from) near (small arm arm-few own)
+      grown-small (small (g .molecule) few from) near (small arm arm-few ends)
       ∙ ap (λ (d : ℕ). grow (vertexOf (product k) (site l)) d (vertexOf (block k) (own k))) (sym (g .far (site k) (site l) (t .at k h) (t .at l i)))
-      ∙ sym (first-molecules (g .molecule) arm at own from)
+      ∙ sym (first-molecules (g .molecule) arm at ends from)
       ∙ ap (λ (m : Graph). vertexOf m (site l)) (sym (t .grows k h))
 
   module _ (c : Core) (arms : List Arm) (q : Keeps c arms) where

@@ -18,14 +18,18 @@ use Rattle.products.specs.Library.{mostSites, candidateNumber, candidateAtom, c
 use Rattle.products.specs.declared.Site.{Site}
 use Rattle.catalogue.specs.Said.{noSite}
 use Rattle.library.specs.declared.kept.Arm.{Arm}
+use Rattle.library.specs.declared.kept.Line.{Line}
 use Rattle.library.specs.declared.kept.Core.{Core}
-use Rattle.library.specs.declared.stem.Stem.{Stem}
+use Rattle.library.specs.declared.arms.Stem.{Stem}
 
 abbrev pub noFields : Indices
 noFields = record { atoms = 0; w = 0; even = 0; odd = 0; polarity = 0; largest = 0 }
 
 abbrev pub noVertex : Vertex
 noVertex = record { sum = 0; even = 0; odd = 0; evens = 0; odds = 0; ones = 0; twos = 0; farthest = 0 }
+
+abbrev pub noLine : Line
+noLine = record { to = [] }
 
 abbrev pub noArm : Arm
 noArm = record { six = noFields; end = noVertex }
@@ -60,10 +64,10 @@ rowEntry row a = cond (isOutside mostAtoms a) 0 (getD row (a - 1) 0)
 unfoldable pub seenFrom : ℕ → List ℕ → List Site → List Vertex
 seenFrom n bonds sites = table mostSites (λ k. countedOr (vertexReply n bonds (getD sites k noSite .atom)))
 
-unfoldable pub apartFrom : ℕ → List ℕ → List Site → ℕ → List ℕ
-apartFrom n bonds sites a = table mostSites (λ l. rowEntry (saidRow (rowReply n bonds a) .row) (getD sites l noSite .atom))
+unfoldable pub apartFrom : ℕ → List ℕ → List Site → ℕ → Line
+apartFrom n bonds sites a = record { to = table mostSites (λ l. rowEntry (saidRow (rowReply n bonds a) .row) (getD sites l noSite .atom)) }
 
-unfoldable pub apartAll : ℕ → List ℕ → List Site → List (List ℕ)
+unfoldable pub apartAll : ℕ → List ℕ → List Site → List Line
 apartAll n bonds sites = table mostSites (λ k. apartFrom n bonds sites (getD sites k noSite .atom))
 
 unfoldable pub coreIn : List ℕ → List BlockAt → ℕ → List Site → Core
@@ -73,9 +77,9 @@ coreIn d bs number sites =
     let bonds = bondBytes d b in
     record { six = fieldsOr (indicesReply n bonds); seen = seenFrom n bonds sites; apart = apartAll n bonds sites }
 
--- what each site's atom counts once an arm is joined, o being counted from the arm's end, and `row` leading to where it is joined
-unfoldable pub growAll : List Vertex → List ℕ → Vertex → List Vertex
-growAll seen row o = table mostSites (λ l. grownOf (getD seen l noVertex) (getD row l 0) o)
+-- what each site's atom counts once an arm is joined, o being counted from the arm's end, and `line` leading to where it is joined
+unfoldable pub growAll : List Vertex → Line → Vertex → List Vertex
+growAll seen line o = table mostSites (λ l. grownOf (getD seen l noVertex) (getD (line .to) l 0) o)
 
 -- the core with the first arms joined to it, one by one
 unfoldable pub stemOf : Core → List Arm → ℕ → Stem
@@ -83,7 +87,7 @@ stemOf core arms zero = record { six = core .six; seen = core .seen }
 stemOf core arms (suc k) =
     let s = stemOf core arms k in
     let arm = getD arms k noArm in
-    record { six = joinedOf (s .six) (arm .six) (getD (s .seen) k noVertex) (arm .end); seen = growAll (s .seen) (getD (core .apart) k []) (arm .end) }
+    record { six = joinedOf (s .six) (arm .six) (getD (s .seen) k noVertex) (arm .end); seen = growAll (s .seen) (getD (core .apart) k noLine) (arm .end) }
 
 -- the first n digits of a table, the last first
 unfoldable pub choiceIn : List ℕ → ℕ → List ℕ

@@ -55,16 +55,19 @@ pub(crate) const NO_ARM: Arm = Arm {
     end: NO_VERTEX,
 };
 
-// What is counted from each site's atom, and the distances from one of them to all.
+// What is counted from each site's atom.
 pub(crate) type Seen = [Vertex; SITES];
 
-pub(crate) type Distances = [u64; SITES];
+// The distances from one site's atom to each.
+pub(crate) struct Line {
+    pub(crate) to: [u64; SITES],
+}
 
 // What is kept of the core: its fields, what is counted from each site's atom, and how far each two of these are apart.
 pub(crate) struct Core {
     pub(crate) six: Indices,
     pub(crate) seen: Seen,
-    pub(crate) apart: [Distances; SITES],
+    pub(crate) apart: [Line; SITES],
 }
 
 // The fields of a block; all 0 where it is refused.
@@ -102,7 +105,14 @@ fn arm_in(d: &[u8], blocks: BlockTable, count: usize, number: usize, a: usize) -
 }
 
 // What is kept of a site's candidate of an index; nothing where there is no site.
-pub(crate) fn arm_at(d: &[u8], blocks: BlockTable, count: usize, xs: &[u8], s: Site, j: usize) -> Arm
+pub(crate) fn arm_at(
+    d: &[u8],
+    blocks: BlockTable,
+    count: usize,
+    xs: &[u8],
+    s: Site,
+    j: usize,
+) -> Arm
     requires { ⌜ (s .first ≤ length (now xs)) × (j ≤ 255) ⌝ }
     ensures { λ r. ⌜ r ≡ armAt (now (d .entry)) (take count blocks) (now (xs .entry)) s j ⌝ }
 {
@@ -142,7 +152,7 @@ fn seen_from(n: usize, bonds: &[u8], sites: [Site; SITES]) -> Seen
 }
 
 // The distances from atom a of a block to each site's atom.
-fn apart_from(n: usize, bonds: &[u8], a: u8, sites: [Site; SITES]) -> Distances
+fn apart_from(n: usize, bonds: &[u8], a: u8, sites: [Site; SITES]) -> Line
     ensures { λ r. ⌜ r ≡ apartFrom n (now (bonds .entry)) sites a ⌝ }
 {
     let seen = row(n, bonds, a as usize);
@@ -151,32 +161,38 @@ fn apart_from(n: usize, bonds: &[u8], a: u8, sites: [Site; SITES]) -> Distances
     let s1 = sites[1];
     let s2 = sites[2];
     let s3 = sites[3];
-    [
+    let to = [
         entry_of(&far, s0.atom),
         entry_of(&far, s1.atom),
         entry_of(&far, s2.atom),
         entry_of(&far, s3.atom),
-    ]
+    ];
+    Line { to }
 }
 
 // The distances of all sites' atoms.
-fn apart_all(n: usize, bonds: &[u8], sites: [Site; SITES]) -> [Distances; SITES]
+fn apart_all(n: usize, bonds: &[u8], sites: [Site; SITES]) -> [Line; SITES]
     ensures { λ r. ⌜ r ≡ apartAll n (now (bonds .entry)) sites ⌝ }
 {
     let s0 = sites[0];
     let s1 = sites[1];
     let s2 = sites[2];
     let s3 = sites[3];
-    [
-        apart_from(n, bonds, s0.atom, sites),
-        apart_from(n, bonds, s1.atom, sites),
-        apart_from(n, bonds, s2.atom, sites),
-        apart_from(n, bonds, s3.atom, sites),
-    ]
+    let l0 = apart_from(n, bonds, s0.atom, sites);
+    let l1 = apart_from(n, bonds, s1.atom, sites);
+    let l2 = apart_from(n, bonds, s2.atom, sites);
+    let l3 = apart_from(n, bonds, s3.atom, sites);
+    [l0, l1, l2, l3]
 }
 
 // What is kept of the block of a number as the core, with these sites.
-pub(crate) fn core_in(d: &[u8], blocks: BlockTable, count: usize, number: usize, sites: [Site; SITES]) -> Core
+pub(crate) fn core_in(
+    d: &[u8],
+    blocks: BlockTable,
+    count: usize,
+    number: usize,
+    sites: [Site; SITES],
+) -> Core
     ensures { λ r. ⌜ r ≡ coreIn (now (d .entry)) (take count blocks) number sites ⌝ }
 {
     let b = find_block(blocks, count, number);

@@ -1,7 +1,7 @@
 // A product joined arm by arm to the core.
 use super::kept::Arm;
 use super::kept::Core;
-use super::kept::Distances;
+use super::kept::Line;
 use super::kept::Seen;
 use block::Indices;
 use block::Vertex;
@@ -24,29 +24,33 @@ pub(crate) struct Stem {
     pub(crate) seen: Seen,
 }
 
-// What each site's atom counts once an arm is joined, o being counted from the arm's end, and `row` leading to where it is joined.
-fn grow_all(seen: Seen, row: Distances, o: Vertex) -> Seen
-    ensures { λ r. ⌜ r ≡ growAll seen row o ⌝ }
+// What each site's atom counts once an arm is joined, o being counted from the arm's end, and `line` leading to where it is joined.
+fn grow_all(seen: Seen, line: Line, o: Vertex) -> Seen
+    ensures { λ r. ⌜ r ≡ growAll seen line o ⌝ }
 {
-    let v0 = grown(seen[0], row[0], o);
-    let v1 = grown(seen[1], row[1], o);
-    let v2 = grown(seen[2], row[2], o);
-    let v3 = grown(seen[3], row[3], o);
+    let to = line.to;
+    let v0 = grown(seen[0], to[0], o);
+    let v1 = grown(seen[1], to[1], o);
+    let v2 = grown(seen[2], to[2], o);
+    let v3 = grown(seen[3], to[3], o);
     [v0, v1, v2, v3]
 }
 
 // The core with the first m arms.
-pub(crate) fn stem(core: &Core, arms: &[Arm; SITES], m: usize) -> Stem
+pub(crate) fn with_arms(core: Core, arms: [Arm; SITES], m: usize) -> Stem
     requires { ⌜ m ≤ mostSites ⌝ }
-    ensures { λ r. ⌜ r ≡ stemOf (now (core .entry)) (now (arms .entry)) m ⌝ }
+    ensures { λ r. ⌜ r ≡ stemOf core arms m ⌝ }
 {
+    let apart = core.apart;
     let mut six = core.six;
     let mut seen = core.seen;
     let mut k = 0;
     while k < m {
         let arm = arms[k];
-        let fields = joined(six, arm.six, seen[k], arm.end);
-        let next = grow_all(seen, core.apart[k], arm.end);
+        let at = seen[k];
+        let line = apart[k];
+        let fields = joined(six, arm.six, at, arm.end);
+        let next = grow_all(seen, line, arm.end);
         six = fields;
         seen = next;
         k += 1;

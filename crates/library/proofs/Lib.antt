@@ -1,0 +1,3 @@
+-- The laws behind the proofs of a library's products.
+pub mod Told
+pub mod Choosing
