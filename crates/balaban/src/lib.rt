@@ -108,7 +108,8 @@ pub fn index(n: usize, bonds: &[u8]) -> Balaban
     ensures { λ r. ⌜ r ≡ saidBalaban (balabanReply n (now (bonds .entry))) ⌝ }
 {
     let mut rows = [[0u8; ATOMS]; ATOMS];
-    let opened = block::table(n, bonds, &mut rows);
+    let mut far = [0u8; ATOMS];
+    let opened = block::table(n, bonds, &mut rows, &mut far);
     let reply = opened.reply;
     match reply {
         Reply::Refused(refusal) => Balaban::Refused(refusal),

@@ -8,10 +8,10 @@ use Rattle.graph.specs.Graph.{Within, distance, sum}
 use Rattle.paths.specs.Notions.{Plain, lcmStarts}
 use Rattle.reply.specs.Read.{Read, refused, read, _then_}
 use Rattle.block.specs.Block.{mostAtoms, mostBytes, bondsOf, graphOf, blockReply}
-use Rattle.block.specs.Rows.{rowsOf, rowAt}
+use Rattle.block.specs.Rows.{rowsOf, farOf, rowAt}
 use Rattle.block.specs.Opened.{neighboursOf, openedReply, saidOpened}
 use Rattle.block.specs.Drawn.{neighbour-fits, has-neighbour}
-use Rattle.block.specs.Told.{few-atoms, molecule, each-bond, row-found, distance-at}
+use Rattle.block.specs.Told.{few-atoms, molecule, each-bond, row-found, distance-at, farthest-at}
 use Rattle.block.specs.Numbered.{few-bytes}
 use Rattle.block.specs.Lent.{zeros}
 use Rattle.reply.specs.declared.Refusal.{Refusal}
@@ -49,13 +49,15 @@ module _ (n : ℕ) (xs : List ℕ) (fine : blockReply n xs ≡ read tt) where
   pub few : n ≤ mostAtoms
   few = few-atoms n xs fine .high
 
-  -- its neighbours and its rows
-  pub given : (near : List ℕ) (rows : List (List ℕ)) → near ≡ neighboursOf (graphOf n xs) → rows ≡ rowsOf n xs → Given n (bondsOf xs) near rows
-  given near rows e h = record {
+  -- its neighbours, its rows, and the largest of each
+  pub given : (near : List ℕ) (rows : List (List ℕ)) (fars : List ℕ) → near ≡ neighboursOf (graphOf n xs) → rows ≡ rowsOf n xs → fars ≡ farOf n xs
+      → Given n (bondsOf xs) near rows fars
+  given near rows fars e h f = record {
     small = few;
     molecule = molecule n xs fine;
     beside = rw e (record { each = λ v w a b. has-neighbour (graphOf n xs) v w (inner a) b; fits = λ v a. neighbour-fits (graphOf n xs) v (inner a) });
     far = λ i a. rw h (record { shows = λ j l. row-shows i a j l });
+    largest = λ i a. rw f (farthest-at n xs fine a);
   }
     where
       inner : {v : ℕ} → Within n v → Within mostAtoms v

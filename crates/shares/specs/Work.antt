@@ -6,6 +6,7 @@ use mathlib.Core.Path.{_≡_}
 use lib.Dec.{eqb}
 use lib.ListN.{length, getD}
 use Rattle.graph.specs.Graph.{Graph, Bond, bond, Within, Molecule, bonded, distance, sum}
+use Rattle.graph.specs.Farthest.{farthest}
 use Rattle.graph.specs.Sets.{has}
 use Rattle.paths.specs.Paths.{pathCount, pathsUsing}
 use Rattle.paths.specs.Notions.{Plain, weight, gathered, lcmStarts}
@@ -40,6 +41,11 @@ pub record Near (n : ℕ) (B : ℕ → ℕ → Bool) (near : List ℕ) : Type 0 
   pub each : (v w : ℕ) → Within n v → Within n w → has (around near v) w ≡ B v w
   pub fits : (v : ℕ) → Within n v → around near v < 2 ^ n
 
+-- no key is above top, which is a level
+pub record Tops (n : ℕ) (key : ℕ → ℕ) (top : ℕ) : Type 0 where
+  pub low : top < mostAtoms
+  pub high : (v : ℕ) → Within n v → key v ≤ top
+
 -- the atoms with each key as a set, the level, up to the largest key
 pub record Levels (n : ℕ) (key : ℕ → ℕ) (sets : List ℕ) (top : ℕ) : Type 0 where
   pub small : n ≤ mostAtoms
@@ -73,12 +79,13 @@ pub record Start (n : ℕ) (bs : List Bond) (near row sets : List ℕ) (top i : 
   pub levels : Levels n (distance (graph n bs) i) sets top
   pub start : Within n i
 
--- the neighbours of a block, and its rows
-pub record Given (n : ℕ) (bs : List Bond) (near : List ℕ) (rows : List (List ℕ)) : Type 0 where
+-- the neighbours of a block, its rows, and the largest of each
+pub record Given (n : ℕ) (bs : List Bond) (near : List ℕ) (rows : List (List ℕ)) (fars : List ℕ) : Type 0 where
   pub small : n ≤ mostAtoms
   pub molecule : Molecule (graph n bs)
   pub beside : Near n (bonded (graph n bs)) near
   pub far : (i : ℕ) → Within n i → Shows n (distance (graph n bs) i) (rowAt rows i)
+  pub largest : (i : ℕ) → Within n i → getD fars (i - 1) 0 ≡ farthest (graph n bs) i
 
 -- positive counts f and a positive number m, up to the cap
 pub record Tally (n : ℕ) (f : ℕ → ℕ) (m : ℕ) (c : List ℕ) (before : ℕ) : Type 0 where

@@ -8,6 +8,7 @@ use super::sweeps;
 use super::sweeps::wide;
 use block::DistanceMatrix;
 use block::DistanceRow;
+use block::Farthest;
 use block::Neighbours;
 use block::row_at;
 ghost use mathlib.Core.Path.{_≡_};
@@ -128,9 +129,10 @@ pub(crate) fn fill(
     bonds: &[u8],
     near: &Neighbours,
     rows: &DistanceMatrix,
+    far: &Farthest,
     out: &mut [u64],
 ) -> u64
-    requires { ⌜ Whole n (now bonds) 0 1 × Given n (bondsOf (now bonds)) (now near) (now rows) × Sofar n (now bonds) 0 1 (now out) ⌝ }
+    requires { ⌜ Whole n (now bonds) 0 1 × Given n (bondsOf (now bonds)) (now near) (now rows) (now far) × Sofar n (now bonds) 0 1 (now out) ⌝ }
     ensures { λ r. ⌜
         (r ≡ min cap (denominator (graphOf n (now (bonds .entry)))))
         × (r ≤ most → (k : ℕ) → k < length (now (bonds .entry)) / 2 → getD (now (out .exit)) k 0 ≡ share (graphOf n (now (bonds .entry))) (bondAt (now (bonds .entry)) k))
@@ -144,7 +146,8 @@ pub(crate) fn fill(
         }
         let row = row_at(rows, i + 1);
         let levels = sweeps::by_level(n, &row);
-        let next = add_start(n, bonds, near, &row, &levels.sets, levels.top, i, d, out);
+        let top = wide(far[i]);
+        let next = add_start(n, bonds, near, &row, &levels, top, i, d, out);
         d = next;
         i += 1;
     }

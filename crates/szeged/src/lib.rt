@@ -89,7 +89,8 @@ pub fn terms(n: usize, bonds: &[u8], out: &mut [u64]) -> Szeged
         ⌝ }
 {
     let mut rows = [[0u8; ATOMS]; ATOMS];
-    let opened = block::table(n, bonds, &mut rows);
+    let mut far = [0u8; ATOMS];
+    let opened = block::table(n, bonds, &mut rows, &mut far);
     let reply = opened.reply;
     match reply {
         Reply::Refused(refusal) => Szeged::Refused(refusal),

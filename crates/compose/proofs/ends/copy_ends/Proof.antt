@@ -1,31 +1,30 @@
--- `compose::tables::copy_ends` meets its contract. The loop's invariant: the ends before e are copied, those of other blocks are kept. Assumes nothing.
+-- `compose::ends::copy_ends` meets its contract. The loop's invariant: the ends before e are copied, those of other blocks are kept. Assumes nothing.
 use Prim.Native.Nat.{ℕ, _-_, _/_, _≤_, _<_}
-use mathlib.Core.List.{[]}
 use mathlib.Core.Logic.{⊎-elim}
 use mathlib.Core.Path.{_≡_, sym, _∙_, ap}
 use native.Mathlib.Omega.{arith}
-use lib.ListN.{getD}
 use lib.Dec.{lit<}
 use Rattle.assembly.specs.Placements.{mostPlacements}
-use Rattle.compose.specs.declared.tables.End.{End}
-use Rattle.compose.specs.Joints.{link}
-use Rattle.compose.specs.Tables.{endAt, homeOf}
+use Rattle.compose.specs.declared.ends.End.{End}
+use Rattle.compose.specs.Joints.{ends, link, countRow}
+use Rattle.compose.specs.Tables.{endAt, homeOf, rowIn, countsIn}
 use Rattle.compose.proofs.Stored.{row-at}
 use Rattle.compose.proofs.Copying.{Copying, copy-start, copy-one, copy-none}
-use Rattle.compose.proofs.tables.copy_ends.Statement.{statement}
-use Rattle.compose.proofs.tables.copy_ends.Tie as tie
+use Rattle.compose.proofs.ends.copy_ends.Statement.{statement}
+use Rattle.compose.proofs.ends.copy_ends.Tie as tie
 
 abbrev Inv-loop : tie.InvT-loop
-Inv-loop table links count f rows₀ n e₀ rows e = (2 ≤ e) × Copying links f table rows₀ e rows
+Inv-loop table far atoms links count f rows₀ counts₀ n e₀ rows counts e =
+    (2 ≤ e) × Copying links f (rowIn table) rows₀ e rows × Copying links f (countsIn atoms table far) counts₀ e counts
 
 abbrev μ-loop : tie.MeasureT-loop
-μ-loop table links count f rows₀ n e₀ rows e = n - e
+μ-loop table far atoms links count f rows₀ counts₀ n e₀ rows counts e = n - e
 
 mul-n : tie.Need-mul-n Inv-loop μ-loop
 mul-n c = omega (arith, c .pre .0 .few)
 
 loop-holds : tie.Need-loop-holds Inv-loop μ-loop
-loop-holds c = (omega arith, copy-start (c .pre .1))
+loop-holds c = (omega arith, copy-start (c .pre .1), copy-start (c .pre .2))
 
 end-of-requires : tie.Need-end-of-requires Inv-loop μ-loop
 end-of-requires c κs =
@@ -72,11 +71,36 @@ mul-rows c = omega (arith, atom-small c)
 element-copy-out-rows : tie.Need-element-copy-out-rows Inv-loop μ-loop
 element-copy-out-rows c = omega (arith, atom-small c)
 
-mul-t22 : tie.Need-mul-t22 Inv-loop μ-loop
-mul-t22 c = let s = c .before .before .before .before .before .before in omega (arith, s .before .pre .0 .few, c .before .before .before .before .before .loop-test .taken)
+-- and the end is one of all
+end-small : (c : tie.In-loop Inv-loop μ-loop) → c .before .loop .e < ends
+end-small c = omega (arith, c .before .before .pre .0 .few, c .loop-test .taken)
+
+mul-t25 : tie.Need-mul-t25 Inv-loop μ-loop
+mul-t25 c = omega (arith, end-small (c .before .before .before .before .before))
 
 slice-set-from-rows : tie.Need-slice-set-from-rows Inv-loop μ-loop
-slice-set-from-rows c = let s = c .before .before .before .before .before .before in omega (arith, s .before .pre .0 .few, c .before .before .before .before .before .loop-test .taken, s .loop .inv .1 .long)
+slice-set-from-rows c = let s = c .before .before .before .before .before in omega (arith, end-small s, s .before .loop .inv .1 .long)
+
+mul-around-row : tie.Need-mul-around-row Inv-loop μ-loop
+mul-around-row c = omega (arith, atom-small (c .before))
+
+index-1-around-row : tie.Need-index-1-around-row Inv-loop μ-loop
+index-1-around-row c = omega (arith, atom-small (c .before))
+
+element-copy-out-around-row : tie.Need-element-copy-out-around-row Inv-loop μ-loop
+element-copy-out-around-row c = omega (arith, atom-small (c .before .before))
+
+around-row-requires : tie.Need-around-row-requires Inv-loop μ-loop
+around-row-requires c κs = tt
+
+count-row-requires : tie.Need-count-row-requires Inv-loop μ-loop
+count-row-requires c κs = tt
+
+mul-t25-2 : tie.Need-mul-t25-2 Inv-loop μ-loop
+mul-t25-2 c = omega (arith, end-small (c .before .before .before .before .before .before .before .before .before))
+
+slice-set-from-counts : tie.Need-slice-set-from-counts Inv-loop μ-loop
+slice-set-from-counts c = let s = c .before .before .before .before .before .before .before .before .before in omega (arith, end-small s, s .before .loop .inv .2 .long)
 
 add-e : tie.Need-add-e Inv-loop μ-loop
 add-e c = omega arith
@@ -93,19 +117,30 @@ loop-again c =
     let at : link (a .links .now) (o .end-of .result .home) .block ≡ homeOf (a .links .now) e = ap (λ (h : ℕ). link (a .links .now) h .block) (home o) in (
       omega arith,
       ⊎-elim
-          (λ w. rw (w .3)
-          (copy-one e (s .loop .inv .1) _ (omega (arith, s .before .pre .0 .few, o .before .loop-test .taken)) (sym at ∙ w .0 .taken) (ap (λ (i : ℕ). getD (a .table .now) (i - 1) []) (atom o))))
+          (λ w. rw (w .7) (copy-one e (s .loop .inv .1) _ (end-small (o .before)) (sym at ∙ w .0 .taken) (ap (rowIn (a .table .now)) (atom o))))
           (λ w. rw (w .1) (copy-none e (s .loop .inv .1) (λ q. w .0 .left (at ∙ q))))
+          (c .if1 .came),
+      ⊎-elim
+          (λ w. rw (w .8)
+          (copy-one e (s .loop .inv .2) _ (end-small (o .before)) (sym at ∙ w .0 .taken)
+          (w .6 .ensures ∙ ap countRow (w .5 .ensures) ∙ ap (countsIn (a .atoms) (a .table .now) (a .far .now)) (atom o))))
+          (λ w. rw (w .2) (copy-none e (s .loop .inv .2) (λ q. w .0 .left (at ∙ q))))
           (c .if1 .came),
     )
 
 same-length : tie.Need-same-length Inv-loop μ-loop
 same-length c = omega (arith, c .before .loop .inv .1 .long, c .before .before .pre .1)
 
+same-length-2 : tie.Need-same-length-2 Inv-loop μ-loop
+same-length-2 c = omega (arith, c .before .loop .inv .2 .long, c .before .before .pre .2)
+
 returns : tie.Need-returns Inv-loop μ-loop
 returns c =
-    let s = c .before .loop .inv .1 in
-    record { same = s .long ∙ sym (c .before .before .pre .1); taken = λ e h l. s .taken e (omega arith) h; kept = s .kept }
+    let i = c .before .loop .inv in
+    let p = c .before .before .pre in (
+      record { same = i .1 .long ∙ sym (p .1); taken = λ e h l. i .1 .taken e (omega arith) h; kept = i .1 .kept },
+      record { same = i .2 .long ∙ sym (p .2); taken = λ e h l. i .2 .taken e (omega arith) h; kept = i .2 .kept },
+    )
 
 pub copy-ends-spec : {M : Type 1} → statement M
 copy-ends-spec =
@@ -122,10 +157,18 @@ copy-ends-spec =
     sub-a
     mul-rows
     element-copy-out-rows
-    mul-t22
+    mul-t25
     slice-set-from-rows
+    mul-around-row
+    index-1-around-row
+    element-copy-out-around-row
+    around-row-requires
+    count-row-requires
+    mul-t25-2
+    slice-set-from-counts
     add-e
     loop-less
     loop-again
     same-length
+    same-length-2
     returns)
