@@ -4,7 +4,7 @@ use mathlib.Core.List.{List, [], _∷_}
 use mathlib.Core.Path.{_≡_, refl, sym, _∙_, ap, ap₂}
 use native.Mathlib.Numerals.{add-one}
 use native.Mathlib.Omega.{arith}
-use lib.ListN.{length, getD, set, length-set}
+use lib.ListN.{length, getD, set, length-set, replicate}
 use lib.Seq.{getD-set-same, getD-set-other}
 use Rattle.products.specs.Library.{mostSites}
 use Rattle.products.specs.declared.Site.{Site}
@@ -52,3 +52,14 @@ sites-back [] h = refl
 sites-back (s ∷ ss) h =
     ap₂ _∷_ (getD-set-same (siteTable ss) (length ss) s noSite (omega (arith, length-table ss)))
     (sites-kept (siteTable ss) (length ss) (length ss) s (omega arith) ∙ sites-back ss (omega arith))
+
+-- behind them it is empty
+pub table-empty : (ss : List Site) (k : ℕ) → length ss ≤ k → getD (siteTable ss) k noSite ≡ noSite
+unfolding siteTable
+table-empty [] k h = blank mostSites k
+  where
+    blank : (n k : ℕ) → getD (replicate n noSite) k noSite ≡ noSite
+    blank zero k = refl
+    blank (suc n) zero = refl
+    blank (suc n) (suc k) = blank n k
+table-empty (s ∷ ss) k h = getD-set-other (siteTable ss) (length ss) k s noSite (λ e. omega (arith, e)) ∙ table-empty ss k (omega arith)

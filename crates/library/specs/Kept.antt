@@ -1,8 +1,8 @@
 -- Work. What is kept of a library's core and candidates, whatever the blocks are, and a product joined from that arm by arm.
-use Prim.Native.Nat.{ℕ, zero, suc, _+_, _-_}
+use Prim.Native.Nat.{ℕ, zero, suc, _+_, _*_, _-_, _/_, _%_}
 use mathlib.Core.Bool.{cond}
 use mathlib.Core.List.{List, [], _∷_}
-use lib.Dec.{eqb}
+use lib.Dec.{eqb, ltb}
 use lib.ListN.{getD}
 use Rattle.graph.specs.Graph.{Graph}
 use Rattle.reply.specs.Read.{Read, refused, read, isOutside}
@@ -14,7 +14,7 @@ use Rattle.block.specs.declared.Vertex.{Vertex}
 use Rattle.assembly.specs.Book.{find, bondBytes}
 use Rattle.assembly.specs.declared.BlockAt.{BlockAt}
 use Rattle.joining.specs.Joining.{grownOf, joinedOf}
-use Rattle.products.specs.Library.{mostSites, candidateNumber, candidateAtom, candidateAt}
+use Rattle.products.specs.Library.{mostSites, mostCandidates, coreNumber, candidateNumber, candidateAtom, candidateAt}
 use Rattle.products.specs.declared.Site.{Site}
 use Rattle.catalogue.specs.Said.{noSite}
 use Rattle.library.specs.declared.kept.Arm.{Arm}
@@ -88,6 +88,25 @@ stemOf core arms (suc k) =
     let s = stemOf core arms k in
     let arm = getD arms k noArm in
     record { six = joinedOf (s .six) (arm .six) (getD (s .seen) k noVertex) (arm .end); seen = growAll (s .seen) (getD (core .apart) k noLine) (arm .end) }
+
+-- the arms of a choice, and the fields of its product, joined from what is kept
+unfoldable pub armsAt : List ℕ → List BlockAt → List ℕ → List Site → List ℕ → List Arm
+armsAt d bs xs sites digits = table mostSites (λ k. armAt d bs xs (getD sites k noSite) (getD digits k 0))
+
+unfoldable pub joinedAt : List ℕ → List BlockAt → List ℕ → List Site → ℕ → List ℕ → Indices
+joinedAt d bs xs sites n digits = stemOf (coreIn d bs (coreNumber xs) sites) (armsAt d bs xs sites digits) n .six
+
+-- all arms: those of each site one after the other, as many places each as a site may have candidates
+abbrev pub allPlaces : ℕ
+allPlaces = mostSites * mostCandidates
+
+unfoldable pub armFor : List ℕ → List BlockAt → List ℕ → List Site → ℕ → Arm
+armFor d bs xs sites i =
+    let s = getD sites (i / mostCandidates) noSite in
+    cond (ltb (i % mostCandidates) (s .many)) (armAt d bs xs s (i % mostCandidates)) noArm
+
+unfoldable pub picked : List Arm → List ℕ → List Arm
+picked all digits = table mostSites (λ k. getD all (mostCandidates * k + getD digits k 0) noArm)
 
 -- the first n digits of a table, the last first
 unfoldable pub choiceIn : List ℕ → ℕ → List ℕ

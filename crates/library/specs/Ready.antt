@@ -33,10 +33,9 @@ use Rattle.products.specs.Growth.{product-grows}
 use Rattle.products.specs.declared.Site.{Site}
 use Rattle.catalogue.specs.Said.{noSite}
 use Rattle.catalogue.specs.Table.{sitesIn, sites-length}
-use Rattle.library.specs.Kept.{noVertex, noArm, fieldsOr, countedOr, armOf, armIn, armAt, rowEntry, seenFrom, apartFrom, apartAll, coreIn, stemOf, choiceIn}
-use Rattle.library.specs.Grows.{Growing, Keeps, stem-seen, stem-six}
-use Rattle.library.specs.declared.kept.Arm.{Arm}
-use Rattle.library.specs.declared.kept.Core.{Core}
+use Rattle.library.specs.Kept.{noVertex, noLine, noArm, fieldsOr, countedOr, armOf, armIn, armAt, rowEntry, seenFrom, apartFrom, apartAll, coreIn, armsAt, joinedAt, choiceIn}
+use Rattle.library.specs.Grows.{Growing, Keeps, stem-six}
+use Rattle.library.specs.declared.kept.Line.{Line}
 
 -- what holds of so many holds of fewer
 fewer : (P : ℕ → Type 0) → ((m : ℕ) → P (suc m) → P m) → (n k : ℕ) → k ≤ n → P n → P k
@@ -100,7 +99,7 @@ module _ (d : List ℕ) (l : Library) (e : libraryReply d ≡ read l) where
     abbrev siteOf : ℕ → Site
     siteOf k = getD table k noSite
 
-    few-sites : n ≤ mostSites
+    pub few-sites : n ≤ mostSites
     few-sites = let w = whole d l e .listed .few in omega (arith, sites-length table n, ap length same, w .high)
 
     sites-first : (k : ℕ) → k ≤ n → Sites book core xs (sitesIn table k)
@@ -113,10 +112,6 @@ module _ (d : List ℕ) (l : Library) (e : libraryReply d ≡ read l) where
 
     core-has : book .has (coreNumber xs) ≡ true
     core-has = whole d l e .listed .has
-
-    -- what is kept of the core
-    core-kept : Core
-    core-kept = coreIn d (l .blocks) (coreNumber xs) table
 
     module _ (position : ℕ) (low : position < products (l .sites)) (digits : List ℕ) (chosen : choiceIn digits n ≡ choiceAt (l .sites) position) where
       abbrev place : ℕ → ℕ
@@ -155,3 +150,24 @@ module _ (d : List ℕ) (l : Library) (e : libraryReply d ≡ read l) where
         starts = core-alone book xs;
         grows = λ k h. product-grows book xs (siteOf k) (sitesIn table k) (getD digits k 0) (choiceIn digits k) (sites-first (suc k) h) (choice-first (suc k) h);
       }
+
+      -- and of the arms that are chosen, and the core
+      keeps : Keeps growing (coreIn d (l .blocks) (coreNumber xs) table) (armsAt d (l .blocks) xs table digits)
+      unfolding coreIn armsAt seenFrom apartAll apartFrom armAt bookOf
+      keeps =
+          let b = block-stands (coreNumber xs) core-has .fine in
+          let at : ((k : ℕ) → k < n → isOutside (core .atoms) (siteOf k .atom) ≡ false) = λ k h. site-stands k h .inside in
+          record {
+            six = fields-read _ _ b;
+            seen = λ k h. getD-table mostSites _ k noVertex (omega (arith, few-sites)) ∙ counted-read _ _ b (siteOf k .atom) (at k h);
+            apart = λ k m h i.
+                ap (λ (x : Line). getD (x .to) m 0) (getD-table mostSites _ k noLine (omega (arith, few-sites)))
+                ∙ getD-table mostSites _ m 0 (omega (arith, few-sites)) ∙ entry-read _ _ b (siteOf k .atom) (siteOf m .atom) (inside _ _ (at k h)) (inside _ _ (at m i));
+            arms = λ k h.
+                getD-table mostSites _ k noArm (omega (arith, few-sites))
+                ∙ rw (ne-eqb (siteOf k .many) 0 (λ z. omega (arith, z, site-stands k h .many .low))) (arm-read _ _ (joins-at k h .has) (joins-at k h .own));
+          }
+
+      pub product-is : joinedAt d (l .blocks) xs table n digits ≡ productAt d l position
+      unfolding joinedAt productAt
+      product-is = stem-six growing _ _ keeps n (omega arith) ∙ rw (same, chosen) refl
