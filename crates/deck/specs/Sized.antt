@@ -16,6 +16,7 @@ use Rattle.graph.specs.Climb.{written-molecule}
 use Rattle.reply.specs.Read.{read, _then_}
 use Rattle.reply.specs.Chain.{not-read, then-read, if-read, neither}
 use Rattle.block.specs.Block.{mostAtoms, mostBytes}
+use Rattle.block.specs.Index.{indicesOf}
 use Rattle.block.specs.Told as told
 use Rattle.records.specs.Records.{headBytes, blockKind, assemblyKind, lengthAt, kindAt, endAt, payloadAt, wanted, recordReply}
 use Rattle.records.specs.Bytes.{little, le16, part}
@@ -111,3 +112,7 @@ module _ (form : Form) (d : List ℕ) (k : Deck) (e : deckReply form d ≡ read 
 
   pub totals-small : {f : ℕ → ℕ} → Tame f → total (moleculeOf d k) f < 2 ^ 40
   totals-small t = small one-molecule atoms-few t
+
+  pub largest-small : indicesOf (moleculeOf d k) .largest < 2 ^ 32
+  unfolding indicesOf
+  largest-small = omega arith

@@ -1,15 +1,18 @@
 -- Laws. What holds of a record that is taken. Assumes nothing.
 use Prim.Native.Nat.{ℕ, _≤_}
 use mathlib.Core.List.{List, [], _∷_}
-use mathlib.Core.Path.{_≡_}
+use mathlib.Core.Path.{_≡_, refl}
+use native.Mathlib.Omega.{arith}
 use native.Mathlib.Decide.{ℕ-discrete}
 use borrow.Author.Tests.{eq-eqb, ne-eqb, eqb-true, ltb-false, not-false}
 use lib.Dec.{eqb, ltb}
 use lib.ListN.{length}
 use Rattle.reply.specs.Read.{read, refuseIf}
 use Rattle.reply.specs.Chain.{not-read, then-read, if-read}
-use Rattle.records.specs.Records.{lengthAt, kindAt, endAt, wanted, kindReply, lengthReply, recordReply}
+use Rattle.records.specs.Records.{sheetKind, lengthAt, kindAt, sheetAt, endAt, wanted, kindReply, lengthReply, recordReply}
 use Rattle.records.specs.declared.Kind.{Kind}
+use Rattle.records.specs.declared.Sheet.{Sheet}
+use Rattle.records.specs.declared.Sheet.the-variants.{Five, Six}
 
 -- it lies within the list, and is of a kind that may stand there and of that kind's length
 pub record Taken (kinds : List Kind) (d : List ℕ) (at : ℕ) : Type 0 where
@@ -54,3 +57,18 @@ module _ (d : List ℕ) (at : ℕ) where
       go : Dec (kindAt d at ≡ k .number) → kindAt d at ≡ k .number
       go (yes p) = p
       go (no p) = absurd (of-none (of-other k [] e p))
+
+  -- of the two kinds of sheets, the one whose number stands there; it has no items
+  pub sheet-stands : (s : Sheet) → kindAt d at ≡ sheetKind s .number → kindReply (sheetKind Five ∷ sheetKind Six ∷ []) d at ≡ read (sheetKind s)
+  unfolding kindReply
+  sheet-stands Five e = rw e refl
+  sheet-stands Six e = rw e refl
+
+  pub sheet-wants : (s : Sheet) → wanted (sheetKind s) d at ≡ sheetKind s .fixed
+  sheet-wants Five = omega arith
+  sheet-wants Six = omega arith
+
+  pub sheet-told : (s : Sheet) → kindAt d at ≡ sheetKind s .number → sheetAt d at ≡ s
+  unfolding sheetAt
+  sheet-told Five e = rw e refl
+  sheet-told Six e = rw e refl
