@@ -49,13 +49,14 @@ pub fn write_sheet(d: &[u8], sheet: Sheet, out: &mut [u8]) -> Written
     ensures reply { λ r. ⌜ r ≡ saidWritten (writeReply sheet (now (d .entry)) (length (now (out .entry)))) ⌝ }
     ensures bytes { λ r. ⌜ now (out .exit) ≡ sheetOut sheet (now (out .entry)) (writeReply sheet (now (d .entry)) (length (now (out .entry)))) ⌝ }
 {
+    let bytes = bytes_of(sheet);
     if LONGEST < d.len() {
         return Written::Refused(Refusal {
             number: 20,
             place: 0,
         });
     }
-    if out.len() < bytes_of(sheet) {
+    if out.len() < bytes {
         return Written::Refused(Refusal {
             number: 9,
             place: 0,
