@@ -6,6 +6,7 @@ use mathlib.Core.Logic.{_↔_}
 use mathlib.Core.Path.{_≡_, refl, sym}
 use native.Mathlib.Omega.{arith}
 use Rattle.graph.specs.Graph.{Graph, wiener, evenPart, oddPart, polarity}
+use Rattle.graph.specs.Farthest.{largest}
 use Rattle.graph.specs.Assembly.{Join, joined, atomOf, written}
 use Rattle.reply.specs.Read.{refused, read, _then_}
 use Rattle.reply.specs.declared.Refusal.{Refusal}
@@ -41,7 +42,7 @@ written-is blocks joins m = (refl, refl)
 
 -- its sheet of five fields, and of six
 pub sheet-is : (g : Graph) → (sheetOf Five g ≡ g .atoms ∷ wiener g ∷ evenPart g ∷ oddPart g ∷ polarity g ∷ [])
-    × (sheetOf Six g ≡ g .atoms ∷ wiener g ∷ evenPart g ∷ oddPart g ∷ polarity g ∷ indicesOf g .largest ∷ [])
+    × (sheetOf Six g ≡ g .atoms ∷ wiener g ∷ evenPart g ∷ oddPart g ∷ polarity g ∷ largest g ∷ [])
 unfolding sheetOf fieldsOf allFields indicesOf
 sheet-is g = (refl, refl)
 
