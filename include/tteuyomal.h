@@ -16,11 +16,12 @@
  *           parent placement (2), parent's atom (1), own atom (1). Placements count from 1; a parent comes earlier;
  *           the first placement has 0 in its last three fields
  *   kind 3, sheet (one, only in a deck to be judged): atom count (4), W, even part, odd part, polarity (8 each)
+ *   kind 4, sheet of six fields (instead of kind 3): the same, and the largest distance (4)
  * A deck has at most 32,768 bytes.
  *
  * THE FIVE FIELDS of a block or of the whole molecule of a deck, in this order: the number of atoms; W, the sum of
  * the distances of all pairs; its even and its odd part, the sums of the even and of the odd distances; the
- * polarity, the number of pairs at distance 3.
+ * polarity, the number of pairs at distance 3. THE SIX are these and the largest distance of a pair.
  */
 #ifndef TTEUYOMAL_H
 #define TTEUYOMAL_H
@@ -35,7 +36,8 @@ extern "C" {
 /* ---- The reply of every function: one number ----
  *
  * reply % 256 says what: 0 fine (judging: accepted); 1 to 254 a refusal, by the number of the list below; 255 the
- * sheet differs (judging only). reply / 256 says where: the place of a refusal, or the first wrong field, 1 to 5.
+ * sheet differs (judging only). reply / 256 says where: the place of a refusal, or the first wrong field, 1 to 5
+ * or, of a sheet of kind 4, 1 to 6.
  *
  * A refusal changes no byte of any output. A success writes what the function's comment says, from the front of the
  * output; whatever follows in it stays as it was.
@@ -89,7 +91,7 @@ enum tteuyomal_refusal {
 /* 0, a refusal's number, or TTEUYOMAL_DIFFERS. */
 static inline unsigned tteuyomal_what(tteuyomal_reply reply) { return (unsigned)(reply % 256); }
 
-/* The place of a refusal; for TTEUYOMAL_DIFFERS the first wrong field, 1 to 5. */
+/* The place of a refusal; for TTEUYOMAL_DIFFERS the first wrong field, 1 to 6. */
 static inline uint64_t tteuyomal_where(tteuyomal_reply reply) { return reply / 256; }
 
 /* Whether it is a refusal. */
@@ -104,16 +106,22 @@ uint64_t tteuyomal_version(void);
 
 /* ---- Decks ---- */
 
-/* Judges a deck that ends with a sheet: fine when all five fields are right, else TTEUYOMAL_DIFFERS with the first
- * wrong one. Refusals: 20, then the deck's, record by record. */
+/* Judges a deck that ends with a sheet of kind 3 or 4: fine when all its fields are right, else TTEUYOMAL_DIFFERS with
+ * the first wrong one. Refusals: 20, then the deck's, record by record. */
 tteuyomal_reply tteuyomal_judge(const uint8_t *deck, size_t deck_len);
 
 /* Writes the sheet of a deck without one: a whole record of 40 bytes, which put behind the deck is accepted.
  * Refusals: 20, then 9 (out_len below 40), then the deck's. */
 tteuyomal_reply tteuyomal_write_sheet(const uint8_t *deck, size_t deck_len, uint8_t *out, size_t out_len);
 
+/* The same with the sheet of kind 4, a record of 44 bytes. Refusals: 20, then 9 (out_len below 44), then the deck's. */
+tteuyomal_reply tteuyomal_write_six(const uint8_t *deck, size_t deck_len, uint8_t *out, size_t out_len);
+
 /* Writes the five fields of a deck without a sheet. Refusals: the deck's, then 9 (fields_len below 5). */
 tteuyomal_reply tteuyomal_compose(const uint8_t *deck, size_t deck_len, uint64_t *fields, size_t fields_len);
+
+/* Writes the six fields of a deck without a sheet. Refusals: the deck's, then 9 (fields_len below 6). */
+tteuyomal_reply tteuyomal_compose_six(const uint8_t *deck, size_t deck_len, uint64_t *fields, size_t fields_len);
 
 /* Writes one number: the distance, in the whole molecule of a deck without a sheet, from atom i of placement k to
  * atom j of placement l. Refusals: 20, the deck's, then 18 at 0 (no such placement or atom), then 9 (no room). */

@@ -28,7 +28,12 @@ def sheet(*fields):
     return struct.pack("<HHIQQQQ", 36, 3, *fields)
 
 
+def sheet_of_six(*fields):
+    return struct.pack("<HHIQQQQI", 40, 4, *fields)
+
+
 RIGHT = sheet(12, 198, 96, 102, 14)
+RIGHT_SIX = sheet_of_six(12, 198, 96, 102, 14, 7)
 RING = [(1, 2), (2, 3), (3, 4), (4, 5), (5, 6), (6, 1)]
 
 # a deck to be judged, and the line that says the verdict
@@ -39,5 +44,12 @@ JUDGED = [
     (FORTY, "refused 11 at 40"),
     (b"", "refused 11 at 0"),
     (FORTY + RIGHT + b"\0", "refused 11 at 80"),
+    (FORTY + RIGHT_SIX, "accepted"),
+    (FORTY + sheet_of_six(12, 198, 96, 102, 14, 6), "differs 6"),
+    (FORTY + sheet_of_six(12, 198, 96, 102, 15, 6), "differs 5"),
+    (FORTY + RIGHT_SIX[:-1], "refused 11 at 40"),
+    (FORTY + RIGHT_SIX + RIGHT, "refused 11 at 84"),
+    (FORTY + b"\x28\0\x03\0" + RIGHT_SIX[4:], "refused 13 at 40"),
+    (FORTY + b"\x24\0\x04\0" + RIGHT[4:], "refused 13 at 40"),
     (bytes(32769), "refused 20 at 0"),
 ]

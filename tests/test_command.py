@@ -14,7 +14,7 @@ import time
 import unittest
 from unittest import mock
 
-from common import FORTY, JUDGED, PYTHON, RIGHT, ROOT, sheet
+from common import FORTY, JUDGED, PYTHON, RIGHT, RIGHT_SIX, ROOT, sheet
 
 from tteuyomal import command, decktext, files, judging, library
 from tteuyomal.decks import Block, Deck, Placement, Sheet
@@ -233,6 +233,16 @@ class Sheets(Room):
         self.assertEqual(self.run_command("sheet")[0], 2)
         said = json.loads(self.run_command("sheet", "--json", deck)[1])
         self.assertEqual(said["worked_out"], {"atoms": 12, "w": 198, "even": 96, "odd": 102, "polarity": 14})
+
+    def test_six_fields(self):
+        deck, other = self.put("a", FORTY), os.path.join(self.room, "b")
+        self.assertEqual(self.run_command("sheet", "--six", deck), (0, f"{deck}: atoms 12 W 198 even 96 odd 102 polarity 14 largest 7\n"))
+        said = json.loads(self.run_command("sheet", "--six", "--json", deck)[1])
+        self.assertEqual(said["worked_out"]["largest"], 7)
+        self.assertEqual(self.run_command("sheet", "--six", deck, "--append", other), (0, ""))
+        self.assertEqual(self.read(other), FORTY + RIGHT_SIX)
+        said = json.loads(self.run_command("judge", "--json", other)[1].splitlines()[0])
+        self.assertEqual((said["verdict"], said["claimed"], said["worked_out"]["largest"]), ("accepted", said["worked_out"], 7))
 
     def test_append(self):
         deck, other = self.put("a", FORTY), os.path.join(self.room, "b")

@@ -3,7 +3,7 @@
 import pickle
 import unittest
 
-from common import FORTY, JUDGED, RIGHT, RING
+from common import FORTY, JUDGED, RIGHT, RIGHT_SIX, RING
 
 from tteuyomal import library
 from tteuyomal.library import Refused
@@ -156,6 +156,12 @@ class Answers(unittest.TestCase):
     def test_decks(self):
         self.assertEqual(library.compose(FORTY), (12, 198, 96, 102, 14))
         self.assertEqual(library.write_sheet(FORTY), RIGHT)
+        self.assertEqual(library.compose_six(FORTY), (12, 198, 96, 102, 14, 7))
+        self.assertEqual(library.write_six(FORTY), RIGHT_SIX)
+        for ask in (library.compose_six, library.write_six):
+            with self.assertRaises(Refused) as caught:
+                ask(FORTY + RIGHT_SIX)
+            self.assertEqual((caught.exception.number, caught.exception.place), (11, 40))
         self.assertEqual(library.placed_distance(FORTY, 1, 4, 2, 4), 7)
 
 

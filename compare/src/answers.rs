@@ -13,7 +13,7 @@ use crate::{polynomial, shares};
 #[derive(Clone, Copy, Debug, PartialEq, Eq)]
 pub enum Verdict {
     Accepted,
-    /// The first wrong field, 1 to 5.
+    /// The first wrong field, 1 to 5 or, of a sheet of six, 1 to 6.
     Differs(u64),
     Refused(Refusal),
 }
@@ -23,32 +23,54 @@ pub fn judge(measurer: &mut Measurer, bytes: &[u8]) -> Verdict {
         Ok(deck) => deck,
         Err(refusal) => return Verdict::Refused(refusal),
     };
+    let right = measurer.indices(write_out(&deck)).six();
     let claimed = deck.sheet.expect("a judged deck has its sheet");
-    let right = measurer.indices(write_out(&deck)).fields();
-    match (0..5).find(|&field| claimed[field] != right[field]) {
+    match (0..claimed.len()).find(|&field| claimed[field] != right[field]) {
         None => Verdict::Accepted,
         Some(field) => Verdict::Differs(field as u64 + 1),
     }
 }
 
-/// The five fields: the deck's, then 9.
-pub fn compose(measurer: &mut Measurer, bytes: &[u8], room: usize) -> Result<[u64; 5], Refusal> {
+/// The first so many fields: the deck's, then 9.
+fn fields<const N: usize>(measurer: &mut Measurer, bytes: &[u8], room: usize) -> Result<[u64; N], Refusal> {
     let deck = read_deck(bytes, Form::Composed)?;
-    if room < 5 {
+    if room < N {
         return refuse(9, 0);
     }
-    Ok(measurer.indices(write_out(&deck)).fields())
+    let all = measurer.indices(write_out(&deck)).six();
+    Ok(std::array::from_fn(|field| all[field]))
 }
 
-/// The sheet's record of 40 bytes: 20, then 9, then the deck's.
-pub fn write_sheet(measurer: &mut Measurer, bytes: &[u8], room: usize) -> Result<Vec<u8>, Refusal> {
+/// The first so many fields as a sheet's record of so many bytes: 20, then 9, then the deck's.
+fn written<const N: usize>(
+    measurer: &mut Measurer,
+    bytes: &[u8],
+    room: usize,
+    size: usize,
+) -> Result<Vec<u8>, Refusal> {
     if bytes.len() > MOST_BYTES {
         return refuse(20, 0);
     }
-    if room < 40 {
+    if room < size {
         return refuse(9, 0);
     }
-    compose(measurer, bytes, 5).map(sheet_record)
+    fields::<N>(measurer, bytes, N).map(|fields| sheet_record(&fields))
+}
+
+pub fn compose(measurer: &mut Measurer, bytes: &[u8], room: usize) -> Result<[u64; 5], Refusal> {
+    fields(measurer, bytes, room)
+}
+
+pub fn compose_six(measurer: &mut Measurer, bytes: &[u8], room: usize) -> Result<[u64; 6], Refusal> {
+    fields(measurer, bytes, room)
+}
+
+pub fn write_sheet(measurer: &mut Measurer, bytes: &[u8], room: usize) -> Result<Vec<u8>, Refusal> {
+    written::<5>(measurer, bytes, room, 40)
+}
+
+pub fn write_six(measurer: &mut Measurer, bytes: &[u8], room: usize) -> Result<Vec<u8>, Refusal> {
+    written::<6>(measurer, bytes, room, 44)
 }
 
 /// The distance of atom i of placement k and atom j of placement l: the deck's, then 18 at 0, then 9.

@@ -5,7 +5,9 @@ mod c {
     extern "C" {
         pub fn tteuyomal_judge(deck: *const u8, deck_len: usize) -> u64;
         pub fn tteuyomal_write_sheet(deck: *const u8, deck_len: usize, out: *mut u8, out_len: usize) -> u64;
+        pub fn tteuyomal_write_six(deck: *const u8, deck_len: usize, out: *mut u8, out_len: usize) -> u64;
         pub fn tteuyomal_compose(deck: *const u8, deck_len: usize, fields: *mut u64, fields_len: usize) -> u64;
+        pub fn tteuyomal_compose_six(deck: *const u8, deck_len: usize, fields: *mut u64, fields_len: usize) -> u64;
         pub fn tteuyomal_placed_distance(
             deck: *const u8,
             deck_len: usize,
@@ -115,6 +117,14 @@ pub fn judge(deck: &[u8]) -> u64 {
 
 pub fn write_sheet(deck: &[u8], out: &mut [u8]) -> u64 {
     unsafe { c::tteuyomal_write_sheet(deck.as_ptr(), deck.len(), out.as_mut_ptr(), out.len()) }
+}
+
+pub fn write_six(deck: &[u8], out: &mut [u8]) -> u64 {
+    unsafe { c::tteuyomal_write_six(deck.as_ptr(), deck.len(), out.as_mut_ptr(), out.len()) }
+}
+
+pub fn compose_six(deck: &[u8], fields: &mut [u64]) -> u64 {
+    unsafe { c::tteuyomal_compose_six(deck.as_ptr(), deck.len(), fields.as_mut_ptr(), fields.len()) }
 }
 
 pub fn compose(deck: &[u8], fields: &mut [u64]) -> u64 {

@@ -7,12 +7,20 @@ use crate::refusal::{refuse, Refusal};
 pub const MOST_BYTES: usize = 32_768;
 pub const MOST_BLOCKS: usize = 16;
 pub const MOST_PLACEMENTS: usize = 32;
-pub const SHEET_PAYLOAD: usize = 36;
 
 pub const HEAD: usize = 4;
 pub const BLOCK: usize = 1;
 pub const ASSEMBLY: usize = 2;
 pub const SHEET: usize = 3;
+pub const SHEET_OF_SIX: usize = 4;
+
+/// The bytes of each field of a sheet of this kind: atom count, W, even part, odd part, polarity; largest distance.
+fn widths(kind: usize) -> &'static [usize] {
+    match kind {
+        SHEET => &[4, 8, 8, 8, 8],
+        _ => &[4, 8, 8, 8, 8, 4],
+    }
+}
 
 /// A deck to be composed ends with its assembly, a deck to be judged with its sheet.
 #[derive(Clone, Copy, Debug, PartialEq, Eq)]
@@ -30,12 +38,12 @@ pub struct Placement {
     pub own_atom: usize,
 }
 
-/// A deck that nothing refuses. The sheet's five fields are there in a judged deck.
+/// A deck that nothing refuses. The sheet's five or six fields are there in a judged deck.
 #[derive(Clone, Debug)]
 pub struct Deck {
     pub blocks: Vec<Graph>,
     pub placements: Vec<Placement>,
-    pub sheet: Option<[u64; 5]>,
+    pub sheet: Option<Vec<u64>>,
 }
 
 struct Record<'a> {
@@ -94,7 +102,7 @@ pub fn read_deck(bytes: &[u8], form: Form) -> Result<Deck, Refusal> {
         deck.blocks.push(block);
     }
     if form == Form::Judged {
-        let next = record(bytes, at, &[SHEET])?;
+        let next = record(bytes, at, &[SHEET, SHEET_OF_SIX])?;
         at += HEAD + next.payload.len();
         deck.sheet = Some(read_sheet(&next)?);
     }
@@ -186,21 +194,27 @@ fn joins_at(placements: &[Placement], placed: usize, atom: usize) -> usize {
     own as usize + children.count()
 }
 
-fn read_sheet(record: &Record) -> Result<[u64; 5], Refusal> {
-    let payload = record.payload;
-    if payload.len() != SHEET_PAYLOAD {
+fn read_sheet(record: &Record) -> Result<Vec<u64>, Refusal> {
+    let widths = widths(record.kind);
+    if record.payload.len() != widths.iter().sum::<usize>() {
         return refuse(13, record.first);
     }
-    let field = |at, width| number(payload, at, width);
-    Ok([field(0, 4), field(4, 8), field(12, 8), field(20, 8), field(28, 8)])
+    let mut at = 0;
+    let mut fields = Vec::new();
+    for &width in widths {
+        fields.push(number(record.payload, at, width));
+        at += width;
+    }
+    Ok(fields)
 }
 
-/// A sheet's whole record, as composing writes it.
-pub fn sheet_record(fields: [u64; 5]) -> Vec<u8> {
-    let mut record = vec![SHEET_PAYLOAD as u8, 0, SHEET as u8, 0];
-    record.extend_from_slice(&(fields[0] as u32).to_le_bytes());
-    for field in &fields[1..] {
-        record.extend_from_slice(&field.to_le_bytes());
+/// A sheet's whole record, as composing writes it: of kind 3 from five fields, of kind 4 from six.
+pub fn sheet_record(fields: &[u64]) -> Vec<u8> {
+    let kind = if fields.len() == 5 { SHEET } else { SHEET_OF_SIX };
+    let widths = widths(kind);
+    let mut record = vec![widths.iter().sum::<usize>() as u8, 0, kind as u8, 0];
+    for (&field, &width) in fields.iter().zip(widths) {
+        record.extend_from_slice(&field.to_le_bytes()[..width]);
     }
     record
 }

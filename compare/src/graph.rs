@@ -9,7 +9,7 @@ pub struct Graph {
     pub bonds: Vec<(usize, usize)>,
 }
 
-/// The five fields of a sheet.
+/// The fields of a sheet: five, and the largest distance, which a sheet of six has too.
 #[derive(Clone, Copy, Debug, PartialEq, Eq)]
 pub struct Indices {
     pub atoms: u64,
@@ -17,11 +17,16 @@ pub struct Indices {
     pub even: u64,
     pub odd: u64,
     pub polarity: u64,
+    pub largest: u64,
 }
 
 impl Indices {
     pub fn fields(&self) -> [u64; 5] {
         [self.atoms, self.w, self.even, self.odd, self.polarity]
+    }
+
+    pub fn six(&self) -> [u64; 6] {
+        [self.atoms, self.w, self.even, self.odd, self.polarity, self.largest]
     }
 }
 
@@ -72,10 +77,10 @@ impl Graph {
         rows
     }
 
-    /// W and its parts and the polarity of a connected graph, over the pairs i < j.
+    /// W and its parts, the polarity and the largest distance of a connected graph, over the pairs i < j.
     pub fn indices(&self) -> Indices {
         let neighbours = self.neighbours();
-        let mut sums = Indices { atoms: self.atoms as u64, w: 0, even: 0, odd: 0, polarity: 0 };
+        let mut sums = Indices { atoms: self.atoms as u64, w: 0, even: 0, odd: 0, polarity: 0, largest: 0 };
         for i in 1..=self.atoms {
             let row = distances_from(&neighbours, i);
             for &distance in &row[i + 1..] {
@@ -89,6 +94,7 @@ impl Graph {
                 if d == 3 {
                     sums.polarity += 1;
                 }
+                sums.largest = sums.largest.max(d);
             }
         }
         sums

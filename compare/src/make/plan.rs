@@ -21,7 +21,8 @@ pub struct PlacementPlan {
 pub struct DeckPlan {
     pub blocks: Vec<BlockPlan>,
     pub placements: Vec<PlacementPlan>,
-    pub sheet: Option<[u64; 5]>,
+    /// Five fields, or the six of a sheet of kind 4.
+    pub sheet: Option<Vec<u64>>,
 }
 
 /// A record with a length field that need not be its payload's.
@@ -70,8 +71,9 @@ impl DeckPlan {
         let mut records: Vec<RecordPlan> =
             self.blocks.iter().map(|block| RecordPlan::new(1, block.payload())).collect();
         records.push(RecordPlan::new(2, self.assembly_payload()));
-        if let Some(fields) = self.sheet {
-            records.push(RecordPlan::new(3, sheet_payload(fields)));
+        if let Some(fields) = &self.sheet {
+            let kind = if fields.len() == 6 { 4 } else { 3 };
+            records.push(RecordPlan::new(kind, sheet_payload(fields)));
         }
         records
     }
@@ -98,10 +100,13 @@ impl DeckPlan {
     }
 }
 
-fn sheet_payload(fields: [u64; 5]) -> Vec<u8> {
+fn sheet_payload(fields: &[u64]) -> Vec<u8> {
     let mut payload = (fields[0] as u32).to_le_bytes().to_vec();
-    for field in &fields[1..] {
+    for field in &fields[1..5] {
         payload.extend_from_slice(&field.to_le_bytes());
+    }
+    for &largest in &fields[5..] {
+        payload.extend_from_slice(&(largest as u32).to_le_bytes());
     }
     payload
 }

@@ -71,12 +71,16 @@ fn rings_with(changes: &[(usize, u8)]) -> Vec<u8> {
     bytes
 }
 
-/// Two rings of 6 with a sheet behind them, its record at byte 40.
-fn judged_rings() -> Vec<u8> {
+/// Two rings of 6 with a sheet of these fields behind them, its record at byte 40.
+fn judged_rings(fields: &[u64]) -> Vec<u8> {
     let mut deck = two_rings();
-    deck.sheet = Some([12, 198, 96, 102, 14]);
+    deck.sheet = Some(fields.to_vec());
     deck.bytes()
 }
+
+const FIVE: [u64; 5] = [12, 198, 96, 102, 14];
+
+const SIX: [u64; 6] = [12, 198, 96, 102, 14, 7];
 
 /// The assembly of these placements over blocks of one atom (1), of a star of 7 (2) and of a triple ring of 7 (3);
 /// the records begin at bytes 0, 10, 32 and 84, the placements at 90, 96 and so on.
@@ -113,12 +117,14 @@ fn in_records(meets: Meets) {
     meets(11, 22, "an assembly's head cut off", rings[..25].to_vec());
     meets(11, 22, "an assembly cut off", rings[..39].to_vec());
     meets(11, 40, "a byte behind the assembly", [&rings[..], &[0]].concat());
-    meets(11, 40, "a sheet behind a deck to be composed", judged_rings());
+    meets(11, 40, "a sheet behind a deck to be composed", judged_rings(&FIVE));
+    meets(11, 40, "a sheet of six behind a deck to be composed", judged_rings(&SIX));
     meets(11, 22, "cut off and of a kind that may not stand there", rings_with(&[(22, 15), (24, 9)]));
     meets(12, 0, "an assembly first", rings[22..].to_vec());
     meets(12, 0, "kind 0", rings_with(&[(2, 0)]));
     meets(12, 0, "a kind whose low byte alone is right", rings_with(&[(3, 1)]));
     meets(12, 22, "a sheet for an assembly", rings_with(&[(24, 3)]));
+    meets(12, 22, "a sheet of six for an assembly", rings_with(&[(24, 4)]));
     meets(12, 22, "kind 9 with a wrong count", rings_with(&[(24, 9), (26, 3)]));
     meets(13, 0, "a block of five bytes", vec![5, 0, 1, 0, 1, 0, 1, 0, 0]);
     meets(13, 0, "a bond count too high", rings_with(&[(8, 7)]));
@@ -214,7 +220,8 @@ fn in_placements(meets: Meets) {
 }
 
 fn behind_the_assembly(meets: Meets) {
-    let whole = judged_rings();
+    let whole = judged_rings(&FIVE);
+    let six = judged_rings(&SIX);
     let with = |at: usize, byte: u8| {
         let mut changed = whole.clone();
         changed[at] = byte;
@@ -225,11 +232,21 @@ fn behind_the_assembly(meets: Meets) {
     meets(11, 40, "a sheet cut off", whole[..79].to_vec());
     meets(11, 80, "a byte behind the sheet", [&whole[..], &[0]].concat());
     meets(12, 40, "an assembly for a sheet", with(42, 2));
-    meets(12, 40, "a sheet of kind 4, and a byte behind it", [&with(42, 4)[..], &[0]].concat());
+    meets(11, 40, "a sheet of six cut off", six[..83].to_vec());
+    meets(11, 84, "a byte behind a sheet of six", [&six[..], &[0]].concat());
+    meets(11, 80, "a sheet of six behind a sheet", [&whole[..], &six[40..]].concat());
+    meets(11, 84, "a sheet behind a sheet of six", [&six[..], &whole[40..]].concat());
+    meets(12, 40, "a sheet of kind 5, and a byte behind it", [&with(42, 5)[..], &[0]].concat());
+    meets(13, 40, "kind 4 with five fields, and a byte behind it", [&with(42, 4)[..], &[0]].concat());
+    meets(13, 40, "kind 3 with six fields", {
+        let mut changed = six.clone();
+        changed[42] = 3;
+        changed
+    });
     meets(13, 40, "a sheet of 35 bytes, and a byte behind it", with(40, 35));
     meets(19, 34, "a wrong placement before a sheet cut off", {
         let mut deck = chained(star(7), 2, 1, 2);
-        deck.sheet = Some([0; 5]);
+        deck.sheet = Some(vec![0; 5]);
         let bytes = deck.bytes();
         bytes[..bytes.len() - 1].to_vec()
     });

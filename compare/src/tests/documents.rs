@@ -36,7 +36,7 @@ fn forty_bytes_and_their_line() {
     assert_eq!(crate::make::specimens::two_rings().bytes(), FORTY);
     let mut measurer = Measurer::default();
     assert_eq!(sheet_line(&mut measurer, &FORTY), FORTY_LINE);
-    let judged = |sheet: [u64; 5]| [&FORTY[..], &sheet_record(sheet)].concat();
+    let judged = |sheet: [u64; 5]| [&FORTY[..], &sheet_record(&sheet)].concat();
     assert_eq!(judge_line(&mut measurer, &judged([12, 198, 96, 102, 14])), "accepted");
     assert_eq!(judge_line(&mut measurer, &judged([12, 198, 102, 96, 14])), "differs 3");
     assert_eq!(judge_line(&mut measurer, &FORTY), "refused 11 at 40");
@@ -45,14 +45,30 @@ fn forty_bytes_and_their_line() {
 
 #[test]
 fn each_wrong_field_is_named() {
-    let right = [12, 198, 96, 102, 14];
+    let right = [12, 198, 96, 102, 14, 7];
     let mut measurer = Measurer::default();
-    for field in 0..5 {
-        let mut wrong = right;
-        wrong[field] += 1;
-        let deck = [&FORTY[..], &sheet_record(wrong)].concat();
-        assert_eq!(judge(&mut measurer, &deck), Verdict::Differs(field as u64 + 1));
+    for kind in [5, 6] {
+        for field in 0..kind {
+            let mut wrong = right;
+            wrong[field] += 1;
+            let deck = [&FORTY[..], &sheet_record(&wrong[..kind])].concat();
+            assert_eq!(judge(&mut measurer, &deck), Verdict::Differs(field as u64 + 1));
+        }
     }
+}
+
+#[test]
+fn six_fields() {
+    let mut measurer = Measurer::default();
+    let written = answers::write_six(&mut measurer, &FORTY, 44).expect("a good deck");
+    assert_eq!(
+        (written.len(), &written[..8], &written[40..]),
+        (44, &[40, 0, 4, 0, 12, 0, 0, 0][..], &[7, 0, 0, 0][..])
+    );
+    assert_eq!(judge_line(&mut measurer, &[&FORTY[..], &written].concat()), "accepted");
+    let paths = longest_path().bytes();
+    let right = [2_048, 1_431_655_424, 715_827_200, 715_828_224, 2_045, 2_047];
+    assert_eq!(answers::compose_six(&mut measurer, &paths, 6), Ok(right));
 }
 
 #[test]

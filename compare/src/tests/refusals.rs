@@ -48,6 +48,10 @@ fn short_outputs_come_where_document_01_says() {
         answers::write_sheet(measurer, &good, 40).map(|sheet| sheet[..8].to_vec()),
         Ok(vec![36, 0, 3, 0, 12, 0, 0, 0])
     );
+    assert_eq!(answers::write_six(measurer, &long, 0), refused(20, 0));
+    assert_eq!(answers::write_six(measurer, &[], 43), refused(9, 0));
+    assert_eq!(answers::write_six(measurer, &[], 44), refused(11, 0));
+    assert_eq!(answers::compose_six(measurer, &good, 5), refused(9, 0));
     assert_eq!(answers::compose(measurer, &[], 4), refused(11, 0));
     assert_eq!(answers::compose(measurer, &good, 4), refused(9, 0));
     assert_eq!(answers::compose(measurer, &good, 5), Ok([12, 198, 96, 102, 14]));

@@ -10,6 +10,7 @@ use Rattle.reply.specs.Read.{Read, refused, read, _then_, refuseIf, refusal}
 use Rattle.block.specs.Block.{blockReply}
 use Rattle.records.specs.Bytes.{le16, part}
 use Rattle.records.specs.declared.Kind.{Kind}
+use Rattle.records.specs.declared.Sheet.the-variants.{Five, Six}
 use Rattle.records.specs.Records.{headBytes, blockKind, assemblyKind, sheetKind, kindAt, payloadAt, endAt, recordReply}
 use Rattle.assembly.specs.declared.BlockAt.{BlockAt}
 use Rattle.assembly.specs.Book.{used, find, bondBytes, bookOf}
@@ -30,13 +31,13 @@ pub record Deck : Type 0 where
   pub placements : ℕ
   pub sheet : ℕ
 
--- What may stand first is a block, then a block or the last kind; after the assembly, in a deck to be judged, the sheet.
+-- What may stand first is a block, then a block or the last kind; after the assembly, in a deck to be judged, a sheet of either kind.
 abbrev pub kindsAfter : List BlockAt → Kind → List Kind
 kindsAfter [] last = blockKind ∷ []
 kindsAfter (b ∷ bs) last = blockKind ∷ last ∷ []
 
 abbrev pub sheetKinds : List Kind
-sheetKinds = sheetKind ∷ []
+sheetKinds = sheetKind Five ∷ sheetKind Six ∷ []
 
 -- what the block record at a place says
 abbrev pub blockAt : List ℕ → ℕ → BlockAt

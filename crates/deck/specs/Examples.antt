@@ -32,9 +32,20 @@ assembly : ℕ → List ℕ → List ℕ
 unfolding record'
 assembly p placements = record' 2 (p ∷ 0 ∷ placements)
 
+five : ℕ → ℕ → ℕ → ℕ → ℕ → List ℕ
+five n w e o p = n ∷ replicate 3 0 ++ w ∷ replicate 7 0 ++ e ∷ replicate 7 0 ++ o ∷ replicate 7 0 ++ p ∷ replicate 7 0
+
 sheet : ℕ → ℕ → ℕ → ℕ → ℕ → List ℕ
-unfolding record'
-sheet n w e o p = record' 3 (n ∷ replicate 3 0 ++ w ∷ replicate 7 0 ++ e ∷ replicate 7 0 ++ o ∷ replicate 7 0 ++ p ∷ replicate 7 0)
+unfolding record' five
+sheet n w e o p = record' 3 (five n w e o p)
+
+-- a sheet of six, with the largest distance behind the five
+sixth : ℕ → List ℕ
+sixth l = l ∷ replicate 3 0
+
+wider : ℕ → ℕ → ℕ → ℕ → ℕ → ℕ → List ℕ
+unfolding record' five sixth
+wider n w e o p l = record' 4 (five n w e o p ++ sixth l)
 
 -- a block of one atom, a ring of six; one placement of block 1, and another joined to it
 atom : List ℕ
@@ -86,8 +97,25 @@ same-bytes = refl
 forms :
     (told Composed document ∷ told Judged (document ++ sheet 12 198 96 102 14) ∷ told Composed (document ++ sheet 12 198 96 102 14) ∷ told Judged document ∷ told Composed [] ∷ [])
     ≡ ([] ∷ [] ∷ (11 ∷ 40 ∷ []) ∷ (11 ∷ 40 ∷ []) ∷ (11 ∷ 0 ∷ []) ∷ [])
-unfolding told document sheet record'
+unfolding told document sheet five record'
 forms = refl
+
+-- a sheet of six fields stands where one of five does
+abbrev sixFields : List ℕ
+unfolding wider five sixth record'
+sixFields = wider 12 198 96 102 14 7
+
+six-fields : (told Judged (document ++ sixFields) ∷ told Composed (document ++ sixFields) ∷ []) ≡ ([] ∷ (11 ∷ 40 ∷ []) ∷ [])
+unfolding told document wider five sixth record'
+six-fields = refl
+
+-- 13 for either kind with the other's length, 11 at a second sheet, 12 where an assembly should stand
+sheets-refused :
+    (told Judged (document ++ record' 3 (five 12 198 96 102 14 ++ sixth 7)) ∷ told Judged (document ++ record' 4 (five 12 198 96 102 14)) ∷ told Judged (document ++ sixFields ++ sheet 12 198 96 102 14)
+    ∷ told Judged (document ++ sheet 12 198 96 102 14 ++ sixFields) ∷ told Judged (atom ++ sixFields) ∷ [])
+    ≡ ((13 ∷ 40 ∷ []) ∷ (13 ∷ 40 ∷ []) ∷ (11 ∷ 84 ∷ []) ∷ (11 ∷ 80 ∷ []) ∷ (12 ∷ 10 ∷ []) ∷ [])
+unfolding told document sheet wider five sixth atom block record'
+sheets-refused = refl
 
 -- a deck that is refused, with the number and the place
 record Case : Type 0 where
@@ -115,7 +143,7 @@ joinsTo zero = []
 joinsTo (suc n) = joinTo 1 1 1 ++ joinsTo n
 
 cases : List Case
-unfolding _is_at_ record' block assembly sheet atom first joinTo alone atoms star joinsTo
+unfolding _is_at_ record' block assembly sheet five atom first joinTo alone atoms star joinsTo
 cases =
     -- 1, 2 and 7 at the block's record, 3 to 6 at the bond
     (atom ++ block 2 0 [] ++ alone) is 1 at 10
@@ -160,7 +188,7 @@ cases =
     ∷ []
 
 refusals : map (λ (c : Case). told Composed (c .deck)) cases ≡ map (λ (c : Case). c .number ∷ c .place ∷ []) cases
-unfolding told cases _is_at_ record' block assembly sheet atom first joinTo alone atoms star joinsTo
+unfolding told cases _is_at_ record' block assembly sheet five atom first joinTo alone atoms star joinsTo
 refusals = refl
 
 -- 20 needs no list of 32,769 bytes
@@ -168,13 +196,13 @@ pub too-long : (form : Form) (d : List ℕ) → longestDeck < length d → deckR
 unfolding deckReply
 too-long form d h = rw (lt-ltb longestDeck (length d) h)
 
--- the lookup: the payload in either form, nothing for another number, nothing of a refused deck
+-- the lookup: the payload in either form and with either sheet, nothing for another number, nothing of a refused deck
 looked : List ℕ → ℕ → List ℕ
 unfolding joins anyJoins bonded anyAtom reaches firstFrom distance allAtoms connected degree sum bondsOf bondFault bondsReply blockReply little kindReply isWrong lengthReply recordReply find bookOf placementAt joinOf joinEnds joinsOn bondsOn firstFault parentFault joinFault laterFault fault placedReply assemblyReply blockReplyAt assemblyReplyAt blocksFrom blocksReply endReply sheetReply deckReply payload blockSpan
 looked d x = blockPart d x
 
 lookups :
-    (looked (atom ++ alone) 1 ∷ looked (atom ++ alone ++ sheet 1 0 0 0 0) 1 ∷ looked (atom ++ alone) 2 ∷ looked (atom ++ alone) 0 ∷ looked atom 1 ∷ [])
-    ≡ ((1 ∷ 0 ∷ 1 ∷ 0 ∷ 0 ∷ 0 ∷ []) ∷ (1 ∷ 0 ∷ 1 ∷ 0 ∷ 0 ∷ 0 ∷ []) ∷ [] ∷ [] ∷ [] ∷ [])
-unfolding looked atom alone block assembly sheet record' first
+    (looked (atom ++ alone) 1 ∷ looked (atom ++ alone ++ sheet 1 0 0 0 0) 1 ∷ looked (atom ++ alone ++ wider 1 0 0 0 0 0) 1 ∷ looked (atom ++ alone) 2 ∷ looked (atom ++ alone) 0 ∷ looked atom 1 ∷ [])
+    ≡ ((1 ∷ 0 ∷ 1 ∷ 0 ∷ 0 ∷ 0 ∷ []) ∷ (1 ∷ 0 ∷ 1 ∷ 0 ∷ 0 ∷ 0 ∷ []) ∷ (1 ∷ 0 ∷ 1 ∷ 0 ∷ 0 ∷ 0 ∷ []) ∷ [] ∷ [] ∷ [] ∷ [])
+unfolding looked atom alone block assembly sheet wider five sixth record' first
 lookups = refl

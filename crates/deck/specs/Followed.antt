@@ -5,7 +5,7 @@ use mathlib.Core.List.{List, [], _∷_, _++_}
 use mathlib.Core.Logic.{⊎-elim}
 use mathlib.Core.Path.{_≡_, refl, sym, _∙_, ap, ap₂}
 use native.Mathlib.Omega.{arith}
-use borrow.Author.Tests.{eq-eqb, eqb-true, le-ltb, ltb-false}
+use borrow.Author.Tests.{eqb-true, le-ltb, ltb-false}
 use lib.Dec.{eqb, leb}
 use lib.ListN.{length, length-append}
 use Rattle.graph.specs.Graph.{Graph}
@@ -14,10 +14,11 @@ use Rattle.reply.specs.Read.{read, _then_, refuseIf}
 use Rattle.reply.specs.Chain.{not-read, then-read, if-read}
 use Rattle.block.specs.Block.{graphOf, blockReply}
 use Rattle.records.specs.Bytes.{le16}
-use Rattle.records.specs.Records.{headBytes, blockKind, assemblyKind, sheetKind, lengthAt, kindAt, endAt, payloadAt, wanted, kindReply, isWrong, lengthReply, recordReply}
-use Rattle.records.specs.Taken.{taken}
+use Rattle.records.specs.Records.{headBytes, blockKind, assemblyKind, sheetKind, lengthAt, kindAt, sheetAt, endAt, payloadAt, lengthReply, recordReply}
+use Rattle.records.specs.Taken.{taken, sheet-stands, sheet-suits, sheet-told}
 use Rattle.records.specs.Longer.{Counted, little-same, little-behind, part-same, kind-same, end-same, payload-same, record-same}
 use Rattle.records.specs.declared.Kind.{Kind}
+use Rattle.records.specs.declared.Sheet.{Sheet}
 use Rattle.assembly.specs.Book.{Book, find, used, bondBytes, bookOf}
 use Rattle.assembly.specs.Placements.{placementAt, joinOn, graphOn, assemblyReply}
 use Rattle.assembly.specs.declared.BlockAt.{BlockAt}
@@ -78,25 +79,32 @@ module _ (d s : List ℕ) where
   unfolding bookOf
   book-same bs t = λ i. record { has = used bs; graph = λ x. graphOf (find bs x .atoms) (found-same bs x t i) }
 
--- a record of a sheet
-pub record IsSheet (s : List ℕ) : Type 0 where
-  pub size : length s ≡ headBytes + sheetKind .fixed
-  pub payload : le16 s 0 ≡ sheetKind .fixed
-  pub kind : le16 s 2 ≡ sheetKind .number
+-- the record of a sheet of a kind
+pub record IsSheet (sheet : Sheet) (s : List ℕ) : Type 0 where
+  pub size : length s ≡ headBytes + sheetKind sheet .fixed
+  pub payload : le16 s 0 ≡ sheetKind sheet .fixed
+  pub kind : le16 s 2 ≡ sheetKind sheet .number
 
-sheet-behind : (d s : List ℕ) → IsSheet s → sheetReply Judged (d ++ s) (length d) ≡ read tt
-unfolding sheetReply recordReply kindReply isWrong lengthReply endReply
-sheet-behind d s i =
-    let z : length d + 0 ≡ length d = omega arith in
-    let n : lengthAt (d ++ s) (length d) ≡ sheetKind .fixed = ap (le16 (d ++ s)) (sym z) ∙ little-behind d s 2 0 ∙ i .payload in
-    let m : kindAt (d ++ s) (length d) ≡ sheetKind .number = little-behind d s 2 2 ∙ i .kind in
-    let l : length (d ++ s) ≡ endAt (d ++ s) (length d) = omega (arith, length-append d s, i .size, n) in
-    rw (
-      le-ltb (length (d ++ s)) (endAt (d ++ s) (length d)) (omega arith),
-      eq-eqb (kindAt (d ++ s) (length d)) (sheetKind .number) m,
-      eq-eqb (lengthAt (d ++ s) (length d)) (wanted sheetKind (d ++ s) (length d)) (omega (arith, n)),
-      le-ltb (endAt (d ++ s) (length d)) (length (d ++ s)) (omega arith),
-    )
+module _ {sheet : Sheet} (d s : List ℕ) (i : IsSheet sheet s) where
+  kind-behind : kindAt (d ++ s) (length d) ≡ sheetKind sheet .number
+  kind-behind = little-behind d s 2 2 ∙ i .kind
+
+  -- behind a deck it is told by its kind, and taken
+  pub told-behind : sheetAt (d ++ s) (length d) ≡ sheet
+  told-behind = sheet-told (d ++ s) (length d) sheet kind-behind
+
+  sheet-behind : sheetReply Judged (d ++ s) (length d) ≡ read tt
+  unfolding sheetReply recordReply lengthReply endReply
+  sheet-behind =
+      let z : length d + 0 ≡ length d = omega arith in
+      let n : lengthAt (d ++ s) (length d) ≡ sheetKind sheet .fixed = ap (le16 (d ++ s)) (sym z) ∙ little-behind d s 2 0 ∙ i .payload in
+      let l : length (d ++ s) ≡ endAt (d ++ s) (length d) = omega (arith, length-append d s, i .size, n) in
+      rw (
+        le-ltb (length (d ++ s)) (endAt (d ++ s) (length d)) (omega arith),
+        sheet-stands (d ++ s) (length d) sheet kind-behind,
+        sheet-suits (d ++ s) (length d) sheet n,
+        le-ltb (endAt (d ++ s) (length d)) (length (d ++ s)) (omega arith),
+      )
 
 module _ (d : List ℕ) (k : Deck) (e : deckReply Composed d ≡ read k) where
   -- a deck that composes ends with its assembly: there a sheet would stand
@@ -136,9 +144,9 @@ module _ (d : List ℕ) (k : Deck) (e : deckReply Composed d ≡ read k) where
     same-molecule = ap₂ (λ (blocks : ℕ → Graph) (joins : ℕ → Join). written blocks joins (k .placements - 1)) same-graphs same-joins
 
     -- with a sheet behind it, it is read in the form that is judged
-    pub followed : IsSheet s → length d + length s ≤ longestDeck → deckReply Judged (d ++ s) ≡ read k
+    pub followed : {sheet : Sheet} → IsSheet sheet s → length d + length s ≤ longestDeck → deckReply Judged (d ++ s) ≡ read k
     unfolding deckReply assemblyReplyAt blocksReply Counted
-    followed i h =
+    followed {sheet} i h =
         let p = parts Composed d k e in
         let b = from-same d s assemblyKind (omega arith, tt) (suc mostBlocks) 0 [] (p .blocks) in
         let a : assemblyReply (bookOf (d ++ s) (k .blocks)) (payloadAt (d ++ s) (k .assembly)) ≡ read tt = ap₂ assemblyReply books payloads ∙ p .assembly in

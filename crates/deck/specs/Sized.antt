@@ -11,6 +11,8 @@ use lib.Dec.{eqb, ltb}
 use lib.ListN.{length, take, drop, getD, length-append, length-drop}
 use lib.Seq.{length-take-le, getD-take, getD-drop}
 use Rattle.graph.specs.Graph.{Graph, Molecule, total}
+use Rattle.graph.specs.Farthest.{farthest, largest}
+use Rattle.graph.specs.Largest.{most-below, largest-is, farthest-below}
 use Rattle.graph.specs.Bounds.{Tame, total-most, atoms-most}
 use Rattle.graph.specs.Climb.{written-molecule}
 use Rattle.reply.specs.Read.{read, _then_}
@@ -116,3 +118,10 @@ module _ (form : Form) (d : List ℕ) (k : Deck) (e : deckReply form d ≡ read 
 
   pub totals-small : {f : ℕ → ℕ} → Tame f → total (moleculeOf d k) f < 2 ^ 40
   totals-small t = small one-molecule atoms-few t
+
+  -- and its largest distance is no more than it has atoms
+  pub largest-small : largest (moleculeOf d k) < 2 ^ 32
+  largest-small =
+      let m = one-molecule in
+      let g = moleculeOf d k in
+      omega (arith, largest-is m, most-below (g .atoms) (farthest g) (g .atoms) (λ i w. omega (arith, farthest-below m w)), atoms-few)

@@ -23,7 +23,8 @@ use records::ASSEMBLY;
 use records::BLOCK;
 use records::HEAD;
 use records::Kind;
-use records::SHEET;
+use records::SHEET_OF_FIVE;
+use records::SHEET_OF_SIX;
 use records::le16_at;
 use records::part;
 use records::payload_at;
@@ -226,14 +227,14 @@ fn end_reply(d: &[u8], at: usize) -> Reply
     Reply::Fine
 }
 
-// What follows the assembly: in a deck to be judged a sheet, and then nothing.
+// What follows the assembly: in a deck to be judged a sheet of either kind, and then nothing.
 fn sheet_reply(form: Form, d: &[u8], at: usize) -> Reply
     ensures { λ r. ⌜ r ≡ saidReply (sheetReply form (now (d .entry)) at) ⌝ }
 {
     let Form::Judged = form else {
         return end_reply(d, at);
     };
-    let r = record_at(d, at, SHEET, SHEET);
+    let r = record_at(d, at, SHEET_OF_FIVE, SHEET_OF_SIX);
     let Reply::Fine = r else {
         return r;
     };

@@ -10,13 +10,13 @@ use Rattle.block.specs.Index.{indicesOf, saidIndices}
 use Rattle.block.specs.declared.Indices.{Indices}
 use Rattle.reply.specs.declared.Refusal.{Refusal}
 use Rattle.block.specs.declared.Measured.the-variants as measured
-use Rattle.records.specs.Taken.{taken}
+use Rattle.records.specs.Records.{sheetAt}
+use Rattle.records.specs.declared.Sheet.{Sheet}
 use Rattle.deck.specs.Deck.{longestDeck, Deck, deckReply}
 use Rattle.deck.specs.Molecule.{moleculeOf}
 use Rattle.deck.specs.declared.Form.{Form}
 use Rattle.deck.specs.declared.Form.the-variants.{Composed, Judged}
-use Rattle.sheets.specs.Sheets.{fieldsOf, sheetOf, claimedAt, saidFields, sheetBytes, firstWrong}
-use Rattle.sheets.specs.Back.{fields-said}
+use Rattle.sheets.specs.Sheets.{fieldsOf, sheetOf, claimedAt, sheetBytes, firstWrong}
 use Rattle.compose.specs.Fields.{composeReply, saidComposed, fieldsReply}
 use Rattle.compose.specs.declared.Composed.{Composed as DeckFields}
 use Rattle.compose.specs.declared.ComposeReply.the-variants as composed
@@ -65,10 +65,10 @@ pub judge-refused : (d : List ℕ) (r : Refusal) → deckReply Judged d ≡ refu
 unfolding judgeReply
 judge-refused d r e = rw e
 
-pub judge-read : (d : List ℕ) (k : Deck) (x y : Indices) (at : ℕ) (v : Verdict) → deckReply Judged d ≡ read k → x ≡ indicesOf (moleculeOf d k) → at ≡ k .sheet → y ≡ saidFields (claimedAt d at)
-    → v ≡ saidVerdict (read (firstWrong 1 (fieldsOf x) (fieldsOf y))) → v ≡ saidVerdict (judgeReply d)
+pub judge-read : (d : List ℕ) (k : Deck) (x : Indices) (at n : ℕ) (v : Verdict) → deckReply Judged d ≡ read k → x ≡ indicesOf (moleculeOf d k) → at ≡ k .sheet
+    → n ≡ firstWrong 1 (fieldsOf (sheetAt d at) x) (claimedAt d at) → v ≡ saidVerdict (read n) → v ≡ saidVerdict (judgeReply d)
 unfolding judgeReply sheetOf
-judge-read d k x y at v e p a q f = f ∙ rw (e, p, q, a, fields-said d (k .sheet))
+judge-read d k x at n v e p a q f = f ∙ rw (e, q, p, a)
 
 -- accepted where no field is wrong
 pub accepts : (n : ℕ) → n ≡ 0 → verdict.Accepted ≡ saidVerdict (read n)
@@ -79,18 +79,18 @@ differs zero h = absurd (h refl)
 differs (suc n) h = refl
 
 -- the three ways of writing
-module _ (d : List ℕ) (n : ℕ) where
-  pub write-long : longestDeck < length d → writeReply d n ≡ refused (refusal 20 0)
+module _ (s : Sheet) (d : List ℕ) (n : ℕ) where
+  pub write-long : longestDeck < length d → writeReply s d n ≡ refused (refusal 20 0)
   unfolding writeReply
   write-long h = rw (lt-ltb longestDeck (length d) h)
 
-  pub write-short : length d ≤ longestDeck → n < sheetBytes → writeReply d n ≡ refused (refusal 9 0)
+  pub write-short : length d ≤ longestDeck → n < sheetBytes s → writeReply s d n ≡ refused (refusal 9 0)
   unfolding writeReply
-  write-short h l = rw (le-ltb longestDeck (length d) h, lt-ltb n sheetBytes l)
+  write-short h l = rw (le-ltb longestDeck (length d) h, lt-ltb n (sheetBytes s) l)
 
-  write-fields : length d ≤ longestDeck → sheetBytes ≤ n → writeReply d n ≡ fieldsReply Composed d
+  write-fields : length d ≤ longestDeck → sheetBytes s ≤ n → writeReply s d n ≡ fieldsReply Composed d
   unfolding writeReply
-  write-fields h l = rw (le-ltb longestDeck (length d) h, le-ltb n sheetBytes l)
+  write-fields h l = rw (le-ltb longestDeck (length d) h, le-ltb n (sheetBytes s) l)
 
-  pub write-told : (x : Read Indices) → length d ≤ longestDeck → sheetBytes ≤ n → saidIndices x ≡ saidIndices (fieldsReply Composed d) → writeReply d n ≡ x
+  pub write-told : (x : Read Indices) → length d ≤ longestDeck → sheetBytes s ≤ n → saidIndices x ≡ saidIndices (fieldsReply Composed d) → writeReply s d n ≡ x
   write-told x h l e = write-fields h l ∙ sym (fields-told Composed d x e)

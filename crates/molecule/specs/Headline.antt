@@ -6,6 +6,7 @@ use mathlib.Core.Logic.{_↔_}
 use mathlib.Core.Path.{_≡_, refl, sym}
 use native.Mathlib.Omega.{arith}
 use Rattle.graph.specs.Graph.{Graph, wiener, evenPart, oddPart, polarity}
+use Rattle.graph.specs.Farthest.{largest}
 use Rattle.graph.specs.Assembly.{Join, joined, atomOf, written}
 use Rattle.reply.specs.Read.{refused, read, _then_}
 use Rattle.reply.specs.declared.Refusal.{Refusal}
@@ -13,13 +14,15 @@ use Rattle.block.specs.Index.{indicesOf}
 use Rattle.deck.specs.Deck.{Deck, deckReply}
 use Rattle.deck.specs.Molecule.{graphAt, joinAt, moleculeOf}
 use Rattle.deck.specs.declared.Form.the-variants.{Judged}
-use Rattle.sheets.specs.Sheets.{fieldsOf, sheetOf, claimedAt, firstWrong}
+use Rattle.records.specs.Records.{sheetAt}
+use Rattle.records.specs.declared.Sheet.the-variants.{Five, Six}
+use Rattle.sheets.specs.Sheets.{allFields, fieldsOf, sheetOf, claimedAt, firstWrong}
 use Rattle.sheets.specs.Back.{none-wrong, wrong-none}
 use Rattle.molecule.specs.Molecule.{judgeReply, saidVerdict}
 use Rattle.molecule.specs.declared.Verdict.the-variants as verdict
 
 -- `judge` promises `r ≡ saidVerdict (judgeReply d)`: the deck's refusal, or the first field of the claimed sheet that is not the molecule's, 0 for none
-pub judged : (d : List ℕ) → judgeReply d ≡ (deckReply Judged d then λ k. read (firstWrong 1 (sheetOf (moleculeOf d k)) (claimedAt d (k .sheet))))
+pub judged : (d : List ℕ) → judgeReply d ≡ (deckReply Judged d then λ k. read (firstWrong 1 (sheetOf (sheetAt d (k .sheet)) (moleculeOf d k)) (claimedAt d (k .sheet))))
 unfolding judgeReply
 judged d = refl
 
@@ -37,21 +40,21 @@ pub written-is : (blocks : ℕ → Graph) (joins : ℕ → Join) (m : ℕ) → (
 unfolding written
 written-is blocks joins m = (refl, refl)
 
--- its sheet
-pub sheet-is : (g : Graph) → sheetOf g ≡ g .atoms ∷ wiener g ∷ evenPart g ∷ oddPart g ∷ polarity g ∷ []
-unfolding sheetOf fieldsOf indicesOf
-sheet-is g = refl
+-- its sheet of five fields, and of six
+pub sheet-is : (g : Graph) → (sheetOf Five g ≡ g .atoms ∷ wiener g ∷ evenPart g ∷ oddPart g ∷ polarity g ∷ [])
+    × (sheetOf Six g ≡ g .atoms ∷ wiener g ∷ evenPart g ∷ oddPart g ∷ polarity g ∷ largest g ∷ [])
+unfolding sheetOf fieldsOf allFields indicesOf
+sheet-is g = (refl, refl)
 
 -- a verdict accepts where no field is wrong, and only there
 no-wrong : (n : ℕ) → saidVerdict (read n) ≡ verdict.Accepted → n ≡ 0
 no-wrong zero e = refl
 no-wrong (suc n) e = absurd (let z : _≡_ {A = ℕ} 0 1 = cc in omega arith)
 
--- THE THEOREM: a judged deck that is not refused is accepted if and only if its five fields are those of the molecule written out
+-- THE THEOREM, over either kind: a judged deck that is not refused is accepted if and only if the fields that its sheet has are those of the molecule written out
 pub accepted-exactly : (d : List ℕ) (k : Deck) → deckReply Judged d ≡ read k
-    → (saidVerdict (judgeReply d) ≡ verdict.Accepted) ↔ (claimedAt d (k .sheet) ≡ sheetOf (moleculeOf d k))
+    → (saidVerdict (judgeReply d) ≡ verdict.Accepted) ↔ (claimedAt d (k .sheet) ≡ sheetOf (sheetAt d (k .sheet)) (moleculeOf d k))
 unfolding judgeReply
-accepted-exactly d k e = (
-  λ a. sym (wrong-none 0 (sheetOf (moleculeOf d k)) (claimedAt d (k .sheet)) (no-wrong _ (rw e at a))),
-  λ q. rw (e, q, none-wrong 1 (sheetOf (moleculeOf d k))),
-)
+accepted-exactly d k e =
+    let own = sheetOf (sheetAt d (k .sheet)) (moleculeOf d k) in
+    (λ a. sym (wrong-none 0 own (claimedAt d (k .sheet)) (no-wrong _ (rw e at a))), λ q. rw (e, q, none-wrong 1 own))

@@ -15,13 +15,15 @@ use Rattle.block.specs.declared.Indices.{Indices}
 use Rattle.block.specs.declared.Measured.{Measured}
 use Rattle.deck.specs.Deck.{longestDeck, Deck, deckReply}
 use Rattle.deck.specs.Molecule.{moleculeOf}
-use Rattle.deck.specs.Sized.{composed-short, atoms-few, totals-small}
-use Rattle.deck.specs.Followed.{IsSheet, ends, same-molecule, followed}
+use Rattle.deck.specs.Sized.{longestComposed, composed-short, atoms-few, totals-small, largest-small}
+use Rattle.deck.specs.Followed.{IsSheet, told-behind, ends, same-molecule, followed}
 use Rattle.deck.specs.declared.Form.{Form}
 use Rattle.deck.specs.declared.Form.the-variants.{Composed, Judged}
-use Rattle.records.specs.Records.{headBytes}
-use Rattle.sheets.specs.Sheets.{fieldsOf, widths, fieldsAt, sheetOf, claimedAt, sheetBytes, sheetRecord, sheetPut}
-use Rattle.sheets.specs.Back.{Fit, length-sheet, read-whole, fields-behind, none-wrong}
+use Rattle.records.specs.Records.{headBytes, sheetAt}
+use Rattle.records.specs.declared.Sheet.{Sheet}
+use Rattle.records.specs.declared.Sheet.the-variants.{Five, Six}
+use Rattle.sheets.specs.Sheets.{allFields, allWidths, fieldsOf, widths, fieldsAt, sheetOf, claimedAt, sheetBytes, sheetRecord, sheetPut}
+use Rattle.sheets.specs.Back.{Fit, fit-of, length-sheet, read-whole, fields-behind, none-wrong}
 use Rattle.compose.specs.Fields.{fieldsReply}
 use Rattle.molecule.specs.Molecule.{judgeReply, saidVerdict, writeReply, saidWritten, sheetOut}
 use Rattle.molecule.specs.declared.Verdict.{Verdict}
@@ -29,9 +31,9 @@ use Rattle.molecule.specs.declared.Verdict.the-variants as verdict
 use Rattle.molecule.specs.declared.Written.{Written}
 use Rattle.molecule.specs.declared.Written.the-variants as written
 
--- the five fields of a deck's molecule fit their widths
-fields-fit : (form : Form) (d : List ℕ) (k : Deck) → deckReply form d ≡ read k → Fit widths (fieldsOf (indicesOf (moleculeOf d k)))
-unfolding fieldsOf indicesOf
+-- all fields of a deck's molecule fit their widths
+fields-fit : (form : Form) (d : List ℕ) (k : Deck) → deckReply form d ≡ read k → Fit allWidths (allFields (indicesOf (moleculeOf d k)))
+unfolding allFields indicesOf
 fields-fit form d k e = (
   omega (arith, atoms-few form d k e),
   (
@@ -42,7 +44,10 @@ fields-fit form d k e = (
         omega (arith, totals-small form d k e tame-odd),
         (
           omega (arith, totals-small form d k e (tame-at 3)),
-          tt,
+          (
+            omega (arith, largest-small form d k e),
+            tt,
+          ),
         ),
       ),
     ),
@@ -50,61 +55,80 @@ fields-fit form d k e = (
 )
 
 -- The record of a sheet whose fields fit is one; behind a deck that composes it is taken, and claims its fields.
-module _ (x : Indices) (fit : Fit widths (fieldsOf x)) where
-  is-sheet : IsSheet (sheetRecord (fieldsOf x))
+module _ (s : Sheet) (x : Indices) (fit : Fit (widths s) (fieldsOf s x)) where
+  abbrev claim : List ℕ
+  claim = sheetRecord s (fieldsOf s x)
+
+  is-sheet : IsSheet s claim
   unfolding fieldsAt
-  is-sheet = let w = read-whole x fit in record { size = length-sheet x; payload = ap (λ (l : List ℕ). getD l 0 0) w; kind = ap (λ (l : List ℕ). getD l 1 0) w }
+  is-sheet = let w = read-whole s x fit in record { size = length-sheet s x; payload = ap (λ (l : List ℕ). getD l 0 0) w; kind = ap (λ (l : List ℕ). getD l 1 0) w }
 
   module _ (d : List ℕ) (k : Deck) (e : deckReply Composed d ≡ read k) where
-    sheet-taken : length d + sheetBytes ≤ longestDeck → deckReply Judged (d ++ sheetRecord (fieldsOf x)) ≡ read k
-    sheet-taken h = followed d k e (sheetRecord (fieldsOf x)) is-sheet (omega (arith, length-sheet x))
+    sheet-taken : length d + sheetBytes s ≤ longestDeck → deckReply Judged (d ++ claim) ≡ read k
+    sheet-taken h = followed d k e claim is-sheet (omega (arith, length-sheet s x))
 
-    sheet-claimed : claimedAt (d ++ sheetRecord (fieldsOf x)) (k .sheet) ≡ fieldsOf x
+    sheet-told : sheetAt (d ++ claim) (k .sheet) ≡ s
+    sheet-told = ap (sheetAt (d ++ claim)) (ends d k e) ∙ told-behind d claim is-sheet
+
+    sheet-claimed : claimedAt (d ++ claim) (k .sheet) ≡ fieldsOf s x
     unfolding claimedAt fieldsAt
     sheet-claimed =
-        let s = sheetRecord (fieldsOf x) in
-        ap (λ (n : ℕ). fieldsAt widths (d ++ s) (n + headBytes)) (ends d k e) ∙ fields-behind d s widths headBytes ∙ ap (drop 2) (read-whole x fit)
+        ap (λ (t : Sheet). fieldsAt (widths t) (d ++ claim) (k .sheet + headBytes)) sheet-told
+        ∙ ap (λ (n : ℕ). fieldsAt (widths s) (d ++ claim) (n + headBytes)) (ends d k e)
+        ∙ fields-behind d claim (widths s) headBytes
+        ∙ ap (drop 2) (read-whole s x fit)
 
-module _ (d : List ℕ) (k : Deck) (e : deckReply Composed d ≡ read k) where
+-- a sheet of either kind leaves room for itself behind a deck that composes
+sheet-short : (s : Sheet) → longestComposed + sheetBytes s ≤ longestDeck
+sheet-short Five = omega arith
+sheet-short Six = omega arith
+
+module _ (s : Sheet) (d : List ℕ) (k : Deck) (e : deckReply Composed d ≡ read k) where
   -- the record of the molecule's sheet, put behind its deck
   abbrev longer : List ℕ
-  longer = d ++ sheetRecord (sheetOf (moleculeOf d k))
+  longer = d ++ sheetRecord s (sheetOf s (moleculeOf d k))
 
   sheet-accepted : judgeReply longer ≡ read 0
   unfolding judgeReply sheetOf
   sheet-accepted =
       let x = indicesOf (moleculeOf d k) in
-      let f = fields-fit Composed d k e in
-      rw (sheet-taken x f d k e (omega (arith, composed-short d k e)), sheet-claimed x f d k e, same-molecule d k e (sheetRecord (fieldsOf x)), none-wrong 1 (fieldsOf x))
+      let f = fit-of s x (fields-fit Composed d k e) in
+      rw (
+        sheet-taken s x f d k e (omega (arith, composed-short d k e, sheet-short s)),
+        sheet-claimed s x f d k e,
+        sheet-told s x f d k e,
+        same-molecule d k e (sheetRecord s (fieldsOf s x)),
+        none-wrong 1 (fieldsOf s x),
+      )
 
 -- a buffer that took a sheet begins with its record
-put-record : (out : List ℕ) (x : Indices) → sheetBytes ≤ length out → take sheetBytes (sheetPut out (fieldsOf x)) ≡ sheetRecord (fieldsOf x)
+put-record : (s : Sheet) (out : List ℕ) (x : Indices) → sheetBytes s ≤ length out → take (sheetBytes s) (sheetPut s out (fieldsOf s x)) ≡ sheetRecord s (fieldsOf s x)
 unfolding sheetPut
-put-record out x h = rw (le-ltb (length out) sheetBytes h) (take-at (sheetRecord (fieldsOf x)) _ sheetBytes (length-sheet x))
+put-record s out x h = rw (le-ltb (length out) (sheetBytes s) h) (take-at (sheetRecord s (fieldsOf s x)) _ (sheetBytes s) (length-sheet s x))
 
 -- a sheet that was written is that of the deck's molecule, and the buffer was long enough
 sheet-made : (y : Read Indices) → saidWritten y ≡ written.Sheet → (x : Indices) × (y ≡ read x)
 sheet-made (refused r) e = absurd (let z : _≡_ {A = ℕ} 0 1 = cc in omega arith)
 sheet-made (read x) e = (x, refl)
 
-made : (d : List ℕ) (n : ℕ) (x : Indices) → writeReply d n ≡ read x → (k : Deck) × (deckReply Composed d ≡ read k) × (x ≡ indicesOf (moleculeOf d k)) × (sheetBytes ≤ n)
+made : (s : Sheet) (d : List ℕ) (n : ℕ) (x : Indices) → writeReply s d n ≡ read x → (k : Deck) × (deckReply Composed d ≡ read k) × (x ≡ indicesOf (moleculeOf d k)) × (sheetBytes s ≤ n)
 unfolding writeReply fieldsReply
-made d n x p =
+made s d n x p =
     let (u, a, f) = then-read (refuseIf (ltb longestDeck (length d)) 20 0) _ p in
-    let (v, b, g) = then-read (refuseIf (ltb n sheetBytes) 9 0) _ f in
+    let (v, b, g) = then-read (refuseIf (ltb n (sheetBytes s)) 9 0) _ f in
     let (k, e, i) = then-read (deckReply Composed d) (λ k. read (indicesOf (moleculeOf d k))) g in
-    (k, e, cc, ltb-false n sheetBytes (if-read _ 9 0 b))
+    (k, e, cc, ltb-false n (sheetBytes s) (if-read _ 9 0 b))
 
--- (b) the record that `write_sheet` writes, put behind the same deck, is accepted
-pub written-accepted : (d out : List ℕ) → saidWritten (writeReply d (length out)) ≡ written.Sheet
-    → saidVerdict (judgeReply (d ++ take sheetBytes (sheetOut out (writeReply d (length out))))) ≡ verdict.Accepted
+-- (b) the record that `write_sheet` writes, of either kind, put behind the same deck, is accepted
+pub written-accepted : (s : Sheet) (d out : List ℕ) → saidWritten (writeReply s d (length out)) ≡ written.Sheet
+    → saidVerdict (judgeReply (d ++ take (sheetBytes s) (sheetOut s out (writeReply s d (length out))))) ≡ verdict.Accepted
 unfolding sheetOf
-written-accepted d out s =
-    let (x, p) = sheet-made (writeReply d (length out)) s in
-    let (k, e, q, l) = made d (length out) x p in
-    let b : take sheetBytes (sheetOut out (writeReply d (length out))) ≡ sheetRecord (sheetOf (moleculeOf d k)) =
-    ap (λ (y : Read Indices). take sheetBytes (sheetOut out y)) p ∙ put-record out x l ∙ ap (λ (y : Indices). sheetRecord (fieldsOf y)) q in
-    ap (λ (r : List ℕ). saidVerdict (judgeReply (d ++ r))) b ∙ ap saidVerdict (sheet-accepted d k e)
+written-accepted s d out h =
+    let (x, p) = sheet-made (writeReply s d (length out)) h in
+    let (k, e, q, l) = made s d (length out) x p in
+    let b : take (sheetBytes s) (sheetOut s out (writeReply s d (length out))) ≡ sheetRecord s (sheetOf s (moleculeOf d k)) =
+    ap (λ (y : Read Indices). take (sheetBytes s) (sheetOut s out y)) p ∙ put-record s out x l ∙ ap (λ (y : Indices). sheetRecord s (fieldsOf s y)) q in
+    ap (λ (r : List ℕ). saidVerdict (judgeReply (d ++ r))) b ∙ ap saidVerdict (sheet-accepted s d k e)
 
 -- (c) two replies, and two buffers, that satisfy a promise are equal
 pub unique-compose : (d : List ℕ) (r s : Measured) → r ≡ saidIndices (fieldsReply Composed d) → s ≡ saidIndices (fieldsReply Composed d) → r ≡ s
@@ -113,8 +137,8 @@ unique-compose d r s p q = p ∙ sym q
 pub unique-judge : (d : List ℕ) (r s : Verdict) → r ≡ saidVerdict (judgeReply d) → s ≡ saidVerdict (judgeReply d) → r ≡ s
 unique-judge d r s p q = p ∙ sym q
 
-pub unique-written : (d : List ℕ) (n : ℕ) (r s : Written) → r ≡ saidWritten (writeReply d n) → s ≡ saidWritten (writeReply d n) → r ≡ s
-unique-written d n r s p q = p ∙ sym q
+pub unique-written : (k : Sheet) (d : List ℕ) (n : ℕ) (r s : Written) → r ≡ saidWritten (writeReply k d n) → s ≡ saidWritten (writeReply k d n) → r ≡ s
+unique-written k d n r s p q = p ∙ sym q
 
-pub unique-bytes : (d out a b : List ℕ) → a ≡ sheetOut out (writeReply d (length out)) → b ≡ sheetOut out (writeReply d (length out)) → a ≡ b
-unique-bytes d out a b p q = p ∙ sym q
+pub unique-bytes : (k : Sheet) (d out a b : List ℕ) → a ≡ sheetOut k out (writeReply k d (length out)) → b ≡ sheetOut k out (writeReply k d (length out)) → a ≡ b
+unique-bytes k d out a b p q = p ∙ sym q

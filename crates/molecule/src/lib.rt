@@ -1,13 +1,12 @@
 // The judge: composing a deck's sheet, writing it, and judging one that somebody else wrote.
-use block::Indices;
 use block::Measured;
 use compose::ComposeReply;
 use compose::fields;
 use deck::Form;
 use deck::LONGEST;
+use records::Sheet;
 use reply::Refusal;
-use sheets::BYTES;
-use sheets::claimed;
+use sheets::bytes_of;
 use sheets::first_wrong;
 use sheets::put_sheet;
 ghost use mathlib.Core.Path.{_≡_};
@@ -15,11 +14,10 @@ ghost use lib.ListN.{length};
 ghost use Rattle.reply.specs.Read.{read};
 ghost use Rattle.block.specs.Index.{saidIndices};
 ghost use Rattle.deck.specs.declared.Form.the-variants.{Composed};
-ghost use Rattle.sheets.specs.Sheets.{fieldsOf, firstWrong};
 ghost use Rattle.compose.specs.Fields.{fieldsReply};
 ghost use Rattle.molecule.specs.Molecule.{judgeReply, saidVerdict, writeReply, saidWritten, sheetOut};
 
-// What a judged deck is told: it differs in the first wrong field, 1 to 5.
+// What a judged deck is told: it differs in the first wrong field, 1 to 5 or, with a sheet of six, 1 to 6.
 pub enum Verdict {
     Refused(Refusal),
     Accepted,
@@ -32,7 +30,7 @@ pub enum Written {
     Sheet,
 }
 
-// The five fields of a deck without a sheet, or its refusal.
+// The fields of a deck without a sheet, or its refusal.
 pub fn compose(d: &[u8]) -> Measured
     ensures { λ r. ⌜ r ≡ saidIndices (fieldsReply Composed (now (d .entry))) ⌝ }
 {
@@ -46,18 +44,19 @@ pub fn compose(d: &[u8]) -> Measured
     }
 }
 
-// Writes the sheet of a deck without one, a whole record of 40 bytes, into the first bytes of a buffer. A refusal writes nothing.
-pub fn write_sheet(d: &[u8], out: &mut [u8]) -> Written
-    ensures reply { λ r. ⌜ r ≡ saidWritten (writeReply (now (d .entry)) (length (now (out .entry)))) ⌝ }
-    ensures bytes { λ r. ⌜ now (out .exit) ≡ sheetOut (now (out .entry)) (writeReply (now (d .entry)) (length (now (out .entry)))) ⌝ }
+// Writes a sheet of a deck without one, a whole record of 40 or 44 bytes, into the first bytes of a buffer. A refusal writes nothing.
+pub fn write_sheet(d: &[u8], sheet: Sheet, out: &mut [u8]) -> Written
+    ensures reply { λ r. ⌜ r ≡ saidWritten (writeReply sheet (now (d .entry)) (length (now (out .entry)))) ⌝ }
+    ensures bytes { λ r. ⌜ now (out .exit) ≡ sheetOut sheet (now (out .entry)) (writeReply sheet (now (d .entry)) (length (now (out .entry)))) ⌝ }
 {
+    let bytes = bytes_of(sheet);
     if LONGEST < d.len() {
         return Written::Refused(Refusal {
             number: 20,
             place: 0,
         });
     }
-    if out.len() < BYTES {
+    if out.len() < bytes {
         return Written::Refused(Refusal {
             number: 9,
             place: 0,
@@ -67,24 +66,23 @@ pub fn write_sheet(d: &[u8], out: &mut [u8]) -> Written
     match told {
         Measured::Refused(refusal) => Written::Refused(refusal),
         Measured::Of(all) => {
-            put_sheet(out, all);
+            put_sheet(out, sheet, all);
             Written::Sheet
         }
     }
 }
 
-// Whether two sheets are the same, or the first field in which they differ.
-fn compared(all: Indices, sheet: Indices) -> Verdict
-    ensures { λ r. ⌜ r ≡ saidVerdict (read (firstWrong 1 (fieldsOf all) (fieldsOf sheet))) ⌝ }
+// The verdict on a sheet by its first wrong field, 0 for none.
+fn compared(n: usize) -> Verdict
+    ensures { λ r. ⌜ r ≡ saidVerdict (read n) ⌝ }
 {
-    let n = first_wrong(all, sheet);
     if n == 0 {
         return Verdict::Accepted;
     }
     Verdict::Differs(n)
 }
 
-// Judges the sheet at the end of a deck: accepted, or the first wrong field, or the deck's refusal.
+// Judges the sheet at the end of a deck, of either kind: accepted, or the first wrong field, or the deck's refusal.
 pub fn judge(d: &[u8]) -> Verdict
     ensures { λ r. ⌜ r ≡ saidVerdict (judgeReply (now (d .entry))) ⌝ }
 {
@@ -93,7 +91,7 @@ pub fn judge(d: &[u8]) -> Verdict
         ComposeReply::Refused(refusal) => Verdict::Refused(refusal),
         ComposeReply::Composed(x) => {
             let all = x.fields;
-            compared(all, claimed(d, x.sheet))
+            compared(first_wrong(d, x.sheet, all))
         }
     }
 }

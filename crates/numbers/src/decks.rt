@@ -7,6 +7,7 @@ use crate::row::Row;
 use crate::told;
 use molecule::Verdict;
 use molecule::Written;
+use records::Sheet;
 
 // What stands in a lent buffer before it is written to.
 const STAYS: u8 = row::STAYS as u8;
@@ -14,6 +15,11 @@ const STAYS: u8 = row::STAYS as u8;
 fn composed(deck: &[u8], row: Row) -> bool {
     let reply = molecule::compose(deck);
     told::of_measured(reply).is(row, 0)
+}
+
+fn composed_six(deck: &[u8], row: Row) -> bool {
+    let reply = molecule::compose(deck);
+    told::of_six(reply).is(row, 0)
 }
 
 // The first field that differs, 0 for none.
@@ -46,18 +52,18 @@ fn found(deck: &[u8], row: Row) -> bool {
 }
 
 // The first bytes of a buffer are lent.
-fn sheet_in(deck: &[u8], out: &mut [u8], lent: usize) -> Written
+fn sheet_in(deck: &[u8], sheet: Sheet, out: &mut [u8], lent: usize) -> Written
     requires { ⌜ lent ≤ length (now out) ⌝ }
 {
-    molecule::write_sheet(deck, &mut out[..lent])
+    molecule::write_sheet(deck, sheet, &mut out[..lent])
 }
 
 // A sheet or a refusal, or what stands in the buffer after that.
-fn written(letter: u8, deck: &[u8], row: Row) -> bool {
+fn written(deck: &[u8], sheet: Sheet, bytes: bool, row: Row) -> bool {
     let mut out = [STAYS; 64];
     let lent = row.first(0, 64);
-    let reply = sheet_in(deck, &mut out, lent);
-    if letter == b'b' {
+    let reply = sheet_in(deck, sheet, &mut out, lent);
+    if bytes {
         return told::bytes_are(&out, row);
     }
     match reply {
@@ -73,7 +79,11 @@ pub(crate) fn right(letter: u8, deck: &[u8], row: Row) -> bool {
         b'j' => judged(deck, row),
         b'a' => apart(deck, row),
         b'f' => found(deck, row),
-        b'w' | b'b' => written(letter, deck, row),
+        b's' => composed_six(deck, row),
+        b'w' => written(deck, Sheet::Five, false, row),
+        b'b' => written(deck, Sheet::Five, true, row),
+        b'k' => written(deck, Sheet::Six, false, row),
+        b'r' => written(deck, Sheet::Six, true, row),
         _ => false,
     }
 }

@@ -58,6 +58,26 @@ pub(crate) fn of_measured(m: Measured) -> Told {
     }
 }
 
+pub(crate) fn of_six(m: Measured) -> Told {
+    match m {
+        Measured::Refused(r) => refusal(r),
+        Measured::Of(x) => Told {
+            refused: false,
+            count: 6,
+            values: [
+                x.atoms,
+                x.w,
+                x.even,
+                x.odd,
+                x.polarity,
+                x.largest,
+                STAYS,
+                STAYS,
+            ],
+        },
+    }
+}
+
 pub(crate) fn of_around(a: Around) -> Told {
     match a {
         Around::Refused(r) => refusal(r),

@@ -7,8 +7,9 @@ use borrow.Author.Tests.{eq-eqb, ne-eqb, lt-ltb, le-ltb}
 use lib.Dec.{eqb, ltb}
 use lib.ListN.{length}
 use Rattle.reply.specs.Read.{refused, read, refusal}
-use Rattle.records.specs.Records.{lengthAt, kindAt, endAt, wanted, kindReply, isWrong, lengthReply, recordReply}
+use Rattle.records.specs.Records.{sheetKind, lengthAt, kindAt, sheetAt, endAt, wanted, kindReply, isWrong, lengthReply, recordReply}
 use Rattle.records.specs.declared.Kind.{Kind}
+use Rattle.records.specs.declared.Sheet.the-variants.{Five, Six}
 
 module _ (k : Kind) (d : List ℕ) (at : ℕ) where
   pub length-wrong : isWrong k d at ≡ true → lengthReply k d at ≡ refused (refusal 13 at)
@@ -45,3 +46,13 @@ module _ (a b : Kind) (d : List ℕ) (at : ℕ) where
       pub is-neither : (kindAt d at ≡ b .number → ⊥) → recordReply (a ∷ b ∷ []) d at ≡ refused (refusal 12 at)
       unfolding recordReply kindReply
       is-neither h = rw (le-ltb (length d) (endAt d at) whole, ne-eqb (kindAt d at) (a .number) other, ne-eqb (kindAt d at) (b .number) h)
+
+-- a sheet of six fields, or of five
+module _ (d : List ℕ) (at : ℕ) where
+  pub is-six : kindAt d at ≡ sheetKind Six .number → sheetAt d at ≡ Six
+  unfolding sheetAt
+  is-six h = rw (eq-eqb (kindAt d at) (sheetKind Six .number) h)
+
+  pub not-six : (kindAt d at ≡ sheetKind Six .number → ⊥) → sheetAt d at ≡ Five
+  unfolding sheetAt
+  not-six h = rw (ne-eqb (kindAt d at) (sheetKind Six .number) h)

@@ -7,6 +7,8 @@ use lib.ListN.{length}
 use Rattle.reply.specs.Read.{Read, refused, read, _then_, refuseIf, refusal}
 use Rattle.records.specs.Bytes.{le16, part}
 use Rattle.records.specs.declared.Kind.{Kind}
+use Rattle.records.specs.declared.Sheet.{Sheet}
+use Rattle.records.specs.declared.Sheet.the-variants.{Five, Six}
 
 -- a record's head: payload length and kind
 abbrev pub headBytes : ℕ
@@ -20,15 +22,20 @@ blockKind = record { number = 1; fixed = 6; count = 4; item = 2; loose = false }
 abbrev pub assemblyKind : Kind
 assemblyKind = record { number = 2; fixed = 2; count = 0; item = 6; loose = false }
 
--- Kind 3, sheet: 36 bytes
-abbrev pub sheetKind : Kind
-sheetKind = record { number = 3; fixed = 36; count = 0; item = 0; loose = false }
+-- Kind 3, sheet of five fields: 36 bytes. Kind 4, sheet of six: 40 bytes
+abbrev pub sheetKind : Sheet → Kind
+sheetKind Five = record { number = 3; fixed = 36; count = 0; item = 0; loose = false }
+sheetKind Six = record { number = 4; fixed = 40; count = 0; item = 0; loose = false }
 
 abbrev pub lengthAt : List ℕ → ℕ → ℕ
 lengthAt d at = le16 d at
 
 abbrev pub kindAt : List ℕ → ℕ → ℕ
 kindAt d at = le16 d (at + 2)
+
+-- which of the two a sheet's record at a place is
+unfoldable pub sheetAt : List ℕ → ℕ → Sheet
+sheetAt d at = cond (eqb (kindAt d at) (sheetKind Six .number)) Six Five
 
 -- the payload of the record at a place, and the first byte after it
 abbrev pub payloadAt : List ℕ → ℕ → List ℕ

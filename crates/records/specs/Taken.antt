@@ -10,8 +10,10 @@ use lib.Dec.{eqb, ltb}
 use lib.ListN.{length}
 use Rattle.reply.specs.Read.{read, refuseIf}
 use Rattle.reply.specs.Chain.{not-read, then-read, if-read}
-use Rattle.records.specs.Records.{lengthAt, kindAt, endAt, wanted, kindReply, isWrong, lengthReply, recordReply}
+use Rattle.records.specs.Records.{sheetKind, lengthAt, kindAt, sheetAt, endAt, wanted, kindReply, isWrong, lengthReply, recordReply}
 use Rattle.records.specs.declared.Kind.{Kind}
+use Rattle.records.specs.declared.Sheet.{Sheet}
+use Rattle.records.specs.declared.Sheet.the-variants.{Five, Six}
 
 -- it lies within the list, and is of a kind that may stand there and of that kind's length
 pub record Taken (kinds : List Kind) (d : List ℕ) (at : ℕ) : Type 0 where
@@ -69,3 +71,23 @@ module _ (d : List ℕ) (at : ℕ) where
       go : Dec (kindAt d at ≡ k .number) → kindAt d at ≡ k .number
       go (yes p) = p
       go (no p) = absurd (of-none (of-other k [] e p))
+
+  -- of the two kinds of sheets, the one whose number stands there; it has no items
+  pub sheet-stands : (s : Sheet) → kindAt d at ≡ sheetKind s .number → kindReply (sheetKind Five ∷ sheetKind Six ∷ []) d at ≡ read (sheetKind s)
+  unfolding kindReply
+  sheet-stands Five e = rw e refl
+  sheet-stands Six e = rw e refl
+
+  pub sheet-wants : (s : Sheet) → wanted (sheetKind s) d at ≡ sheetKind s .fixed
+  sheet-wants Five = omega arith
+  sheet-wants Six = omega arith
+
+  pub sheet-told : (s : Sheet) → kindAt d at ≡ sheetKind s .number → sheetAt d at ≡ s
+  unfolding sheetAt
+  sheet-told Five e = rw e refl
+  sheet-told Six e = rw e refl
+
+  pub sheet-suits : (s : Sheet) → lengthAt d at ≡ sheetKind s .fixed → isWrong (sheetKind s) d at ≡ false
+  unfolding isWrong
+  sheet-suits Five e = rw (eq-eqb (lengthAt d at) (wanted (sheetKind Five) d at) (omega (arith, e)))
+  sheet-suits Six e = rw (eq-eqb (lengthAt d at) (wanted (sheetKind Six) d at) (omega (arith, e)))

@@ -7,7 +7,7 @@ ghost use lib.Dec.{eqb};
 ghost use lib.ListN.{length};
 ghost use Rattle.reply.specs.Read.{saidReply};
 ghost use Rattle.records.specs.Bytes.{byteAt, little, le16, PartOf};
-ghost use Rattle.records.specs.Records.{headBytes, lengthAt, wanted, isWrong, lengthReply, recordReply};
+ghost use Rattle.records.specs.Records.{headBytes, lengthAt, sheetKind, sheetAt, wanted, isWrong, lengthReply, recordReply};
 use reply::Refusal;
 use reply::Reply;
 use reply::wide;
@@ -25,7 +25,7 @@ pub struct Kind {
     pub loose: bool,
 }
 
-// The kinds of document 01.
+// The kinds that there are.
 pub const BLOCK: Kind = Kind {
     number: 1,
     fixed: 6,
@@ -42,13 +42,37 @@ pub const ASSEMBLY: Kind = Kind {
     loose: false,
 };
 
-pub const SHEET: Kind = Kind {
+pub const SHEET_OF_FIVE: Kind = Kind {
     number: 3,
     fixed: 36,
     count: 0,
     item: 0,
     loose: false,
 };
+
+pub const SHEET_OF_SIX: Kind = Kind {
+    number: 4,
+    fixed: 40,
+    count: 0,
+    item: 0,
+    loose: false,
+};
+
+// A sheet has five fields or six.
+pub enum Sheet {
+    Five,
+    Six,
+}
+
+// The kind of a sheet's record.
+pub fn sheet_kind(sheet: Sheet) -> Kind
+    ensures { λ r. ⌜ r ≡ sheetKind sheet ⌝ }
+{
+    match sheet {
+        Sheet::Five => SHEET_OF_FIVE,
+        Sheet::Six => SHEET_OF_SIX,
+    }
+}
 
 // The byte at a place, 0 past the end.
 pub fn byte_at(d: &[u8], at: usize) -> u8
@@ -175,4 +199,17 @@ pub fn record_at(d: &[u8], at: usize, a: Kind, b: Kind) -> Reply
         number: 12,
         place: at,
     })
+}
+
+// Which of the two a sheet's record at a place is.
+pub fn sheet_at(d: &[u8], at: usize) -> Sheet
+    ensures { λ r. ⌜ r ≡ sheetAt (now (d .entry)) at ⌝ }
+{
+    if d.len() < at {
+        return Sheet::Five;
+    }
+    if le16_at(d, at + 2) == SHEET_OF_SIX.number {
+        return Sheet::Six;
+    }
+    Sheet::Five
 }

@@ -7,14 +7,17 @@ use native.Mathlib.Numerals.{add-one}
 use native.Mathlib.Omega.{arith}
 use borrow.Author.Tests.{lt-ltb, le-ltb, eq-eqb, ne-eqb}
 use lib.ListN.{length, getD, set, take, drop, replicate, length-set, drop-of-length-le}
-use lib.Seq.{sets, sets-eq, length-sets, drop-cons}
+use lib.Seq.{sets, sets-eq, length-sets, length-take-le, drop-cons}
 use Rattle.block.specs.declared.Indices.{Indices}
 use Rattle.records.specs.Bytes.{little}
-use Rattle.records.specs.Records.{sheetKind}
+use Rattle.records.specs.Records.{headBytes, sheetKind, sheetAt}
+use Rattle.records.specs.declared.Kind.{Kind}
+use Rattle.records.specs.declared.Sheet.{Sheet}
+use Rattle.records.specs.declared.Sheet.the-variants.{Five, Six}
 use Rattle.records.proofs.Numbers.{past}
-use Rattle.sheets.specs.Sheets.{widths, fieldsOf, fieldsAt, littleBytes, fieldBytes, sheetRecord, sheetBytes, sheetPut, firstWrong}
+use Rattle.sheets.specs.Sheets.{allFields, allWidths, fieldCount, widths, fieldsOf, fieldsAt, claimedAt, littleBytes, fieldBytes, sheetRecord, sheetBytes, sheetPut, firstWrong}
 use Rattle.sheets.specs.Along.{total, Narrow}
-use Rattle.sheets.specs.Back.{length-little, length-sheet}
+use Rattle.sheets.specs.Back.{length-little, length-sheet, fields-some}
 
 -- a byte is stored, and then the rest; at the end nothing is left
 pub one-byte : (out : List ℕ) (k end n : ℕ) → k < end → sets out k (littleBytes (end - k) n) ≡ sets (set out k (n % 256)) (k + 1) (littleBytes (end - (k + 1)) (n / 256))
@@ -31,7 +34,7 @@ sets-more l i (x ∷ xs) ys =
     let e : suc i + length xs ≡ i + suc (length xs) = omega arith in
     sets-more (set l i x) (suc i) xs ys ∙ ap (λ (n : ℕ). sets (sets (set l i x) (suc i) xs) n ys) e
 
-length-fields : (ws d : List ℕ) (at : ℕ) → length (fieldsAt ws d at) ≡ length ws
+pub length-fields : (ws d : List ℕ) (at : ℕ) → length (fieldsAt ws d at) ≡ length ws
 unfolding fieldsAt
 length-fields [] d at = refl
 length-fields (w ∷ ws) d at = ap suc (length-fields ws d (at + w))
@@ -119,30 +122,62 @@ module _ {ws d out₀ : List ℕ} {from : ℕ} where
         )
 
 -- the head, and then the fields
-pub head-first : (o o₁ : List ℕ) (n k : ℕ) (xs : List ℕ) → o₁ ≡ sets o 0 (fieldBytes (2 ∷ 2 ∷ []) (n ∷ k ∷ [])) → sets o 0 (fieldBytes (2 ∷ 2 ∷ widths) (n ∷ k ∷ xs)) ≡ sets o₁ 4 (fieldBytes widths xs)
+head-first : (o o₁ : List ℕ) (n k : ℕ) (ws xs : List ℕ) → o₁ ≡ sets o 0 (fieldBytes (2 ∷ 2 ∷ []) (n ∷ k ∷ [])) → sets o 0 (fieldBytes (2 ∷ 2 ∷ ws) (n ∷ k ∷ xs)) ≡ sets o₁ 4 (fieldBytes ws xs)
 unfolding fieldBytes
-head-first o o₁ n k xs e =
+head-first o o₁ n k ws xs e =
     let mid = sets o 0 (littleBytes 2 n) in
     let last = sets mid 2 (littleBytes 2 k) in
     let f : o₁ ≡ last = e ∙ one-field o mid 0 2 n (2 ∷ []) (k ∷ []) refl ∙ one-field mid last 2 2 k [] [] refl in
-    one-field o mid 0 2 n (2 ∷ widths) (k ∷ xs) refl ∙ one-field mid o₁ 2 2 k widths xs f
+    one-field o mid 0 2 n (2 ∷ ws) (k ∷ xs) refl ∙ one-field mid o₁ 2 2 k ws xs f
 
-pub whole : (out after : List ℕ) (x : Indices) → sheetBytes ≤ length out → sets out 0 (sheetRecord (fieldsOf x)) ≡ after → after ≡ sheetPut out (fieldsOf x)
-unfolding sheetPut
-whole out after x h e =
-    let r = sheetRecord (fieldsOf x) in
-    rw (le-ltb (length out) sheetBytes h) (sym e ∙ sets-eq r out 0 (omega (arith, length-sheet x)) ∙ ap (λ (n : ℕ). take 0 out ++ r ++ drop (0 + n) out) (length-sheet x))
+module _ (s : Sheet) (x : Indices) where
+  whole : (out after : List ℕ) → sheetBytes s ≤ length out → sets out 0 (sheetRecord s (fieldsOf s x)) ≡ after → after ≡ sheetPut s out (fieldsOf s x)
+  unfolding sheetPut
+  whole out after h e =
+      let r = sheetRecord s (fieldsOf s x) in
+      let l : 0 + length r ≡ sheetBytes s = omega (arith, length-sheet s x) in
+      rw (le-ltb (length out) (sheetBytes s) h) (sym e ∙ sets-eq r out 0 (omega (arith, length-sheet s x)) ∙ ap (λ (n : ℕ). take 0 out ++ r ++ drop n out) l)
 
--- the head and the fields, put one after the other
-pub head-and-fields : (o o₁ o₂ ws xs : List ℕ) (x : Indices) → sheetBytes ≤ length o → o₁ ≡ sets o 0 (fieldBytes (2 ∷ 2 ∷ []) (sheetKind .fixed ∷ sheetKind .number ∷ []))
-    → ws ≡ widths → xs ≡ fieldsOf x → o₂ ≡ sets o₁ 4 (fieldBytes ws xs) → o₂ ≡ sheetPut o (fieldsOf x)
-unfolding sheetRecord
-head-and-fields o o₁ o₂ ws xs x h a b c d =
-    whole o o₂ x h (head-first o o₁ (sheetKind .fixed) (sheetKind .number) (fieldsOf x) a ∙ sym (d ∙ ap₂ (λ (vs ys : List ℕ). sets o₁ 4 (fieldBytes vs ys)) b c))
+  -- the head and the fields, put one after the other
+  pub head-and-fields : (o o₁ o₂ ws xs : List ℕ) (k : Kind) → sheetBytes s ≤ length o → k ≡ sheetKind s → o₁ ≡ sets o 0 (fieldBytes (2 ∷ 2 ∷ []) (k .fixed ∷ k .number ∷ []))
+      → ws ≡ widths s → xs ≡ fieldsOf s x → o₂ ≡ sets o₁ 4 (fieldBytes ws xs) → o₂ ≡ sheetPut s o (fieldsOf s x)
+  unfolding sheetRecord
+  head-and-fields o o₁ o₂ ws xs k h e a b c d =
+      let f = a ∙ ap (λ (k : Kind). sets o 0 (fieldBytes (2 ∷ 2 ∷ []) (k .fixed ∷ k .number ∷ []))) e in
+      whole o o₂ h (head-first o o₁ (sheetKind s .fixed) (sheetKind s .number) (widths s) (fieldsOf s x) f ∙ sym (d ∙ ap₂ (λ (vs ys : List ℕ). sets o₁ 4 (fieldBytes vs ys)) b c))
 
-pub too-short : (out : List ℕ) (xs : List ℕ) → length out < sheetBytes → out ≡ sheetPut out xs
-unfolding sheetPut
-too-short out xs h = rw (lt-ltb (length out) sheetBytes h)
+  pub too-short : (out : List ℕ) → length out < sheetBytes s → out ≡ sheetPut s out (fieldsOf s x)
+  unfolding sheetPut
+  too-short out h = rw (lt-ltb (length out) (sheetBytes s) h)
+
+-- of all fields, those of a sheet
+pub widths-taken : (s : Sheet) (n : ℕ) (ws : List ℕ) → n ≡ fieldCount s → ws ≡ allWidths → take n ws ≡ widths s
+unfolding widths
+widths-taken s n ws e f = ap₂ (λ (m : ℕ) (vs : List ℕ). take m vs) e f
+
+pub fields-taken : (s : Sheet) (x : Indices) (n : ℕ) (xs : List ℕ) → n ≡ fieldCount s → xs ≡ allFields x → take n xs ≡ fieldsOf s x
+unfolding fieldsOf
+fields-taken s x n xs e f = ap₂ (λ (m : ℕ) (ys : List ℕ). take m ys) e f
+
+-- of all numbers that could stand in a sheet, those that it claims
+pub claims-taken : (d : List ℕ) (at n : ℕ) (ys : List ℕ) → n ≡ fieldCount (sheetAt d at) → ys ≡ fieldsAt allWidths d (at + headBytes) → take n ys ≡ claimedAt d at
+unfolding claimedAt widths
+claims-taken d at n ys e f = ap₂ (λ (m : ℕ) (zs : List ℕ). take m zs) e f ∙ fields-some (fieldCount (sheetAt d at)) allWidths d (at + headBytes)
+
+-- no sheet has more fields than there are, so that many are there to be lent
+few-fields : (s : Sheet) → fieldCount s ≤ length allWidths
+few-fields Five = omega arith
+few-fields Six = omega arith
+
+pub there : (s : Sheet) (n : ℕ) (xs : List ℕ) → n ≡ fieldCount s → length xs ≡ length allWidths → n ≤ length xs
+there s n xs e l = omega (arith, few-fields s)
+
+pub lent : (s : Sheet) (n : ℕ) (xs : List ℕ) → n ≡ fieldCount s → length xs ≡ length allWidths → n ≡ length (take n xs)
+lent s n xs e l = sym (length-take-le n xs (there s n xs e l))
+
+pub length-all : (x : Indices) → length (allFields x) ≡ length allWidths
+unfolding allFields
+length-all x = refl
 
 -- two lists of fields compared from i on: they differ there, or later, or nowhere
 module _ (xs ys : List ℕ) (i : ℕ) where

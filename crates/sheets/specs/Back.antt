@@ -7,13 +7,15 @@ use native.Mathlib.Nat.{div-lt-iff-lt-mul, pow-suc}
 use native.Mathlib.Omega.{arith}
 use borrow.Author.Tests.{eq-eqb, eqb-true}
 use lib.Dec.{eqb, lit<}
-use lib.ListN.{length, getD, drop, length-append}
+use lib.ListN.{length, getD, take, drop, length-append}
 use lib.Seq.{getD-drop, drop-drop, drop-append-seam}
 use Rattle.block.specs.declared.Indices.{Indices}
 use Rattle.records.specs.Bytes.{byteAt, little}
 use Rattle.records.specs.Records.{sheetKind}
+use Rattle.records.specs.declared.Sheet.{Sheet}
+use Rattle.records.specs.declared.Sheet.the-variants.{Five, Six}
 use Rattle.records.specs.Longer.{little-behind}
-use Rattle.sheets.specs.Sheets.{widths, fieldsOf, fieldsAt, claimedAt, saidFields, littleBytes, fieldBytes, sheetRecord, sheetBytes, firstWrong}
+use Rattle.sheets.specs.Sheets.{allFields, allWidths, fieldCount, widths, fieldsOf, fieldsAt, littleBytes, fieldBytes, sheetRecord, sheetBytes, firstWrong}
 use Rattle.sheets.specs.Along.{total}
 
 pub length-little : (k n : ℕ) → length (littleBytes k n) ≡ k
@@ -21,14 +23,31 @@ unfolding littleBytes
 length-little zero n = refl
 length-little (suc k) n = ap suc (length-little k (n / 256))
 
--- the widths are a sheet's payload
-pub widths-fill : total widths ≡ sheetKind .fixed
-unfolding total
-widths-fill = refl
+-- the widths of a sheet are its payload, and there is one for each field
+pub widths-fill : (s : Sheet) → total (widths s) ≡ sheetKind s .fixed
+unfolding total widths
+widths-fill Five = refl
+widths-fill Six = refl
 
-pub length-sheet : (x : Indices) → length (sheetRecord (fieldsOf x)) ≡ sheetBytes
-unfolding sheetRecord fieldsOf fieldBytes
-length-sheet x = simp (length-append, length-little)
+pub one-each : (s : Sheet) (x : Indices) → length (fieldsOf s x) ≡ length (widths s)
+unfolding fieldsOf allFields widths
+one-each Five x = refl
+one-each Six x = refl
+
+-- fields of some widths take as many bytes as these come to
+length-bytes : (ws xs : List ℕ) → length xs ≡ length ws → length (fieldBytes ws xs) ≡ total ws
+unfolding fieldBytes total
+length-bytes [] xs e = refl
+length-bytes (w ∷ ws) [] e = absurd (omega arith)
+length-bytes (w ∷ ws) (x ∷ xs) e =
+    let l : length xs ≡ length ws = omega arith in
+    length-append (littleBytes w x) (fieldBytes ws xs) ∙ ap₂ _+_ (length-little w x) (length-bytes ws xs l)
+
+pub length-sheet : (s : Sheet) (x : Indices) → length (sheetRecord s (fieldsOf s x)) ≡ sheetBytes s
+unfolding sheetRecord total
+length-sheet s x =
+    let head = sheetKind s .fixed ∷ sheetKind s .number ∷ [] in
+    length-bytes (2 ∷ 2 ∷ widths s) (sheetKind s .fixed ∷ sheetKind s .number ∷ fieldsOf s x) (ap (λ (n : ℕ). suc (suc n)) (one-each s x)) ∙ omega (arith, widths-fill s)
 
 -- the first byte of what stands at a place, and what stands behind it
 first-byte : (d : List ℕ) (at b : ℕ) (bs : List ℕ) → drop at d ≡ b ∷ bs → byteAt d at ≡ b
@@ -67,17 +86,34 @@ fields-back (w ∷ ws) (x ∷ xs) d at cs f e =
     (little-back w x d at (fieldBytes ws xs ++ cs) (f .0) q)
     (fields-back ws xs d (at + w) cs (f .1) (behind d at (littleBytes w x) (fieldBytes ws xs ++ cs) w (length-little w x) q))
 
+-- if all fit, those of a sheet do
+fit-some : (n : ℕ) (ws xs : List ℕ) → Fit ws xs → Fit (take n ws) (take n xs)
+fit-some zero ws xs f = tt
+fit-some (suc n) [] [] f = tt
+fit-some (suc n) [] (x ∷ xs) f = absurd f
+fit-some (suc n) (w ∷ ws) [] f = absurd f
+fit-some (suc n) (w ∷ ws) (x ∷ xs) f = (f .0, fit-some n ws xs (f .1))
+
+pub fit-of : (s : Sheet) (x : Indices) → Fit allWidths (allFields x) → Fit (widths s) (fieldsOf s x)
+unfolding fieldsOf widths
+fit-of s x f = fit-some (fieldCount s) allWidths (allFields x) f
+
 -- The record of a sheet whose fields fit says them.
-module _ (x : Indices) (fit : Fit widths (fieldsOf x)) where
+module _ (s : Sheet) (x : Indices) (fit : Fit (widths s) (fieldsOf s x)) where
   abbrev bytes : List ℕ
-  bytes = sheetRecord (fieldsOf x)
+  bytes = sheetRecord s (fieldsOf s x)
+
+  head-fits : (s : Sheet) → (sheetKind s .fixed < 256 ^ 2) × (sheetKind s .number < 256 ^ 2)
+  head-fits Five = (lit< tt, lit< tt)
+  head-fits Six = (lit< tt, lit< tt)
 
   -- all that is read of it: its length, its kind, and the fields
-  pub read-whole : fieldsAt (2 ∷ 2 ∷ widths) bytes 0 ≡ sheetKind .fixed ∷ sheetKind .number ∷ fieldsOf x
+  pub read-whole : fieldsAt (2 ∷ 2 ∷ widths s) bytes 0 ≡ sheetKind s .fixed ∷ sheetKind s .number ∷ fieldsOf s x
   unfolding sheetRecord
   read-whole =
-      let all : Fit (2 ∷ 2 ∷ widths) (sheetKind .fixed ∷ sheetKind .number ∷ fieldsOf x) = (lit< tt, (lit< tt, fit)) in
-      fields-back (2 ∷ 2 ∷ widths) (sheetKind .fixed ∷ sheetKind .number ∷ fieldsOf x) bytes 0 [] all (sym (append-nil bytes))
+      let h = head-fits s in
+      let all : Fit (2 ∷ 2 ∷ widths s) (sheetKind s .fixed ∷ sheetKind s .number ∷ fieldsOf s x) = (h .0, (h .1, fit)) in
+      fields-back (2 ∷ 2 ∷ widths s) (sheetKind s .fixed ∷ sheetKind s .number ∷ fieldsOf s x) bytes 0 [] all (sym (append-nil bytes))
 
 -- bytes before a sheet do not matter
 pub fields-behind : (d s ws : List ℕ) (at : ℕ) → fieldsAt ws (d ++ s) (length d + at) ≡ fieldsAt ws s at
@@ -87,10 +123,12 @@ fields-behind d s (w ∷ ws) at =
     let e : length d + at + w ≡ length d + (at + w) = omega arith in
     ap₂ _∷_ (little-behind d s w at) (ap (fieldsAt ws (d ++ s)) e ∙ fields-behind d s ws (at + w))
 
--- the code says a claimed sheet by its fields, and fields say no two sheets
-pub fields-said : (d : List ℕ) (at : ℕ) → fieldsOf (saidFields (claimedAt d at)) ≡ claimedAt d at
-unfolding fieldsOf claimedAt fieldsAt
-fields-said d at = refl
+-- the first of some fields that are read
+pub fields-some : (n : ℕ) (ws d : List ℕ) (at : ℕ) → take n (fieldsAt ws d at) ≡ fieldsAt (take n ws) d at
+unfolding fieldsAt
+fields-some zero ws d at = refl
+fields-some (suc n) [] d at = refl
+fields-some (suc n) (w ∷ ws) d at = ap (λ (ys : List ℕ). little w d at ∷ ys) (fields-some n ws d (at + w))
 
 -- two sheets differ in no field exactly when they are equal
 pub none-wrong : (k : ℕ) (xs : List ℕ) → firstWrong k xs xs ≡ 0

@@ -3,14 +3,23 @@ use Prim.Native.Nat.{ℕ}
 use mathlib.Core.List.{List}
 use mathlib.Core.Path.{_≡_}
 use Rattle.block.specs.declared.Indices.{Indices}
+use Rattle.records.specs.Records.{sheetAt}
+use Rattle.records.specs.declared.Sheet.{Sheet}
 use Rattle.reply.specs.Chain.{unique}
-use Rattle.sheets.specs.Sheets.{fieldsOf, claimedAt, saidFields, sheetPut, firstWrong}
+use Rattle.sheets.specs.Sheets.{allFields, fieldCount, fieldsOf, claimedAt, sheetBytes, sheetPut, firstWrong}
 
-pub unique-put-sheet : (out : List ℕ) (x : Indices) (a b : List ℕ) → a ≡ sheetPut out (fieldsOf x) → b ≡ sheetPut out (fieldsOf x) → a ≡ b
-unique-put-sheet out x a b = unique
+pub unique-put-sheet : (out : List ℕ) (k : Sheet) (x : Indices) (a b : List ℕ) → a ≡ sheetPut k out (fieldsOf k x) → b ≡ sheetPut k out (fieldsOf k x) → a ≡ b
+unique-put-sheet out k x a b = unique
 
-pub unique-first-wrong : (x y : Indices) (r s : ℕ) → r ≡ firstWrong 1 (fieldsOf x) (fieldsOf y) → s ≡ firstWrong 1 (fieldsOf x) (fieldsOf y) → r ≡ s
-unique-first-wrong x y r s = unique
+pub unique-first-wrong : (d : List ℕ) (at : ℕ) (x : Indices) (r s : ℕ) → r ≡ firstWrong 1 (fieldsOf (sheetAt d at) x) (claimedAt d at) → s ≡ firstWrong 1 (fieldsOf (sheetAt d at) x) (claimedAt d at) → r ≡ s
+unique-first-wrong d at x r s = unique
 
-pub unique-claimed : (d : List ℕ) (at : ℕ) (r s : Indices) → r ≡ saidFields (claimedAt d at) → s ≡ saidFields (claimedAt d at) → r ≡ s
-unique-claimed d at r s = unique
+-- the fields of either sheet, how many there are, and the bytes of its record
+pub unique-fields-of : (x : Indices) (r s : List ℕ) → r ≡ allFields x → s ≡ allFields x → r ≡ s
+unique-fields-of x r s = unique
+
+pub unique-field-count : (k : Sheet) (r s : ℕ) → r ≡ fieldCount k → s ≡ fieldCount k → r ≡ s
+unique-field-count k r s = unique
+
+pub unique-bytes-of : (k : Sheet) (r s : ℕ) → r ≡ sheetBytes k → s ≡ sheetBytes k → r ≡ s
+unique-bytes-of k r s = unique

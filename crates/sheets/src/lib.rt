@@ -1,49 +1,53 @@
-// The sheet: a list of fields, each in so many bytes. It is read, written and compared by going along that list.
+// The sheet: a list of fields, each in so many bytes, of which a sheet of five has all but the last. It is read, written and compared by going along that list.
 ghost use mathlib.Core.Path.{_≡_};
 ghost use Prim.Native.Nat.{_+_, _^_, _≤_, _<_};
-ghost use lib.ListN.{length};
+ghost use lib.ListN.{length, take};
 ghost use lib.Seq.{sets};
-ghost use Rattle.sheets.specs.Sheets.{fieldsOf, widths as fieldWidths, fieldsAt, claimedAt, saidFields, littleBytes, fieldBytes, sheetPut, firstWrong};
+ghost use Rattle.records.specs.Records.{headBytes, sheetAt};
+ghost use Rattle.sheets.specs.Sheets.{fieldCount, allFields, allWidths, fieldsOf, fieldsAt, claimedAt, littleBytes, fieldBytes, sheetBytes, sheetPut, firstWrong};
 ghost use Rattle.sheets.specs.Along.{total, Narrow};
 use block::Indices;
 use records::HEAD;
-use records::SHEET;
+use records::Sheet;
 use records::little_at;
+use records::sheet_at;
+use records::sheet_kind;
 
-// The bytes of a sheet's record.
-pub const BYTES: usize = HEAD + SHEET.fixed as usize;
+// How many fields there are.
+const FIELDS: usize = 6;
 
-// How many fields a sheet has.
-const FIELDS: usize = 5;
+pub type Fields = [u64; FIELDS];
 
-type Fields = [u64; FIELDS];
-
-// The bytes that each field takes: atom count, W, even part, odd part, polarity.
-fn widths() -> [usize; FIELDS]
-    ensures { λ r. ⌜ r ≡ fieldWidths ⌝ }
+// How many of them a sheet has.
+pub fn field_count(sheet: Sheet) -> usize
+    ensures { λ r. ⌜ r ≡ fieldCount sheet ⌝ }
 {
-    [4, 8, 8, 8, 8]
+    match sheet {
+        Sheet::Five => FIELDS - 1,
+        Sheet::Six => FIELDS,
+    }
+}
+
+// The bytes that each field takes: atom count, W, even part, odd part, polarity, largest distance.
+fn widths() -> [usize; FIELDS]
+    ensures { λ r. ⌜ r ≡ allWidths ⌝ }
+{
+    [4, 8, 8, 8, 8, 4]
 }
 
 // The fields in order.
-fn fields_of(x: Indices) -> Fields
-    ensures { λ r. ⌜ r ≡ fieldsOf x ⌝ }
+pub fn fields_of(x: Indices) -> Fields
+    ensures { λ r. ⌜ r ≡ allFields x ⌝ }
 {
-    [x.atoms, x.w, x.even, x.odd, x.polarity]
+    [x.atoms, x.w, x.even, x.odd, x.polarity, x.largest]
 }
 
-// And back; the largest distance is no field of a sheet.
-fn said(fields: Fields) -> Indices
-    ensures { λ r. ⌜ r ≡ saidFields fields ⌝ }
+// The bytes of a sheet's record.
+pub fn bytes_of(sheet: Sheet) -> usize
+    ensures { λ r. ⌜ r ≡ sheetBytes sheet ⌝ }
 {
-    Indices {
-        atoms: fields[0],
-        w: fields[1],
-        even: fields[2],
-        odd: fields[3],
-        polarity: fields[4],
-        largest: 0,
-    }
+    let kind = sheet_kind(sheet);
+    HEAD + (kind.fixed as usize)
 }
 
 // Reads numbers of some widths, one after the other from a place on.
@@ -61,17 +65,17 @@ fn read_fields(d: &[u8], from: usize, widths: &[usize], fields: &mut [u64])
     }
 }
 
-// The five fields that the sheet record at a place claims.
-pub fn claimed(d: &[u8], sheet: usize) -> Indices
-    ensures { λ r. ⌜ r ≡ saidFields (claimedAt (now (d .entry)) sheet) ⌝ }
+// All fields that could stand in the sheet record at a place.
+fn claimed(d: &[u8], sheet: usize) -> Fields
+    ensures { λ r. ⌜ r ≡ fieldsAt allWidths (now (d .entry)) (sheet + headBytes) ⌝ }
 {
     let mut fields = [0u64; FIELDS];
     if d.len() < sheet {
-        return said(fields);
+        return fields;
     }
     let w = widths();
     read_fields(d, sheet + HEAD, &w, &mut fields);
-    said(fields)
+    fields
 }
 
 // Puts a number into as many bytes as `width` says, from a place on, little-endian.
@@ -105,18 +109,20 @@ fn put_fields(out: &mut [u8], from: usize, widths: &[usize], fields: &[u64])
 }
 
 // Puts the record of a sheet into the first bytes of a buffer; one that is too short stays as it was.
-pub fn put_sheet(out: &mut [u8], x: Indices)
-    ensures { λ _. ⌜ now (out .exit) ≡ sheetPut (now (out .entry)) (fieldsOf x) ⌝ }
+pub fn put_sheet(out: &mut [u8], sheet: Sheet, x: Indices)
+    ensures { λ _. ⌜ now (out .exit) ≡ sheetPut sheet (now (out .entry)) (fieldsOf sheet x) ⌝ }
 {
-    if out.len() < BYTES {
+    if out.len() < bytes_of(sheet) {
         return;
     }
+    let kind = sheet_kind(sheet);
     let twos = [2usize, 2];
-    let head = [SHEET.fixed as u64, SHEET.number as u64];
+    let head = [kind.fixed as u64, kind.number as u64];
     put_fields(out, 0, &twos, &head);
+    let n = field_count(sheet);
     let w = widths();
     let fields = fields_of(x);
-    put_fields(out, HEAD, &w, &fields);
+    put_fields(out, HEAD, &w[..n], &fields[..n]);
 }
 
 // The first of some fields, counted from 1, in which two lists of them differ, or 0.
@@ -134,11 +140,12 @@ fn first_apart(xs: &[u64], ys: &[u64]) -> usize
     0
 }
 
-// The first field, 1 to 5, in which two sheets differ, or 0.
-pub fn first_wrong(x: Indices, y: Indices) -> usize
-    ensures { λ r. ⌜ r ≡ firstWrong 1 (fieldsOf x) (fieldsOf y) ⌝ }
+// The first field, counted from 1, that the sheet record at a place claims otherwise than x has it, or 0.
+pub fn first_wrong(d: &[u8], sheet: usize, x: Indices) -> usize
+    ensures { λ r. ⌜ r ≡ firstWrong 1 (fieldsOf (sheetAt (now (d .entry)) sheet) x) (claimedAt (now (d .entry)) sheet) ⌝ }
 {
+    let n = field_count(sheet_at(d, sheet));
     let xs = fields_of(x);
-    let ys = fields_of(y);
-    first_apart(&xs, &ys)
+    let ys = claimed(d, sheet);
+    first_apart(&xs[..n], &ys[..n])
 }

@@ -20,11 +20,15 @@ use Rattle.molwriter.specs.Written as molwriter
 use Rattle.shares.specs.Reply.{most, sharesReply}
 use Rattle.poly.specs.Poly.{unusable, valuesReply, polynomialReply}
 use Rattle.sets.specs.Reply.{treeReply, setsReply}
+use Rattle.block.specs.declared.Indices.{Indices}
+use Rattle.records.specs.Records.{sheetAt}
+use Rattle.records.specs.declared.Sheet.{Sheet}
+use Rattle.records.specs.declared.Sheet.the-variants.{Five, Six}
 use Rattle.deck.specs.Deck.{longestDeck, Deck, deckReply}
 use Rattle.deck.specs.Molecule.{moleculeOf}
 use Rattle.deck.specs.declared.Form.{Form}
 use Rattle.deck.specs.declared.Form.the-variants.{Composed, Judged}
-use Rattle.sheets.specs.Sheets.{fieldsOf, sheetOf, claimedAt, sheetBytes, firstWrong}
+use Rattle.sheets.specs.Sheets.{allFields, fieldsOf, sheetOf, claimedAt, sheetBytes, firstWrong}
 use Rattle.compose.specs.Fields.{fieldsReply}
 use Rattle.climb.specs.Placed.{isMissing, placedReply}
 use Rattle.molecule.specs.Molecule.{judgeReply, saidVerdict, writeReply}
@@ -163,15 +167,20 @@ placed-bounded d k i l j =
     then-bounded places (deckReply Composed d) _ (deck-bounded Composed d) (λ deck e.
     then-bounded places (refuseIf (isMissing d deck k i || isMissing d deck l j) 18 0) _ (if-bounded places (isMissing d deck k i || isMissing d deck l j) 18 0 (omega arith)) (λ v f. tt))
 
-write-bounded : (d : List ℕ) (n : ℕ) → Bounded places (writeReply d n)
+write-bounded : (s : Sheet) (d : List ℕ) (n : ℕ) → Bounded places (writeReply s d n)
 unfolding writeReply
-write-bounded d n =
+write-bounded s d n =
+    let short = ltb n (sheetBytes s) in
     then-bounded places (refuseIf (ltb longestDeck (length d)) 20 0) _ (if-bounded places (ltb longestDeck (length d)) 20 0 (omega arith)) (λ u e.
-    then-bounded places (refuseIf (ltb n sheetBytes) 9 0) (λ _. fieldsReply Composed d) (if-bounded places (ltb n sheetBytes) 9 0 (omega arith)) (λ v f. fields-bounded Composed d))
+    then-bounded places (refuseIf short 9 0) (λ _. fieldsReply Composed d) (if-bounded places short 9 0 (omega arith)) (λ v f. fields-bounded Composed d))
+
+-- the first wrong field of a deck that is judged
+abbrev wrongIn : List ℕ → Deck → ℕ
+wrongIn d k = firstWrong 1 (sheetOf (sheetAt d (k .sheet)) (moleculeOf d k)) (claimedAt d (k .sheet))
 
 judge-bounded : (d : List ℕ) → Bounded places (judgeReply d)
 unfolding judgeReply
-judge-bounded d = then-bounded places (deckReply Judged d) (λ k. read (firstWrong 1 (sheetOf (moleculeOf d k)) (claimedAt d (k .sheet)))) (deck-bounded Judged d) (λ k e. tt)
+judge-bounded d = then-bounded places (deckReply Judged d) (λ k. read (wrongIn d k)) (deck-bounded Judged d) (λ k e. tt)
 
 -- an answer as a list of numbers, and 9 where that does not fit
 listed : {A B : Type 0} (x : Read A) (f : A → List B) → Bounded places x → Bounded places (x then λ a. read (f a))
@@ -197,22 +206,29 @@ first-wrong k (x ∷ xs) (y ∷ ys) = go (eqb x y) (first-wrong (suc k) xs ys)
     go true h = omega (arith, h)
     go false h = omega arith
 
-few-fields : (d : List ℕ) (k : ℕ) → judgeReply d ≡ read k → k < places
-unfolding judgeReply sheetOf fieldsOf
-few-fields d k e = go (deckReply Judged d) e
+few-fields : (s : Sheet) (x : Indices) → length (fieldsOf s x) ≤ 6
+unfolding fieldsOf allFields
+few-fields Five x = omega arith
+few-fields Six x = omega arith
+
+field-small : (d : List ℕ) (k : ℕ) → judgeReply d ≡ read k → k < places
+unfolding judgeReply sheetOf
+field-small d k e = go (deckReply Judged d) e
   where
-    go : (x : Read Deck) → (x then λ k. read (firstWrong 1 (sheetOf (moleculeOf d k)) (claimedAt d (k .sheet)))) ≡ read k → k < places
+    go : (x : Read Deck) → (x then λ k. read (wrongIn d k)) ≡ read k → k < places
     go (refused r) q = absurd (let z : _≡_ {A = ℕ} 0 1 = cc in omega arith)
     go (read a) q =
-        let same : firstWrong 1 (sheetOf (moleculeOf d a)) (claimedAt d (a .sheet)) ≡ k = cc in
-        omega (arith, same, first-wrong 1 (sheetOf (moleculeOf d a)) (claimedAt d (a .sheet)))
+        let same : wrongIn d a ≡ k = cc in
+        let s = sheetAt d (a .sheet) in
+        let x = indicesOf (moleculeOf d a) in
+        omega (arith, same, first-wrong 1 (fieldsOf s x) (claimedAt d (a .sheet)), few-fields s x)
 
 -- FUNCTION BY FUNCTION
 pub check-tells : (n : ℕ) (xs : List ℕ) → Tells (blockReply n xs)
 check-tells n xs = tells (blockReply n xs) (block-here n xs)
 
 pub indices-tells : (n : ℕ) (xs : List ℕ) (room : ℕ) → Tells (fitting room (indicesList n xs))
-indices-tells n xs room = lent room (indicesList n xs) (listed (indicesReply n xs) fieldsOf (indices-bounded n xs))
+indices-tells n xs room = lent room (indicesList n xs) (listed (indicesReply n xs) (fieldsOf Five) (indices-bounded n xs))
 
 pub vertex-tells : (n : ℕ) (xs : List ℕ) (a room : ℕ) → Tells (fitting room (vertexList n xs a))
 vertex-tells n xs a room = lent room (vertexList n xs a) (listed (vertexReply n xs a) sumsOf (vertex-bounded n xs a))
@@ -238,14 +254,14 @@ molfile-written-tells n xs room entries =
     (then-bounded places (molwriter.writeReply n xs room) _ (text-bounded n xs room) (λ k e.
     then-bounded places (refuseIf (ltb entries 1) 9 0) (λ _. read k) (if-bounded places (ltb entries 1) 9 0 (omega arith)) (λ v f. tt)))
 
-pub compose-tells : (d : List ℕ) (room : ℕ) → Tells (fitting room (composedList d))
-compose-tells d room = lent room (composedList d) (listed (fieldsReply Composed d) fieldsOf (fields-bounded Composed d))
+pub compose-tells : (s : Sheet) (d : List ℕ) (room : ℕ) → Tells (fitting room (composedList s d))
+compose-tells s d room = lent room (composedList s d) (listed (fieldsReply Composed d) (fieldsOf s) (fields-bounded Composed d))
 
 pub placed-tells : (d : List ℕ) (k i l j room : ℕ) → Tells (fitting room (placedList d k i l j))
 placed-tells d k i l j room = lent room (placedList d k i l j) (listed (placedReply d k i l j) (λ n. n ∷ []) (placed-bounded d k i l j))
 
-pub write-tells : (d : List ℕ) (n : ℕ) → Tells (writeReply d n)
-write-tells d n = tells (writeReply d n) (write-bounded d n)
+pub write-tells : (s : Sheet) (d : List ℕ) (n : ℕ) → Tells (writeReply s d n)
+write-tells s d n = tells (writeReply s d n) (write-bounded s d n)
 
 pub judge-tells : (d : List ℕ) → Judges (judgeReply d)
-judge-tells d = judges (judgeReply d) (judge-bounded d) (few-fields d)
+judge-tells d = judges (judgeReply d) (judge-bounded d) (field-small d)

@@ -9,6 +9,8 @@ use Rattle.shares.specs.Reply.{sharesReply}
 use Rattle.tteuyomal.specs.Beside.{besideReply, Beside}
 use Rattle.block.specs.Index.{indicesReply, vertexReply}
 use Rattle.block.specs.declared.Vertex.{Vertex}
+use Rattle.records.specs.declared.Sheet.{Sheet}
+use Rattle.records.specs.declared.Sheet.the-variants.{Five}
 use Rattle.sheets.specs.Sheets.{fieldsOf}
 use Rattle.deck.specs.declared.Form.the-variants.{Composed}
 use Rattle.compose.specs.Fields.{fieldsReply}
@@ -19,11 +21,11 @@ use lib.Ieee.{Float}
 
 -- atom count, W, even part, odd part, polarity
 abbrev pub indicesList : ℕ → List ℕ → Read (List ℕ)
-indicesList n bonds = indicesReply n bonds then λ x. read (fieldsOf x)
+indicesList n bonds = indicesReply n bonds then λ x. read (fieldsOf Five x)
 
--- the same of a deck without a sheet
-abbrev pub composedList : List ℕ → Read (List ℕ)
-composedList d = fieldsReply Composed d then λ x. read (fieldsOf x)
+-- the fields of a sheet of a deck without one
+abbrev pub composedList : Sheet → List ℕ → Read (List ℕ)
+composedList s d = fieldsReply Composed d then λ x. read (fieldsOf s x)
 
 -- the distance of two placed atoms
 abbrev pub placedList : List ℕ → ℕ → ℕ → ℕ → ℕ → Read (List ℕ)

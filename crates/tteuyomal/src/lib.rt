@@ -4,6 +4,7 @@ ghost use Prim.Native.Nat.{_+_, _*_, _%_, _≤_};
 ghost use lib.ListN.{length};
 ghost use Rattle.reply.specs.Read.{read};
 ghost use Rattle.block.specs.Block.{blockReply};
+ghost use Rattle.records.specs.declared.Sheet.the-variants.{Five, Six};
 ghost use Rattle.sheets.specs.Sheets.{fieldsOf};
 ghost use Rattle.molecule.specs.Molecule.{judgeReply, saidVerdict, writeReply, sheetOut};
 ghost use Rattle.tteuyomal.specs.Convention.{places, code, coded, verdictCode, over, Lent};
@@ -16,9 +17,12 @@ use molecule::Verdict;
 use molecule::Written;
 use poly::Answer;
 use poly::Values;
+use records::Sheet;
 use reply::Refusal;
 use reply::Reply;
 use shares::Shares;
+use sheets::field_count;
+use sheets::fields_of;
 
 mod balaban_j;
 mod count_sets;
@@ -59,12 +63,13 @@ fn give(out: &mut [u64], numbers: &[u64]) -> u64
     0
 }
 
-// The same with the five fields.
-fn give_fields(out: &mut [u64], x: Indices) -> u64
-    ensures { λ r. ⌜ Lent (read (fieldsOf x)) (now (out .entry)) r (now (out .exit)) ⌝ }
+// The same with the fields of a sheet.
+fn give_fields(out: &mut [u64], sheet: Sheet, x: Indices) -> u64
+    ensures { λ r. ⌜ Lent (read (fieldsOf sheet x)) (now (out .entry)) r (now (out .exit)) ⌝ }
 {
-    let numbers = [x.atoms, x.w, x.even, x.odd, x.polarity];
-    give(out, &numbers)
+    let n = field_count(sheet);
+    let numbers = fields_of(x);
+    give(out, &numbers[..n])
 }
 
 #[no_mangle]
@@ -85,7 +90,7 @@ pub extern "C" fn tteuyomal_indices(atoms: usize, bonds: &[u8], fields: &mut [u6
     let answer = block::measure(atoms, bonds);
     match answer {
         Measured::Refused(r) => code_of(r),
-        Measured::Of(x) => give_fields(fields, x),
+        Measured::Of(x) => give_fields(fields, Sheet::Five, x),
     }
 }
 
@@ -183,12 +188,12 @@ pub extern "C" fn tteuyomal_judge(deck: &[u8]) -> u64
     }
 }
 
-#[no_mangle]
-pub extern "C" fn tteuyomal_write_sheet(deck: &[u8], out: &mut [u8]) -> u64
-    ensures reply { λ r. ⌜ r ≡ coded (writeReply (now (deck .entry)) (length (now (out .entry)))) ⌝ }
-    ensures bytes { λ _. ⌜ now (out .exit) ≡ sheetOut (now (out .entry)) (writeReply (now (deck .entry)) (length (now (out .entry)))) ⌝ }
+// A sheet of either kind written.
+fn write_either(deck: &[u8], sheet: Sheet, out: &mut [u8]) -> u64
+    ensures reply { λ r. ⌜ r ≡ coded (writeReply sheet (now (deck .entry)) (length (now (out .entry)))) ⌝ }
+    ensures bytes { λ _. ⌜ now (out .exit) ≡ sheetOut sheet (now (out .entry)) (writeReply sheet (now (deck .entry)) (length (now (out .entry)))) ⌝ }
 {
-    let written = molecule::write_sheet(deck, out);
+    let written = molecule::write_sheet(deck, sheet, out);
     match written {
         Written::Refused(r) => code_of(r),
         Written::Sheet => 0,
@@ -196,14 +201,44 @@ pub extern "C" fn tteuyomal_write_sheet(deck: &[u8], out: &mut [u8]) -> u64
 }
 
 #[no_mangle]
-pub extern "C" fn tteuyomal_compose(deck: &[u8], fields: &mut [u64]) -> u64
-    ensures { λ r. ⌜ Lent (composedList (now (deck .entry))) (now (fields .entry)) r (now (fields .exit)) ⌝ }
+pub extern "C" fn tteuyomal_write_sheet(deck: &[u8], out: &mut [u8]) -> u64
+    ensures reply { λ r. ⌜ r ≡ coded (writeReply Five (now (deck .entry)) (length (now (out .entry)))) ⌝ }
+    ensures bytes { λ _. ⌜ now (out .exit) ≡ sheetOut Five (now (out .entry)) (writeReply Five (now (deck .entry)) (length (now (out .entry)))) ⌝ }
+{
+    write_either(deck, Sheet::Five, out)
+}
+
+#[no_mangle]
+pub extern "C" fn tteuyomal_write_six(deck: &[u8], out: &mut [u8]) -> u64
+    ensures reply { λ r. ⌜ r ≡ coded (writeReply Six (now (deck .entry)) (length (now (out .entry)))) ⌝ }
+    ensures bytes { λ _. ⌜ now (out .exit) ≡ sheetOut Six (now (out .entry)) (writeReply Six (now (deck .entry)) (length (now (out .entry)))) ⌝ }
+{
+    write_either(deck, Sheet::Six, out)
+}
+
+// The fields of a deck's sheet of either kind.
+fn compose_either(deck: &[u8], sheet: Sheet, fields: &mut [u64]) -> u64
+    ensures { λ r. ⌜ Lent (composedList sheet (now (deck .entry))) (now (fields .entry)) r (now (fields .exit)) ⌝ }
 {
     let answer = molecule::compose(deck);
     match answer {
         Measured::Refused(r) => code_of(r),
-        Measured::Of(x) => give_fields(fields, x),
+        Measured::Of(x) => give_fields(fields, sheet, x),
     }
+}
+
+#[no_mangle]
+pub extern "C" fn tteuyomal_compose(deck: &[u8], fields: &mut [u64]) -> u64
+    ensures { λ r. ⌜ Lent (composedList Five (now (deck .entry))) (now (fields .entry)) r (now (fields .exit)) ⌝ }
+{
+    compose_either(deck, Sheet::Five, fields)
+}
+
+#[no_mangle]
+pub extern "C" fn tteuyomal_compose_six(deck: &[u8], fields: &mut [u64]) -> u64
+    ensures { λ r. ⌜ Lent (composedList Six (now (deck .entry))) (now (fields .entry)) r (now (fields .exit)) ⌝ }
+{
+    compose_either(deck, Sheet::Six, fields)
 }
 
 #[no_mangle]

@@ -17,6 +17,7 @@ pub fn stack(decks: &[&DeckPlan]) {
     let rows = [
         ("judge", most(&judged, archive::judge)),
         ("write_sheet", most(&decks, |deck| archive::write_sheet(deck, &mut [0; 40]))),
+        ("write_six", most(&decks, |deck| archive::write_six(deck, &mut [0; 44]))),
         ("compose", most(&decks, |deck| archive::compose(deck, &mut [0; 5]))),
         ("placed_distance", most(&decks, |deck| archive::placed_distance(deck, [1, 1, 32, 64], &mut [0]))),
         ("check_block", most(&blocks, |bonds| archive::check_block(64, bonds))),

@@ -94,7 +94,7 @@ pub fn opened(deck: &DeckPlan) -> (Graph, Vec<u8>, [u64; 5]) {
     let bytes = deck.bytes();
     let molecule = write_out(&read_deck(&bytes, Form::Composed).expect("a good deck"));
     let right = molecule.indices().fields();
-    (molecule, [&bytes[..], &sheet_record(right)].concat(), right)
+    (molecule, [&bytes[..], &sheet_record(&right)].concat(), right)
 }
 
 /// The plain side reads the deck too, with no check.

@@ -33,7 +33,7 @@ pub struct Checker {
     pub refused: Refusals,
     pub accepted: usize,
     /// How often each field was the first wrong one.
-    pub differed: [usize; 6],
+    pub differed: [usize; 7],
     measurer: Measurer,
     faults: Vec<String>,
 }
@@ -138,6 +138,24 @@ impl Checker {
         let right = answers::compose(&mut self.measurer, deck, room);
         let fault = out.fault(&written(&right, |fields| fields.to_vec()));
         self.agree(|| format!("compose room {room} {}", hex(deck)), code(&right), reply, fault);
+    }
+
+    pub fn write_six(&mut self, deck: &[u8], room: usize) {
+        let (lent, mut out) = (Shown::new(deck), Lent::new(room));
+        let reply = archive::write_six(lent.part(), out.part());
+        self.holds(lent.is_still(deck), "an input was changed");
+        let right = answers::write_six(&mut self.measurer, deck, room);
+        let fault = out.fault(&written(&right, |sheet| sheet.clone()));
+        self.agree(|| format!("write_six room {room} {}", hex(deck)), code(&right), reply, fault);
+    }
+
+    pub fn compose_six(&mut self, deck: &[u8], room: usize) {
+        let (lent, mut out) = (Shown::new(deck), Lent::new(room));
+        let reply = archive::compose_six(lent.part(), out.part());
+        self.holds(lent.is_still(deck), "an input was changed");
+        let right = answers::compose_six(&mut self.measurer, deck, room);
+        let fault = out.fault(&written(&right, |fields| fields.to_vec()));
+        self.agree(|| format!("compose_six room {room} {}", hex(deck)), code(&right), reply, fault);
     }
 
     pub fn placed_distance(&mut self, deck: &[u8], atoms: [usize; 4], room: usize) {

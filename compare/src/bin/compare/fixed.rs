@@ -28,6 +28,8 @@ fn whole_deck(checker: &mut Checker, deck: &[u8]) {
     checker.judge(deck);
     checker.compose(deck, 5);
     checker.write_sheet(deck, 40);
+    checker.compose_six(deck, 6);
+    checker.write_six(deck, 44);
     checker.placed_distance(deck, [1, 1, 1, 1], 1);
 }
 
@@ -105,8 +107,9 @@ fn refusals(checker: &mut Checker) {
             let found = read_deck(&specimen.deck, specimen.form).err();
             checker.holds(found == by_hand, "the second opinion is not what was written by hand");
             whole_deck(checker, &specimen.deck);
-            let sheet = sheet_record([0; 5]);
-            checker.judge(&[&specimen.deck[..], &sheet].concat());
+            for sheet in [sheet_record(&[0; 5]), sheet_record(&[0; 6])] {
+                checker.judge(&[&specimen.deck[..], &sheet].concat());
+            }
         });
     }
 }
@@ -120,6 +123,7 @@ fn buffers(checker: &mut Checker) {
         checker.case(format!("a sheet into {room} bytes"), |checker| {
             for deck in [&good, &refused, &long] {
                 checker.write_sheet(deck, room);
+                checker.write_six(deck, room);
             }
         });
     }
@@ -127,6 +131,7 @@ fn buffers(checker: &mut Checker) {
         checker.case(format!("numbers into {room} entries"), |checker| {
             for deck in [&good, &refused, &long] {
                 checker.compose(deck, room);
+                checker.compose_six(deck, room);
                 checker.placed_distance(deck, [1, 4, 2, 4], room);
                 checker.placed_distance(deck, [1, 7, 2, 4], room);
             }
@@ -183,11 +188,17 @@ fn places_asked(checker: &mut Checker) {
     });
 }
 
-/// Two decks with their sheets, cut at every length, and followed by up to 50 bytes more.
+/// Two decks with their sheets of either kind, cut at every length, and followed by up to 50 bytes more.
 fn cuts(checker: &mut Checker) {
-    for mut plan in [specimens::two_rings(), worked_example(3)] {
-        plan.sheet = answers::compose(&mut Measurer::default(), &plan.bytes(), 5).ok();
-        let deck = plan.bytes();
+    let measurer = &mut Measurer::default();
+    for (plan, six) in [(specimens::two_rings(), false), (specimens::two_rings(), true), (worked_example(3), true)] {
+        let composed = plan.bytes();
+        let sheet = if six {
+            answers::write_six(measurer, &composed, 44)
+        } else {
+            answers::write_sheet(measurer, &composed, 40)
+        };
+        let deck = [composed, sheet.expect("a good deck")].concat();
         for length in 0..deck.len() + 50 {
             checker.case(format!("a deck of {} bytes brought to {length}", deck.len()), |checker| {
                 let mut cut = deck.clone();
@@ -198,18 +209,21 @@ fn cuts(checker: &mut Checker) {
     }
 }
 
-/// Document 01's deck with its sheet, each byte given every value.
+/// Document 01's deck with its sheet of either kind, each byte given every value.
 fn single_bytes(checker: &mut Checker) {
-    let deck = [&FORTY[..], &sheet_record([12, 198, 96, 102, 14])].concat();
-    for at in 0..deck.len() {
-        checker.case(format!("byte {at} of document 01's deck changed"), |checker| {
-            for value in 0..=255 {
-                let mut changed = deck.clone();
-                changed[at] = value;
-                checker.judge(&changed);
-                checker.compose(&changed[..40], 5);
-            }
-        });
+    let sheets = [sheet_record(&[12, 198, 96, 102, 14]), sheet_record(&[12, 198, 96, 102, 14, 7])];
+    for sheet in sheets {
+        let deck = [&FORTY[..], &sheet].concat();
+        for at in 0..deck.len() {
+            checker.case(format!("byte {at} of document 01's deck of {} changed", deck.len()), |checker| {
+                for value in 0..=255 {
+                    let mut changed = deck.clone();
+                    changed[at] = value;
+                    checker.judge(&changed);
+                    checker.compose_six(&changed[..40], 6);
+                }
+            });
+        }
     }
 }
 

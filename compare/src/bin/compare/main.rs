@@ -71,7 +71,7 @@ fn main() -> ExitCode {
 fn report(checker: &mut Checker, options: &Options) {
     println!("seed {}, random cases {}, calls compared {}", options.seed, options.cases, checker.calls);
     println!("accepted {} times", checker.accepted);
-    for field in 1..=5 {
+    for field in 1..=6 {
         println!("differs {field}: {} times", checker.differed[field]);
         let seen = checker.differed[field] > 0;
         checker.case(format!("differs {field}"), |checker| checker.holds(seen, "never met"));

@@ -98,7 +98,8 @@ fn decks(seed: u64) -> Vec<Vec<u8>> {
         let random = &mut Random::for_case(seed, case);
         let mut deck = random_deck(random);
         if random.once_in(2) {
-            deck.sheet = opinion::answers::compose(&mut Measurer::default(), &deck.bytes(), 5).ok();
+            let right = opinion::answers::compose_six(&mut Measurer::default(), &deck.bytes(), 6);
+            deck.sheet = right.ok().map(|fields| fields[..random.between(5, 6)].to_vec());
         }
         let mut bytes = deck.bytes();
         if random.once_in(2) {

@@ -28,18 +28,23 @@ pub fn run(checker: &mut Checker, seed: u64, first: u64, cases: u64) {
 }
 
 /// The right fields of a good deck.
-fn right_fields(deck: &DeckPlan) -> [u64; 5] {
+fn right_fields(deck: &DeckPlan) -> [u64; 6] {
     let read = read_deck(&deck.bytes(), Form::Composed).expect("a good deck");
-    write_out(&read).indices().fields()
+    write_out(&read).indices().six()
+}
+
+/// How many fields a sheet has.
+fn some_kind(random: &mut Random) -> usize {
+    random.between(5, 6)
 }
 
 fn good_deck(checker: &mut Checker, random: &mut Random, deck: DeckPlan) {
     let bytes = deck.bytes();
     deck_calls(checker, random, &bytes);
     let right = right_fields(&deck);
-    let [atoms, w, even, odd, polarity] = right;
-    let mut sheets = vec![right, [atoms, w, odd, even, polarity], [0; 5]];
-    for field in 0..5 {
+    let [atoms, w, even, odd, polarity, largest] = right;
+    let mut sheets = vec![right, [atoms, w, odd, even, polarity, largest], [0; 6]];
+    for field in 0..6 {
         let mut wrong = right;
         wrong[field] = wrong_number(random, right[field]);
         sheets.push(wrong);
@@ -47,15 +52,18 @@ fn good_deck(checker: &mut Checker, random: &mut Random, deck: DeckPlan) {
         sheets.push(wrong);
     }
     for sheet in sheets {
-        checker.judge(&[&bytes[..], &sheet_record(sheet)].concat());
+        for kind in [5, 6] {
+            checker.judge(&[&bytes[..], &sheet_record(&sheet[..kind])].concat());
+        }
     }
-    own_sheet(checker, &bytes);
+    own_sheets(checker, &bytes);
     for _ in 0..4 {
         let ((k, i), (l, j)) = (some_atom(random, &deck), some_atom(random, &deck));
         checker.placed_distance(&bytes, [k, i, l, j], 1);
     }
     if bytes.len() < 200 && random.once_in(20) {
-        every_cut(checker, &[&bytes[..], &sheet_record(right)].concat());
+        let kind = some_kind(random);
+        every_cut(checker, &[&bytes[..], &sheet_record(&right[..kind])].concat());
     }
 }
 
@@ -74,15 +82,17 @@ fn every_cut(checker: &mut Checker, judged: &[u8]) {
     }
 }
 
-/// The sheet that the library writes, put behind the same deck, must be accepted, and must not be composed.
-fn own_sheet(checker: &mut Checker, bytes: &[u8]) {
-    let mut sheet = [0; 40];
-    let reply = archive::write_sheet(bytes, &mut sheet);
-    checker.holds(reply == 0, "a good deck got no sheet");
-    let judged = [bytes, &sheet].concat();
-    checker.holds(archive::judge(&judged) == 0, "the library does not accept its own sheet");
-    checker.judge(&judged);
-    checker.compose(&judged, 5);
+/// The sheet of either kind that the library writes, put behind the same deck, must be accepted, and must not be composed.
+fn own_sheets(checker: &mut Checker, bytes: &[u8]) {
+    let (mut five, mut six) = ([0; 40], [0; 44]);
+    let replies = (archive::write_sheet(bytes, &mut five), archive::write_six(bytes, &mut six));
+    checker.holds(replies == (0, 0), "a good deck got no sheet");
+    for sheet in [&five[..], &six] {
+        let judged = [bytes, sheet].concat();
+        checker.holds(archive::judge(&judged) == 0, "the library does not accept its own sheet");
+        checker.judge(&judged);
+        checker.compose(&judged, 5);
+    }
 }
 
 /// Another number: near, or with one bit changed, or anything.
@@ -97,8 +107,8 @@ fn wrong_number(random: &mut Random, right: u64) -> u64 {
 
 fn damaged_deck(checker: &mut Checker, random: &mut Random, mut deck: DeckPlan) {
     match random.below(3) {
-        0 => deck.sheet = Some(right_fields(&deck)),
-        1 => deck.sheet = Some([random.draw(); 5]),
+        0 => deck.sheet = Some(right_fields(&deck)[..some_kind(random)].to_vec()),
+        1 => deck.sheet = Some(vec![random.draw(); some_kind(random)]),
         _ => {}
     }
     for _ in 0..random.below(3) {
@@ -116,7 +126,8 @@ fn damaged_deck(checker: &mut Checker, random: &mut Random, mut deck: DeckPlan) 
     }
     deck_calls(checker, random, &bytes);
     if random.once_in(4) {
-        checker.judge(&[&bytes[..], &sheet_record([random.draw(); 5])].concat());
+        let sheet = vec![random.draw(); some_kind(random)];
+        checker.judge(&[&bytes[..], &sheet_record(&sheet)].concat());
     }
 }
 
@@ -125,6 +136,9 @@ fn deck_calls(checker: &mut Checker, random: &mut Random, bytes: &[u8]) {
     let (fields, sheet) = (about(random, 5), about(random, 40));
     checker.compose(bytes, fields);
     checker.write_sheet(bytes, sheet);
+    let (fields, sheet) = (about(random, 6), about(random, 44));
+    checker.compose_six(bytes, fields);
+    checker.write_six(bytes, sheet);
     for _ in 0..3 {
         let most = if random.once_in(2) { 33 } else { 4 };
         let atoms = [random.below(most), random.below(20), random.below(most), random.below(20)];

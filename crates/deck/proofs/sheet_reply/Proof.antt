@@ -6,17 +6,16 @@ use lib.ListN.{length}
 use borrow.Author.Needs.{needs}
 use Rattle.reply.specs.Read.{read, saidReply}
 use Rattle.reply.specs.Chain.{fine-read, refused-read}
-use Rattle.records.specs.Records.{sheetKind, endAt, recordReply}
+use Rattle.records.specs.Records.{endAt, recordReply}
 use Rattle.records.specs.Taken.{taken}
 use Rattle.deck.specs.Deck.{sheetKinds, endReply, sheetReply}
 use Rattle.deck.specs.declared.Form.{Form}
-use Rattle.deck.proofs.Turns.{once}
 use Rattle.deck.proofs.Parts.{composed-end, no-sheet, sheet-end}
 use Rattle.deck.proofs.sheet_reply.Statement.{statement}
 use Rattle.deck.proofs.sheet_reply.Tie as tie
 
 record-is : (c : tie.After-record-at) → let a = c .before .before .before .before .args in c .record-at .result ≡ saidReply (recordReply sheetKinds (a .d .now) (a .at))
-record-is c = let a = c .before .before .before .before .args in c .record-at .ensures ∙ ap saidReply (once sheetKind (a .d .now) (a .at))
+record-is c = c .record-at .ensures
 
 fine : (c : tie.After-enum-told3) → let a = c .before .before .before .before .before .before .args in recordReply sheetKinds (a .d .now) (a .at) ≡ read tt
 fine c = fine-read _ (sym (record-is (c .before .before)) ∙ c .enum-told3 .given .1)

@@ -16,8 +16,8 @@ enum-known-told c = search needs
 enum-known-told-2 : tie.Need-enum-known-told-2
 enum-known-told-2 c = search needs
 
-claimed-requires : tie.Need-claimed-requires
-claimed-requires c κs = search needs
+first-wrong-requires : tie.Need-first-wrong-requires
+first-wrong-requires c κs = search needs
 
 compared-requires : tie.Need-compared-requires
 compared-requires c κs = search needs
@@ -29,7 +29,7 @@ returns-2 : tie.Need-returns-2
 returns-2 c =
     let d = now (c .before .before .before .before .before .before .before .before .args .d) in
     let (k, e, p, q) = composed-read Judged d _ (sym (c .before .before .before .before .told2 .given .1) ∙ c .before .before .before .before .before .before .fields .ensures) in
-    judge-read d k _ _ _ _ e p q (c .before .claimed .ensures) (c .compared .ensures)
+    judge-read d k _ _ (c .before .first-wrong .result) _ e p q (c .before .first-wrong .ensures) (c .compared .ensures)
 
 pub judge-spec : {M : Type 1} → statement M
 judge-spec =
@@ -38,7 +38,7 @@ judge-spec =
     fields-requires
     enum-known-told
     enum-known-told-2
-    claimed-requires
+    first-wrong-requires
     compared-requires
     returns
     returns-2)

@@ -4,6 +4,7 @@ use denote.Ref.{now}
 use borrow.Author.Needs.{needs}
 use Rattle.reply.specs.Read.{Read, read, _then_}
 use Rattle.block.specs.declared.Indices.{Indices}
+use Rattle.records.specs.declared.Sheet.the-variants.{Five}
 use Rattle.sheets.specs.Sheets.{fieldsOf}
 use Rattle.block.specs.Index.{indicesReply}
 use Rattle.tteuyomal.proofs.Laws.{toldIndices, indices-told, lent-refused, lent-read}
@@ -30,7 +31,7 @@ returns c =
     let s = c .before .before .before .before .before .before .before in
     let m = c .before .before .before .before in
     lent-refused _ (now (s .args .fields)) (c .code-of .result)
-    (ap (λ (R : Read Indices). R then λ x. read (fieldsOf x)) (sym (indices-told _ (indicesReply (s .args .atoms) (now (s .args .bonds))) (m .measure .ensures)) ∙ ap toldIndices (c .before .before .answer .given .1)))
+    (ap (λ (R : Read Indices). R then λ x. read (fieldsOf Five x)) (sym (indices-told _ (indicesReply (s .args .atoms) (now (s .args .bonds))) (m .measure .ensures)) ∙ ap toldIndices (c .before .before .answer .given .1)))
     (c .code-of .ensures)
 
 same-length : tie.Need-same-length
@@ -43,7 +44,7 @@ returns-2 c =
     let m = a .before .before in
     let s = m .before .before .before in
     lent-read _ (now (s .args .fields)) (g .give-fields .result) _
-    (ap (λ (R : Read Indices). R then λ x. read (fieldsOf x)) (sym (indices-told _ (indicesReply (s .args .atoms) (now (s .args .bonds))) (m .measure .ensures)) ∙ ap toldIndices (a .answer2 .given .1)))
+    (ap (λ (R : Read Indices). R then λ x. read (fieldsOf Five x)) (sym (indices-told _ (indicesReply (s .args .atoms) (now (s .args .bonds))) (m .measure .ensures)) ∙ ap toldIndices (a .answer2 .given .1)))
     (g .give-fields .ensures)
 
 pub tteuyomal-indices-spec : {M : Type 1} → statement M

@@ -1,12 +1,12 @@
--- `tteuyomal::tteuyomal_write_sheet` meets its contract.
+-- `tteuyomal::write_either` meets its contract.
 use mathlib.Core.Path.{sym, _∙_, ap}
 use denote.Ref.{now}
 use lib.ListN.{length}
 use borrow.Author.Needs.{needs}
 use Rattle.molecule.specs.Molecule.{writeReply}
 use Rattle.tteuyomal.proofs.Laws.{writtenCode, written-coded}
-use Rattle.tteuyomal.proofs.tteuyomal_write_sheet.Statement.{statement}
-use Rattle.tteuyomal.proofs.tteuyomal_write_sheet.Tie as tie
+use Rattle.tteuyomal.proofs.write_either.Statement.{statement}
+use Rattle.tteuyomal.proofs.write_either.Tie as tie
 
 write-sheet-requires : tie.Need-write-sheet-requires
 write-sheet-requires c κs = search needs
@@ -27,7 +27,7 @@ returns : tie.Need-returns
 returns c =
     let w = c .before .before .before .before .before .before in
     let s = w .before .before .before .before in
-    (c .code-of .ensures ∙ ap writtenCode (sym (c .before .before .written .given .1)) ∙ written-coded _ (writeReply (now (s .args .deck)) (length (now (s .args .out)))) (w .write-sheet .ensures .0), w .write-sheet .ensures .1)
+    (c .code-of .ensures ∙ ap writtenCode (sym (c .before .before .written .given .1)) ∙ written-coded _ (writeReply (s .args .sheet) (now (s .args .deck)) (length (now (s .args .out)))) (w .write-sheet .ensures .0), w .write-sheet .ensures .1)
 
 same-length-2 : tie.Need-same-length-2
 same-length-2 c = search needs
@@ -36,10 +36,10 @@ returns-2 : tie.Need-returns-2
 returns-2 c =
     let w = c .before .before .before .before in
     let s = w .before .before .before .before in
-    (ap writtenCode (sym (c .enum-told .given .1)) ∙ written-coded _ (writeReply (now (s .args .deck)) (length (now (s .args .out)))) (w .write-sheet .ensures .0), w .write-sheet .ensures .1)
+    (ap writtenCode (sym (c .enum-told .given .1)) ∙ written-coded _ (writeReply (s .args .sheet) (now (s .args .deck)) (length (now (s .args .out)))) (w .write-sheet .ensures .0), w .write-sheet .ensures .1)
 
-pub tteuyomal-write-sheet-spec : {M : Type 1} → statement M
-tteuyomal-write-sheet-spec =
+pub write-either-spec : {M : Type 1} → statement M
+write-either-spec =
     tie.close
     (tie.spec
     write-sheet-requires

@@ -1,4 +1,4 @@
--- `tteuyomal::tteuyomal_compose` meets its contract.
+-- `tteuyomal::compose_either` meets its contract.
 use mathlib.Core.Path.{sym, _∙_, ap}
 use denote.Ref.{now}
 use borrow.Author.Needs.{needs}
@@ -8,8 +8,8 @@ use Rattle.sheets.specs.Sheets.{fieldsOf}
 use Rattle.deck.specs.declared.Form.the-variants.{Composed}
 use Rattle.compose.specs.Fields.{fieldsReply}
 use Rattle.tteuyomal.proofs.Laws.{toldIndices, indices-told, lent-refused, lent-read}
-use Rattle.tteuyomal.proofs.tteuyomal_compose.Statement.{statement}
-use Rattle.tteuyomal.proofs.tteuyomal_compose.Tie as tie
+use Rattle.tteuyomal.proofs.compose_either.Statement.{statement}
+use Rattle.tteuyomal.proofs.compose_either.Tie as tie
 
 compose-requires : tie.Need-compose-requires
 compose-requires c κs = search needs
@@ -31,7 +31,7 @@ returns c =
     let s = c .before .before .before .before .before .before .before in
     let m = c .before .before .before .before in
     lent-refused _ (now (s .args .fields)) (c .code-of .result)
-    (ap (λ (R : Read Indices). R then λ x. read (fieldsOf x)) (sym (indices-told _ (fieldsReply Composed (now (s .args .deck))) (m .compose .ensures)) ∙ ap toldIndices (c .before .before .answer .given .1)))
+    (ap (λ (R : Read Indices). R then λ x. read (fieldsOf (s .args .sheet) x)) (sym (indices-told _ (fieldsReply Composed (now (s .args .deck))) (m .compose .ensures)) ∙ ap toldIndices (c .before .before .answer .given .1)))
     (c .code-of .ensures)
 
 same-length : tie.Need-same-length
@@ -44,11 +44,11 @@ returns-2 c =
     let m = a .before .before in
     let s = m .before .before .before in
     lent-read _ (now (s .args .fields)) (g .give-fields .result) _
-    (ap (λ (R : Read Indices). R then λ x. read (fieldsOf x)) (sym (indices-told _ (fieldsReply Composed (now (s .args .deck))) (m .compose .ensures)) ∙ ap toldIndices (a .answer2 .given .1)))
+    (ap (λ (R : Read Indices). R then λ x. read (fieldsOf (s .args .sheet) x)) (sym (indices-told _ (fieldsReply Composed (now (s .args .deck))) (m .compose .ensures)) ∙ ap toldIndices (a .answer2 .given .1)))
     (g .give-fields .ensures)
 
-pub tteuyomal-compose-spec : {M : Type 1} → statement M
-tteuyomal-compose-spec =
+pub compose-either-spec : {M : Type 1} → statement M
+compose-either-spec =
     tie.close
     (tie.spec
     compose-requires
