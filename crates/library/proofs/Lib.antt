@@ -2,3 +2,5 @@
 pub mod Told
 pub mod Choosing
 pub mod Making
+pub mod Spreading
+pub mod Stepping

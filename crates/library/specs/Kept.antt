@@ -105,8 +105,24 @@ armFor d bs xs sites i =
     let s = getD sites (i / mostCandidates) noSite in
     cond (ltb (i % mostCandidates) (s .many)) (armAt d bs xs s (i % mostCandidates)) noArm
 
-unfoldable pub picked : List Arm → List ℕ → List Arm
-picked all digits = table mostSites (λ k. getD all (mostCandidates * k + getD digits k 0) noArm)
+-- an arm in a row of numbers
+abbrev pub rowArm : List ℕ → Arm
+rowArm r = record {
+  six = record { atoms = getD r 0 0; w = getD r 1 0; even = getD r 2 0; odd = getD r 3 0; polarity = getD r 4 0; largest = getD r 5 0 };
+  end = record {
+    sum = getD r 6 0;
+    even = getD r 7 0;
+    odd = getD r 8 0;
+    evens = getD r 9 0;
+    odds = getD r 10 0;
+    ones = getD r 11 0;
+    twos = getD r 12 0;
+    farthest = getD r 13 0;
+  };
+}
+
+unfoldable pub picked : List (List ℕ) → List ℕ → List Arm
+picked all digits = table mostSites (λ k. rowArm (getD all (mostCandidates * k + getD digits k 0) []))
 
 -- the first n digits of a table, the last first
 unfoldable pub choiceIn : List ℕ → ℕ → List ℕ

@@ -130,7 +130,7 @@ module _ (d : List ℕ) (l : Library) (e : libraryReply d ≡ read l) where
       unfolding IsChoice sitesIn choiceIn
       choice-first k h = fewer (λ m. IsChoice (sitesIn table m) (choiceIn digits m)) (λ m p. p .1) n k h (rw (same, chosen) (is-choice (l .sites) position low))
 
-      digit-low : (k : ℕ) → k < n → getD digits k 0 < siteOf k .many
+      pub digit-low : (k : ℕ) → k < n → getD digits k 0 < siteOf k .many
       unfolding IsChoice sitesIn choiceIn
       digit-low k h = choice-first (suc k) h .0
 
