@@ -1,4 +1,4 @@
--- Laws. A ring of six with two sites, and a deck for each refusal with its place, by computing.
+-- Work. A ring of six with two sites, and a deck for each refusal with its place, by computing.
 use Prim.Native.Nat.{ℕ, zero, suc, _+_, _*_, _/_, _%_}
 use mathlib.Core.Path.{_≡_, refl}
 use mathlib.Core.List.{List, [], _∷_, _++_, map}
@@ -111,6 +111,7 @@ cases =
     ∷ (blocks ++ library 1 1 (site 7 1 [])) is 18 at 32
     ∷ (blocks ++ library 1 1 (site 0 1 (by 9 1))) is 18 at 32
     ∷ (blocks ++ library 1 2 (site 1 1 (by 2 1) ++ site 1 1 (by 9 1))) is 33 at 32
+    ∷ (blocks ++ library 1 2 (site 1 1 (by 2 1) ++ site 1 0 [])) is 32 at 32
     -- a candidate: an end too early, no such block, atoms that it has not, one bond too many at the candidate or at the core
     ∷ (blocks ++ library 1 1 (site 1 2 (by 2 1 ++ 9 ∷ 0 ∷ []))) is 13 at 32
     ∷ (blocks ++ library 1 1 (site 1 2 (by 2 1 ++ by 9 7))) is 16 at 32

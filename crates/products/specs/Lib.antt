@@ -10,10 +10,11 @@
 -- Definitions
 pub mod Library
 pub mod Products
+-- Work
+pub mod Examples
 -- Laws
 pub mod Choices
 pub mod Sound
 pub mod Fine
 pub mod Growth
 pub mod Written
-pub mod Examples
