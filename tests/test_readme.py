@@ -7,7 +7,7 @@ import re
 import tempfile
 import unittest
 
-from common import FORTY, text
+from common import FORTY, RIGHT, RIGHT_SIX, text
 
 from tteuyomal import Block, command, decktext
 
@@ -24,7 +24,7 @@ class Readme(unittest.TestCase):
 
     def test_bytes(self):
         spelled = re.findall(r"^    ((?:[0-9A-F]{2} )+) ", README, re.M)
-        self.assertEqual(bytes.fromhex("".join(spelled)), FORTY)
+        self.assertEqual(bytes.fromhex("".join(spelled)), FORTY + RIGHT + RIGHT_SIX[:4] + RIGHT_SIX[40:])
 
     def test_text(self):
         self.assertEqual(decktext.made(self.indented("# product.toml")), FORTY)

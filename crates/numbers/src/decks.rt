@@ -17,6 +17,11 @@ fn composed(deck: &[u8], row: Row) -> bool {
     told::of_measured(reply).is(row, 0)
 }
 
+fn largest(deck: &[u8], row: Row) -> bool {
+    let reply = molecule::compose(deck);
+    told::of_largest(reply).is(row, 0)
+}
+
 fn composed_six(deck: &[u8], row: Row) -> bool {
     let reply = molecule::compose(deck);
     told::of_six(reply).is(row, 0)
@@ -76,6 +81,7 @@ fn written(deck: &[u8], sheet: Sheet, bytes: bool, row: Row) -> bool {
 pub(crate) fn right(letter: u8, deck: &[u8], row: Row) -> bool {
     match letter {
         b'c' => composed(deck, row),
+        b'l' => largest(deck, row),
         b'j' => judged(deck, row),
         b'a' => apart(deck, row),
         b'f' => found(deck, row),
@@ -83,7 +89,7 @@ pub(crate) fn right(letter: u8, deck: &[u8], row: Row) -> bool {
         b'w' => written(deck, Sheet::Five, false, row),
         b'b' => written(deck, Sheet::Five, true, row),
         b'k' => written(deck, Sheet::Six, false, row),
-        b'r' => written(deck, Sheet::Six, true, row),
+        b'o' => written(deck, Sheet::Six, true, row),
         _ => false,
     }
 }

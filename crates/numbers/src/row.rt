@@ -176,7 +176,7 @@ pub(crate) fn line_end(text: &[u8], from: usize) -> usize
 // Whether the numbers of a line are written in base 16: a deck's bytes, a block's part of it, a sheet's bytes.
 fn is_hex(letter: u8) -> bool {
     match letter {
-        b'D' | b'f' | b'b' | b'r' => true,
+        b'D' | b'f' | b'b' | b'o' => true,
         _ => false,
     }
 }
