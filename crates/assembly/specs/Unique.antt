@@ -1,13 +1,15 @@
 -- Laws. Each promise determines the reply: two replies that satisfy it are equal. Assumes nothing.
-use Prim.Native.Nat.{ℕ, _+_, _*_}
+use Prim.Native.Nat.{ℕ, _+_, _*_, _≤_}
 use mathlib.Core.Bool.{Bool}
 use mathlib.Core.List.{List}
 use mathlib.Core.Path.{_≡_}
-use lib.ListN.{take}
+use lib.ListN.{length, take}
 use denote.Ref.{RefT, ptr, now}
+use Rattle.graph.specs.Graph.{degree}
 use Rattle.reply.specs.Read.{saidReply}
 use Rattle.reply.specs.Chain.{unique}
 use Rattle.reply.specs.declared.Reply.{Reply}
+use Rattle.block.specs.Block.{bondsOf}
 use Rattle.records.specs.Bytes.{PartOf}
 use Rattle.records.specs.Records.{blockKind}
 use Rattle.records.specs.Unique.{unique-part}
@@ -24,6 +26,9 @@ unique-is-numbered b number r s = unique
 
 pub unique-bonds-part : (s : RefT (List ℕ)) (b : BlockAt) (q r : RefT (List ℕ)) → PartOf s (b .start + blockKind .fixed) (blockKind .item * b .bonds) q → PartOf s (b .start + blockKind .fixed) (blockKind .item * b .bonds) r → (now q ≡ now r) × (ptr q ≡ ptr r)
 unique-bonds-part s b q r = unique-part
+
+pub unique-degree-of : (bonds : List ℕ) (a r s : ℕ) → (r ≡ degree (bondsOf bonds) a) × (r ≤ length bonds) → (s ≡ degree (bondsOf bonds) a) × (s ≤ length bonds) → r ≡ s
+unique-degree-of bonds a r s p q = unique (p .0) (q .0)
 
 pub unique-placement-at : (xs : List ℕ) (k : ℕ) (r s : Placement) → r ≡ placementAt xs k → s ≡ placementAt xs k → r ≡ s
 unique-placement-at xs k r s = unique

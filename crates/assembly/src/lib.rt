@@ -134,7 +134,7 @@ fn one_if(x: bool, y: bool) -> usize
 }
 
 // How many ends of bonds are at an atom.
-fn degree_of(bonds: &[u8], a: u8) -> usize
+pub fn degree_of(bonds: &[u8], a: u8) -> usize
     ensures { λ r. ⌜ (r ≡ degree (bondsOf (now (bonds .entry))) a) × (r ≤ length (now (bonds .entry))) ⌝ }
 {
     let mut total = 0;

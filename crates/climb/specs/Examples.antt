@@ -6,7 +6,7 @@ use Rattle.graph.specs.Assembly.{shifted, joined, startAt, written}
 use Rattle.reply.specs.Read.{Read, refused, read, refusal}
 use Rattle.block.specs.Block.{bondsOf, bondFault, bondsReply, blockReply}
 use Rattle.records.specs.Bytes.{little}
-use Rattle.records.specs.Records.{kindReply, lengthReply, recordReply}
+use Rattle.records.specs.Records.{kindReply, isWrong, lengthReply, recordReply}
 use Rattle.assembly.specs.Book.{find, bookOf}
 use Rattle.assembly.specs.Placements.{placementAt, joinOf, joinEnds, joinsOn, bondsOn, firstFault, parentFault, joinFault, laterFault, fault, assemblyReply}
 use Rattle.assembly.specs.Placements as placements
@@ -16,7 +16,7 @@ use Rattle.deck.specs.Molecule.{placedIn, graphAt, joinAt, moleculeOf}
 use Rattle.climb.specs.Placed.{isMissing, placedReply}
 
 asked : ℕ → ℕ → ℕ → ℕ → Read ℕ
-unfolding document joins anyJoins bonded anyAtom reaches firstFrom distance allAtoms connected degree sum bondsOf bondFault bondsReply blockReply little kindReply lengthReply recordReply find bookOf placementAt joinOf joinEnds joinsOn bondsOn firstFault parentFault joinFault laterFault fault placements.placedReply assemblyReply blockReplyAt assemblyReplyAt blocksFrom blocksReply endReply sheetReply deckReply shifted joined startAt written placedIn graphAt joinAt moleculeOf isMissing placedReply
+unfolding document joins anyJoins bonded anyAtom reaches firstFrom distance allAtoms connected degree sum bondsOf bondFault bondsReply blockReply little kindReply isWrong lengthReply recordReply find bookOf placementAt joinOf joinEnds joinsOn bondsOn firstFault parentFault joinFault laterFault fault placements.placedReply assemblyReply blockReplyAt assemblyReplyAt blocksFrom blocksReply endReply sheetReply deckReply shifted joined startAt written placedIn graphAt joinAt moleculeOf isMissing placedReply
 asked k i l j = placedReply document k i l j
 
 -- from end to end, back, within one ring, and to a seventh atom and a third placement

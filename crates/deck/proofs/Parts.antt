@@ -13,9 +13,10 @@ use Rattle.reply.specs.declared.Reply.the-variants.{Fine, Refused}
 use denote.Ref.{RefT}
 use Rattle.records.specs.Bytes.{PartOf}
 use Rattle.records.specs.Records.{blockKind, assemblyKind, endAt, recordReply}
+use Rattle.records.specs.declared.Kind.{Kind}
 use Rattle.assembly.specs.Book.{find, used}
 use Rattle.assembly.specs.declared.BlockAt.{BlockAt}
-use Rattle.deck.specs.Deck.{longestDeck, Deck, blocksReply, assemblyReplyAt, endReply, sheetKinds, sheetReply, deckReply, Span, nowhere, payload, blockSpan}
+use Rattle.deck.specs.Deck.{longestDeck, Deck, blocksReply, openReply, assemblyReplyAt, endReply, sheetKinds, sheetReply, deckReply, Span, nowhere, payload, blockSpan}
 use Rattle.deck.specs.Said.{saidDeck}
 use Rattle.deck.specs.declared.DeckRead.{DeckRead}
 use Rattle.deck.specs.declared.Form.{Form}
@@ -42,6 +43,16 @@ module _ (d : List ℕ) (at : ℕ) where
   pub sheet-end : recordReply sheetKinds d at ≡ read tt → sheetReply Judged d at ≡ endReply d (endAt d at)
   unfolding sheetReply
   sheet-end e = rw e
+
+-- before the last record
+module _ (last : Kind) (d : List ℕ) where
+  pub open-long : longestDeck < length d → openReply last d ≡ refused (refusal 20 0)
+  unfolding openReply
+  open-long h = rw (lt-ltb longestDeck (length d) h)
+
+  pub open-short : length d ≤ longestDeck → openReply last d ≡ blocksReply last d
+  unfolding openReply
+  open-short h = rw (le-ltb longestDeck (length d) h)
 
 module _ (form : Form) (d : List ℕ) where
   module _ (short : length d ≤ longestDeck) where

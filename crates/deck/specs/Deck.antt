@@ -91,6 +91,10 @@ blocksFrom (suc fuel) last d at done =
 unfoldable pub blocksReply : Kind → List ℕ → Read Deck
 blocksReply last d = blocksFrom (suc mostBlocks) last d 0 []
 
+-- 20, then the blocks: what every deck is told before a record of the kind `last`
+unfoldable pub openReply : Kind → List ℕ → Read Deck
+openReply last d = refuseIf (ltb longestDeck (length d)) 20 0 then λ _. blocksReply last d
+
 -- 15 to 19, 23 and 24 of its assembly
 unfoldable pub assemblyReplyAt : List ℕ → List BlockAt → ℕ → Read (Unit {0})
 assemblyReplyAt d blocks at = moved (placementPlace at) (assemblyReply (bookOf d blocks) (payloadAt d at))

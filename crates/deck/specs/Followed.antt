@@ -5,7 +5,7 @@ use mathlib.Core.List.{List, [], _∷_, _++_}
 use mathlib.Core.Logic.{⊎-elim}
 use mathlib.Core.Path.{_≡_, refl, sym, _∙_, ap, ap₂}
 use native.Mathlib.Omega.{arith}
-use borrow.Author.Tests.{eq-eqb, eqb-true, le-ltb, ltb-false}
+use borrow.Author.Tests.{eqb-true, le-ltb, ltb-false}
 use lib.Dec.{eqb, leb}
 use lib.ListN.{length, length-append}
 use Rattle.graph.specs.Graph.{Graph}
@@ -14,8 +14,8 @@ use Rattle.reply.specs.Read.{read, _then_, refuseIf}
 use Rattle.reply.specs.Chain.{not-read, then-read, if-read}
 use Rattle.block.specs.Block.{graphOf, blockReply}
 use Rattle.records.specs.Bytes.{le16}
-use Rattle.records.specs.Records.{headBytes, blockKind, assemblyKind, sheetKind, lengthAt, kindAt, sheetAt, endAt, payloadAt, wanted, lengthReply, recordReply}
-use Rattle.records.specs.Taken.{taken, sheet-stands, sheet-wants, sheet-told}
+use Rattle.records.specs.Records.{headBytes, blockKind, assemblyKind, sheetKind, lengthAt, kindAt, sheetAt, endAt, payloadAt, lengthReply, recordReply}
+use Rattle.records.specs.Taken.{taken, sheet-stands, sheet-suits, sheet-told}
 use Rattle.records.specs.Longer.{Counted, little-same, little-behind, part-same, kind-same, end-same, payload-same, record-same}
 use Rattle.records.specs.declared.Kind.{Kind}
 use Rattle.records.specs.declared.Sheet.{Sheet}
@@ -30,15 +30,15 @@ use Rattle.deck.specs.declared.Form.the-variants.{Composed, Judged}
 
 module _ (d s : List ℕ) where
   -- a block that stands in the deck
-  bonds-same : (b : BlockAt) → b .start + blockKind .fixed + blockKind .item * b .bonds ≤ length d → bondBytes (d ++ s) b ≡ bondBytes d b
+  pub bonds-same : (b : BlockAt) → b .start + blockKind .fixed + blockKind .item * b .bonds ≤ length d → bondBytes (d ++ s) b ≡ bondBytes d b
   bonds-same b h = part-same d s (b .start + blockKind .fixed) (blockKind .item * b .bonds) h
 
-  block-same : (at : ℕ) → at + headBytes + blockKind .fixed ≤ length d → blockAt (d ++ s) at ≡ blockAt d at
+  pub block-same : (at : ℕ) → at + headBytes + blockKind .fixed ≤ length d → blockAt (d ++ s) at ≡ blockAt d at
   block-same at h =
       let start = at + headBytes in
       rw (little-same d s 2 start (omega arith), little-same d s 2 (start + 2) (omega arith), little-same d s 2 (start + blockKind .count) (omega arith))
 
-  reply-same : (at : ℕ) (done : List BlockAt) → Standing d (blockAt d at) → blockReplyAt (d ++ s) at done ≡ blockReplyAt d at done
+  pub reply-same : (at : ℕ) (done : List BlockAt) → Standing d (blockAt d at) → blockReplyAt (d ++ s) at done ≡ blockReplyAt d at done
   unfolding blockReplyAt
   reply-same at done t =
       let e = block-same at (omega (arith, t .within)) in
@@ -75,7 +75,7 @@ module _ (d s : List ℕ) where
       go true more = bonds-same b (t .0 .within)
       go false more = more
 
-  book-same : (bs : List BlockAt) → Each (Standing d) bs → bookOf (d ++ s) bs ≡ bookOf d bs
+  pub book-same : (bs : List BlockAt) → Each (Standing d) bs → bookOf (d ++ s) bs ≡ bookOf d bs
   unfolding bookOf
   book-same bs t = λ i. record { has = used bs; graph = λ x. graphOf (find bs x .atoms) (found-same bs x t i) }
 
@@ -102,7 +102,7 @@ module _ {sheet : Sheet} (d s : List ℕ) (i : IsSheet sheet s) where
       rw (
         le-ltb (length (d ++ s)) (endAt (d ++ s) (length d)) (omega arith),
         sheet-stands (d ++ s) (length d) sheet kind-behind,
-        eq-eqb (lengthAt (d ++ s) (length d)) (wanted (sheetKind sheet) (d ++ s) (length d)) (n ∙ sym (sheet-wants (d ++ s) (length d) sheet)),
+        sheet-suits (d ++ s) (length d) sheet n,
         le-ltb (endAt (d ++ s) (length d)) (length (d ++ s)) (omega arith),
       )
 

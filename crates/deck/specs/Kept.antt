@@ -37,7 +37,7 @@ pub record Kept (last : Kind) (d : List ℕ) (k : Deck) : Type 0 where
   pub few : length (k .blocks) ≤ mostBlocks
   pub after : recordReply (last ∷ []) d (k .assembly) ≡ read tt
 
-each-last : (P : BlockAt → Type 0) (bs : List BlockAt) (b : BlockAt) → Each P bs → P b → Each P (bs ++ b ∷ [])
+pub each-last : (P : BlockAt → Type 0) (bs : List BlockAt) (b : BlockAt) → Each P bs → P b → Each P (bs ++ b ∷ [])
 unfolding Each
 each-last P [] b e p = (p, tt)
 each-last P (c ∷ bs) b e p = (e .0, each-last P bs b (e .1) p)
@@ -87,8 +87,8 @@ module _ (last : Kind) (d : List ℕ) where
       record { numbered = f .numbered; within = omega arith; fine = f .fine }
     where
       long : (done : List BlockAt) → recordReply (kindsAfter done last) d at ≡ read tt → lengthAt d at ≡ wanted blockKind d at
-      long [] e = of-first d at blockKind [] e k
-      long (b ∷ bs) e = of-first d at blockKind (last ∷ []) e k
+      long [] e = of-first d at blockKind [] e k refl
+      long (b ∷ bs) e = of-first d at blockKind (last ∷ []) e k refl
 
   -- a record that is no block is not the first
   after-blocks : (at : ℕ) (done : List BlockAt) → recordReply (kindsAfter done last) d at ≡ read tt → (kindAt d at ≡ blockKind .number → ⊥) → recordReply (last ∷ []) d at ≡ read tt

@@ -42,9 +42,9 @@ longestComposed = mostBlocks * longestBlock + headBytes + assemblyKind .fixed + 
 
 module _ (last : Kind) (d : List ℕ) where
   -- a block record is as long as its bonds ask, and these are not too many
-  record-long : (at : ℕ) (done : List BlockAt) → recordReply (kindsAfter done last) d at ≡ read tt → kindAt d at ≡ blockKind .number → lengthAt d at ≡ wanted blockKind d at
-  record-long at [] e k = of-first d at blockKind [] e k
-  record-long at (b ∷ bs) e k = of-first d at blockKind (last ∷ []) e k
+  pub record-long : (at : ℕ) (done : List BlockAt) → recordReply (kindsAfter done last) d at ≡ read tt → kindAt d at ≡ blockKind .number → lengthAt d at ≡ wanted blockKind d at
+  record-long at [] e k = of-first d at blockKind [] e k refl
+  record-long at (b ∷ bs) e k = of-first d at blockKind (last ∷ []) e k refl
 
   few-bytes : (b : BlockAt) → Standing d b → blockKind .item * b .bonds ≤ mostBytes
   few-bytes b s =
@@ -71,6 +71,11 @@ module _ (last : Kind) (d : List ℕ) where
       rw (← same) (omega (arith, a, l)))
       (chosen (eqb (kindAt d at) (blockKind .number)) _ _ f)
 
+-- where the record after the blocks stands
+pub blocks-short : (last : Kind) (d : List ℕ) (k : Deck) → blocksReply last d ≡ read k → k .assembly ≤ mostBlocks * longestBlock
+unfolding blocksReply
+blocks-short last d k e = reach last d (suc mostBlocks) 0 [] (omega arith) (omega arith) e
+
 -- a number that stands within a part of a list
 little-part : (k : ℕ) (d : List ℕ) (from len at : ℕ) → at + k ≤ len → little k (part d from len) at ≡ little k d (from + at)
 unfolding little
@@ -82,17 +87,17 @@ little-part (suc k) d from len at h =
 
 -- the length of a deck that composes
 pub composed-short : (d : List ℕ) (k : Deck) → deckReply Composed d ≡ read k → length d ≤ longestComposed
-unfolding sheetReply endReply blocksReply
+unfolding sheetReply endReply
 composed-short d k e =
     let p = parts Composed d k e in
     let q = kept assemblyKind d (p .blocks) in
     let at = k .assembly in
-    let n : lengthAt d at ≡ wanted assemblyKind d at = of-first d at assemblyKind [] (q .after) (of-one d at assemblyKind (q .after)) in
+    let n : lengthAt d at ≡ wanted assemblyKind d at = of-first d at assemblyKind [] (q .after) (of-one d at assemblyKind (q .after)) refl in
     let c : placementCount (payloadAt d at) ≡ le16 d (at + headBytes + 0) = little-part 2 d (at + headBytes) (lengthAt d at) 0 (omega (arith, n)) in
     let m : k .placements ≡ placementCount (payloadAt d at) = ap (λ (x : Deck). x .placements) (q .places) in
     let s : k .sheet ≡ endAt d at = ap (λ (x : Deck). x .sheet) (q .places) in
     let l : length d ≤ k .sheet = ltb-false (k .sheet) (length d) (if-read _ 11 (k .sheet) (p .sheet)) in
-    let r : at ≤ mostBlocks * longestBlock = reach assemblyKind d (suc mostBlocks) 0 [] (omega arith) (omega arith) (p .blocks) in
+    let r : at ≤ mostBlocks * longestBlock = blocks-short assemblyKind d k (p .blocks) in
     omega (arith, n, c, m, s, l, r, whole Composed d k e .count .high)
 
 -- the sums over a molecule of at most as many atoms as a deck's can have

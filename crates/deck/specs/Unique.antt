@@ -5,11 +5,12 @@ use mathlib.Core.Path.{_≡_}
 use denote.Ref.{RefT, ptr, now}
 use Rattle.records.specs.Bytes.{PartOf}
 use Rattle.records.specs.Records.{payloadAt}
+use Rattle.records.specs.declared.Kind.{Kind}
 use Rattle.reply.specs.Chain.{unique}
 use Rattle.records.specs.Unique.{unique-part}
 use Rattle.assembly.specs.Placements.{placementAt}
 use Rattle.assembly.specs.declared.Placement.{Placement}
-use Rattle.deck.specs.Deck.{deckReply, blockSpan}
+use Rattle.deck.specs.Deck.{openReply, deckReply, blockSpan}
 use Rattle.deck.specs.Said.{saidDeck}
 use Rattle.deck.specs.declared.DeckRead.{DeckRead}
 use Rattle.deck.specs.declared.Form.{Form}
@@ -17,6 +18,9 @@ use Rattle.deck.specs.declared.Form.{Form}
 module _ (d : List ℕ) where
   pub unique-read-deck : (form : Form) (r s : DeckRead) → r ≡ saidDeck (deckReply form d) → s ≡ saidDeck (deckReply form d) → r ≡ s
   unique-read-deck form r s = unique
+
+  pub unique-open-deck : (last : Kind) (r s : DeckRead) → r ≡ saidDeck (openReply last d) → s ≡ saidDeck (openReply last d) → r ≡ s
+  unique-open-deck last r s = unique
 
   pub unique-placement : (at k : ℕ) (r s : Placement) → r ≡ placementAt (payloadAt d at) k → s ≡ placementAt (payloadAt d at) k → r ≡ s
   unique-placement at k r s = unique

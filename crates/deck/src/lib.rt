@@ -9,7 +9,7 @@ ghost use Rattle.records.specs.Bytes.{PartOf};
 ghost use Rattle.records.specs.Records.{blockKind, payloadAt};
 ghost use Rattle.assembly.specs.Book.{used, mostBlocks};
 ghost use Rattle.assembly.specs.Placements.{mostPlacements, placementAt};
-ghost use Rattle.deck.specs.Deck.{longestDeck, blockAt, blockPlace, placementPlace, blockReplyAt, assemblyReplyAt, blocksReply, endReply, sheetReply, deckReply, payload, blockSpan};
+ghost use Rattle.deck.specs.Deck.{longestDeck, blockAt, blockPlace, placementPlace, blockReplyAt, assemblyReplyAt, blocksReply, openReply, endReply, sheetReply, deckReply, payload, blockSpan};
 ghost use Rattle.deck.specs.Said.{refusedDeck, tabledDeck, saidDeck};
 use assembly::BLOCK_HEAD;
 use assembly::BLOCKS;
@@ -267,6 +267,19 @@ pub fn read_deck(d: &[u8], form: Form) -> DeckRead
         return deck_refused(s);
     };
     k
+}
+
+// What stands before a record of the kind `last`, whatever that says: refusal 20, the blocks', and 11 to 13 of that record.
+pub fn open_deck(d: &[u8], last: Kind) -> DeckRead
+    ensures { λ r. ⌜ r ≡ saidDeck (openReply last (now (d .entry))) ⌝ }
+{
+    if LONGEST < d.len() {
+        return deck_refused(Reply::Refused(Refusal {
+            number: 20,
+            place: 0,
+        }));
+    }
+    read_blocks(d, last)
 }
 
 // The payload of the block of a number among the first `count`, and nothing where there is no such block.

@@ -1,22 +1,32 @@
 -- What a record is told, test by test. Assumes nothing.
 use Prim.Native.Nat.{ℕ, _<_, _≤_}
+use mathlib.Core.Bool.{true, false, not}
 use mathlib.Core.List.{List, [], _∷_}
 use mathlib.Core.Path.{_≡_}
 use borrow.Author.Tests.{eq-eqb, ne-eqb, lt-ltb, le-ltb}
+use lib.Dec.{eqb, ltb}
 use lib.ListN.{length}
 use Rattle.reply.specs.Read.{refused, read, refusal}
-use Rattle.records.specs.Records.{sheetKind, lengthAt, kindAt, sheetAt, endAt, wanted, kindReply, lengthReply, recordReply}
+use Rattle.records.specs.Records.{sheetKind, lengthAt, kindAt, sheetAt, endAt, wanted, kindReply, isWrong, lengthReply, recordReply}
 use Rattle.records.specs.declared.Kind.{Kind}
 use Rattle.records.specs.declared.Sheet.the-variants.{Five, Six}
 
 module _ (k : Kind) (d : List ℕ) (at : ℕ) where
-  pub length-wrong : (lengthAt d at ≡ wanted k d at → ⊥) → lengthReply k d at ≡ refused (refusal 13 at)
+  pub length-wrong : isWrong k d at ≡ true → lengthReply k d at ≡ refused (refusal 13 at)
   unfolding lengthReply
-  length-wrong h = rw (ne-eqb (lengthAt d at) (wanted k d at) h)
+  length-wrong h = rw h
 
-  pub length-right : lengthAt d at ≡ wanted k d at → lengthReply k d at ≡ read tt
+  pub length-right : isWrong k d at ≡ false → lengthReply k d at ≡ read tt
   unfolding lengthReply
-  length-right h = rw (eq-eqb (lengthAt d at) (wanted k d at) h)
+  length-right h = rw h
+
+  pub wrong-loose : k .loose ≡ true → isWrong k d at ≡ ltb (lengthAt d at) (k .fixed)
+  unfolding isWrong
+  wrong-loose o = rw o
+
+  pub wrong-counted : k .loose ≡ false → isWrong k d at ≡ not (eqb (lengthAt d at) (wanted k d at))
+  unfolding isWrong
+  wrong-counted o = rw o
 
 module _ (a b : Kind) (d : List ℕ) (at : ℕ) where
   pub cut-off : length d < endAt d at → recordReply (a ∷ b ∷ []) d at ≡ refused (refusal 11 at)

@@ -2,17 +2,17 @@
 use Prim.Native.Nat.{ℕ, zero, suc, _+_, _*_, _≤_}
 use mathlib.Core.Bool.{Bool, true, false, cond}
 use mathlib.Core.List.{List, [], _∷_, _++_}
-use mathlib.Core.Path.{_≡_, refl, sym, _∙_, ap, ap₂}
+use mathlib.Core.Path.{_≡_, refl, _∙_, ap, ap₂}
 use native.Mathlib.Omega.{arith}
-use borrow.Author.Tests.{eq-eqb, le-ltb}
+use borrow.Author.Tests.{le-ltb}
 use lib.Dec.{eqb}
 use lib.ListN.{length, take, drop, getD, length-append, length-drop, List·getD-append}
 use lib.Seq.{take-append-le, drop-append-le, getD-append-add}
 use Rattle.reply.specs.Read.{Read, read}
 use Rattle.reply.specs.Chain.{not-read}
 use Rattle.records.specs.Bytes.{little, part}
-use Rattle.records.specs.Records.{headBytes, lengthAt, kindAt, endAt, payloadAt, wanted, kindReply, lengthReply, recordReply}
-use Rattle.records.specs.Taken.{taken}
+use Rattle.records.specs.Records.{headBytes, lengthAt, kindAt, endAt, payloadAt, wanted, kindReply, isWrong, lengthReply, recordReply}
+use Rattle.records.specs.Taken.{taken, of-least}
 use Rattle.records.specs.declared.Kind.{Kind}
 
 -- each kind's count stands in the bytes that every payload of it has
@@ -67,6 +67,10 @@ module _ (d s : List ℕ) where
   stands-same [] at e = refl
   stands-same (k ∷ ks) at e = ap₂ (λ (n : ℕ) (x : Read Kind). cond (eqb n (k .number)) (read k) x) e (stands-same ks at e)
 
+  wrong-same : (k : Kind) (at : ℕ) → lengthAt (d ++ s) at ≡ lengthAt d at → wanted k (d ++ s) at ≡ wanted k d at → isWrong k (d ++ s) at ≡ isWrong k d at
+  unfolding isWrong
+  wrong-same k at n m = rw (n, m)
+
   pub record-same : (kinds : List Kind) (at : ℕ) → Counted kinds → recordReply kinds d at ≡ read tt → recordReply kinds (d ++ s) at ≡ read tt
   unfolding recordReply lengthReply
   record-same kinds at c e =
@@ -75,9 +79,9 @@ module _ (d s : List ℕ) where
       let w = t .whole in
       let h = counted kinds d at c (t .stands) in
       let n = length-same at w in
-      let m : wanted k (d ++ s) at ≡ wanted k d at = ap (λ (x : ℕ). k .fixed + k .item * x) (little-same 2 (at + headBytes + k .count) (omega (arith, t .suits))) in
+      let m : wanted k (d ++ s) at ≡ wanted k d at = ap (λ (x : ℕ). k .fixed + k .item * x) (little-same 2 (at + headBytes + k .count) (omega (arith, of-least d at k (t .suits)))) in
       rw (
         le-ltb (length (d ++ s)) (endAt (d ++ s) at) (omega (arith, end-same at w, length-append d s)),
         stands-same kinds at (kind-same at w) ∙ t .stands,
-        eq-eqb (lengthAt (d ++ s) at) (wanted k (d ++ s) at) (n ∙ t .suits ∙ sym m),
+        wrong-same k at n m ∙ t .suits,
       )

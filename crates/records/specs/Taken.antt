@@ -1,5 +1,6 @@
 -- Laws. What holds of a record that is taken. Assumes nothing.
 use Prim.Native.Nat.{ℕ, _≤_}
+use mathlib.Core.Bool.{Bool, true, false}
 use mathlib.Core.List.{List, [], _∷_}
 use mathlib.Core.Path.{_≡_, refl}
 use native.Mathlib.Omega.{arith}
@@ -9,7 +10,7 @@ use lib.Dec.{eqb, ltb}
 use lib.ListN.{length}
 use Rattle.reply.specs.Read.{read, refuseIf}
 use Rattle.reply.specs.Chain.{not-read, then-read, if-read}
-use Rattle.records.specs.Records.{sheetKind, lengthAt, kindAt, sheetAt, endAt, wanted, kindReply, lengthReply, recordReply}
+use Rattle.records.specs.Records.{sheetKind, lengthAt, kindAt, sheetAt, endAt, wanted, kindReply, isWrong, lengthReply, recordReply}
 use Rattle.records.specs.declared.Kind.{Kind}
 use Rattle.records.specs.declared.Sheet.{Sheet}
 use Rattle.records.specs.declared.Sheet.the-variants.{Five, Six}
@@ -19,7 +20,7 @@ pub record Taken (kinds : List Kind) (d : List ℕ) (at : ℕ) : Type 0 where
   pub whole : endAt d at ≤ length d
   pub kind : Kind
   pub stands : kindReply kinds d at ≡ read kind
-  pub suits : lengthAt d at ≡ wanted kind d at
+  pub suits : isWrong kind d at ≡ false
 
 module _ (d : List ℕ) (at : ℕ) where
   pub taken : (kinds : List Kind) → recordReply kinds d at ≡ read tt → Taken kinds d at
@@ -31,17 +32,30 @@ module _ (d : List ℕ) (at : ℕ) where
         whole = ltb-false (length d) (endAt d at) (if-read (ltb (length d) (endAt d at)) 11 at p);
         kind = k;
         stands = q;
-        suits = eqb-true (lengthAt d at) (wanted k d at) (not-false (eqb (lengthAt d at) (wanted k d at)) (if-read _ 13 at g));
+        suits = if-read (isWrong k d at) 13 at g;
       }
 
+  -- a kind that counts its items has the length that they ask, any kind the bytes that hold its counts
+  of-length : (k : Kind) → isWrong k d at ≡ false → k .loose ≡ false → lengthAt d at ≡ wanted k d at
+  unfolding isWrong
+  of-length k e o = eqb-true (lengthAt d at) (wanted k d at) (not-false (eqb (lengthAt d at) (wanted k d at)) (rw o at e))
+
+  pub of-least : (k : Kind) → isWrong k d at ≡ false → k .fixed ≤ lengthAt d at
+  unfolding isWrong
+  of-least k e = go (k .loose) refl
+    where
+      go : (t : Bool) → k .loose ≡ t → k .fixed ≤ lengthAt d at
+      go true o = ltb-false (lengthAt d at) (k .fixed) (rw o at e)
+      go false o = omega (arith, of-length k e o)
+
   -- the first kind, where that is its number; else another, and with no other there is none
-  pub of-first : (k : Kind) (ks : List Kind) → recordReply (k ∷ ks) d at ≡ read tt → kindAt d at ≡ k .number → lengthAt d at ≡ wanted k d at
+  pub of-first : (k : Kind) (ks : List Kind) → recordReply (k ∷ ks) d at ≡ read tt → kindAt d at ≡ k .number → k .loose ≡ false → lengthAt d at ≡ wanted k d at
   unfolding kindReply
-  of-first k ks e n =
+  of-first k ks e n o =
       let t = taken (k ∷ ks) e in
       let s : read k ≡ read (t .kind) = rw (eq-eqb (kindAt d at) (k .number) n) at (t .stands) in
       let same : k ≡ t .kind = cc in
-      rw same (t .suits)
+      of-length k (rw same (t .suits)) o
 
   pub of-other : (k : Kind) (ks : List Kind) → recordReply (k ∷ ks) d at ≡ read tt → (kindAt d at ≡ k .number → ⊥) → recordReply ks d at ≡ read tt
   unfolding recordReply kindReply
@@ -72,3 +86,8 @@ module _ (d : List ℕ) (at : ℕ) where
   unfolding sheetAt
   sheet-told Five e = rw e refl
   sheet-told Six e = rw e refl
+
+  pub sheet-suits : (s : Sheet) → lengthAt d at ≡ sheetKind s .fixed → isWrong (sheetKind s) d at ≡ false
+  unfolding isWrong
+  sheet-suits Five e = rw (eq-eqb (lengthAt d at) (wanted (sheetKind Five) d at) (omega (arith, e)))
+  sheet-suits Six e = rw (eq-eqb (lengthAt d at) (wanted (sheetKind Six) d at) (omega (arith, e)))

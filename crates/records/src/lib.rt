@@ -1,11 +1,13 @@
 // Bytes, little-endian numbers and records: refusals 11 to 13.
+ghost use mathlib.Core.Bool.{not};
 ghost use mathlib.Core.Path.{_≡_};
 ghost use mathlib.Core.List.{[], _∷_};
 ghost use Prim.Native.Nat.{_+_, _≤_, min};
+ghost use lib.Dec.{eqb};
 ghost use lib.ListN.{length};
 ghost use Rattle.reply.specs.Read.{saidReply};
 ghost use Rattle.records.specs.Bytes.{byteAt, little, le16, PartOf};
-ghost use Rattle.records.specs.Records.{headBytes, lengthAt, sheetKind, sheetAt, lengthReply, recordReply};
+ghost use Rattle.records.specs.Records.{headBytes, lengthAt, sheetKind, sheetAt, wanted, isWrong, lengthReply, recordReply};
 use reply::Refusal;
 use reply::Reply;
 use reply::wide;
@@ -13,12 +15,14 @@ use reply::wide;
 // The bytes of a record's head: payload length and kind.
 pub const HEAD: usize = 4;
 
-// A kind of record: its number, the bytes of payload that hold its counts, where in the payload the count of its items stands, and the bytes of an item.
+// A kind of record: its number, the bytes of payload that hold its counts, where in the payload the count of its items stands, the bytes of an item, and
+// whether it is loose: it has no such items, and who reads it says where its payload ends.
 pub struct Kind {
     pub number: u16,
     pub fixed: u16,
     pub count: u16,
     pub item: u16,
+    pub loose: bool,
 }
 
 // The kinds that there are.
@@ -27,6 +31,7 @@ pub const BLOCK: Kind = Kind {
     fixed: 6,
     count: 4,
     item: 2,
+    loose: false,
 };
 
 pub const ASSEMBLY: Kind = Kind {
@@ -34,6 +39,7 @@ pub const ASSEMBLY: Kind = Kind {
     fixed: 2,
     count: 0,
     item: 6,
+    loose: false,
 };
 
 pub const SHEET_OF_FIVE: Kind = Kind {
@@ -41,6 +47,7 @@ pub const SHEET_OF_FIVE: Kind = Kind {
     fixed: 36,
     count: 0,
     item: 0,
+    loose: false,
 };
 
 pub const SHEET_OF_SIX: Kind = Kind {
@@ -48,6 +55,7 @@ pub const SHEET_OF_SIX: Kind = Kind {
     fixed: 40,
     count: 0,
     item: 0,
+    loose: false,
 };
 
 // A sheet has five fields or six.
@@ -130,13 +138,32 @@ pub fn payload_at(d: &[u8], at: usize) -> &[u8]
     part(d, at + HEAD, le16_at(d, at) as usize)
 }
 
+// Whether the record at a place has another length than its count asks.
+fn is_odd(d: &[u8], at: usize, k: Kind) -> bool
+    requires { ⌜ at + headBytes ≤ length (now d) ⌝ }
+    ensures { λ r. ⌜ r ≡ not (eqb (lengthAt (now (d .entry)) at) (wanted k (now (d .entry)) at)) ⌝ }
+{
+    let items = le16_at(d, at + HEAD + (k.count as usize)) as usize;
+    (le16_at(d, at) as usize) != (k.fixed as usize) + (k.item as usize) * items
+}
+
+// Whether the length of the record at a place, which is of a kind, is wrong.
+fn is_wrong(d: &[u8], at: usize, k: Kind) -> bool
+    requires { ⌜ at + headBytes ≤ length (now d) ⌝ }
+    ensures { λ r. ⌜ r ≡ isWrong k (now (d .entry)) at ⌝ }
+{
+    if k.loose {
+        return le16_at(d, at) < k.fixed;
+    }
+    is_odd(d, at, k)
+}
+
 // Refusal 13 of the record at a place, which is of a kind.
 fn length_reply(d: &[u8], at: usize, k: Kind) -> Reply
     requires { ⌜ at + headBytes ≤ length (now d) ⌝ }
     ensures { λ r. ⌜ r ≡ saidReply (lengthReply k (now (d .entry)) at) ⌝ }
 {
-    let items = le16_at(d, at + HEAD + (k.count as usize)) as usize;
-    if (le16_at(d, at) as usize) != (k.fixed as usize) + (k.item as usize) * items {
+    if is_wrong(d, at, k) {
         return Reply::Refused(Refusal {
             number: 13,
             place: at,

@@ -1,0 +1,121 @@
+-- `catalogue::candidates::candidate_fault` meets its contract. Assumes nothing.
+use Prim.Native.Nat.{_+_, _≤_}
+use mathlib.Core.Bool.{true, false}
+use mathlib.Core.Path.{_≡_, sym, _∙_, ap, ap₂}
+use borrow.Author.Tests.{not-true, not-false}
+use lib.ListN.{length, take}
+use Rattle.graph.specs.Graph.{Graph}
+use Rattle.reply.specs.Read.{isOutside}
+use Rattle.assembly.specs.Book.{Book, blockGraph, bookOf}
+use Rattle.products.specs.Library.{candidateBytes, candidateNumber, candidateAtom, isFullIn}
+use Rattle.catalogue.proofs.Turns.{has-is, graph-is, candidate-cut, candidate-none, candidate-outside, core-full, candidate-full, candidate-well}
+use borrow.Author.Needs.{needs}
+use Rattle.catalogue.proofs.candidates.candidate_fault.Statement.{statement}
+use Rattle.catalogue.proofs.candidates.candidate_fault.Tie as tie
+
+abbrev book : tie.Start → Book
+book s = bookOf (s .args .d .now) (take (s .args .count) (s .args .blocks))
+
+abbrev core : tie.Start → Graph
+core s = blockGraph (s .args .d .now) (s .args .core)
+
+whole : (c : tie.Else1) → let a = c .before .before .before .args in a .p + candidateBytes ≤ length (a .xs .now)
+whole c = c .if1 .left
+
+has : (c : tie.After-is-numbered) → let s = c .before .before .before .before .before .before in c .is-numbered .result ≡ book s .has (candidateNumber (s .args .xs .now) (s .args .p))
+has c = let s = c .before .before .before .before .before .before in has-is (s .args .d .now) (take (s .args .count) (s .args .blocks)) _ (c .before .before .le16-at .result) (c .before .find-block .result) (c .before .before .le16-at .ensures) (c .before .find-block .ensures) _ (c .is-numbered .ensures)
+
+found : (c : tie.Else2) → let s = c .before .before .before .before .before .before .before in book s .has (candidateNumber (s .args .xs .now) (s .args .p)) ≡ true
+found c = sym (has (c .before)) ∙ not-false (c .before .is-numbered .result) (c .if2 .left)
+
+block : (c : tie.After-find-block) → let s = c .before .before .before .before .before in blockGraph (s .args .d .now) (c .find-block .result) ≡ book s .graph (candidateNumber (s .args .xs .now) (s .args .p))
+block c = let s = c .before .before .before .before .before in graph-is (s .args .d .now) (take (s .args .count) (s .args .blocks)) _ (c .before .le16-at .result) (c .find-block .result) (c .before .le16-at .ensures) (c .find-block .ensures)
+
+outside : (c : tie.After-is-outside) → let s = c .before .before .before .before .before .before .before .before .before .before in let n = candidateNumber (s .args .xs .now) (s .args .p) in
+    c .is-outside .result ≡ isOutside (book s .graph n .atoms) (candidateAtom (s .args .xs .now) (s .args .p))
+outside c = c .is-outside .ensures ∙ ap₂ isOutside (ap (λ (g : Graph). g .atoms) (block (c .before .before .before .before .before))) (c .before .before .byte-at .ensures)
+
+inside : (c : tie.Else3) → let s = c .before .before .before .before .before .before .before .before .before .before .before in let n = candidateNumber (s .args .xs .now) (s .args .p) in
+    isOutside (book s .graph n .atoms) (candidateAtom (s .args .xs .now) (s .args .p)) ≡ false
+inside c = sym (outside (c .before)) ∙ c .if3 .left
+
+own-full : (c : tie.After-is-full2) → let s = c .before .before .before .before .before .before .before .before .before .before .before .before .before .before in let n = candidateNumber (s .args .xs .now) (s .args .p) in
+    c .is-full2 .result ≡ isFullIn (book s .graph n) (candidateAtom (s .args .xs .now) (s .args .p))
+own-full c = c .is-full2 .ensures ∙ ap₂ isFullIn (block (c .before .before .before .before .before .before .before .before .before)) (c .before .before .before .before .before .before .byte-at .ensures)
+
+add-if1 : tie.Need-add-if1
+add-if1 c = search needs
+
+returns : tie.Need-returns
+returns c = let s = c .before .before .before in let a = s .args in sym (candidate-cut (book s) (core s) (a .xs .now) (a .atom) (a .p) (c .if1 .taken))
+
+le16-at-requires : tie.Need-le16-at-requires
+le16-at-requires c κs = search needs
+
+cast-number : tie.Need-cast-number
+cast-number c = search needs
+
+find-block-requires : tie.Need-find-block-requires
+find-block-requires c κs = search needs
+
+is-numbered-requires : tie.Need-is-numbered-requires
+is-numbered-requires c κs = search needs
+
+returns-2 : tie.Need-returns-2
+returns-2 c = let s = c .before .before .before .before .before .before .before in let a = s .args in sym (candidate-none (book s) (core s) (a .xs .now) (a .atom) (a .p) (whole (c .before .before .before .before)) (sym (has (c .before)) ∙ not-true (c .before .is-numbered .result) (c .if2 .taken)))
+
+add-byte-at : tie.Need-add-byte-at
+add-byte-at c = search needs
+
+byte-at-requires : tie.Need-byte-at-requires
+byte-at-requires c κs = search needs
+
+cast-is-outside : tie.Need-cast-is-outside
+cast-is-outside c = search needs
+
+cast-is-outside-2 : tie.Need-cast-is-outside-2
+cast-is-outside-2 c = search needs
+
+is-outside-requires : tie.Need-is-outside-requires
+is-outside-requires c κs = search needs
+
+returns-3 : tie.Need-returns-3
+returns-3 c = let s = c .before .before .before .before .before .before .before .before .before .before .before in let a = s .args in sym (candidate-outside (book s) (core s) (a .xs .now) (a .atom) (a .p) (whole (c .before .before .before .before .before .before .before .before)) (found (c .before .before .before .before)) (sym (outside (c .before)) ∙ c .if3 .taken))
+
+is-full-requires : tie.Need-is-full-requires
+is-full-requires c κs = search needs
+
+returns-4 : tie.Need-returns-4
+returns-4 c = let s = c .before .before .before .before .before .before .before .before .before .before .before .before .before in let a = s .args in sym (core-full (book s) (core s) (a .xs .now) (a .atom) (a .p) (whole (c .before .before .before .before .before .before .before .before .before .before)) (found (c .before .before .before .before .before .before)) (inside (c .before .before)) (sym (c .before .is-full .ensures) ∙ c .if4 .taken))
+
+is-full-requires-2 : tie.Need-is-full-requires-2
+is-full-requires-2 c κs = search needs
+
+returns-5 : tie.Need-returns-5
+returns-5 c = let s = c .before .before .before .before .before .before .before .before .before .before .before .before .before .before .before in let a = s .args in sym (candidate-full (book s) (core s) (a .xs .now) (a .atom) (a .p) (whole (c .before .before .before .before .before .before .before .before .before .before .before .before)) (found (c .before .before .before .before .before .before .before .before)) (inside (c .before .before .before .before)) (sym (c .before .before .before .is-full .ensures) ∙ c .before .before .if4 .left) (sym (own-full (c .before)) ∙ c .if5 .taken))
+
+returns-6 : tie.Need-returns-6
+returns-6 c = let s = c .before .before .before .before .before .before .before .before .before .before .before .before .before .before .before in let a = s .args in sym (candidate-well (book s) (core s) (a .xs .now) (a .atom) (a .p) (whole (c .before .before .before .before .before .before .before .before .before .before .before .before)) (found (c .before .before .before .before .before .before .before .before)) (inside (c .before .before .before .before)) (sym (c .before .before .before .is-full .ensures) ∙ c .before .before .if4 .left) (sym (own-full (c .before)) ∙ c .if5 .left))
+
+pub candidate-fault-spec : {M : Type 1} → statement M
+candidate-fault-spec =
+    tie.close
+    (tie.spec
+    add-if1
+    returns
+    le16-at-requires
+    cast-number
+    find-block-requires
+    is-numbered-requires
+    returns-2
+    add-byte-at
+    byte-at-requires
+    cast-is-outside
+    cast-is-outside-2
+    is-outside-requires
+    returns-3
+    is-full-requires
+    returns-4
+    is-full-requires-2
+    returns-5
+    returns-6)

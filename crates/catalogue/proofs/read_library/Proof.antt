@@ -1,0 +1,64 @@
+-- `catalogue::read_library` meets its contract. Assumes nothing.
+use Prim.Native.Nat.{_≤_}
+use mathlib.Core.List.{List}
+use mathlib.Core.Path.{_≡_, sym, _∙_, ap, ap₂, subst}
+use lib.ListN.{length}
+use borrow.Author.Needs.{needs}
+use Rattle.reply.specs.Read.{read}
+use Rattle.records.specs.Records.{payloadAt}
+use Rattle.deck.specs.Deck.{Deck, openReply}
+use Rattle.deck.specs.Said.{saidDeck}
+use Rattle.deck.specs.declared.DeckRead.{DeckRead}
+use Rattle.deck.proofs.Parts.{deck-stopped, deck-ended, table-blocks}
+use Rattle.assembly.specs.declared.BlockAt.{BlockAt}
+use Rattle.products.specs.Library.{libraryKind, afterBlocks}
+use Rattle.catalogue.specs.Said.{refusedLibrary, tabledLibrary, saidLibrary}
+use Rattle.catalogue.proofs.Reading.{said-tabled, library-stopped, library-after, payload-long}
+use Rattle.catalogue.proofs.read_library.Statement.{statement}
+use Rattle.catalogue.proofs.read_library.Tie as tie
+
+-- the blocks that are read
+blocks : (c : tie.After-enum-told) → let a = c .before .before .before .before .args in
+    (k : Deck) × (openReply libraryKind (a .d .now) ≡ read k) × (c .before .before .open-deck .result ≡ saidDeck (read k))
+blocks c = let r = c .before .before .open-deck in deck-ended _ (r .result) (r .ensures) (c .enum-told .given .1)
+
+open-deck-requires : tie.Need-open-deck-requires
+open-deck-requires c κs = search needs
+
+enum-told : tie.Need-enum-told
+enum-told c = search needs
+
+enum-told-2 : tie.Need-enum-told-2
+enum-told-2 c = search needs
+
+library-refused-requires : tie.Need-library-refused-requires
+library-refused-requires c κs = search needs
+
+returns : tie.Need-returns
+returns c = let a = c .before .before .before .before .before .args in let q = c .before .enum-told2 .given in
+    let r = c .before .before .before .open-deck in
+    c .library-refused .ensures ∙ ap refusedLibrary (q .1) ∙ ap saidLibrary (sym (library-stopped (a .d .now) (q .0 .0) (deck-stopped _ (r .result) (q .0 .0) (r .ensures) (q .1))))
+
+read-record-requires : tie.Need-read-record-requires
+read-record-requires c κs = let a = c .before .before .before .before .before .before .args in let (k, e, r) = blocks (c .before .before) in
+    subst (λ (x : DeckRead). libraryKind .fixed ≤ length (payloadAt (a .d .now) (x .layout .assembly))) (sym r) (payload-long (a .d .now) k e)
+
+returns-2 : tie.Need-returns-2
+returns-2 c = let d = c .before .before .before .before .before .before .before .args .d .now in let (k, e, r) = blocks (c .before .before .before) in
+    let o = c .before .before .before .before .before .open-deck .result in
+    c .read-record .ensures
+    ∙ ap₂ (λ (bs : List BlockAt) (x : DeckRead). tabledLibrary (x .layout .blocks) (x .layout .count) (afterBlocks d bs (x .layout .assembly) (x .layout .sheet))) (table-blocks k o r) r
+    ∙ said-tabled d (k .blocks) (k .assembly) (k .sheet)
+    ∙ ap saidLibrary (sym (library-after d k e))
+
+pub read-library-spec : {M : Type 1} → statement M
+read-library-spec =
+    tie.close
+    (tie.spec
+    open-deck-requires
+    enum-told
+    enum-told-2
+    library-refused-requires
+    returns
+    read-record-requires
+    returns-2)

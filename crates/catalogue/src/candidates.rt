@@ -1,0 +1,88 @@
+// The candidates of a site, and what is wrong with them.
+use assembly::BlockAt;
+use assembly::BlockTable;
+use assembly::bonds_part;
+use assembly::degree_of;
+use assembly::find_block;
+use assembly::is_numbered;
+use block::LIMIT;
+use records::byte_at;
+use records::le16_at;
+use reply::is_outside;
+ghost use mathlib.Core.Path.{_≡_};
+ghost use Prim.Native.Nat.{_≤_};
+ghost use lib.ListN.{length, take};
+ghost use Rattle.assembly.specs.Book.{blockGraph, bookOf};
+ghost use Rattle.products.specs.Library.{isFullIn, candidateFault, candidatesFault};
+
+// The bytes of a candidate: block number (2), joining atom (1).
+pub(crate) const CANDIDATE: usize = 3;
+
+// Whether an atom of a block has as many bonds as it may.
+fn is_full(d: &[u8], b: BlockAt, a: u8) -> bool
+    ensures { λ r. ⌜ r ≡ isFullIn (blockGraph (now (d .entry)) b) a ⌝ }
+{
+    let bonds = bonds_part(d, b);
+    LIMIT <= degree_of(bonds, a)
+}
+
+// What is wrong with the candidate at a place, for the site at an atom of the core: 13, 16, 18, 19, or 0.
+fn candidate_fault(
+    d: &[u8],
+    blocks: BlockTable,
+    count: usize,
+    core: BlockAt,
+    atom: u8,
+    xs: &[u8],
+    p: usize,
+) -> usize
+    requires { ⌜ p ≤ length (now xs) ⌝ }
+    ensures { λ r. ⌜ r ≡ candidateFault (bookOf (now (d .entry)) (take count blocks)) (blockGraph (now (d .entry)) core) (now (xs .entry)) atom p ⌝ }
+{
+    if xs.len() < p + CANDIDATE {
+        return 13;
+    }
+    let number = le16_at(xs, p) as usize;
+    let b = find_block(blocks, count, number);
+    if !is_numbered(b, number) {
+        return 16;
+    }
+    let own = byte_at(xs, p + 2);
+    if is_outside(b.atoms as usize, own as usize) {
+        return 18;
+    }
+    if is_full(d, core, atom) {
+        return 19;
+    }
+    if is_full(d, b, own) {
+        return 19;
+    }
+    0
+}
+
+// What is wrong with the first wrong one of some candidates from a place on, or 0.
+pub(crate) fn candidates_fault(
+    d: &[u8],
+    blocks: BlockTable,
+    count: usize,
+    core: BlockAt,
+    atom: u8,
+    many: usize,
+    xs: &[u8],
+    first: usize,
+) -> usize
+    requires { ⌜ first ≤ length (now xs) ⌝ }
+    ensures { λ r. ⌜ r ≡ candidatesFault (bookOf (now (d .entry)) (take count blocks)) (blockGraph (now (d .entry)) core) (now (xs .entry)) atom many first ⌝ }
+{
+    let mut left = many;
+    let mut p = first;
+    while 0 < left {
+        let f = candidate_fault(d, blocks, count, core, atom, xs, p);
+        if f != 0 {
+            return f;
+        }
+        p += CANDIDATE;
+        left -= 1;
+    }
+    0
+}

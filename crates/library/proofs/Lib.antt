@@ -1,0 +1,6 @@
+-- The laws behind the proofs of a library's products.
+pub mod Told
+pub mod Choosing
+pub mod Making
+pub mod Spreading
+pub mod Stepping

@@ -1,0 +1,45 @@
+-- A step, by what is said of its product. Assumes nothing.
+use Prim.Native.Nat.{ℕ, _≤_, _<_}
+use mathlib.Core.Bool.{Bool, true, false}
+use mathlib.Core.List.{List}
+use mathlib.Core.Path.{_≡_, refl, ap}
+use native.Mathlib.Omega.{arith}
+use borrow.Author.Tests.{ltb-true}
+use lib.Dec.{ltb}
+use Rattle.reply.specs.Read.{Read, refused, read}
+use Rattle.reply.specs.Chain.{then-read}
+use Rattle.reply.specs.declared.Refusal.{Refusal}
+use Rattle.block.specs.declared.Indices.{Indices}
+use Rattle.deck.specs.Deck.{ifElse}
+use Rattle.products.specs.Library.{Library, libraryReply}
+use Rattle.products.specs.Products.{products, productAt, Product, done, made, productReply}
+use Rattle.products.specs.Fine.{few-products}
+use Rattle.library.specs.Said.{saidProduct}
+use Rattle.library.specs.declared.Made.the-variants as product
+
+-- a product that is said
+pub said-refused : (y : Read Product) (q : Refusal) → saidProduct y ≡ product.Refused q → y ≡ refused q
+said-refused (refused r) q e = cc
+said-refused (read done) q e = absurd (let z : _≡_ {A = ℕ} 0 1 = cc in omega arith)
+said-refused (read (made x)) q e = absurd (let z : _≡_ {A = ℕ} 0 1 = cc in omega arith)
+
+pub said-done : (y : Read Product) → saidProduct y ≡ product.Done → y ≡ read done
+said-done (refused r) e = absurd (let z : _≡_ {A = ℕ} 0 1 = cc in omega arith)
+said-done (read done) e = refl
+said-done (read (made x)) e = absurd (let z : _≡_ {A = ℕ} 0 1 = cc in omega arith)
+
+pub said-of : (y : Read Product) (x : Indices) → saidProduct y ≡ product.Of x → y ≡ read (made x)
+said-of (refused r) x e = absurd (let z : _≡_ {A = ℕ} 0 1 = cc in omega arith)
+said-of (read done) x e = absurd (let z : _≡_ {A = ℕ} 0 1 = cc in omega arith)
+said-of (read (made y)) x e = let i : y ≡ x = cc in ap (λ (z : Indices). read (made z)) i
+
+-- a position that has a product is small
+pub made-low : (d : List ℕ) (position : ℕ) (x : Indices) → productReply d position ≡ read (made x) → position < 4096
+unfolding productReply
+made-low d position x e =
+    let (l, f, g) = then-read (libraryReply d) (λ l. ifElse (ltb position (products (l .sites))) (λ _. read (made (productAt d l position))) (λ _. read done)) e in
+    go l (few-products d l f .1) (ltb position (products (l .sites))) refl g
+  where
+    go : (l : Library) → products (l .sites) ≤ 4096 → (t : Bool) → ltb position (products (l .sites)) ≡ t → ifElse t (λ _. read (made (productAt d l position))) (λ _. read done) ≡ read (made x) → position < 4096
+    go l few true t f = omega (arith, ltb-true position (products (l .sites)) t)
+    go l few false t f = absurd (let z : _≡_ {A = ℕ} 0 1 = cc in omega arith)

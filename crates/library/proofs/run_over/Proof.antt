@@ -1,0 +1,114 @@
+-- `library::run_over` meets its contract. Assumes nothing.
+use Prim.Native.Nat.{ℕ, _+_, _-_, _≤_, _<_}
+use mathlib.Core.List.{List, _++_}
+use mathlib.Core.Path.{_≡_, refl, sym, _∙_, ap, subst}
+use native.Mathlib.Omega.{arith}
+use lib.ListN.{length, take, drop}
+use borrow.Author.Needs.{needs}
+use Rattle.assembly.specs.declared.BlockAt.{BlockAt}
+use Rattle.sheets.specs.Sheets.{sheetBytes}
+use Rattle.products.specs.Library.{Library}
+use Rattle.products.specs.Products.{products}
+use Rattle.library.specs.Held.{Spread}
+use Rattle.library.specs.Steps.{Ran, stepsFrom}
+use Rattle.library.proofs.Spreading.{Going, going-start, going-full, going-done, going-next, lent-whole, lent-long, some-bytes}
+use Rattle.library.proofs.run_over.Statement.{statement}
+use Rattle.library.proofs.run_over.Tie as tie
+
+abbrev Inv-loop : tie.InvT-loop
+Inv-loop core all sites n many position sheet out₀ bytes p₀ at₀ out p at =
+    (length out ≡ length out₀)
+    × (at ≤ length out)
+    × ((d : List ℕ) (l : Library) (bs : List BlockAt) (xs : List ℕ) → Spread d l bs xs sites n core all → many ≡ products (l .sites) → Going sheet d (stepsFrom (length out₀) sheet d position out₀) out p at)
+
+abbrev μ-loop : tie.MeasureT-loop
+μ-loop core all sites n many position sheet out₀ bytes p₀ at₀ out p at = many - p
+
+bytes-of-requires : tie.Need-bytes-of-requires Inv-loop μ-loop
+bytes-of-requires c κs = search needs
+
+loop-holds : tie.Need-loop-holds Inv-loop μ-loop
+loop-holds c = let a = c .before .before .args in (refl, omega arith, λ d l bs xs t m. going-start (a .sheet) d (a .position) (a .out .now))
+
+sub-if1 : tie.Need-sub-if1 Inv-loop μ-loop
+sub-if1 c = c .before .loop .inv .1
+
+same-length : tie.Need-same-length Inv-loop μ-loop
+same-length c = c .before .before .loop .inv .0
+
+returns : tie.Need-returns Inv-loop μ-loop
+returns c d l bs xs t m = let a = c .before .before .before .before .before .args in let r = c .before .before .loop in
+    let e = going-full (a .sheet) d l (t .held .reads) (r .inv .2 d l bs xs t m) (omega (arith, c .if1 .taken, c .before .before .before .bytes-of .ensures)) in
+    (sym (ap (λ (x : Ran). x .next) e), sym (ap (λ (x : Ran). x .out) e))
+
+product-from-requires : tie.Need-product-from-requires Inv-loop μ-loop
+product-from-requires c κs = let p = c .before .before .before .before .before .pre in (p .0, p .1, p .2, p .3, p .4, omega (arith, p .5))
+
+sub-put-sheet : tie.Need-sub-put-sheet Inv-loop μ-loop
+sub-put-sheet c = c .before .before .before .loop .inv .1
+
+part-put-sheet-start : tie.Need-part-put-sheet-start Inv-loop μ-loop
+part-put-sheet-start c = search needs
+
+part-put-sheet-end : tie.Need-part-put-sheet-end Inv-loop μ-loop
+part-put-sheet-end c = search needs
+
+put-sheet-requires : tie.Need-put-sheet-requires Inv-loop μ-loop
+put-sheet-requires c κs = search needs
+
+add-at : tie.Need-add-at Inv-loop μ-loop
+add-at c = search needs
+
+add-p : tie.Need-add-p Inv-loop μ-loop
+add-p c = search needs
+
+loop-less : tie.Need-loop-less Inv-loop μ-loop
+loop-less c = search needs
+
+loop-again : tie.Need-loop-again Inv-loop μ-loop
+loop-again c = let a = c .before .before .before .before .before .before .before .before .before .before .args in let r = c .before .before .before .before .before .before .before .loop in
+    let b = c .before .before .before .before .before .before .before .before .bytes-of .ensures in
+    let fits : sheetBytes (a .sheet) ≤ length (r .out) - r .at = omega (arith, b, c .before .before .before .before .before .if1 .left) in
+    let made = c .before .before .before .before .product-from .result in
+    let ys = c .before .before .put-sheet .last .0 in
+    let lent = lent-whole (a .sheet) (r .out) made (r .at) ys (c .before .before .put-sheet .ensures) in
+    let new = take (r .at) (r .out) ++ (ys ++ drop (length (r .out) - r .at) (drop (r .at) (r .out))) in
+    let long : length new ≡ length (r .out) = ap length lent ∙ lent-long (a .sheet) (r .out) made (r .at) (r .inv .1) in (
+      long ∙ r .inv .0,
+      omega (arith, long, fits, b, r .inv .1),
+      λ d l bs xs t m.
+          let low : r .p < products (l .sites) = omega (arith, m, c .before .before .before .before .before .before .loop-test .taken) in
+          subst (λ (k : ℕ). Going (a .sheet) d (stepsFrom (length (a .out .now)) (a .sheet) d (a .position) (a .out .now)) new (r .p + 1) (r .at + k)) (sym b)
+          (going-next (a .sheet) d l (t .held .reads) (r .inv .2 d l bs xs t m) low fits (some-bytes (a .sheet)) made (c .before .before .before .before .product-from .ensures d l bs xs t low) new lent),
+    )
+
+same-length-2 : tie.Need-same-length-2 Inv-loop μ-loop
+same-length-2 c = c .before .loop .inv .0
+
+returns-2 : tie.Need-returns-2 Inv-loop μ-loop
+returns-2 c d l bs xs t m = let a = c .before .before .before .before .args in let r = c .before .loop in
+    let e = going-done (a .sheet) d l (t .held .reads) (r .inv .2 d l bs xs t m) (omega (arith, m, c .loop-test .left)) in
+    (sym (ap (λ (x : Ran). x .next) e), sym (ap (λ (x : Ran). x .out) e))
+
+pub run-over-spec : {M : Type 1} → statement M
+run-over-spec =
+    tie.close
+    (tie.spec
+    Inv-loop
+    μ-loop
+    bytes-of-requires
+    loop-holds
+    sub-if1
+    same-length
+    returns
+    product-from-requires
+    sub-put-sheet
+    part-put-sheet-start
+    part-put-sheet-end
+    put-sheet-requires
+    add-at
+    add-p
+    loop-less
+    loop-again
+    same-length-2
+    returns-2)

@@ -1,0 +1,205 @@
+// What is kept of a library: the fields of its core and of its candidates, what is counted from the atoms where they join, and how far the core's sites are apart.
+use assembly::BlockTable;
+use assembly::bonds_part;
+use assembly::find_block;
+use block::ATOMS;
+use block::Around;
+use block::DistanceRow;
+use block::Indices;
+use block::Measured;
+use block::Vertex;
+use block::measure;
+use block::row;
+use block::vertex_sums;
+use products::SITES;
+use products::Site;
+use records::byte_at;
+use records::le16_at;
+use reply::is_outside;
+use reply::wide;
+ghost use mathlib.Core.Path.{_≡_};
+ghost use Prim.Native.Nat.{_≤_};
+ghost use lib.ListN.{length, take};
+ghost use Rattle.block.specs.Index.{indicesReply, vertexReply};
+ghost use Rattle.block.specs.Rows.{rowReply, saidRow};
+ghost use Rattle.library.specs.Kept.{fieldsOr, countedOr, rowEntry, armIn, armAt, seenFrom, apartFrom, apartAll, coreIn};
+
+pub(crate) const NO_FIELDS: Indices = Indices {
+    atoms: 0,
+    w: 0,
+    even: 0,
+    odd: 0,
+    polarity: 0,
+    largest: 0,
+};
+
+pub(crate) const NO_VERTEX: Vertex = Vertex {
+    sum: 0,
+    even: 0,
+    odd: 0,
+    evens: 0,
+    odds: 0,
+    ones: 0,
+    twos: 0,
+    farthest: 0,
+};
+
+// What is kept of a candidate: its fields, and what is counted from its joining atom.
+pub(crate) struct Arm {
+    pub(crate) six: Indices,
+    pub(crate) end: Vertex,
+}
+
+pub(crate) const NO_ARM: Arm = Arm {
+    six: NO_FIELDS,
+    end: NO_VERTEX,
+};
+
+// What is counted from each site's atom.
+pub(crate) type Seen = [Vertex; SITES];
+
+// The distances from one site's atom to each.
+pub(crate) struct Line {
+    pub(crate) to: [u64; SITES],
+}
+
+// What is kept of the core: its fields, what is counted from each site's atom, and how far each two of these are apart.
+pub(crate) struct Core {
+    pub(crate) six: Indices,
+    pub(crate) seen: Seen,
+    pub(crate) apart: [Line; SITES],
+}
+
+// The fields of a block; all 0 where it is refused.
+fn fields_or(n: usize, bonds: &[u8]) -> Indices
+    ensures { λ r. ⌜ r ≡ fieldsOr (indicesReply n (now (bonds .entry))) ⌝ }
+{
+    let told = measure(n, bonds);
+    match told {
+        Measured::Refused(_) => NO_FIELDS,
+        Measured::Of(all) => all,
+    }
+}
+
+// What is counted from atom a of a block; all 0 where it is refused or has no such atom.
+fn counted_or(n: usize, bonds: &[u8], a: usize) -> Vertex
+    ensures { λ r. ⌜ r ≡ countedOr (vertexReply n (now (bonds .entry)) a) ⌝ }
+{
+    let told = vertex_sums(n, bonds, a);
+    match told {
+        Around::Refused(_) => NO_VERTEX,
+        Around::Of(v) => v,
+    }
+}
+
+// What is kept of the block of a number, joined at an atom.
+fn arm_in(d: &[u8], blocks: BlockTable, count: usize, number: usize, a: usize) -> Arm
+    ensures { λ r. ⌜ r ≡ armIn (now (d .entry)) (take count blocks) number a ⌝ }
+{
+    let b = find_block(blocks, count, number);
+    let n = b.atoms as usize;
+    let bonds = bonds_part(d, b);
+    let six = fields_or(n, bonds);
+    let end = counted_or(n, bonds, a);
+    Arm { six, end }
+}
+
+// What is kept of a site's candidate of an index; nothing where there is no site.
+pub(crate) fn arm_at(
+    d: &[u8],
+    blocks: BlockTable,
+    count: usize,
+    xs: &[u8],
+    s: Site,
+    j: usize,
+) -> Arm
+    requires { ⌜ (s .first ≤ length (now xs)) × (j ≤ 255) ⌝ }
+    ensures { λ r. ⌜ r ≡ armAt (now (d .entry)) (take count blocks) (now (xs .entry)) s j ⌝ }
+{
+    if s.many == 0 {
+        return NO_ARM;
+    }
+    let p = s.first + 3 * j;
+    let number = le16_at(xs, p) as usize;
+    let a = byte_at(xs, p + 2) as usize;
+    arm_in(d, blocks, count, number, a)
+}
+
+// The number of a row for an atom; 0 for none.
+fn entry_of(row: &DistanceRow, a: u8) -> u64
+    ensures { λ r. ⌜ r ≡ rowEntry (now (row .entry)) a ⌝ }
+{
+    if is_outside(ATOMS, a as usize) {
+        return 0;
+    }
+    let k = (a as usize) - 1;
+    wide(row[k])
+}
+
+// What is counted from each site's atom of a block.
+fn seen_from(n: usize, bonds: &[u8], sites: [Site; SITES]) -> Seen
+    ensures { λ r. ⌜ r ≡ seenFrom n (now (bonds .entry)) sites ⌝ }
+{
+    let s0 = sites[0];
+    let s1 = sites[1];
+    let s2 = sites[2];
+    let s3 = sites[3];
+    let v0 = counted_or(n, bonds, s0.atom as usize);
+    let v1 = counted_or(n, bonds, s1.atom as usize);
+    let v2 = counted_or(n, bonds, s2.atom as usize);
+    let v3 = counted_or(n, bonds, s3.atom as usize);
+    [v0, v1, v2, v3]
+}
+
+// The distances from atom a of a block to each site's atom.
+fn apart_from(n: usize, bonds: &[u8], a: u8, sites: [Site; SITES]) -> Line
+    ensures { λ r. ⌜ r ≡ apartFrom n (now (bonds .entry)) sites a ⌝ }
+{
+    let seen = row(n, bonds, a as usize);
+    let far = seen.row;
+    let s0 = sites[0];
+    let s1 = sites[1];
+    let s2 = sites[2];
+    let s3 = sites[3];
+    let to = [
+        entry_of(&far, s0.atom),
+        entry_of(&far, s1.atom),
+        entry_of(&far, s2.atom),
+        entry_of(&far, s3.atom),
+    ];
+    Line { to }
+}
+
+// The distances of all sites' atoms.
+fn apart_all(n: usize, bonds: &[u8], sites: [Site; SITES]) -> [Line; SITES]
+    ensures { λ r. ⌜ r ≡ apartAll n (now (bonds .entry)) sites ⌝ }
+{
+    let s0 = sites[0];
+    let s1 = sites[1];
+    let s2 = sites[2];
+    let s3 = sites[3];
+    let l0 = apart_from(n, bonds, s0.atom, sites);
+    let l1 = apart_from(n, bonds, s1.atom, sites);
+    let l2 = apart_from(n, bonds, s2.atom, sites);
+    let l3 = apart_from(n, bonds, s3.atom, sites);
+    [l0, l1, l2, l3]
+}
+
+// What is kept of the block of a number as the core, with these sites.
+pub(crate) fn core_in(
+    d: &[u8],
+    blocks: BlockTable,
+    count: usize,
+    number: usize,
+    sites: [Site; SITES],
+) -> Core
+    ensures { λ r. ⌜ r ≡ coreIn (now (d .entry)) (take count blocks) number sites ⌝ }
+{
+    let b = find_block(blocks, count, number);
+    let n = b.atoms as usize;
+    let bonds = bonds_part(d, b);
+    let six = fields_or(n, bonds);
+    let seen = seen_from(n, bonds, sites);
+    let apart = apart_all(n, bonds, sites);
+    Core { six, seen, apart }
+}

@@ -1,0 +1,199 @@
+// The products of a library: what is kept of its core and its candidates, and each product joined from that.
+mod arms;
+mod kept;
+mod spread;
+
+use arms::arms_at;
+use arms::choose;
+use arms::with_arms;
+use assembly::BlockTable;
+use block::Indices;
+use catalogue::LibraryRead;
+use catalogue::read_library;
+use deck::LONGEST;
+use kept::Core;
+use kept::core_in;
+use products::SITES;
+use products::Site;
+use records::Sheet;
+use records::le16_at;
+use records::payload_at;
+use reply::Refusal;
+use reply::Reply;
+use sheets::bytes_of;
+use sheets::put_sheet;
+use spread::ArmRows;
+use spread::all_arms;
+use spread::product_from;
+ghost use mathlib.Core.Path.{_≡_};
+ghost use mathlib.Core.List.{List};
+ghost use Prim.Native.Nat.{ℕ, suc, _≤_, _<_};
+ghost use lib.ListN.{length, take};
+ghost use Rattle.reply.specs.Read.{read};
+ghost use Rattle.assembly.specs.declared.BlockAt.{BlockAt};
+ghost use Rattle.records.specs.Records.{payloadAt};
+ghost use Rattle.products.specs.Library.{Library, libraryReply};
+ghost use Rattle.products.specs.Products.{products, productAt, productReply};
+ghost use Rattle.library.specs.Said.{saidProduct};
+ghost use Rattle.catalogue.specs.Said.{saidLibrary};
+ghost use Rattle.library.specs.Steps.{stepReply, stepOut, saidStep, runOf};
+ghost use Rattle.library.specs.Held.{Held, Spread};
+
+// The product at a position: its fields, or all products are done.
+pub enum Made {
+    Refused(Refusal),
+    Done,
+    Of(Indices),
+}
+
+// What a step or a run says: sheets were written and the next position is this, or all products are done.
+pub enum Stepped {
+    Refused(Refusal),
+    Done,
+    Next(usize),
+}
+
+// The fields of the product at a position of a library that is read.
+fn fields_at(
+    d: &[u8],
+    blocks: BlockTable,
+    count: usize,
+    at: usize,
+    sites: [Site; SITES],
+    n: usize,
+    position: usize,
+) -> Indices
+    requires { ⌜ ((l : Library) × Held (now d) l (take count blocks) (payloadAt (now d) at) sites n × (position < products (l .sites))) ⌝ }
+    ensures { λ r. ⌜ ((l : Library) → Held (now (d .entry)) l (take count blocks) (payloadAt (now (d .entry)) at) sites n → position < products (l .sites) → r ≡ productAt (now (d .entry)) l position) ⌝ }
+{
+    let xs = payload_at(d, at);
+    let digits = choose(sites, n, position);
+    let arms = arms_at(d, blocks, count, xs, sites, digits);
+    let core = core_in(d, blocks, count, le16_at(xs, 0) as usize, sites);
+    let stem = with_arms(core, arms, n);
+    stem.six
+}
+
+// The fields of the product at a position of a library deck, or its refusal.
+pub fn product(d: &[u8], position: usize) -> Made
+    ensures { λ r. ⌜ r ≡ saidProduct (productReply (now (d .entry)) position) ⌝ }
+{
+    let l = read_library(d);
+    let reply = l.reply;
+    match reply {
+        Reply::Refused(refusal) => Made::Refused(refusal),
+        Reply::Fine => {
+            if l.products <= position {
+                return Made::Done;
+            }
+            let blocks = l.blocks;
+            let sites = l.sites;
+            let all = fields_at(d, blocks, l.count, l.at, sites, l.n, position);
+            Made::Of(all)
+        }
+    }
+}
+
+// Writes the sheet of the product at a position into the first bytes of a buffer, and hands back the next position. A refusal, and a position at or past the
+// number of products, write nothing.
+pub fn step(d: &[u8], sheet: Sheet, position: usize, out: &mut [u8]) -> Stepped
+    ensures reply { λ r. ⌜ r ≡ saidStep (suc position) (stepReply sheet (now (d .entry)) position (length (now (out .entry)))) ⌝ }
+    ensures bytes { λ _. ⌜ now (out .exit) ≡ stepOut sheet (now (out .entry)) (stepReply sheet (now (d .entry)) position (length (now (out .entry)))) ⌝ }
+{
+    if LONGEST < d.len() {
+        return Stepped::Refused(Refusal {
+            number: 20,
+            place: 0,
+        });
+    }
+    if out.len() < bytes_of(sheet) {
+        return Stepped::Refused(Refusal {
+            number: 9,
+            place: 0,
+        });
+    }
+    let told = product(d, position);
+    match told {
+        Made::Refused(refusal) => Stepped::Refused(refusal),
+        Made::Done => Stepped::Done,
+        Made::Of(all) => {
+            put_sheet(out, sheet, all);
+            Stepped::Next(position + 1)
+        }
+    }
+}
+
+// The sheets of the products from a position on, as many as there are and a buffer has room for, and the next position.
+fn run_over(
+    core: Core,
+    all: &ArmRows,
+    sites: [Site; SITES],
+    n: usize,
+    many: usize,
+    position: usize,
+    sheet: Sheet,
+    out: &mut [u8],
+) -> usize
+    requires { ⌜ ((d : List ℕ) × (l : Library) × (bs : List BlockAt) × (xs : List ℕ) × Spread d l bs xs sites n core (now all) × (many ≡ products (l .sites))) ⌝ }
+    ensures { λ r. ⌜ ((d : List ℕ) (l : Library) (bs : List BlockAt) (xs : List ℕ) → Spread d l bs xs sites n core (now (all .entry)) → many ≡ products (l .sites) → (r ≡ runOf sheet d position (now (out .entry)) .next) × (now (out .exit) ≡ runOf sheet d position (now (out .entry)) .out)) ⌝ }
+{
+    let bytes = bytes_of(sheet);
+    let mut p = position;
+    let mut at = 0;
+    while p < many {
+        if out.len() - at < bytes {
+            return p;
+        }
+        let x = product_from(core, all, sites, n, p);
+        put_sheet(&mut out[at..], sheet, x);
+        at += bytes;
+        p += 1;
+    }
+    p
+}
+
+// The same over a library that is read.
+fn run_read(d: &[u8], l: LibraryRead, position: usize, sheet: Sheet, out: &mut [u8]) -> usize
+    requires { ⌜ ((k : Library) × (libraryReply (now d) ≡ read k) × (l ≡ saidLibrary (read k))) ⌝ }
+    ensures next { λ r. ⌜ r ≡ runOf sheet (now (d .entry)) position (now (out .entry)) .next ⌝ }
+    ensures bytes { λ _. ⌜ now (out .exit) ≡ runOf sheet (now (d .entry)) position (now (out .entry)) .out ⌝ }
+{
+    let blocks = l.blocks;
+    let sites = l.sites;
+    let xs = payload_at(d, l.at);
+    let core = core_in(d, blocks, l.count, le16_at(xs, 0) as usize, sites);
+    let all = all_arms(d, blocks, l.count, xs, sites);
+    run_over(core, &all, sites, l.n, l.products, position, sheet, out)
+}
+
+// Writes the sheets of the products from a position on, one after the other, as many whole ones as a buffer holds, and hands back the next position: what the
+// steps write, each into what the one before left. The blocks are read once.
+pub fn run(d: &[u8], sheet: Sheet, position: usize, out: &mut [u8]) -> Stepped
+    ensures reply { λ r. ⌜ r ≡ saidStep (runOf sheet (now (d .entry)) position (now (out .entry)) .next) (stepReply sheet (now (d .entry)) position (length (now (out .entry)))) ⌝ }
+    ensures bytes { λ _. ⌜ now (out .exit) ≡ runOf sheet (now (d .entry)) position (now (out .entry)) .out ⌝ }
+{
+    if LONGEST < d.len() {
+        return Stepped::Refused(Refusal {
+            number: 20,
+            place: 0,
+        });
+    }
+    if out.len() < bytes_of(sheet) {
+        return Stepped::Refused(Refusal {
+            number: 9,
+            place: 0,
+        });
+    }
+    let l = read_library(d);
+    let reply = l.reply;
+    match reply {
+        Reply::Refused(refusal) => Stepped::Refused(refusal),
+        Reply::Fine => {
+            if l.products <= position {
+                return Stepped::Done;
+            }
+            let next = run_read(d, l, position, sheet, out);
+            Stepped::Next(next)
+        }
+    }
+}
