@@ -1,7 +1,5 @@
 -- The laws behind the proofs of composing.
 pub mod Stored
-pub mod Counting
-pub mod Joining
 pub mod Ports
 pub mod Seeing
 pub mod Steps

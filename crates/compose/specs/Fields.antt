@@ -1,4 +1,4 @@
--- Definitions. The five fields of a deck: those of the one graph with every atom and bond written out, or the deck's refusal.
+-- Definitions. The six fields of a deck: those of the one graph with every atom and bond written out, or the deck's refusal.
 use mathlib.Core.List.{List}
 use Prim.Native.Nat.{ℕ}
 use Rattle.reply.specs.Read.{Read, refused, read, _then_}

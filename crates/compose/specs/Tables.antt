@@ -1,15 +1,19 @@
--- Work. The ends of the joins, and their rows as the tables of the blocks fill them.
-use Prim.Native.Nat.{ℕ, _*_, _-_, _/_, _%_, _≤_, _<_}
+-- Work. The ends of the joins, and their rows and counts as the tables of the blocks fill them.
+use Prim.Native.Nat.{ℕ, _*_, _-_, _/_, _%_, _≤_, _<_, min}
 use mathlib.Core.Bool.{cond}
 use mathlib.Core.List.{List, []}
 use mathlib.Core.Path.{_≡_}
 use lib.Dec.{eqb}
 use lib.ListN.{length, getD}
 use Rattle.graph.specs.Graph.{Within}
+use Rattle.half.specs.Half.{halfAt, halfRow}
 use Rattle.block.specs.Block.{mostAtoms}
+use Rattle.block.specs.Sums.{entry, indicesBy, vertexBy}
+use Rattle.block.specs.Rows.{tableOf, farOf}
+use Rattle.block.specs.declared.Indices.{Indices}
 use Rattle.assembly.specs.Placements.{mostPlacements}
-use Rattle.compose.specs.declared.tables.End.{End}
-use Rattle.compose.specs.Joints.{link}
+use Rattle.compose.specs.declared.ends.End.{End}
+use Rattle.compose.specs.Joints.{link, countRow}
 
 -- the own atom of the placement at index k at 2 k, its parent's atom at 2 k + 1
 unfoldable pub endAt : List (List ℕ) → ℕ → End
@@ -27,8 +31,22 @@ pub record Ranged (ls : List (List ℕ)) (count : ℕ) : Type 0 where
   pub home : (e : ℕ) → 2 ≤ e → e < 2 * count → endAt ls e .home < mostPlacements
   pub atom : (e : ℕ) → 2 ≤ e → e < 2 * count → Within mostAtoms (endAt ls e .atom)
 
--- the ends in the block that the placement at index f has first have their rows from its table, the others keep them
-pub record Copied (ls : List (List ℕ)) (count f : ℕ) (table old new : List (List ℕ)) : Type 0 where
+-- what is counted from an atom, by half of the distances
+abbrev pub countsIn : ℕ → List ℕ → List ℕ → ℕ → List ℕ
+countsIn n half far a = countRow (vertexBy (min n mostAtoms) (entry (halfRow half a)) (getD far (a - 1) 0))
+
+-- the row of an atom of a block, what is counted from it, and the block's six numbers
+abbrev pub rowFrom : ℕ → List ℕ → ℕ → List ℕ
+rowFrom n xs = halfRow (tableOf n xs)
+
+abbrev pub countsFrom : ℕ → List ℕ → ℕ → List ℕ
+countsFrom n xs = countsIn n (tableOf n xs) (farOf n xs)
+
+abbrev pub numbersFrom : ℕ → List ℕ → Indices
+numbersFrom n xs = indicesBy (min n mostAtoms) (halfAt (tableOf n xs)) (entry (farOf n xs))
+
+-- the ends in the block that the placement at index f has first have what X says of their atoms, the others keep what they have
+pub record Copied (ls : List (List ℕ)) (count f : ℕ) (X : ℕ → List ℕ) (old new : List (List ℕ)) : Type 0 where
   pub same : length new ≡ length old
-  pub taken : (e : ℕ) → 2 ≤ e → e < 2 * count → homeOf ls e ≡ f → getD new e [] ≡ getD table (endAt ls e .atom - 1) []
+  pub taken : (e : ℕ) → 2 ≤ e → e < 2 * count → homeOf ls e ≡ f → getD new e [] ≡ X (endAt ls e .atom)
   pub kept : (e : ℕ) → (homeOf ls e ≡ f → ⊥) → getD new e [] ≡ getD old e []

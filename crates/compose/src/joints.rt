@@ -1,31 +1,28 @@
-// The joins of an assembly: how far their atoms are apart, and what is counted from both ends of each.
-use super::counts::grown;
-use super::kept::CountRows;
+// The joins of an assembly: how far their atoms are apart, what is counted from both ends of each, and the molecule's numbers one join after the other.
+use super::kept::CountRow;
 use super::kept::NumberRows;
+use super::kept::count_row;
 use super::kept::counts_at;
+use super::kept::numbers_at;
 use super::links::ENDS;
 use super::links::FIRST;
 use super::links::Links;
 use super::links::PARENT;
 use super::links::SITE;
 use block::ATOMS;
+use block::Indices;
 use block::Vertex;
-use block::around_row;
+use joining::grown;
+use joining::joined;
 use reply::wide;
 ghost use mathlib.Core.Path.{_≡_};
-ghost use Prim.Native.Nat.{ℕ, _+_, _*_, _-_, _<_, min};
+ghost use Prim.Native.Nat.{ℕ, _+_, _*_, _-_, _<_};
 ghost use Rattle.graph.specs.Graph.{Graph, Within};
+ghost use Rattle.graph.specs.Assembly.{written};
 ghost use Rattle.block.specs.Block.{mostAtoms};
-ghost use Rattle.block.specs.Sums.{vertexBy};
+ghost use Rattle.block.specs.Index.{indicesOf};
 ghost use Rattle.assembly.specs.Placements.{mostPlacements};
-ghost use Rattle.compose.specs.Counted.{Counts};
-ghost use Rattle.compose.specs.Joints.{ends, entry, link, numbersAt, between, sightAt, Laid, Task, Jointed, Turn};
-
-// What is counted from both ends of a join before it is made: from the parent's atom in the molecule, from the own atom in the block.
-pub(crate) struct Joint {
-    pub(crate) core: Vertex,
-    pub(crate) own: Vertex,
-}
+ghost use Rattle.compose.specs.Joints.{ends, entry, link, joinsOf, between, sightAt, Laid, Task, Turn};
 
 // The distance of an atom in the row of an end.
 fn at(rows: &[[u8; ATOMS]; ENDS], end: usize, atom: usize) -> u64
@@ -71,82 +68,69 @@ fn apart(links: &Links, rows: &[[u8; ATOMS]; ENDS], x: usize, y: usize) -> u64
     }
 }
 
-// What is counted from an end of a join, in its block.
-fn end_counts(rows: &[[u8; ATOMS]; ENDS], end: usize, numbers: &NumberRows, block: usize) -> Vertex
-    requires { ⌜ (end < ends) × (block < mostPlacements) ⌝ }
-    ensures { λ r. ⌜ r ≡ vertexBy (min (numbersAt (now (numbers .entry)) block .atoms) mostAtoms) (entry (now (rows .entry)) end) ⌝ }
-{
-    around_row(&rows[end], numbers[block][0] as usize)
-}
-
 // What is counted from the parent's atom of the placement at index k, in the molecule up to the parent.
-fn begun(
+pub(crate) fn begun(
     links: &Links,
     rows: &[[u8; ATOMS]; ENDS],
-    numbers: &NumberRows,
-    cores: &CountRows,
-    owns: &CountRows,
+    counts: &[CountRow],
     k: usize,
 ) -> Vertex
-    requires { ⌜ ((blocks : ℕ → Graph) × (last : ℕ) × Task blocks last (now links) (now rows) (now numbers) × Turn blocks last (now links) (now rows) (now cores) (now owns) k) ⌝ }
-    ensures { λ r. ⌜ ((blocks : ℕ → Graph) (last : ℕ) → Task blocks last (now (links .entry)) (now (rows .entry)) (now (numbers .entry)) → Turn blocks last (now (links .entry)) (now (rows .entry)) (now (cores .entry)) (now (owns .entry)) k
-        → Counts r (sightAt blocks (now (links .entry)) (link (now (links .entry)) k .parent) k)) ⌝ }
+    requires { ⌜ ((blocks : ℕ → Graph) × (last : ℕ) × Turn blocks last (now links) (now rows) (now counts) k) ⌝ }
+    ensures { λ r. ⌜ ((blocks : ℕ → Graph) (last : ℕ) → Turn blocks last (now (links .entry)) (now (rows .entry)) (now (counts .entry)) k
+        → r ≡ sightAt blocks (now (links .entry)) (link (now (links .entry)) k .parent) k) ⌝ }
 {
     let above = links[k][PARENT] - 1;
-    let v = end_counts(rows, 2 * k + 1, numbers, links[above][FIRST]);
+    let v = counts_at(counts, 2 * k + 1);
     if above == 0 {
         return v;
     }
     grown(
         v,
         at(rows, 2 * above, links[k][SITE]),
-        counts_at(cores, above),
+        counts_at(counts, 2 * above + 1),
     )
 }
 
 // And in the molecule up to the placement before: each placement since the parent adds what is counted from its own atom.
-fn since(
+pub(crate) fn since(
     links: &Links,
     rows: &[[u8; ATOMS]; ENDS],
-    cores: &CountRows,
-    owns: &CountRows,
+    counts: &[CountRow],
     k: usize,
     begun: Vertex,
 ) -> Vertex
-    requires { ⌜ ((blocks : ℕ → Graph) × (last : ℕ) × Turn blocks last (now links) (now rows) (now cores) (now owns) k × Counts begun (sightAt blocks (now links) (link (now links) k .parent) k)) ⌝ }
-    ensures { λ r. ⌜ ((blocks : ℕ → Graph) (last : ℕ) → Turn blocks last (now (links .entry)) (now (rows .entry)) (now (cores .entry)) (now (owns .entry)) k
-        → Counts begun (sightAt blocks (now (links .entry)) (link (now (links .entry)) k .parent) k) → Counts r (sightAt blocks (now (links .entry)) k k)) ⌝ }
+    requires { ⌜ ((blocks : ℕ → Graph) × (last : ℕ) × Turn blocks last (now links) (now rows) (now counts) k × (begun ≡ sightAt blocks (now links) (link (now links) k .parent) k)) ⌝ }
+    ensures { λ r. ⌜ ((blocks : ℕ → Graph) (last : ℕ) → Turn blocks last (now (links .entry)) (now (rows .entry)) (now (counts .entry)) k
+        → begun ≡ sightAt blocks (now (links .entry)) (link (now (links .entry)) k .parent) k → r ≡ sightAt blocks (now (links .entry)) k k) ⌝ }
 {
     let mut v = begun;
     let mut m = links[k][PARENT];
     while m < k {
-        v = grown(v, apart(links, rows, m, k), counts_at(owns, m));
+        v = grown(v, apart(links, rows, m, k), counts_at(counts, 2 * m));
         m += 1;
     }
     v
 }
 
-// What is counted from both ends of the join of the placement at index k.
-pub(crate) fn joint_of(
+// The six numbers of the molecule: the first placement's block, and one join after the other. What is counted at a join is kept for the later ones.
+pub(crate) fn composed(
     links: &Links,
     rows: &[[u8; ATOMS]; ENDS],
     numbers: &NumberRows,
-    cores: &CountRows,
-    owns: &CountRows,
-    k: usize,
-) -> Joint
-    requires { ⌜ ((blocks : ℕ → Graph) × (last : ℕ) × Task blocks last (now links) (now rows) (now numbers) × Turn blocks last (now links) (now rows) (now cores) (now owns) k) ⌝ }
-    ensures { λ r. ⌜ ((blocks : ℕ → Graph) (last : ℕ) → Task blocks last (now (links .entry)) (now (rows .entry)) (now (numbers .entry)) → Turn blocks last (now (links .entry)) (now (rows .entry)) (now (cores .entry)) (now (owns .entry)) k
-        → Jointed blocks (now (links .entry)) r k) ⌝ }
+    counts: &mut [CountRow],
+    count: usize,
+) -> Indices
+    requires { ⌜ ((blocks : ℕ → Graph) × Task blocks (count - 1) (now links) (now rows) (now counts) (now numbers)) ⌝ }
+    ensures { λ r. ⌜ ((blocks : ℕ → Graph) → Task blocks (count - 1) (now (links .entry)) (now (rows .entry)) (now (counts .entry)) (now (numbers .entry)) → r ≡ indicesOf (written blocks (joinsOf (now (links .entry))) (count - 1))) ⌝ }
 {
-    let own = end_counts(rows, 2 * k, numbers, links[k][FIRST]);
-    let core = since(
-        links,
-        rows,
-        cores,
-        owns,
-        k,
-        begun(links, rows, numbers, cores, owns, k),
-    );
-    Joint { core, own }
+    let mut all = numbers_at(numbers, links[0][FIRST]);
+    let mut k: usize = 1;
+    while k < count {
+        let core = since(links, rows, counts, k, begun(links, rows, counts, k));
+        let own = counts_at(counts, 2 * k);
+        all = joined(all, numbers_at(numbers, links[k][FIRST]), core, own);
+        counts[2 * k + 1] = count_row(core);
+        k += 1;
+    }
+    all
 }

@@ -1,10 +1,8 @@
-// Composing: the five fields of the molecule that a deck describes, by the building-block rules.
-mod counts;
+// Composing: the six fields of the molecule that a deck describes, by the building-block rules.
+mod ends;
 mod joints;
 mod kept;
 mod links;
-mod summary;
-mod tables;
 
 use assembly::BLOCKS;
 use assembly::BlockAt;
@@ -14,11 +12,15 @@ use assembly::find_block;
 use assembly::placement_at;
 use block::ATOMS;
 use block::Indices;
-use block::rows;
 use block::sums;
+use block::table;
 use deck::Form;
 use deck::Layout;
 use deck::read_deck;
+use ends::copy_ends;
+use half::PAIRS;
+use joints::composed;
+use kept::CountRow;
 use kept::NumberRow;
 use kept::number_row;
 use links::ENDS;
@@ -28,17 +30,12 @@ use links::fill_links;
 use records::payload_at;
 use reply::Refusal;
 use reply::Reply;
-use summary::composed;
-use tables::copy_ends;
 ghost use mathlib.Core.Path.{_≡_};
-ghost use Prim.Native.Nat.{_-_, min};
+ghost use Prim.Native.Nat.{_-_};
 ghost use lib.ListN.{length};
 ghost use Rattle.graph.specs.Assembly.{written};
 ghost use Rattle.reply.specs.Read.{read};
-ghost use Rattle.block.specs.Block.{mostAtoms};
-ghost use Rattle.block.specs.Rows.{rowsOf};
 ghost use Rattle.block.specs.Index.{indicesOf};
-ghost use Rattle.block.specs.Sums.{pairEntry, indicesBy};
 ghost use Rattle.assembly.specs.Book.{bondBytes};
 ghost use Rattle.deck.specs.Deck.{Deck, deckReply};
 ghost use Rattle.deck.specs.Molecule.{moleculeOf};
@@ -46,10 +43,10 @@ ghost use Rattle.deck.specs.Said.{layoutOf};
 ghost use Rattle.deck.specs.declared.Form.{Form};
 ghost use Rattle.compose.specs.Fields.{composeReply, saidComposed};
 ghost use Rattle.compose.specs.Joints.{ends, numbersOf, joinsOf};
-ghost use Rattle.compose.specs.Tables.{Ranged, Copied};
+ghost use Rattle.compose.specs.Tables.{numbersFrom, rowFrom, countsFrom, Ranged, Copied};
 ghost use Rattle.compose.specs.Ready.{placedBlock, placedGraph, Ready};
 
-// The five fields of a deck's molecule, and the first byte after its assembly.
+// The six fields of a deck's molecule, and the first byte after its assembly.
 pub struct Composed {
     pub fields: Indices,
     pub sheet: usize,
@@ -69,7 +66,7 @@ fn block_of(xs: &[u8], blocks: [BlockAt; BLOCKS], count: usize, f: usize) -> Blo
     find_block(blocks, count, q.block as usize)
 }
 
-// The five numbers of the block that the placement at index f has first. Stores the rows of the ends that are in it.
+// The six numbers of the block that the placement at index f has first. Stores the rows of the ends that are in it, and what is counted from them.
 fn take_block(
     d: &[u8],
     b: BlockAt,
@@ -77,18 +74,22 @@ fn take_block(
     placements: usize,
     f: usize,
     out: &mut [[u8; ATOMS]],
+    counts: &mut [CountRow],
 ) -> NumberRow
-    requires { ⌜ Ranged (now links) placements × (length (now out) ≡ ends) ⌝ }
-    ensures numbers { λ r. ⌜ numbersOf r ≡ indicesBy (min (b .atoms) mostAtoms) (pairEntry (rowsOf (b .atoms) (bondBytes (now (d .entry)) b))) ⌝ }
-    ensures rows { λ _. ⌜ Copied (now (links .entry)) placements f (rowsOf (b .atoms) (bondBytes (now (d .entry)) b)) (now (out .entry)) (now (out .exit)) ⌝ }
+    requires { ⌜ Ranged (now links) placements × (length (now out) ≡ ends) × (length (now counts) ≡ ends) ⌝ }
+    ensures numbers { λ r. ⌜ numbersOf r ≡ numbersFrom (b .atoms) (bondBytes (now (d .entry)) b) ⌝ }
+    ensures rows { λ _. ⌜ Copied (now (links .entry)) placements f (rowFrom (b .atoms) (bondBytes (now (d .entry)) b)) (now (out .entry)) (now (out .exit)) ⌝ }
+    ensures counts { λ _. ⌜ Copied (now (links .entry)) placements f (countsFrom (b .atoms) (bondBytes (now (d .entry)) b)) (now (counts .entry)) (now (counts .exit)) ⌝ }
 {
     let n = b.atoms as usize;
-    let table = rows(n, bonds_part(d, b));
-    copy_ends(&table, links, placements, f, out);
-    number_row(sums(&table, n))
+    let mut half = [0u8; PAIRS];
+    let mut far = [0u8; ATOMS];
+    table(n, bonds_part(d, b), &mut half, &mut far);
+    copy_ends(&half, &far, n, links, placements, f, out, counts);
+    number_row(sums(&half, &far, n))
 }
 
-// The five numbers of the molecule: each placed block's table is filled once, its numbers and the rows that joins need are kept.
+// The six numbers of the molecule: each placed block's table is filled once, its numbers and what joins need of it are kept.
 fn filled(
     d: &[u8],
     xs: &[u8],
@@ -100,20 +101,21 @@ fn filled(
     requires { ⌜ Ready (now d) (now xs) blocks count placements (now links) ⌝ }
     ensures { λ r. ⌜ r ≡ indicesOf (written (placedGraph (now (d .entry)) (now (xs .entry)) blocks count) (joinsOf (now (links .entry))) (placements - 1)) ⌝ }
 {
-    let mut numbers = [[0u64; 5]; PLACEMENTS];
+    let mut numbers = [[0u64; 6]; PLACEMENTS];
     let mut ends = [[0u8; ATOMS]; ENDS];
+    let mut counts = [[0u64; 8]; ENDS];
     let mut f: usize = 0;
     while f < placements {
         if links[f][FIRST] == f {
             let b = block_of(xs, blocks, count, f);
-            numbers[f] = take_block(d, b, links, placements, f, &mut ends);
+            numbers[f] = take_block(d, b, links, placements, f, &mut ends, &mut counts);
         }
         f += 1;
     }
-    composed(links, &ends, &numbers, placements)
+    composed(links, &ends, &numbers, &mut counts, placements)
 }
 
-// The five numbers of the molecule that a layout of the deck describes.
+// The six numbers of the molecule that a layout of the deck describes.
 fn laid_out(d: &[u8], layout: Layout) -> Indices
     requires { ⌜ ((form : Form) × (k : Deck) × (deckReply form (now d) ≡ read k) × (layout ≡ layoutOf k)) ⌝ }
     ensures { λ r. ⌜ ((form : Form) (k : Deck) → deckReply form (now (d .entry)) ≡ read k → layout ≡ layoutOf k → r ≡ indicesOf (moleculeOf (now (d .entry)) k)) ⌝ }
@@ -126,8 +128,8 @@ fn laid_out(d: &[u8], layout: Layout) -> Indices
     filled(d, xs, blocks, layout.count, placements, &links)
 }
 
-// The five fields of a deck in a form: atom count, W, even part, odd part and polarity of its molecule, and where a sheet stands behind its
-// assembly; or the deck's refusal.
+// The six fields of a deck in a form: atom count, W, even part, odd part, polarity and largest distance of its molecule, and where a sheet stands
+// behind its assembly; or the deck's refusal.
 pub fn fields(d: &[u8], form: Form) -> ComposeReply
     ensures { λ r. ⌜ r ≡ saidComposed (composeReply form (now (d .entry))) ⌝ }
 {

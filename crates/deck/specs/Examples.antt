@@ -8,6 +8,7 @@ use Rattle.graph.specs.Graph.{joins, anyJoins, bonded, anyAtom, reaches, firstF
 use Rattle.graph.specs.Assembly.{shifted, joined, startAt, written}
 use Rattle.reply.specs.Read.{Read, refused, read, refusal, _then_}
 use Rattle.block.specs.Block.{mostAtoms, limit, mostBytes, bondsOf, bondFault, bondsReply, blockReply}
+use Rattle.graph.specs.Farthest.{most, mostPairs, largest}
 use Rattle.block.specs.Index.{indicesOf}
 use Rattle.block.specs.declared.Indices.{Indices}
 use Rattle.records.specs.Bytes.{little}
@@ -73,8 +74,8 @@ told form d = said (deckReply form d)
 indicesFor : List ℕ → Read Deck → Read Indices
 indicesFor d r = r then λ k. read (indicesOf (moleculeOf d k))
 
-written-out : indicesFor document (deckReply Composed document) ≡ read (record { atoms = 12; w = 198; even = 96; odd = 102; polarity = 14 })
-unfolding indicesFor document joins anyJoins bonded anyAtom reaches firstFrom distance allAtoms connected degree sum bondsOf bondFault bondsReply blockReply little kindReply lengthReply recordReply find bookOf placementAt joinOf joinEnds joinsOn bondsOn firstFault parentFault joinFault laterFault fault placedReply assemblyReply blockReplyAt assemblyReplyAt blocksFrom blocksReply endReply sheetReply deckReply shifted joined startAt written sumPairs evenOf oddOf isAt total indicesOf placedIn graphAt joinAt moleculeOf
+written-out : indicesFor document (deckReply Composed document) ≡ read (record { atoms = 12; w = 198; even = 96; odd = 102; polarity = 14; largest = 7 })
+unfolding indicesFor document joins anyJoins bonded anyAtom reaches firstFrom distance allAtoms connected degree sum bondsOf bondFault bondsReply blockReply little kindReply lengthReply recordReply find bookOf placementAt joinOf joinEnds joinsOn bondsOn firstFault parentFault joinFault laterFault fault placedReply assemblyReply blockReplyAt assemblyReplyAt blocksFrom blocksReply endReply sheetReply deckReply shifted joined startAt written sumPairs evenOf oddOf isAt total most mostPairs largest indicesOf placedIn graphAt joinAt moleculeOf
 written-out = refl
 
 same-bytes : document ≡ ring ++ assembly 2 (first ++ joinTo 1 1 1)

@@ -7,7 +7,7 @@ use Rattle.line.specs.Text.{ascii, decimalIn, decimal, indicesText, refu
 use Rattle.line.specs.Label.{hasRoom, labelled}
 
 -- document 01's lines
-two-rings : measuredText (measured.Of (record { atoms = 12; w = 198; even = 96; odd = 102; polarity = 14 })) ≡ ascii "atoms 12 W 198 even 96 odd 102 polarity 14\n"
+two-rings : measuredText (measured.Of (record { atoms = 12; w = 198; even = 96; odd = 102; polarity = 14; largest = 7 })) ≡ ascii "atoms 12 W 198 even 96 odd 102 polarity 14\n"
 unfolding indicesText decimal decimalIn
 two-rings = refl
 

@@ -7,14 +7,15 @@ use native.Mathlib.Omega.{arith}
 use lib.Dec.{eqb}
 use lib.Ieee.{Float}
 use borrow.Author.Tests.{ne-eqb}
-use Rattle.graph.specs.Graph.{Graph, Within, distance, total, isAt, pairsAt}
+use Rattle.graph.specs.Graph.{Graph, Within, Molecule, distance, total, isAt, pairsAt}
 use Rattle.graph.specs.Sums.{wider, last}
 use Rattle.graph.specs.Bounds.{pairs-most}
 use Rattle.block.specs.Block.{mostAtoms}
 use Rattle.block.specs.Index.{pairsOf}
 use Rattle.block.specs.Tables.{getD-table}
 use Rattle.poly.specs.Poly.{counted, ofParity, turn, horner, mostDistance, value, valuesOf, valuesReply, zeroF}
-use Rattle.poly.specs.Exact.{Across}
+use Rattle.graph.specs.Farthest.{largest}
+use Rattle.graph.specs.Largest.{largest-over}
 
 isAt-most : (k d : ℕ) → isAt k d ≤ 1
 unfolding isAt
@@ -33,10 +34,10 @@ not-at : (k d : ℕ) → d < k → isAt k d ≡ 0
 unfolding isAt
 not-at k d h = rw (ne-eqb d k (omega arith))
 
-pub none-beyond : (g : Graph) (d k : ℕ) → Across g d → d < k → pairsAt g k ≡ 0
+pub none-beyond : (g : Graph) (d k : ℕ) → Molecule g → largest g ≤ d → d < k → pairsAt g k ≡ 0
 unfolding total
-none-beyond g d k across h =
-    omega (arith, pairs-most (g .atoms) 0 (λ i j. isAt k (distance g i j)) (λ i j w v. omega (arith, not-at k (distance g i j) (omega (arith, across i j w v)))))
+none-beyond g d k m short h =
+    omega (arith, pairs-most (g .atoms) 0 (λ i j. isAt k (distance g i j)) (λ i j w v. omega (arith, not-at k (distance g i j) (omega (arith, largest-over m i j w v)))))
 
 -- the values at counts that agree from 1 on
 horner-same : (n m : ℕ → ℕ) (x : Float) (k : ℕ) (v : Float) → ((i : ℕ) → Within k i → n i ≡ m i) → horner n x k v ≡ horner m x k v

@@ -9,11 +9,12 @@ use lib.Ieee.Fits.{and-i}
 use lib.Ieee.Exact.{HasValue}
 use lib.Ieee.Scale.{finite}
 use Rattle.graph.specs.Graph.{Graph, pairsAt}
+use Rattle.graph.specs.Farthest.{largest}
 use Rattle.reply.specs.Read.{Read, refused, read, _then_, refuseIf}
 use Rattle.block.specs.Block.{mostAtoms, graphOf, blockReply}
-use Rattle.block.specs.Told.{few-atoms}
+use Rattle.block.specs.Told.{few-atoms, molecule}
 use Rattle.poly.specs.Poly.{half, unusable, value, valuesOf, valuesReply, polynomialReply, saidPolynomial}
-use Rattle.poly.specs.Exact.{allFinite, exactTo, Across, scaled, Exact}
+use Rattle.poly.specs.Exact.{allFinite, exactTo, scaled, Exact}
 use Rattle.poly.specs.declared.Answer.{Answer}
 use Rattle.poly.proofs.Counts.{count-most, none-beyond}
 use Rattle.poly.proofs.Exact.{exact-at-half}
@@ -42,9 +43,9 @@ finite-reply n xs x r e = subst (λ (a : Answer). T (allFinite a)) (sym e) (go (
     go (read z) b false u = and-i (finite (value 0 (pairsAt g) x)) (finite (value 1 (pairsAt g) x)) (always-finite 0 (pairsAt g) x (few n xs b) u) (always-finite 1 (pairsAt g) x (few n xs b) u)
 
 -- at x = 0.5 both values of a block of largest distance at most 40 are exact
-pub exact-reply : (n : ℕ) (xs : List ℕ) → blockReply n xs ≡ read tt → Across (graphOf n xs) exactTo → (r : Answer) → r ≡ saidPolynomial (polynomialReply n xs half) → Exact (graphOf n xs) r
+pub exact-reply : (n : ℕ) (xs : List ℕ) → blockReply n xs ≡ read tt → largest (graphOf n xs) ≤ exactTo → (r : Answer) → r ≡ saidPolynomial (polynomialReply n xs half) → Exact (graphOf n xs) r
 unfolding polynomialReply valuesReply valuesOf unusable eq lt isNan
-exact-reply n xs fine across r e = subst (Exact g) (sym (e ∙ ap said fine)) (both 0, both 1)
+exact-reply n xs fine short r e = subst (Exact g) (sym (e ∙ ap said fine)) (both 0, both 1)
   where
     g : Graph
     g = graphOf n xs
@@ -53,4 +54,4 @@ exact-reply n xs fine across r e = subst (Exact g) (sym (e ∙ ap said fine)) (b
     said b = saidPolynomial (b then λ _. valuesReply (pairsAt g) half)
 
     both : (p : ℕ) → HasValue (value p (pairsAt g) half) false (scaled p (pairsAt g)) (2 ^ exactTo)
-    both p = exact-at-half p (pairsAt g) (few n xs fine) (λ k h. none-beyond g exactTo k across h)
+    both p = exact-at-half p (pairsAt g) (few n xs fine) (λ k h. none-beyond g exactTo k (molecule n xs fine) short h)

@@ -1,9 +1,9 @@
 -- Definitions. What is proved of a reply beside its promise: no value is a NaN or infinite, and at x = 0.5 both are exact for a block of largest distance at most 40.
-use Prim.Native.Nat.{ℕ, _-_, _*_, _^_, _≤_}
+use Prim.Native.Nat.{ℕ, _-_, _*_, _^_}
 use mathlib.Core.Bool.{Bool, true, false, _&&_}
 use lib.Ieee.Exact.{HasValue}
 use lib.Ieee.Scale.{finite}
-use Rattle.graph.specs.Graph.{Graph, Within, distance, pairsAt, sum}
+use Rattle.graph.specs.Graph.{Graph, pairsAt, sum}
 use Rattle.poly.specs.Poly.{ofParity}
 use Rattle.poly.specs.declared.Answer.{Answer}
 use Rattle.poly.specs.declared.Answer.the-variants as answer
@@ -16,10 +16,6 @@ allFinite (answer.Refused r) = true
 -- the largest distance up to which the values at 0.5 are exact
 abbrev pub exactTo : ℕ
 exactTo = 40
-
--- no two atoms are more than d bonds apart
-abbrev pub Across : Graph → ℕ → Type 0
-Across g d = (i j : ℕ) → Within (g .atoms) i → Within (g .atoms) j → distance g i j ≤ d
 
 -- the sum of n(k) 2 ^ (40 - k) over the k of the parity p
 abbrev pub scaled : ℕ → (ℕ → ℕ) → ℕ

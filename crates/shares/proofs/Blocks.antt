@@ -7,11 +7,13 @@ use lib.ListN.{length, getD, replicate}
 use Rattle.graph.specs.Graph.{Within, distance, sum}
 use Rattle.paths.specs.Notions.{Plain, lcmStarts}
 use Rattle.reply.specs.Read.{Read, refused, read, _then_}
+use Rattle.half.specs.Half.{halfRow}
 use Rattle.block.specs.Block.{mostAtoms, mostBytes, bondsOf, graphOf, blockReply}
-use Rattle.block.specs.Rows.{rowsOf, rowAt}
+use Rattle.block.specs.Rows.{rowOf, farOf, tableOf}
 use Rattle.block.specs.Opened.{neighboursOf, openedReply, saidOpened}
 use Rattle.block.specs.Drawn.{neighbour-fits, has-neighbour}
-use Rattle.block.specs.Told.{few-atoms, molecule, each-bond, row-found, distance-at}
+use Rattle.block.specs.Told.{few-atoms, molecule, each-bond, entry-at, farthest-at}
+use Rattle.block.specs.Halved.{table-row}
 use Rattle.block.specs.Numbered.{few-bytes}
 use Rattle.block.specs.Lent.{zeros}
 use Rattle.reply.specs.declared.Refusal.{Refusal}
@@ -49,24 +51,25 @@ module _ (n : ℕ) (xs : List ℕ) (fine : blockReply n xs ≡ read tt) where
   pub few : n ≤ mostAtoms
   few = few-atoms n xs fine .high
 
-  -- its neighbours and its rows
-  pub given : (near : List ℕ) (rows : List (List ℕ)) → near ≡ neighboursOf (graphOf n xs) → rows ≡ rowsOf n xs → Given n (bondsOf xs) near rows
-  given near rows e h = record {
+  -- its neighbours, half of its distances, and the largest from each atom
+  pub given : (near half fars : List ℕ) → near ≡ neighboursOf (graphOf n xs) → half ≡ tableOf n xs → fars ≡ farOf n xs
+      → Given n (bondsOf xs) near half fars
+  given near half fars e h f = record {
     small = few;
     molecule = molecule n xs fine;
     beside = rw e (record { each = λ v w a b. has-neighbour (graphOf n xs) v w (inner a) b; fits = λ v a. neighbour-fits (graphOf n xs) v (inner a) });
     far = λ i a. rw h (record { shows = λ j l. row-shows i a j l });
+    largest = λ i a. rw f (farthest-at n xs fine a);
   }
     where
       inner : {v : ℕ} → Within n v → Within mostAtoms v
       inner a = record { low = a .low; high = omega (arith, few) }
 
-      row-shows : (i : ℕ) → Within n i → (j : ℕ) → j < n → getD (rowAt (rowsOf n xs) i) j 0 ≡ distance (graphOf n xs) i (suc j)
+      row-shows : (i : ℕ) → Within n i → (j : ℕ) → j < n → getD (halfRow (tableOf n xs) i) j 0 ≡ distance (graphOf n xs) i (suc j)
       row-shows i a j l =
           let e : suc j - 1 ≡ j = omega arith in
-          ap (λ (k : ℕ). getD (rowAt (rowsOf n xs) i) k 0) (sym e)
-          ∙ ap (λ (row : List ℕ). getD row (suc j - 1) 0) (row-found (rowsOf n xs) i (inner a))
-          ∙ distance-at n xs fine a (record { low = omega arith; high = l })
+          ap (λ (row : List ℕ). getD row j 0) (table-row n xs fine a) ∙ ap (λ (k : ℕ). getD (rowOf (graphOf n xs) i) k 0) (sym e)
+          ∙ entry-at n xs fine i (record { low = omega arith; high = l })
 
   pub whole : Whole n xs 0 1
   unfolding lcmStarts

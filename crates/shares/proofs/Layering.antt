@@ -19,38 +19,29 @@ use Rattle.block.specs.Block.{mostAtoms}
 use Rattle.block.specs.Opened.{setOf}
 use Rattle.block.specs.Sums.{entry}
 use Rattle.block.specs.Drawn.{set-more, set-same}
-use Rattle.shares.specs.Work.{at, heights, Levels}
+use Rattle.shares.specs.Work.{at, heights, Tops, Levels}
 
 -- the first j atoms of a row by their distances
-pub record Layered (j : ℕ) (row sets : List ℕ) (top : ℕ) : Type 0 where
+pub record Layered (j : ℕ) (row sets : List ℕ) : Type 0 where
   pub size : length sets ≡ suc mostAtoms
-  pub low : top < mostAtoms
-  pub high : (v : ℕ) → Within j v → entry row v ≤ top
   pub level : (d : ℕ) → d < mostAtoms → at sets d ≡ setOf j (λ v. eqb (entry row v) d)
   pub fits : (d : ℕ) → at sets d < 2 ^ j
 
-pub layered-start : (row sets : List ℕ) → length sets ≡ suc mostAtoms → ((d : ℕ) → at sets d ≡ 0) → Layered 0 row sets 0
+pub layered-start : (row sets : List ℕ) → length sets ≡ suc mostAtoms → ((d : ℕ) → at sets d ≡ 0) → Layered 0 row sets
 unfolding sum
 layered-start row sets l z = record {
   size = l;
-  low = omega arith;
-  high = λ v w. absurd (omega arith);
   level = λ d l. z d;
   fits = λ d. omega (arith, z d);
 }
 
-module _ (j : ℕ) (row sets : List ℕ) (top : ℕ) (L : Layered j row sets top) (k : ℕ) (is : k ≡ getD row j 0) (small : k < mostAtoms) where
+module _ (j : ℕ) (row sets : List ℕ) (L : Layered j row sets) (k : ℕ) (is : k ≡ getD row j 0) (small : k < mostAtoms) where
   last-is : entry row (suc j) ≡ k
   last-is = let e : suc j - 1 ≡ j = omega arith in ap (λ (x : ℕ). getD row x 0) e ∙ sym is
 
-  pub layered-next : (later : ℕ) → top ≤ later → k ≤ later → later < mostAtoms → Layered (suc j) row (set sets k (bitOr (at sets k) (2 ^ j))) later
-  layered-next later u h l = record {
+  pub layered-next : Layered (suc j) row (set sets k (bitOr (at sets k) (2 ^ j)))
+  layered-next = record {
     size = rw length-set (L .size);
-    low = l;
-    high = λ v w. elim (ℕ-discrete v (suc j)) [
-      | yes e ↦ omega (arith, ap (entry row) e, last-is)
-      | no ne ↦ omega (arith, L .high v (omega arith))
-    ];
     level = λ d m. elim (ℕ-discrete d k) [
       | yes e ↦ subst⁻¹ (λ (x : ℕ). at (set sets k (bitOr (at sets k) (2 ^ j))) x ≡ setOf (suc j) (λ v. eqb (entry row v) x)) e
           (getD-set-same sets k (bitOr (at sets k) (2 ^ j)) 0 (omega (arith, L .size))
@@ -69,12 +60,12 @@ module _ (j : ℕ) (row sets : List ℕ) (top : ℕ) (L : Layered j row sets top
     ];
   }
 
-pub layered-end : (n : ℕ) (row sets : List ℕ) (top : ℕ) → n ≤ mostAtoms → Layered n row sets top → Levels n (entry row) sets top
-layered-end n row sets top l L = record {
+pub layered-end : (n : ℕ) (row sets : List ℕ) → n ≤ mostAtoms → Layered n row sets → (top : ℕ) → Tops n (entry row) top → Levels n (entry row) sets top
+layered-end n row sets l L top T = record {
   small = l;
-  low = L .low;
-  high = L .high;
-  level = λ d m. L .level d (omega (arith, L .low));
+  low = T .low;
+  high = T .high;
+  level = λ d m. L .level d (omega (arith, T .low));
   fits = L .fits;
 }
 

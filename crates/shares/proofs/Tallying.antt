@@ -1,7 +1,7 @@
 -- The least common multiple of path counts, taken in one by one, up to the cap. Assumes nothing.
 use Prim.Native.Nat.{ℕ, suc, _+_, _*_, _-_, min, _≤_, _<_}
 use mathlib.Core.List.{List}
-use mathlib.Core.Path.{_≡_, _∙_, ap, ap₂}
+use mathlib.Core.Path.{_≡_, sym, _∙_, ap, ap₂}
 use native.Mathlib.Nat.{pos-of-dvd-of-pos, mul-le-mul, lt-of-le-of-lt}
 use native.Mathlib.Numerals.{add-one}
 use native.Mathlib.Omega.{arith}
@@ -10,16 +10,18 @@ use lib.ListN.{getD}
 use mir.Syntax.{w64}
 use mir.Val.{Fits}
 use Rattle.graph.specs.Graph.{Bond, Within, Molecule, distance}
+use Rattle.graph.specs.Farthest.{farthest}
+use Rattle.graph.specs.Largest.{farthest-over, farthest-below}
 use Rattle.paths.specs.Paths.{pathCount, lcm, lcmOver, denominator}
 use Rattle.paths.specs.Notions.{Gcd, Pair, lcmStarts}
 use Rattle.paths.specs.Lcm.{over-pos, lcm-cap, starts-pos, starts-all, starts-le}
 use Rattle.paths.specs.Steps.{count-pos}
 use Rattle.paths.specs.Backwards.{pair-pos}
+use Rattle.half.specs.Half.{halfRow}
 use Rattle.block.specs.Block.{mostAtoms}
-use Rattle.block.specs.Rows.{rowAt}
 use Rattle.block.specs.Sums.{entry}
-use Rattle.shares.specs.Work.{cap, full, at, Shows, Levels, Holds, graph, Start, Tally, Given}
-use Rattle.shares.proofs.Counting.{row-below, by-distance}
+use Rattle.shares.specs.Work.{cap, full, at, Shows, Tops, Levels, Holds, graph, Start, Tally, Given}
+use Rattle.shares.proofs.Counting.{shown-at, row-below, by-distance}
 
 pub divisor-pos : {a b d : ℕ} → Gcd a b d → 0 < a → 0 < d
 divisor-pos h p = pos-of-dvd-of-pos (h .left) p
@@ -57,7 +59,7 @@ module _ {n : ℕ} {f : ℕ → ℕ} {m : ℕ} {c : List ℕ} {before : ℕ} (t 
         ∙ rw (next, last)
 
 -- a start's arrays, of all
-module _ {n : ℕ} {bs : List Bond} {near : List ℕ} {rows : List (List ℕ)} (G : Given n bs near rows) (i : ℕ) (l : i < n) (row : List ℕ) (is : row ≡ rowAt rows (i + 1)) where
+module _ {n : ℕ} {bs : List Bond} {near : List ℕ} {half fars : List ℕ} (G : Given n bs near half fars) (i : ℕ) (l : i < n) (row : List ℕ) (is : row ≡ halfRow half (i + 1)) where
   first : Within n (i + 1)
   first = record { low = omega arith; high = omega arith }
 
@@ -67,13 +69,23 @@ module _ {n : ℕ} {bs : List Bond} {near : List ℕ} {rows : List (List ℕ)} (
   pub start-below : (j : ℕ) → j < n → getD row j 0 < mostAtoms
   start-below = row-below (G .small) (G .molecule) first shown
 
-  pub start-of : {sets : List ℕ} {top : ℕ} → Levels n (entry row) sets top → Start n bs near row sets top (i + 1)
-  start-of L = record {
+  -- the largest distance is the last level
+  start-top : (top : ℕ) → top ≡ getD fars i 0 → Tops n (entry row) top
+  start-top top e = record {
+    low = omega (arith, G .small, largest, farthest-below (G .molecule) first);
+    high = λ v w. omega (arith, shown-at shown v w, largest, farthest-over (graph n bs) (i + 1) v w);
+  }
+    where
+      largest : top ≡ farthest (graph n bs) (i + 1)
+      largest = let k : i + 1 - 1 ≡ i = omega arith in e ∙ ap (λ (x : ℕ). getD fars x 0) (sym k) ∙ G .largest (i + 1) first
+
+  pub start-of : {sets : List ℕ} {top : ℕ} → top ≡ getD fars i 0 → ((t : ℕ) → Tops n (entry row) t → Levels n (entry row) sets t) → Start n bs near row sets top (i + 1)
+  start-of {top = top} e L = record {
     small = G .small;
     molecule = G .molecule;
     beside = G .beside;
     far = shown;
-    levels = by-distance (G .small) (G .molecule) first shown L;
+    levels = by-distance (G .small) (G .molecule) first shown (L top (start-top top e));
     start = first;
   }
 

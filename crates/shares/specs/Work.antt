@@ -6,12 +6,13 @@ use mathlib.Core.Path.{_≡_}
 use lib.Dec.{eqb}
 use lib.ListN.{length, getD}
 use Rattle.graph.specs.Graph.{Graph, Bond, bond, Within, Molecule, bonded, distance, sum}
+use Rattle.graph.specs.Farthest.{farthest}
 use Rattle.graph.specs.Sets.{has}
 use Rattle.paths.specs.Paths.{pathCount, pathsUsing}
 use Rattle.paths.specs.Notions.{Plain, weight, gathered, lcmStarts}
+use Rattle.half.specs.Half.{halfRow}
 use Rattle.block.specs.Block.{mostAtoms, bondsOf, graphOf}
 use Rattle.block.specs.Numbered.{bondAt}
-use Rattle.block.specs.Rows.{rowAt}
 use Rattle.block.specs.Opened.{setOf}
 use Rattle.block.specs.Near.{around}
 use Rattle.shares.specs.Reply.{most}
@@ -39,6 +40,11 @@ overSet m f = sum mostAtoms (λ w. cond (has m w) (f w) 0)
 pub record Near (n : ℕ) (B : ℕ → ℕ → Bool) (near : List ℕ) : Type 0 where
   pub each : (v w : ℕ) → Within n v → Within n w → has (around near v) w ≡ B v w
   pub fits : (v : ℕ) → Within n v → around near v < 2 ^ n
+
+-- no key is above top, which is a level
+pub record Tops (n : ℕ) (key : ℕ → ℕ) (top : ℕ) : Type 0 where
+  pub low : top < mostAtoms
+  pub high : (v : ℕ) → Within n v → key v ≤ top
 
 -- the atoms with each key as a set, the level, up to the largest key
 pub record Levels (n : ℕ) (key : ℕ → ℕ) (sets : List ℕ) (top : ℕ) : Type 0 where
@@ -73,12 +79,13 @@ pub record Start (n : ℕ) (bs : List Bond) (near row sets : List ℕ) (top i : 
   pub levels : Levels n (distance (graph n bs) i) sets top
   pub start : Within n i
 
--- the neighbours of a block, and its rows
-pub record Given (n : ℕ) (bs : List Bond) (near : List ℕ) (rows : List (List ℕ)) : Type 0 where
+-- the neighbours of a block, half of its distances, and the largest from each atom
+pub record Given (n : ℕ) (bs : List Bond) (near half fars : List ℕ) : Type 0 where
   pub small : n ≤ mostAtoms
   pub molecule : Molecule (graph n bs)
   pub beside : Near n (bonded (graph n bs)) near
-  pub far : (i : ℕ) → Within n i → Shows n (distance (graph n bs) i) (rowAt rows i)
+  pub far : (i : ℕ) → Within n i → Shows n (distance (graph n bs) i) (halfRow half i)
+  pub largest : (i : ℕ) → Within n i → getD fars (i - 1) 0 ≡ farthest (graph n bs) i
 
 -- positive counts f and a positive number m, up to the cap
 pub record Tally (n : ℕ) (f : ℕ → ℕ) (m : ℕ) (c : List ℕ) (before : ℕ) : Type 0 where

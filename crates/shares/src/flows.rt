@@ -6,10 +6,10 @@ use super::SEATS;
 use super::common;
 use super::sweeps;
 use super::sweeps::wide;
-use block::DistanceMatrix;
 use block::DistanceRow;
+use block::Farthest;
 use block::Neighbours;
-use block::row_at;
+use half::Half;
 ghost use mathlib.Core.Path.{_≡_};
 ghost use mathlib.Core.Bool.{cond};
 ghost use Prim.Native.Nat.{ℕ, suc, _+_, _*_, _-_, _/_, min, _<_, _≤_};
@@ -127,10 +127,11 @@ pub(crate) fn fill(
     n: usize,
     bonds: &[u8],
     near: &Neighbours,
-    rows: &DistanceMatrix,
+    half: &Half,
+    far: &Farthest,
     out: &mut [u64],
 ) -> u64
-    requires { ⌜ Whole n (now bonds) 0 1 × Given n (bondsOf (now bonds)) (now near) (now rows) × Sofar n (now bonds) 0 1 (now out) ⌝ }
+    requires { ⌜ Whole n (now bonds) 0 1 × Given n (bondsOf (now bonds)) (now near) (now half) (now far) × Sofar n (now bonds) 0 1 (now out) ⌝ }
     ensures { λ r. ⌜
         (r ≡ min cap (denominator (graphOf n (now (bonds .entry)))))
         × (r ≤ most → (k : ℕ) → k < length (now (bonds .entry)) / 2 → getD (now (out .exit)) k 0 ≡ share (graphOf n (now (bonds .entry))) (bondAt (now (bonds .entry)) k))
@@ -142,9 +143,10 @@ pub(crate) fn fill(
         if MOST < d {
             return CAP;
         }
-        let row = row_at(rows, i + 1);
+        let row = half::row(half, i + 1);
         let levels = sweeps::by_level(n, &row);
-        let next = add_start(n, bonds, near, &row, &levels.sets, levels.top, i, d, out);
+        let top = wide(far[i]);
+        let next = add_start(n, bonds, near, &row, &levels, top, i, d, out);
         d = next;
         i += 1;
     }

@@ -3,13 +3,15 @@ ghost use mathlib.Core.Path.{_≡_};
 ghost use lib.ListN.{length};
 ghost use Rattle.reply.specs.Read.{read, refusal};
 ghost use Rattle.block.specs.Block.{graphOf, blockReply};
-ghost use Rattle.block.specs.Rows.{rowsOf};
+ghost use Rattle.block.specs.Rows.{farOf, tableOf};
 ghost use Rattle.block.specs.Opened.{neighboursOf};
 ghost use Rattle.shares.specs.Reply.{sharesReply, saidShares, sharesEntries};
 use block::ATOMS;
 use block::BYTES;
-use block::DistanceMatrix;
+use block::Farthest;
 use block::Neighbours;
+use half::Half;
+use half::PAIRS;
 use reply::Refusal;
 use reply::Reply;
 
@@ -49,10 +51,13 @@ fn answered(
     n: usize,
     bonds: &[u8],
     near: &Neighbours,
-    rows: &DistanceMatrix,
+    half: &Half,
+    far: &Farthest,
     out: &mut [u64],
 ) -> Shares
-    requires { ⌜ (blockReply n (now bonds) ≡ read tt) × (now near ≡ neighboursOf (graphOf n (now bonds))) × (now rows ≡ rowsOf n (now bonds)) ⌝ }
+    requires { ⌜
+        (blockReply n (now bonds) ≡ read tt) × (now near ≡ neighboursOf (graphOf n (now bonds))) × (now half ≡ tableOf n (now bonds)) × (now far ≡ farOf n (now bonds))
+        ⌝ }
     ensures reply { λ r. ⌜ r ≡ saidShares (sharesReply n (now (bonds .entry)) (length (now (out .entry)))) ⌝ }
     ensures entries { λ _. ⌜ now (out .exit) ≡ sharesEntries n (now (bonds .entry)) (now (out .entry)) ⌝ }
 {
@@ -60,7 +65,7 @@ fn answered(
         return refused(9);
     }
     let mut entries = [0u64; BONDS];
-    let d = flows::fill(n, bonds, near, rows, &mut entries);
+    let d = flows::fill(n, bonds, near, half, far, &mut entries);
     if MOST < d {
         return refused(8);
     }
@@ -74,11 +79,12 @@ pub fn contributions(n: usize, bonds: &[u8], out: &mut [u64]) -> Shares
     ensures reply { λ r. ⌜ r ≡ saidShares (sharesReply n (now (bonds .entry)) (length (now (out .entry)))) ⌝ }
     ensures entries { λ _. ⌜ now (out .exit) ≡ sharesEntries n (now (bonds .entry)) (now (out .entry)) ⌝ }
 {
-    let mut rows = [[0u8; ATOMS]; ATOMS];
-    let opened = block::table(n, bonds, &mut rows);
+    let mut half = [0u8; PAIRS];
+    let mut far = [0u8; ATOMS];
+    let opened = block::table(n, bonds, &mut half, &mut far);
     let reply = opened.reply;
     match reply {
         Reply::Refused(refusal) => Shares::Refused(refusal),
-        Reply::Fine => answered(n, bonds, &opened.near, &rows, out),
+        Reply::Fine => answered(n, bonds, &opened.near, &half, &far, out),
     }
 }

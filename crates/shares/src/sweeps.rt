@@ -34,13 +34,7 @@ ghost use Rattle.paths.specs.Paths.{pathCount};
 ghost use Rattle.paths.specs.Notions.{gathered};
 ghost use Rattle.block.specs.Block.{mostAtoms};
 ghost use Rattle.block.specs.Sums.{entry};
-ghost use Rattle.shares.specs.Work.{cap, full, at, overSet, heights, Near, Levels, Rule, Holds, graph, Start};
-
-// The atoms at each distance of a row, as sets, and the largest distance.
-pub(crate) struct ByDistance {
-    pub(crate) sets: [u64; SEATS],
-    pub(crate) top: usize,
-}
+ghost use Rattle.shares.specs.Work.{cap, full, at, overSet, heights, Near, Tops, Levels, Rule, Holds, graph, Start};
 
 pub(crate) fn wide(x: u8) -> usize
     ensures { λ r. ⌜ (r ≡ x) × (r < 256) ⌝ }
@@ -57,23 +51,19 @@ fn add(a: u64, b: u64, cap: u64) -> u64
     if sum < cap { sum } else { cap }
 }
 
-// The first n atoms of a row by their distances.
-pub(crate) fn by_level(n: usize, row: &DistanceRow) -> ByDistance
+// The first n atoms of a row by their distances, as sets: the levels up to any top that no distance is above.
+pub(crate) fn by_level(n: usize, row: &DistanceRow) -> [u64; SEATS]
     requires { ⌜ (n ≤ mostAtoms) × ((j : ℕ) → j < n → getD (now row) j 0 < mostAtoms) ⌝ }
-    ensures { λ r. ⌜ Levels n (entry (now (row .entry))) (r .sets) (r .top) ⌝ }
+    ensures { λ r. ⌜ ((top : ℕ) → Tops n (entry (now (row .entry))) top → Levels n (entry (now (row .entry))) r top) ⌝ }
 {
     let mut sets = [0u64; SEATS];
-    let mut top = 0;
     let mut j = 0;
     while j < n {
         let d = wide(row[j]);
         sets[d] = sets[d] | (1u64 << j);
         j += 1;
-        if top < d {
-            top = d;
-        }
     }
-    ByDistance { sets, top }
+    sets
 }
 
 // The levels from the top down.

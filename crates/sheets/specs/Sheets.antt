@@ -32,9 +32,9 @@ fieldsAt (w ∷ ws) d at = little w d at ∷ fieldsAt ws d (at + w)
 unfoldable pub claimedAt : List ℕ → ℕ → List ℕ
 claimedAt d at = fieldsAt widths d (at + headBytes)
 
--- how the code says five fields
+-- how the code says five fields; the largest distance is none of them
 abbrev pub saidFields : List ℕ → Indices
-saidFields xs = record { atoms = getD xs 0 0; w = getD xs 1 0; even = getD xs 2 0; odd = getD xs 3 0; polarity = getD xs 4 0 }
+saidFields xs = record { atoms = getD xs 0 0; w = getD xs 1 0; even = getD xs 2 0; odd = getD xs 3 0; polarity = getD xs 4 0; largest = 0 }
 
 -- a number in k bytes, little-endian
 unfoldable pub littleBytes : ℕ → ℕ → List ℕ

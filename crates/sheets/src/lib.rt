@@ -32,7 +32,7 @@ fn fields_of(x: Indices) -> Fields
     [x.atoms, x.w, x.even, x.odd, x.polarity]
 }
 
-// And back.
+// And back; the largest distance is no field of a sheet.
 fn said(fields: Fields) -> Indices
     ensures { λ r. ⌜ r ≡ saidFields fields ⌝ }
 {
@@ -42,6 +42,7 @@ fn said(fields: Fields) -> Indices
         even: fields[2],
         odd: fields[3],
         polarity: fields[4],
+        largest: 0,
     }
 }
 

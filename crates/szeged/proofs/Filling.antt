@@ -1,4 +1,4 @@
--- Laws. The terms of a block's bonds by its rows, and the lent entries that they fill one by one. Assumes nothing.
+-- Laws. The terms of a block's bonds by half of its distances, and the lent entries that they fill one by one. Assumes nothing.
 use Prim.Native.Nat.{ℕ, zero, suc, _+_, _*_, _-_, _/_, _≤_, _<_}
 use mathlib.Core.Bool.{cond}
 use mathlib.Core.List.{List}
@@ -11,8 +11,9 @@ use Rattle.graph.specs.Graph.{bond, Within, distance, sum, sumBonds}
 use Rattle.graph.specs.Distance.{distance-sym}
 use Rattle.reply.specs.Read.{read}
 use Rattle.block.specs.Block.{mostAtoms, graphOf, blockReply}
-use Rattle.block.specs.Rows.{rowOf, rowsOf}
-use Rattle.block.specs.Told.{few-atoms, molecule, row-at, entry-at}
+use Rattle.block.specs.Rows.{rowOf, tableOf}
+use Rattle.block.specs.Told.{few-atoms, molecule, entry-at}
+use Rattle.block.specs.Halved.{table-row}
 use Rattle.block.specs.Numbered.{bondAt, rest, rest-sum, rest-over, bond-within}
 use Rattle.block.specs.Lent.{Filled, filled-none, filled-store}
 use Rattle.szeged.specs.Szeged.{closer, nearer, szegedTerm, szeged}
@@ -32,17 +33,9 @@ module _ (n : ℕ) (xs : List ℕ) (fine : blockReply n xs ≡ read tt) where
           let v : Within n (suc k) = omega arith in
           ap (λ (j : ℕ). getD (rowOf (graphOf n xs) c) j 0) e ∙ entry-at n xs fine c v ∙ distance-sym (molecule n xs fine) w v
 
-  term-is : {a b : ℕ} → Within n a → Within n b → termBy n (rowsOf n xs) a b ≡ szegedTerm (graphOf n xs) (bond a b)
+  term-is : {a b : ℕ} → Within n a → Within n b → termBy n (tableOf n xs) a b ≡ szegedTerm (graphOf n xs) (bond a b)
   unfolding szegedTerm nearer
-  term-is wa wb = rw (row-at n xs fine wa, row-at n xs fine wb, smaller-is wa wb n (omega arith), smaller-is wb wa n (omega arith))
-
--- the ends of a bond of the block are atoms, as the work asks
-pub inside : (n : ℕ) (xs : List ℕ) (rows : List (List ℕ)) (out : List ℕ) → Task n xs rows out → (k : ℕ) → k < length xs / 2
-    → (n ≤ mostAtoms) × Within mostAtoms (getD xs (2 * k) 0) × Within mostAtoms (getD xs (2 * k + 1) 0)
-inside n xs rows out T k l =
-    let w = bond-within n xs (T .fine) k l in
-    let h = few-atoms n xs (T .fine) .high in
-    (h, omega (arith, w .0), omega (arith, w .1))
+  term-is wa wb = rw (table-row n xs fine wa, table-row n xs fine wb, smaller-is wa wb n (omega arith), smaller-is wb wa n (omega arith))
 
 -- the first k entries are put and added up
 pub record Filling (n : ℕ) (xs old new : List ℕ) (total k : ℕ) : Type 0 where
@@ -55,9 +48,9 @@ module _ (n : ℕ) (xs old : List ℕ) where
   pub filling-none : Filling n xs old old 0 0
   filling-none = record { done = omega arith; entries = filled-none; left = omega arith; low = omega arith }
 
-  pub filling-next : {rows : List (List ℕ)} {new : List ℕ} {total k t : ℕ} → Task n xs rows old → Filling n xs old new total k → k < length xs / 2
-      → Product n rows (getD xs (2 * k) 0) (getD xs (2 * k + 1) 0) t → Filling n xs old (set new k t) (total + t) (k + 1)
-  filling-next {rows} {new} {total} {k} {t} T F l P =
+  pub filling-next : {half new : List ℕ} {total k t : ℕ} → Task n xs half old → Filling n xs old new total k → k < length xs / 2
+      → Product n half (getD xs (2 * k) 0) (getD xs (2 * k + 1) 0) t → Filling n xs old (set new k t) (total + t) (k + 1)
+  filling-next {half} {new} {total} {k} {t} T F l P =
       let w = bond-within n xs (T .fine) k l in
       let e : t ≡ szegedTerm (graphOf n xs) (bondAt xs k) = P .is ∙ rw (T .far) (term-is n xs (T .fine) (w .0) (w .1)) in
       record {

@@ -1,13 +1,14 @@
 -- Work. What the private functions give.
-use Prim.Native.Nat.{ℕ, zero, suc, _+_, _*_, _-_, _/_, _≤_}
+use Prim.Native.Nat.{ℕ, zero, suc, _+_, _*_, _/_, _≤_}
 use mathlib.Core.Bool.{cond}
-use mathlib.Core.List.{List, []}
+use mathlib.Core.List.{List}
 use mathlib.Core.Path.{_≡_}
 use lib.Dec.{ltb}
 use lib.ListN.{length, getD}
 use Rattle.reply.specs.Read.{read}
+use Rattle.half.specs.Half.{halfRow}
 use Rattle.block.specs.Block.{mostAtoms, graphOf, blockReply}
-use Rattle.block.specs.Rows.{rowsOf}
+use Rattle.block.specs.Rows.{tableOf}
 use Rattle.block.specs.Numbered.{bondAt}
 use Rattle.block.specs.Lent.{Filled}
 use Rattle.szeged.specs.Szeged.{szegedTerm, szeged}
@@ -21,21 +22,18 @@ pub record Counted (n : ℕ) (one two : List ℕ) (r : ℕ) : Type 0 where
   pub is : r ≡ smaller n one two
   pub most : r ≤ n
 
--- the row of an atom, and what rows say of a bond of a and b
-abbrev pub rowAt : List (List ℕ) → ℕ → List ℕ
-rowAt rows a = getD rows (a - 1) []
+-- what half a table says of a bond of a and b
+abbrev pub termBy : ℕ → List ℕ → ℕ → ℕ → ℕ
+termBy n half a b = smaller n (halfRow half a) (halfRow half b) * smaller n (halfRow half b) (halfRow half a)
 
-abbrev pub termBy : ℕ → List (List ℕ) → ℕ → ℕ → ℕ
-termBy n rows a b = smaller n (rowAt rows a) (rowAt rows b) * smaller n (rowAt rows b) (rowAt rows a)
-
-pub record Product (n : ℕ) (rows : List (List ℕ)) (a b r : ℕ) : Type 0 where
-  pub is : r ≡ termBy n rows a b
+pub record Product (n : ℕ) (half : List ℕ) (a b r : ℕ) : Type 0 where
+  pub is : r ≡ termBy n half a b
   pub most : r ≤ mostAtoms * mostAtoms
 
--- a block that is not refused, its rows, and room for its bonds
-pub record Task (n : ℕ) (xs : List ℕ) (rows : List (List ℕ)) (out : List ℕ) : Type 0 where
+-- a block that is not refused, half of its distances, and room for its bonds
+pub record Task (n : ℕ) (xs half out : List ℕ) : Type 0 where
   pub fine : blockReply n xs ≡ read tt
-  pub far : rows ≡ rowsOf n xs
+  pub far : half ≡ tableOf n xs
   pub room : length xs / 2 ≤ length out
 
 -- the index, and the terms in front of what stays

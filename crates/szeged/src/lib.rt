@@ -5,14 +5,16 @@ ghost use lib.ListN.{length};
 ghost use Rattle.graph.specs.Graph.{Within, wiener};
 ghost use Rattle.reply.specs.Read.{read, refusal};
 ghost use Rattle.block.specs.Block.{mostAtoms, bondsOf, graphOf, blockReply};
-ghost use Rattle.block.specs.Rows.{rowsOf};
+ghost use Rattle.block.specs.Rows.{tableOf};
 ghost use Rattle.szeged.specs.Reply.{szegedReply, saidSzeged, szegedEntries};
 ghost use Rattle.szeged.specs.Work.{Counted, Product, Task, Done};
 use block::ATOMS;
-use block::DistanceMatrix;
 use block::DistanceRow;
+use half::Half;
+use half::PAIRS;
 use reply::Refusal;
 use reply::Reply;
+use reply::wide;
 
 // The index, or a refusal.
 pub enum Szeged {
@@ -25,37 +27,37 @@ fn nearer(n: usize, one: &DistanceRow, two: &DistanceRow) -> u64
     requires { ⌜ n ≤ mostAtoms ⌝ }
     ensures { λ r. ⌜ Counted n (now (one .entry)) (now (two .entry)) r ⌝ }
 {
-    let mut count: u64 = 0;
+    let mut count: u8 = 0;
     let mut x = 0;
     while x < n {
-        count += (one[x] < two[x]) as u64;
+        count += (one[x] < two[x]) as u8;
         x += 1;
     }
-    count
+    wide(count)
 }
 
-// The term of a bond of a and b, by the rows of the distances.
-fn term(n: usize, rows: &DistanceMatrix, a: u8, b: u8) -> u64
-    requires { ⌜ (n ≤ mostAtoms) × Within mostAtoms a × Within mostAtoms b ⌝ }
-    ensures { λ r. ⌜ Product n (now (rows .entry)) a b r ⌝ }
+// The term of a bond of a and b, by half of the distances.
+fn term(n: usize, half: &Half, a: u8, b: u8) -> u64
+    requires { ⌜ n ≤ mostAtoms ⌝ }
+    ensures { λ r. ⌜ Product n (now (half .entry)) a b r ⌝ }
 {
-    let u = a as usize - 1;
-    let v = b as usize - 1;
-    let p = nearer(n, &rows[u], &rows[v]);
-    let q = nearer(n, &rows[v], &rows[u]);
+    let one = half::row(half, a as usize);
+    let two = half::row(half, b as usize);
+    let p = nearer(n, &one, &two);
+    let q = nearer(n, &two, &one);
     p * q
 }
 
 // Puts the term of each bond into the lent entries, and adds them up.
-fn fill(n: usize, bonds: &[u8], rows: &DistanceMatrix, out: &mut [u64]) -> u64
-    requires { ⌜ Task n (now bonds) (now rows) (now out) ⌝ }
+fn fill(n: usize, bonds: &[u8], half: &Half, out: &mut [u64]) -> u64
+    requires { ⌜ Task n (now bonds) (now half) (now out) ⌝ }
     ensures { λ r. ⌜ Done n (now (bonds .entry)) (now (out .entry)) (now (out .exit)) r ⌝ }
 {
     let m = bonds.len() / 2;
     let mut total: u64 = 0;
     let mut k = 0;
     while k < m {
-        let t = term(n, rows, bonds[2 * k], bonds[2 * k + 1]);
+        let t = term(n, half, bonds[2 * k], bonds[2 * k + 1]);
         out[k] = t;
         total += t;
         k += 1;
@@ -63,9 +65,9 @@ fn fill(n: usize, bonds: &[u8], rows: &DistanceMatrix, out: &mut [u64]) -> u64
     total
 }
 
-// The answer for a block that is not refused, by its rows.
-fn answered(n: usize, bonds: &[u8], rows: &DistanceMatrix, out: &mut [u64]) -> Szeged
-    requires { ⌜ (blockReply n (now bonds) ≡ read tt) × (now rows ≡ rowsOf n (now bonds)) ⌝ }
+// The answer for a block that is not refused, by half of its distances.
+fn answered(n: usize, bonds: &[u8], half: &Half, out: &mut [u64]) -> Szeged
+    requires { ⌜ (blockReply n (now bonds) ≡ read tt) × (now half ≡ tableOf n (now bonds)) ⌝ }
     ensures reply { λ r. ⌜ r ≡ saidSzeged (szegedReply n (now (bonds .entry)) (length (now (out .entry)))) ⌝ }
     ensures entries { λ _. ⌜ now (out .exit) ≡ szegedEntries n (now (bonds .entry)) (now (out .entry)) ⌝ }
 {
@@ -75,7 +77,7 @@ fn answered(n: usize, bonds: &[u8], rows: &DistanceMatrix, out: &mut [u64]) -> S
             place: 0,
         });
     }
-    let s = fill(n, bonds, rows, out);
+    let s = fill(n, bonds, half, out);
     Szeged::Index(s)
 }
 
@@ -88,11 +90,12 @@ pub fn terms(n: usize, bonds: &[u8], out: &mut [u64]) -> Szeged
         ((w : ℕ) → r ≡ Szeged.Index w → length (bondsOf (now (bonds .entry))) + 1 ≡ n → w ≡ wiener (graphOf n (now (bonds .entry))))
         ⌝ }
 {
-    let mut rows = [[0u8; ATOMS]; ATOMS];
-    let opened = block::table(n, bonds, &mut rows);
+    let mut half = [0u8; PAIRS];
+    let mut far = [0u8; ATOMS];
+    let opened = block::table(n, bonds, &mut half, &mut far);
     let reply = opened.reply;
     match reply {
         Reply::Refused(refusal) => Szeged::Refused(refusal),
-        Reply::Fine => answered(n, bonds, &rows, out),
+        Reply::Fine => answered(n, bonds, &half, out),
     }
 }

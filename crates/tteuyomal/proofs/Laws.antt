@@ -13,6 +13,8 @@ use Rattle.reply.specs.declared.Reply.the-variants as reply
 use Rattle.block.specs.declared.Indices.{Indices}
 use Rattle.block.specs.declared.Measured.{Measured}
 use Rattle.block.specs.declared.Measured.the-variants as measured
+use Rattle.block.specs.Rows.{saidRow}
+use Rattle.block.specs.declared.OneRow.{OneRow}
 use Rattle.block.specs.declared.Vertex.{Vertex}
 use Rattle.block.specs.declared.Around.{Around}
 use Rattle.block.specs.declared.Around.the-variants as around
@@ -37,6 +39,13 @@ abbrev pub toldIndices : Measured → Read Indices
 toldIndices (measured.Refused r) = refused r
 toldIndices (measured.Of x) = read x
 
+abbrev pub rowSaid : Reply → List ℕ → ℕ → Read (List ℕ × ℕ)
+rowSaid (reply.Refused r) row far = refused r
+rowSaid reply.Fine row far = read (row, far)
+
+abbrev pub toldRow : OneRow → Read (List ℕ × ℕ)
+toldRow v = rowSaid (v .reply) (v .row) (v .largest)
+
 abbrev pub toldVertex : Around → Read Vertex
 toldVertex (around.Refused r) = refused r
 toldVertex (around.Of v) = read v
@@ -60,6 +69,10 @@ block-told a (read tt) e = ap toldBlock e
 pub indices-told : (a : Measured) (R : Read Indices) → a ≡ saidIndices R → toldIndices a ≡ R
 indices-told a (refused r) e = ap toldIndices e
 indices-told a (read x) e = ap toldIndices e
+
+pub row-told : (a : OneRow) (R : Read (List ℕ × ℕ)) → a ≡ saidRow R → toldRow a ≡ R
+row-told a (refused r) e = ap toldRow e
+row-told a (read x) e = ap toldRow e
 
 pub vertex-told : (a : Around) (R : Read Vertex) → a ≡ saidVertex R → toldVertex a ≡ R
 vertex-told a (refused r) e = ap toldVertex e

@@ -9,6 +9,7 @@ pub mod Beside
 pub mod Replies
 pub mod Szeged
 pub mod Balaban
+pub mod FarthestAtom
 pub mod CountSets
 pub mod Molfiles
 pub mod Texts

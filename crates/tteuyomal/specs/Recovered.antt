@@ -13,6 +13,8 @@ use Rattle.reply.specs.Read.{Read, refused, read, _then_, refuseIf, isOutside}
 use Rattle.reply.specs.declared.Refusal.{Refusal}
 use Rattle.paths.specs.Paths.{denominator}
 use Rattle.block.specs.Block.{mostBytes, bondsOf, graphOf, blockReply}
+use Rattle.graph.specs.Farthest.{farthest}
+use Rattle.block.specs.Rows.{rowOf, rowReply}
 use Rattle.block.specs.Index.{indicesOf, indicesReply, vertexOf, vertexReply}
 use Rattle.szeged.specs.Reply.{szegedReply}
 use Rattle.balaban.specs.Balaban.{balabanReply}
@@ -31,6 +33,7 @@ use Rattle.molecule.specs.Molecule.{judgeReply, saidVerdict, writeReply}
 use Rattle.tteuyomal.specs.Convention.{places, code, coded, verdictCode, fitting}
 use Rattle.tteuyomal.specs.Beside.{besideReply}
 use Rattle.tteuyomal.specs.Balaban.{balabanList}
+use Rattle.tteuyomal.specs.FarthestAtom.{farthestList}
 use Rattle.tteuyomal.specs.Molfiles.{writtenReply}
 use Rattle.tteuyomal.specs.Replies.{indicesList, composedList, placedList, sumsOf, vertexList, valuesList, polynomialList, contributionsReply}
 use Rattle.tteuyomal.specs.CountSets.{setsNumbers, setsList}
@@ -104,6 +107,12 @@ block-here n xs = wider (suc mostBytes) places (blockReply n xs) (omega arith) (
 indices-bounded : (n : ℕ) (xs : List ℕ) → Bounded places (indicesReply n xs)
 unfolding indicesReply
 indices-bounded n xs = then-bounded places (blockReply n xs) (λ _. read (indicesOf (graphOf n xs))) (block-here n xs) (λ u e. tt)
+
+row-bounded : (n : ℕ) (xs : List ℕ) (a : ℕ) → Bounded places (rowReply n xs a)
+unfolding rowReply
+row-bounded n xs a =
+    then-bounded places (blockReply n xs) (λ _. refuseIf (isOutside n a) 18 0 then λ _. read (rowOf (graphOf n xs) a, farthest (graphOf n xs) a)) (block-here n xs) (λ u e.
+    then-bounded places (refuseIf (isOutside n a) 18 0) (λ _. read (rowOf (graphOf n xs) a, farthest (graphOf n xs) a)) (if-bounded places (isOutside n a) 18 0 (omega arith)) (λ v f. tt))
 
 vertex-bounded : (n : ℕ) (xs : List ℕ) (a : ℕ) → Bounded places (vertexReply n xs a)
 unfolding vertexReply
@@ -213,6 +222,9 @@ check-tells n xs = tells (blockReply n xs) (block-here n xs)
 
 pub indices-tells : (n : ℕ) (xs : List ℕ) (room : ℕ) → Tells (fitting room (indicesList n xs))
 indices-tells n xs room = lent room (indicesList n xs) (listed (indicesReply n xs) fieldsOf (indices-bounded n xs))
+
+pub farthest-tells : (n : ℕ) (xs : List ℕ) (a room : ℕ) → Tells (fitting room (farthestList n xs a))
+farthest-tells n xs a room = lent room (farthestList n xs a) (listed (rowReply n xs a) (λ x. x .1 ∷ []) (row-bounded n xs a))
 
 pub vertex-tells : (n : ℕ) (xs : List ℕ) (a room : ℕ) → Tells (fitting room (vertexList n xs a))
 vertex-tells n xs a room = lent room (vertexList n xs a) (listed (vertexReply n xs a) sumsOf (vertex-bounded n xs a))

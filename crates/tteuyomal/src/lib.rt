@@ -22,6 +22,7 @@ use shares::Shares;
 
 mod balaban_j;
 mod count_sets;
+mod farthest_atom;
 mod molfiles;
 mod neighbour_text;
 mod szeged_terms;

@@ -19,16 +19,16 @@ enum-told c = search needs
 
 answered-requires : tie.Need-answered-requires
 answered-requires c κs =
-    let a = c .before .before .before .before .before .before .args in
+    let a = c .before .before .before .before .before .before .before .args in
     let t = c .before .before .before .table in
-    (fine-read (blockReply (a .n) (a .bonds .now)) (sym (opened-reply _ _ _ (t .ensures .0)) ∙ c .before .enum-told .given .1), t .ensures .1)
+    (fine-read (blockReply (a .n) (a .bonds .now)) (sym (opened-reply _ _ _ (t .ensures .0)) ∙ c .before .enum-told .given .1), t .ensures .1 .0)
 
 returns : tie.Need-returns
 returns c = refused-reply _ _ _ (refused-read _ _ (sym (opened-reply _ _ _ (c .before .before .before .table .ensures .0)) ∙ c .before .reply .given .1))
 
 returns-2 : tie.Need-returns-2
 returns-2 c =
-    let a = c .before .before .before .before .before .before .before .args in
+    let a = c .before .before .before .before .before .before .before .before .args in
     let t = c .before .before .before .before .table in
     fine-reply (a .n) (a .bonds .now) (fine-read (blockReply (a .n) (a .bonds .now)) (sym (opened-reply _ _ _ (t .ensures .0)) ∙ c .before .before .enum-told .given .1)) _ (c .answered .ensures)
 

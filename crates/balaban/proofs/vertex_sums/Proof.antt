@@ -1,52 +1,46 @@
--- `vertex_sums` meets its contract: the sums of the first i rows stand in the list. Assumes nothing.
-use Prim.Native.Nat.{_-_, _≤_}
-use mathlib.Core.Path.{_≡_, refl, _∙_}
+use Prim.Native.Nat.{suc, _-_, _≤_}
+use mathlib.Core.Path.{_≡_, sym}
 use native.Mathlib.Omega.{arith}
-use lib.ListN.{length, length-set}
-use borrow.Author.Needs.{needs}
-use Rattle.block.specs.Block.{mostAtoms}
+use Rattle.half.specs.Half.{startOf}
+use Rattle.half.specs.Places.{start-first}
+use Rattle.block.proofs.Summing.{from-next}
 use Rattle.balaban.specs.Work.{Sums}
-use Rattle.balaban.proofs.Blocks.{sums-next}
+use Rattle.balaban.proofs.Blocks.{sums-none}
 use Rattle.balaban.proofs.vertex_sums.Statement.{statement}
 use Rattle.balaban.proofs.vertex_sums.Tie as tie
 
 abbrev Inv-loop : tie.InvT-loop
-Inv-loop n rows sums₀ i₀ sums i = (length sums ≡ mostAtoms) × (i ≤ n) × Sums n rows sums i
+Inv-loop n half sums₀ from₀ i₀ sums from i = (i ≤ n) × (from ≡ startOf (suc i)) × Sums n half sums i
 
 abbrev μ-loop : tie.MeasureT-loop
-μ-loop n rows sums₀ i₀ sums i = n - i
+μ-loop n half sums₀ from₀ i₀ sums from i = n - i
 
 loop-holds : tie.Need-loop-holds Inv-loop μ-loop
-loop-holds c = (refl, omega arith, record { is = λ k h. absurd (omega arith) })
+loop-holds c = (omega arith, sym start-first, sums-none _ _)
 
-mul-row-sum : tie.Need-mul-row-sum Inv-loop μ-loop
-mul-row-sum c = search needs
+add-row-requires : tie.Need-add-row-requires Inv-loop μ-loop
+add-row-requires c κs = let v = c .before .loop .inv in (c .loop-test .taken, c .before .before .pre, v .1, v .2)
 
-index-1-row-sum : tie.Need-index-1-row-sum Inv-loop μ-loop
-index-1-row-sum c = search needs
+sub-from : tie.Need-sub-from Inv-loop μ-loop
+sub-from c = omega arith
 
-row-sum-requires : tie.Need-row-sum-requires Inv-loop μ-loop
-row-sum-requires c κs = search needs
+sub-from-2 : tie.Need-sub-from-2 Inv-loop μ-loop
+sub-from-2 c = omega arith
 
-mul-sums : tie.Need-mul-sums Inv-loop μ-loop
-mul-sums c = search needs
-
-array-write-sums : tie.Need-array-write-sums Inv-loop μ-loop
-array-write-sums c = search needs
+add-from : tie.Need-add-from Inv-loop μ-loop
+add-from c = let v = c .before .before .loop .inv in omega (arith, from-next _ _ (omega arith) (v .1) .1)
 
 add-i : tie.Need-add-i Inv-loop μ-loop
-add-i c = search needs
+add-i c = omega arith
 
 loop-less : tie.Need-loop-less Inv-loop μ-loop
-loop-less c = search needs
+loop-less c = omega arith
 
 loop-again : tie.Need-loop-again Inv-loop μ-loop
-loop-again c =
-    let l = c .before .before .before .loop in
-    (length-set (l .sums) (l .i) (c .row-sum .result) ∙ l .inv .0, omega arith, sums-next (c .row-sum .result) (l .inv .2) (omega arith) (c .row-sum .ensures))
+loop-again c = let l = c .before .before .loop in (omega arith, from-next (l .i) _ (omega arith) (l .inv .1) .0, c .add-row .ensures)
 
 returns : tie.Need-returns Inv-loop μ-loop
-returns c = let e : c .before .loop .i ≡ c .before .before .args .n = omega arith in rw e at (c .before .loop .inv .2)
+returns c = let e : c .before .loop .i ≡ c .before .before .args .n = omega arith in (rw e at (c .before .loop .inv .2))
 
 pub vertex-sums-spec : {M : Type 1} → statement M
 vertex-sums-spec =
@@ -55,11 +49,10 @@ vertex-sums-spec =
     Inv-loop
     μ-loop
     loop-holds
-    mul-row-sum
-    index-1-row-sum
-    row-sum-requires
-    mul-sums
-    array-write-sums
+    add-row-requires
+    sub-from
+    sub-from-2
+    add-from
     add-i
     loop-less
     loop-again

@@ -29,7 +29,7 @@ fill-requires : tie.Need-fill-requires
 fill-requires c κs =
     let a = c .before .before .before .before .args in
     let p = c .before .before .before .before .pre in
-    (whole (a .n) (a .bonds .now) (p .0), given (a .n) (a .bonds .now) (p .0) (a .near .now) (a .rows .now) (p .1) (p .2), nothing (a .n) (a .bonds .now) (few-bonds (a .n) (a .bonds .now) (p .0)))
+    (whole (a .n) (a .bonds .now) (p .0), given (a .n) (a .bonds .now) (p .0) (a .near .now) (a .half .now) (a .far .now) (p .1) (p .2) (p .3), nothing (a .n) (a .bonds .now) (few-bonds (a .n) (a .bonds .now) (p .0)))
 
 refused-requires-2 : tie.Need-refused-requires-2
 refused-requires-2 c κs = tt

@@ -18,14 +18,14 @@ enum-told c = search needs
 
 answered-requires : tie.Need-answered-requires
 answered-requires c κs =
-    let a = c .before .before .before .before .before .before .before .before .before .before .args in
-    let t = c .before .before .before .before .before .before .table in
-    let o = opened-in (a .n) (a .bonds .now) (t .result) (t .ensures .0) (c .before .before .before .before .enum-told .given .1) in
-    (o .0, o .1, t .ensures .1)
+    let a = c .before .before .before .before .before .before .before .before .before .before .before .before .args in
+    let t = c .before .before .before .before .before .before .before .table in
+    let o = opened-in (a .n) (a .bonds .now) (t .result) (t .ensures .0) (c .before .before .before .before .before .enum-told .given .1) in
+    (o .0, o .1, t .ensures .1 .0, t .ensures .1 .1)
 
 returns : tie.Need-returns
 returns c =
-    let a = c .before .before .before .before .before .before .before .args in
+    let a = c .before .before .before .before .before .before .before .before .args in
     let t = c .before .before .before .table in
     let e = reply-refused (a .n) (a .bonds .now) _ (opened-out (a .n) (a .bonds .now) (t .result) (t .ensures .0) _ (c .before .reply .given .1)) in
     (sym (ap saidShares e), entries-stay (a .n) (a .bonds .now) (a .out .now) e)

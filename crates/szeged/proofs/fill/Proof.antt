@@ -1,16 +1,17 @@
 -- `fill` meets its contract: the terms of the bonds passed are put and added up.
 use Prim.Native.Nat.{_-_}
 use native.Mathlib.Omega.{arith}
+use Rattle.block.specs.Told.{few-atoms}
 use Rattle.block.specs.Numbered.{few-bytes}
-use Rattle.szeged.proofs.Filling.{Filling, inside, filling-none, filling-next, filling-done}
+use Rattle.szeged.proofs.Filling.{Filling, filling-none, filling-next, filling-done}
 use Rattle.szeged.proofs.fill.Statement.{statement}
 use Rattle.szeged.proofs.fill.Tie as tie
 
 abbrev Inv-loop : tie.InvT-loop
-Inv-loop n bonds rows out₀ m total₀ k₀ out total k = Filling n bonds out₀ out total k
+Inv-loop n bonds half out₀ m total₀ k₀ out total k = Filling n bonds out₀ out total k
 
 abbrev μ-loop : tie.MeasureT-loop
-μ-loop n bonds rows out₀ m total₀ k₀ out total k = m - k
+μ-loop n bonds half out₀ m total₀ k₀ out total k = m - k
 
 loop-holds : tie.Need-loop-holds Inv-loop μ-loop
 loop-holds c = filling-none _ _ _
@@ -31,7 +32,7 @@ shared-slice-read-term-2 : tie.Need-shared-slice-read-term-2 Inv-loop μ-loop
 shared-slice-read-term-2 c = omega arith
 
 term-requires : tie.Need-term-requires Inv-loop μ-loop
-term-requires c κs = inside _ _ _ _ (c .before .before .before .before .before .before .pre) (c .before .before .before .loop .k) (c .before .before .loop-test .taken)
+term-requires c κs = few-atoms _ _ (c .before .before .before .before .before .before .pre .fine) .high
 
 mul-out : tie.Need-mul-out Inv-loop μ-loop
 mul-out c = omega arith

@@ -20,13 +20,13 @@ enum-told c = search needs
 
 answered-requires : tie.Need-answered-requires
 answered-requires c κs =
-    let a = c .before .before .before .before .before .before .before .before .args in
+    let a = c .before .before .before .before .before .before .before .before .before .args in
     let t = c .before .before .before .before .table in
-    (fine-read (blockReply (a .n) (a .bonds .now)) (sym (opened-reply _ _ _ (t .ensures .0)) ∙ c .before .before .enum-told .given .1), t .ensures .1)
+    (fine-read (blockReply (a .n) (a .bonds .now)) (sym (opened-reply _ _ _ (t .ensures .0)) ∙ c .before .before .enum-told .given .1), t .ensures .1 .0)
 
 returns : tie.Need-returns
 returns c =
-    let a = c .before .before .before .before .before .before .before .args in
+    let a = c .before .before .before .before .before .before .before .before .args in
     let e = reply-refused (a .n) (a .bonds .now) _ (refused-read (blockReply (a .n) (a .bonds .now)) _ (sym (opened-reply _ _ _ (c .before .before .before .table .ensures .0)) ∙ c .before .reply .given .1)) in
     let r = sym (ap saidSzeged e) in
     (r, (entries-stay (a .n) (a .bonds .now) (a .out .now) e, tree-told (a .n) (a .bonds .now) _ _ r))

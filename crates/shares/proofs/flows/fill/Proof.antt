@@ -15,11 +15,11 @@ use Rattle.shares.proofs.flows.fill.Statement.{statement}
 use Rattle.shares.proofs.flows.fill.Tie as tie
 
 abbrev Inv-loop : tie.InvT-loop
-Inv-loop n bonds near rows out₀ d₀ i₀ out d i =
+Inv-loop n bonds near half far out₀ d₀ i₀ out d i =
     (i ≤ n) × (length out ≡ length out₀) × (d ≡ min cap (lcmStarts n (pathCount (graphOf n bonds)) i)) × (d ≤ most → Sofar n bonds i d out)
 
 abbrev μ-loop : tie.MeasureT-loop
-μ-loop n bonds near rows out₀ d₀ i₀ out d i = n - i
+μ-loop n bonds near half far out₀ d₀ i₀ out d i = n - i
 
 loop-holds : tie.Need-loop-holds Inv-loop μ-loop
 loop-holds c = let p = c .before .before .pre in (omega arith, refl, omega (arith, p .0 .is), λ l. p .2)
@@ -32,23 +32,31 @@ returns c =
     let l = c .before .before .loop in
     (stops-early (c .before .before .before .before .before .pre .0 .molecule) (l .d) (l .i) (l .inv .2) (omega arith), λ h. absurd (omega arith))
 
-add-row-at : tie.Need-add-row-at Inv-loop μ-loop
-add-row-at c = omega arith
+add-row : tie.Need-add-row Inv-loop μ-loop
+add-row c = omega arith
 
-row-at-requires : tie.Need-row-at-requires Inv-loop μ-loop
-row-at-requires c κs = search needs
+row-requires : tie.Need-row-requires Inv-loop μ-loop
+row-requires c κs = search needs
 
 by-level-requires : tie.Need-by-level-requires Inv-loop μ-loop
 by-level-requires c κs =
     let p = c .before .before .before .before .before .before .before .pre in
-    (p .1 .small, start-below (p .1) (c .before .before .before .before .loop .i) (c .before .before .before .loop-test .taken) _ (c .before .row-at .ensures))
+    (p .1 .small, start-below (p .1) (c .before .before .before .before .loop .i) (c .before .before .before .loop-test .taken) _ (c .before .row .ensures))
+
+element-copy-out-wide : tie.Need-element-copy-out-wide Inv-loop μ-loop
+element-copy-out-wide c = let p = c .before .before .before .before .before .before .before .before .pre in omega (arith, p .1 .small)
+
+wide-requires : tie.Need-wide-requires Inv-loop μ-loop
+wide-requires c κs = tt
 
 add-start-requires : tie.Need-add-start-requires Inv-loop μ-loop
 add-start-requires c κs =
-    let p = c .before .before .before .before .before .before .before .before .before .before .before .before .pre in
-    let l = c .before .before .before .before .before .before .before .before .before .loop in
-    let low : l .d ≤ most = omega (arith, c .before .before .before .before .before .before .before .if1 .left) in
-    (start-of (p .1) (l .i) (c .before .before .before .before .before .before .before .before .loop-test .taken) _ (c .before .before .before .before .before .before .row-at .ensures) (c .before .before .before .before .by-level .ensures), whole-at (p .0) (l .i) (l .d) (l .inv .2) low, l .inv .3 low)
+    let w = c .before .before .before in
+    let r = w .before .before .before .before in
+    let l = r .before .before .before .loop in
+    let p = r .before .before .before .before .before .before .pre in
+    let low : l .d ≤ most = omega (arith, r .before .if1 .left) in
+    (start-of (p .1) (l .i) (r .before .before .loop-test .taken) _ (r .row .ensures) (w .wide .ensures .0) (w .before .before .by-level .ensures), whole-at (p .0) (l .i) (l .d) (l .inv .2) low, l .inv .3 low)
 
 add-i : tie.Need-add-i Inv-loop μ-loop
 add-i c = omega arith
@@ -79,9 +87,11 @@ fill-spec =
     loop-holds
     same-length
     returns
-    add-row-at
-    row-at-requires
+    add-row
+    row-requires
     by-level-requires
+    element-copy-out-wide
+    wide-requires
     add-start-requires
     add-i
     loop-less

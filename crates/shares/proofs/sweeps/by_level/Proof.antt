@@ -11,10 +11,10 @@ use Rattle.shares.proofs.sweeps.by_level.Statement.{statement}
 use Rattle.shares.proofs.sweeps.by_level.Tie as tie
 
 abbrev Inv-loop : tie.InvT-loop
-Inv-loop n row sets₀ top₀ j₀ sets top j = (j ≤ n) × Layered j row sets top
+Inv-loop n row sets₀ j₀ sets j = (j ≤ n) × Layered j row sets
 
 abbrev μ-loop : tie.MeasureT-loop
-μ-loop n row sets₀ top₀ j₀ sets top j = n - j
+μ-loop n row sets₀ j₀ sets j = n - j
 
 loop-holds : tie.Need-loop-holds Inv-loop μ-loop
 loop-holds c = (omega arith, layered-start _ _ refl (zeros (suc mostAtoms)))
@@ -52,25 +52,15 @@ loop-less c = omega arith
 
 loop-again : tie.Need-loop-again Inv-loop μ-loop
 loop-again c =
-    let d = c .before in
-    let l = d .before .before .before .loop in
-    (omega arith, rw (add-one (l .j), shifted mostAtoms (l .j) (shl-sets d)) (layered-next (l .j) _ _ _ (l .inv .1) (d .wide .result) (d .wide .ensures .0) (near d) (d .wide .result) (omega (arith, c .if1 .taken)) (omega arith) (near d)))
-
-loop-less-2 : tie.Need-loop-less-2 Inv-loop μ-loop
-loop-less-2 c = omega arith
-
-loop-again-2 : tie.Need-loop-again-2 Inv-loop μ-loop
-loop-again-2 c =
-    let d = c .before in
-    let l = d .before .before .before .loop in
-    (omega arith, rw (add-one (l .j), shifted mostAtoms (l .j) (shl-sets d)) (layered-next (l .j) _ _ _ (l .inv .1) (d .wide .result) (d .wide .ensures .0) (near d) (l .top) (omega arith) (omega (arith, c .if1 .left)) (l .inv .1 .low)))
+    let l = c .before .before .before .loop in
+    (omega arith, rw (add-one (l .j), shifted mostAtoms (l .j) (shl-sets c)) (layered-next (l .j) _ _ (l .inv .1) (c .wide .result) (c .wide .ensures .0) (near c)))
 
 returns : tie.Need-returns Inv-loop μ-loop
 returns c =
     let l = c .before .loop in
     let a = c .before .before .args in
     let e : l .j ≡ a .n = omega arith in
-    layered-end _ _ _ _ (c .before .before .pre .0) (rw e at (l .inv .1))
+    layered-end _ _ _ (c .before .before .pre .0) (rw e at (l .inv .1))
 
 pub by-level-spec : {M : Type 1} → statement M
 by-level-spec =
@@ -89,6 +79,4 @@ by-level-spec =
     add-j
     loop-less
     loop-again
-    loop-less-2
-    loop-again-2
     returns)

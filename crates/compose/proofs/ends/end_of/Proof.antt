@@ -1,9 +1,9 @@
--- `compose::tables::end_of` meets its contract. Assumes nothing.
+-- `compose::ends::end_of` meets its contract. Assumes nothing.
 use borrow.Author.Needs.{needs}
 use borrow.Author.Tests.{eq-eqb, ne-eqb}
 use Rattle.compose.specs.Tables.{endAt}
-use Rattle.compose.proofs.tables.end_of.Statement.{statement}
-use Rattle.compose.proofs.tables.end_of.Tie as tie
+use Rattle.compose.proofs.ends.end_of.Statement.{statement}
+use Rattle.compose.proofs.ends.end_of.Tie as tie
 
 mul-q : tie.Need-mul-q
 mul-q c = search needs

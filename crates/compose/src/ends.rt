@@ -1,15 +1,21 @@
-// The rows of distances from both ends of each join, copied block by block.
+// The rows of distances from both ends of each join and what is counted from them, taken block by block.
+use super::kept::CountRow;
+use super::kept::count_row;
 use super::links::FIRST;
 use super::links::Links;
 use super::links::OWN;
 use super::links::PARENT;
 use super::links::SITE;
 use block::ATOMS;
+use block::Farthest;
+use block::around_row;
+use half::Half;
 ghost use mathlib.Core.Path.{_≡_};
 ghost use Prim.Native.Nat.{_*_, _/_, _≤_, _<_};
 ghost use lib.ListN.{length};
+ghost use Rattle.half.specs.Half.{halfRow};
 ghost use Rattle.compose.specs.Joints.{ends, link};
-ghost use Rattle.compose.specs.Tables.{endAt, Ranged, Copied};
+ghost use Rattle.compose.specs.Tables.{endAt, countsIn, Ranged, Copied};
 
 // An end of a join: the index of the placement in whose block it is, and its atom.
 pub(crate) struct End {
@@ -37,16 +43,20 @@ fn end_of(links: &Links, e: usize) -> End
     }
 }
 
-// Stores the rows of the ends that are in the block that the placement at index f has first.
+// Stores the rows of the ends that are in the block that the placement at index f has first, and what is counted from them.
 pub(crate) fn copy_ends(
-    table: &[[u8; ATOMS]; ATOMS],
+    half: &Half,
+    far: &Farthest,
+    atoms: usize,
     links: &Links,
     count: usize,
     f: usize,
     rows: &mut [[u8; ATOMS]],
+    counts: &mut [CountRow],
 )
-    requires { ⌜ Ranged (now links) count × (length (now rows) ≡ ends) ⌝ }
-    ensures { λ _. ⌜ Copied (now (links .entry)) count f (now (table .entry)) (now (rows .entry)) (now (rows .exit)) ⌝ }
+    requires { ⌜ Ranged (now links) count × (length (now rows) ≡ ends) × (length (now counts) ≡ ends) ⌝ }
+    ensures rows { λ _. ⌜ Copied (now (links .entry)) count f (halfRow (now (half .entry))) (now (rows .entry)) (now (rows .exit)) ⌝ }
+    ensures counts { λ _. ⌜ Copied (now (links .entry)) count f (countsIn atoms (now (half .entry)) (now (far .entry))) (now (counts .entry)) (now (counts .exit)) ⌝ }
 {
     let n = 2 * count;
     let mut e: usize = 2;
@@ -54,8 +64,10 @@ pub(crate) fn copy_ends(
         let end = end_of(links, e);
         let home = end.home;
         if links[home][FIRST] == f {
-            let a = end.atom - 1;
-            rows[e] = table[a];
+            let a = end.atom;
+            let row = half::row(half, a);
+            counts[e] = count_row(around_row(&row, atoms, far[a - 1]));
+            rows[e] = row;
         }
         e += 1;
     }
