@@ -16,7 +16,8 @@ use Rattle.records.specs.Records.{headBytes, blockKind, lengthAt, kindAt, endAt
 use Rattle.records.specs.Taken.{of-one}
 use Rattle.records.specs.declared.Kind.{Kind}
 use Rattle.assembly.specs.declared.BlockAt.{BlockAt}
-use Rattle.deck.specs.Deck.{mostBlocks, kindsAfter, Deck, blockAt, deckAt, blockReplyAt, blocksFrom, blocksReply}
+use Rattle.assembly.specs.Book.{mostBlocks}
+use Rattle.deck.specs.Deck.{kindsAfter, Deck, blockAt, deckAt, blockReplyAt, blocksFrom, blocksReply}
 use Rattle.deck.specs.Kept.{Each, Standing, each-last, chosen, fit, stands}
 use Rattle.deck.specs.Followed.{bonds-same, block-same, reply-same}
 use Rattle.deck.specs.Sized.{record-long}

@@ -62,7 +62,7 @@ seen-parts : (t : Table) (a : ℕ) → seenBy t a itself ≡ seenBy t a evenOf +
 unfolding seenBy
 seen-parts t a = sum-cong (t .atoms) (λ j w. sym (parts-of .parts (t .far a j))) ∙ sum-add (t .atoms) (λ j. evenOf (t .far a j)) (λ j. oddOf (t .far a j))
 
-total-parts : (t : Table) → totalBy t itself ≡ totalBy t evenOf + totalBy t oddOf
+pub total-parts : (t : Table) → totalBy t itself ≡ totalBy t evenOf + totalBy t oddOf
 unfolding totalBy
 total-parts t =
     sumPairs-cong (t .atoms) (λ i j w v. sym (parts-of .parts (t .far i j))) ∙ sumPairs-add (t .atoms) (λ i j. evenOf (t .far i j)) (λ i j. oddOf (t .far i j))
