@@ -17,7 +17,7 @@ use Rattle.records.specs.Longer.{little-same, little-behind}
 use Rattle.records.specs.Records.{payloadAt}
 use Rattle.assembly.specs.Book.{Book, bookOf}
 use Rattle.assembly.specs.Degrees.{joins-zero, joins-suc}
-use Rattle.assembly.specs.Placements.{mostPlacements, placementCount, placementAt, joinOf, joinEnds, joinsOn, bondsOn, isFull, joinOn, graphOn, fault, placedReply, assemblyReply}
+use Rattle.assembly.specs.Placements.{mostPlacements, placementCount, placementAt, joinOf, joinEnds, siteAt, shelfOf, joinsOn, isFull, joinOn, graphOn, sitesOn, fault, placedReply, assemblyReply}
 use Rattle.assembly.specs.declared.Placement.{Placement}
 use Rattle.assembly.proofs.Faults.{first-fine, joins-well, has-parent, is-first, is-later, faultless, none-left, count-within}
 use Rattle.products.specs.Library.{mostSites, mostCandidates, coreNumber, candidateNumber, candidateAtom, candidateAt, isTaken, isFullIn, candidateFault, Library, libraryReply}
@@ -209,18 +209,17 @@ module _ (book : Book) (xs : List ℕ) where
     own-free k l m = no-ends (k - 1) (suc k) (placed k .own) (λ i p q.
         rw (ne-eqb (placed i .parent) (suc k) (omega (arith, parent-is i p (omega arith))), ne-eqb (suc i) (suc k) (omega arith)))
 
-    not-full : (g : Graph) (k p a : ℕ) → joinsOn (joinOn placed) (k - 1) p a ≡ 0 → isFullIn g a ≡ false → isFull g (joinOn placed) k p a ≡ false
-    unfolding bondsOn
+    not-full : (g : Graph) (k p a : ℕ) → joinsOn (joinOn placed) (k - 1) p a ≡ 0 → isFullIn g a ≡ false → isFull (degree (g .bonds) a) (joinOn placed) k p a ≡ false
     not-full g k p a z e =
         let n : degree (g .bonds) a + joinsOn (joinOn placed) (k - 1) p a ≡ degree (g .bonds) a = omega (arith, z) in
         rw n e
 
     -- placement 1 is the core
-    first-well : fault book placed 0 ≡ 0
+    first-well : fault (shelfOf book) placed 0 ≡ 0
     first-well =
         let q = first-is in
         let has : book .has (placed 0 .block) ≡ true = ap (λ (x : Placement). book .has (x .block)) q ∙ listed .has in
-        is-first book placed 0 has refl
+        is-first (shelfOf book) placed 0 has refl
         ∙ first-fine (placed 0) (ap (λ (x : Placement). x .parent) q) (ap (λ (x : Placement). x .site) q) (ap (λ (x : Placement). x .own) q)
 
     -- the parent's block is the core
@@ -230,7 +229,7 @@ module _ (book : Book) (xs : List ℕ) where
         ap (λ (i : ℕ). book .graph (placed i .block)) z ∙ ap (λ (x : Placement). book .graph (x .block)) first-is
 
     -- each later one is a candidate at its site
-    later-well : (k : ℕ) → 1 ≤ k → k ≤ length ss → fault book placed k ≡ 0
+    later-well : (k : ℕ) → 1 ≤ k → k ≤ length ss → fault (shelfOf book) placed k ≡ 0
     unfolding joinOf
     later-well k l m =
         let g = at k l m in
@@ -247,19 +246,19 @@ module _ (book : Book) (xs : List ℕ) where
         let own-full : isFullIn (graphOn book placed k) (placed k .own) ≡ false = ap (λ (x : Placement). isFullIn (book .graph (x .block)) (x .own)) q ∙ j .own-room in
         let free : joinsOn (joinOn placed) (k - 1) (placed k .parent) (placed k .site) ≡ 0 =
         ap (λ (p : ℕ). joinsOn (joinOn placed) (k - 1) p (placed k .site)) (parent-is k l m) ∙ site-free k l m in
-        is-later book placed k has (omega arith)
-        ∙ has-parent book placed k parent
-        ∙ joins-well (graphOn book placed (placed k .parent - 1)) (graphOn book placed k) (joinOn placed) k site own
+        is-later (shelfOf book) placed k has (omega arith)
+        ∙ has-parent (shelfOf book) placed k parent
+        ∙ joins-well (siteAt (sitesOn (shelfOf book) placed (placed k .parent - 1)) (placed k .site)) (siteAt (sitesOn (shelfOf book) placed k) (placed k .own)) (joinOn placed) k site own
         (not-full (graphOn book placed (placed k .parent - 1)) k (placed k .parent) (placed k .site) free full)
         (not-full (graphOn book placed k) k (suc k) (placed k .own) (own-free k l m) own-full)
 
-    well : (k : ℕ) → k ≤ length ss → fault book placed k ≡ 0
+    well : (k : ℕ) → k ≤ length ss → fault (shelfOf book) placed k ≡ 0
     well zero h = first-well
     well (suc k) h = later-well (suc k) (omega arith) h
 
-    from : (left k : ℕ) → k + left ≤ suc (length ss) → placedReply book placed k left ≡ read tt
-    from zero k h = none-left book placed k
-    from (suc left) k h = faultless book placed k left (well k (omega arith)) ∙ from left (suc k) (omega arith)
+    from : (left k : ℕ) → k + left ≤ suc (length ss) → placedReply (shelfOf book) placed k left ≡ read tt
+    from zero k h = none-left (shelfOf book) placed k
+    from (suc left) k h = faultless (shelfOf book) placed k left (well k (omega arith)) ∙ from left (suc k) (omega arith)
 
     -- it has one placement more than there are sites, and is not refused
     pub count-is : placementCount (productBytes xs ss js) ≡ suc (length ss)
@@ -270,7 +269,7 @@ module _ (book : Book) (xs : List ℕ) where
     choice-fine =
         let n = count-is in
         let few : isOutside mostPlacements (placementCount (productBytes xs ss js)) ≡ false = rw (n, ne-eqb (suc (length ss)) 0 (omega arith), le-ltb mostPlacements (suc (length ss)) (omega (arith, listed .few))) in
-        count-within book (productBytes xs ss js) few ∙ ap (placedReply book placed 0) n ∙ from (suc (length ss)) 0 (omega arith)
+        count-within book (productBytes xs ss js) few ∙ ap (placedReply (shelfOf book) placed 0) n ∙ from (suc (length ss)) 0 (omega arith)
 
 -- Where a library is not refused, the product at each position, written out as an assembly over the deck's blocks, is not refused.
 pub product-fine : (d : List ℕ) (l : Library) (position : ℕ) → libraryReply d ≡ read l → position < products (l .sites) → assemblyReply (bookOf d (l .blocks)) (assemblyAt d l position) ≡ read tt

@@ -19,7 +19,7 @@ use Rattle.szeged.specs.Szeged.{closer, nearer, szegedTerm}
 use Rattle.szeged.specs.Reply.{szegedReply, szegedEntries}
 use Rattle.szeged.specs.Reply as szeged
 use Rattle.records.specs.Bytes.{little}
-use Rattle.records.specs.Records.{kindReply, lengthReply, recordReply}
+use Rattle.records.specs.Records.{kindReply, isWrong, lengthReply, recordReply}
 use Rattle.records.specs.declared.Sheet.{Sheet}
 use Rattle.records.specs.declared.Sheet.the-variants.{Five, Six}
 use Rattle.assembly.specs.Book.{find, bookOf}
@@ -51,11 +51,11 @@ abbrev drawnDeck : Deck
 drawnDeck = record { blocks = record { number = 1; start = 4; atoms = 12; bonds = 13 } ∷ []; assembly = 36; placements = 1; sheet = 48 }
 
 document-read : deckReply Composed document ≡ read documentDeck
-unfolding document joins anyJoins bonded anyAtom reaches firstFrom distance allAtoms connected degree sum bondsOf bondFault bondsReply blockReply little kindReply lengthReply recordReply find bookOf placementAt joinOf joinEnds joinsOn bondsOn firstFault parentFault joinFault laterFault fault placedReply assemblyReply blockReplyAt assemblyReplyAt blocksFrom blocksReply endReply sheetReply deckReply
+unfolding document joins anyJoins bonded anyAtom reaches firstFrom distance allAtoms connected degree sum bondsOf bondFault bondsReply blockReply little kindReply isWrong lengthReply recordReply find bookOf placementAt joinOf joinEnds joinsOn bondsOn firstFault parentFault joinFault laterFault fault placedReply assemblyReply blockReplyAt assemblyReplyAt blocksFrom blocksReply endReply sheetReply deckReply
 document-read = refl
 
 drawn-read : deckReply Composed drawn ≡ read drawnDeck
-unfolding drawn joins anyJoins bonded anyAtom reaches firstFrom distance allAtoms connected degree sum bondsOf bondFault bondsReply blockReply little kindReply lengthReply recordReply find bookOf placementAt joinOf joinEnds joinsOn bondsOn firstFault parentFault joinFault laterFault fault placedReply assemblyReply blockReplyAt assemblyReplyAt blocksFrom blocksReply endReply sheetReply deckReply
+unfolding drawn joins anyJoins bonded anyAtom reaches firstFrom distance allAtoms connected degree sum bondsOf bondFault bondsReply blockReply little kindReply isWrong lengthReply recordReply find bookOf placementAt joinOf joinEnds joinsOn bondsOn firstFault parentFault joinFault laterFault fault placedReply assemblyReply blockReplyAt assemblyReplyAt blocksFrom blocksReply endReply sheetReply deckReply
 drawn-read = refl
 
 -- atom 1 of the first ring, which the joining bond is at, is atom 4 of the drawing, and so on round the ring
