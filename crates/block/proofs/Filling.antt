@@ -1,19 +1,20 @@
 -- The rows are stored one by one in half a table. Assumes nothing.
 use Prim.Native.Nat.{ℕ, suc, _-_, _≤_, _<_}
-use mathlib.Core.Bool.{true, false}
+use mathlib.Core.Bool.{true, false, cond}
 use mathlib.Core.List.{List, []}
 use mathlib.Core.Path.{_≡_, refl, sym, ap, subst⁻¹, _∙_}
 use native.Mathlib.Omega.{arith}
 use native.Mathlib.Decide.{ℕ-discrete, decLt}
+use lib.Dec.{ltb}
 use lib.ListN.{length, getD, set, length-set, replicate, length-replicate, getD-replicate}
 use lib.Seq.{getD-set-same, getD-set-other, ext-getD}
-use borrow.Author.Tests.{lt-ltb, ne-eqb}
-use Rattle.graph.specs.Graph.{Within}
+use borrow.Author.Tests.{lt-ltb, le-ltb, ne-eqb}
+use Rattle.graph.specs.Graph.{Within, distance}
 use Rattle.graph.specs.Farthest.{farthest}
 use Rattle.reply.specs.Read.{refused, read, refusal, isOutside}
 use Rattle.half.specs.Half.{allPairs, placeOf, halfWithRow}
 use Rattle.half.specs.Places.{Pair}
-use Rattle.half.specs.Rows.{row-size, row-same, row-other}
+use Rattle.half.specs.Rows.{row-size, row-same, row-past, row-other}
 use Rattle.block.specs.Block.{mostAtoms, graphOf, blockReply}
 use Rattle.block.specs.Rows.{table, rowOf, noRow, emptyRow, saidRow, rowReply, farOf, tableOf}
 use Rattle.block.specs.Tables.{length-table, getD-table}
@@ -81,18 +82,28 @@ module _ (n : ℕ) (xs : List ℕ) where
     largest = fill-start;
   }
 
+  -- a row has nothing behind the atoms
+  past-row : (a j : ℕ) → n < j → j ≤ mostAtoms → getD (rowOf (graphOf n xs) a) (j - 1) 0 ≡ 0
+  unfolding rowOf
+  past-row a j q m = getD-table mostAtoms (λ k. cond (ltb k n) (distance (graphOf n xs) a (suc k)) 0) (j - 1) 0 (omega arith) ∙ rw (le-ltb (j - 1) n (omega arith))
+
   pub rows-next : (h far : List ℕ) (i : ℕ) (row : List ℕ) (d : ℕ) → i < mostAtoms → Rows h far i
-      → row ≡ rowOf (graphOf n xs) (suc i) → d ≡ farthest (graphOf n xs) (suc i) → Rows (halfWithRow h (suc i) row) (set far i d) (suc i)
+      → row ≡ rowOf (graphOf n xs) (suc i) → d ≡ farthest (graphOf n xs) (suc i) → Rows (halfWithRow h (suc i) row n) (set far i d) (suc i)
   rows-next h far i row d l P e f = record {
-    size = row-size h (suc i) row (omega arith) l (P .size);
+    size = row-size h (suc i) row n (omega arith) l (P .size);
     done = λ k j p m. elim (ℕ-discrete k (suc i)) [
-      | yes q ↦ subst⁻¹ (λ (x : ℕ). Pair x j → getD (halfWithRow h (suc i) row) (placeOf x j) 0 ≡ getD (rowOf (graphOf n xs) x) (j - 1) 0) q
-          (λ p. row-same h (suc i) row (omega arith) l (P .size) j p ∙ ap (λ (x : List ℕ). getD x (j - 1) 0) e) p
-      | no q ↦ row-other h (suc i) row (omega arith) l (P .size) k j p q ∙ P .done k j p (omega arith)
+      | yes q ↦ subst⁻¹ (λ (x : ℕ). Pair x j → getD (halfWithRow h (suc i) row n) (placeOf x j) 0 ≡ getD (rowOf (graphOf n xs) x) (j - 1) 0) q (λ p. own j p) p
+      | no q ↦ row-other h (suc i) row n (omega arith) l (P .size) k j p q ∙ P .done k j p (omega arith)
     ];
-    rest = λ k j p m. row-other h (suc i) row (omega arith) l (P .size) k j p (λ q. omega arith) ∙ P .rest k j p (omega arith);
+    rest = λ k j p m. row-other h (suc i) row n (omega arith) l (P .size) k j p (λ q. omega arith) ∙ P .rest k j p (omega arith);
     largest = fill-next far i d l (P .largest) f;
   }
+    where
+      own : (j : ℕ) → Pair (suc i) j → getD (halfWithRow h (suc i) row n) (placeOf (suc i) j) 0 ≡ getD (rowOf (graphOf n xs) (suc i)) (j - 1) 0
+      own j p = elim (decLt n j) [
+        | yes q ↦ row-past h (suc i) row n (omega arith) l (P .size) j p q ∙ P .rest (suc i) j p (omega arith) ∙ sym (past-row (suc i) j q (p .high))
+        | no q ↦ row-same h (suc i) row n (omega arith) l (P .size) j p (omega arith) ∙ ap (λ (x : List ℕ). getD x (j - 1) 0) e
+      ]
 
   module _ (fine : blockReply n xs ≡ read tt) where
     within : (k : ℕ) → k < n → saidRow (rowReply n xs (suc k)) .largest ≡ farthest (graphOf n xs) (suc k)

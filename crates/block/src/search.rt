@@ -76,7 +76,7 @@ pub(crate) fn from_all(near: &Neighbours, n: usize, far: &mut Farthest) -> Half
     while i < n {
         let mut row = [0u8; ATOMS];
         let ended = from_atom(near, n, i + 1, &mut row);
-        put_row(&mut all, i + 1, &row);
+        put_row(&mut all, i + 1, &row, n);
         deep[i] = ended.last;
         i += 1;
     }

@@ -1,5 +1,5 @@
 -- A row is read out of a half, and stored in it. Assumes nothing.
-use Prim.Native.Nat.{ℕ, zero, suc, _+_, _*_, _-_, _≤_, _<_}
+use Prim.Native.Nat.{ℕ, zero, suc, _+_, _*_, _-_, _≤_, _<_, min}
 use mathlib.Core.Bool.{true, false}
 use mathlib.Core.List.{List, [], _∷_}
 use mathlib.Core.Path.{_≡_, refl, sym, _∙_, ap, subst}
@@ -131,8 +131,9 @@ row-none h i o = upto-end h i (replicate mostAtoms 0) (record { size = refl; tol
     out j = none-first i (1 + j) o
 
 -- a row is stored byte by byte: what is left to store gives the answer
-pub record Storing (old line : List ℕ) (i : ℕ) (new : List ℕ) (p j : ℕ) : Type 0 where
-  pub left : sets new p (partOf line j (mostAtoms - j)) ≡ sets old (startOf i) (partOf line i (mostAtoms - i))
+pub record Storing (old line : List ℕ) (i m : ℕ) (new : List ℕ) (p j : ℕ) : Type 0 where
+  pub left : sets new p (partOf line j (m - j)) ≡ sets old (startOf i) (partOf line i (m - i))
+  pub few : m ≤ mostAtoms
   pub size : length new ≡ length old
   pub first : 1 ≤ i
   pub low : i ≤ j
@@ -143,33 +144,34 @@ part-step : (line l : List ℕ) (p j m a b c : ℕ) → a ≡ suc p → b ≡ su
 unfolding partOf
 part-step line l p j m a b c ea eb ec = rw (ea, eb, ec)
 
-pub store-first : (old line : List ℕ) (i p : ℕ) → 1 ≤ i → i ≤ mostAtoms → p ≡ startOf i → Storing old line i old p i
-store-first old line i p l h e = record { left = rw e; size = refl; first = l; low = omega arith; high = h; here = omega arith }
+pub store-first : (old line : List ℕ) (i m p : ℕ) → m ≤ mostAtoms → 1 ≤ i → i ≤ mostAtoms → p ≡ startOf i → Storing old line i m old p i
+store-first old line i m p f l h e = record { left = rw e; few = f; size = refl; first = l; low = omega arith; high = h; here = omega arith }
 
-module _ {old line : List ℕ} {i : ℕ} {new : List ℕ} {p j : ℕ} (S : Storing old line i new p j) where
-  pub store-place : j < mostAtoms → allPairs ≤ length old → p < length new
-  store-place l n = omega (arith, along-place i j (startOf i) (S .first) (S .low) l refl, S .here, S .size)
+module _ {old line : List ℕ} {i m : ℕ} {new : List ℕ} {p j : ℕ} (S : Storing old line i m new p j) where
+  pub store-place : j < m → allPairs ≤ length old → p < length new
+  store-place l n = omega (arith, along-place i j (startOf i) (S .first) (S .low) (omega (arith, S .few)) refl, S .here, S .size)
 
-  pub store-next : j < mostAtoms → Storing old line i (set new p (getD line j 0)) (p + 1) (j + 1)
+  pub store-next : j < m → Storing old line i m (set new p (getD line j 0)) (p + 1) (j + 1)
   store-next l = record {
-    left = part-step line new p j (mostAtoms - (j + 1)) (p + 1) (j + 1) (mostAtoms - j) (add-one p) (add-one j) (omega arith) ∙ S .left;
+    left = part-step line new p j (m - (j + 1)) (p + 1) (j + 1) (m - j) (add-one p) (add-one j) (omega arith) ∙ S .left;
     size = length-set new p (getD line j 0) ∙ S .size;
+    few = S .few;
     first = S .first;
     low = omega (arith, S .low);
-    high = omega arith;
+    high = omega (arith, S .few);
     here = omega (arith, S .here, S .low);
   }
 
-  pub store-last : mostAtoms ≤ j → isOutside mostAtoms i ≡ false → allPairs ≤ length old → new ≡ halfWithRow old i line
+  pub store-last : (n : ℕ) → m ≡ min n mostAtoms → m ≤ j → isOutside mostAtoms i ≡ false → allPairs ≤ length old → new ≡ halfWithRow old i line n
   unfolding halfWithRow partOf
-  store-last l o m =
-      let z : mostAtoms - j ≡ 0 = omega arith in
-      rw (o, le-ltb (length old) allPairs m) (rw z at (S .left))
+  store-last n e l o r =
+      let z : m - j ≡ 0 = omega arith in
+      rw (o, le-ltb (length old) allPairs r, ← e) (rw z at (S .left))
 
-pub store-out : (h line : List ℕ) (i : ℕ) → isOutside mostAtoms i ≡ true → h ≡ halfWithRow h i line
+pub store-out : (h line : List ℕ) (i n : ℕ) → isOutside mostAtoms i ≡ true → h ≡ halfWithRow h i line n
 unfolding halfWithRow
-store-out h line i o = rw o
+store-out h line i n o = rw o
 
-pub store-short : (h line : List ℕ) (i : ℕ) → isOutside mostAtoms i ≡ false → length h < allPairs → h ≡ halfWithRow h i line
+pub store-short : (h line : List ℕ) (i n : ℕ) → isOutside mostAtoms i ≡ false → length h < allPairs → h ≡ halfWithRow h i line n
 unfolding halfWithRow
-store-short h line i o l = rw (o, lt-ltb (length h) allPairs l)
+store-short h line i n o l = rw (o, lt-ltb (length h) allPairs l)

@@ -51,9 +51,9 @@ unfoldable pub partOf : List ℕ → ℕ → ℕ → List ℕ
 partOf row j zero = []
 partOf row j (suc m) = getD row j 0 ∷ partOf row (suc j) m
 
--- with a row stored for atom i: what it has for the atoms behind i. Bytes that are no half stay as they are
-unfoldable pub halfWithRow : List ℕ → ℕ → List ℕ → List ℕ
-halfWithRow h i row = cond (isOutside mostAtoms i || ltb (length h) allPairs) h (sets h (startOf i) (partOf row i (mostAtoms - i)))
+-- with a row of n atoms stored for atom i: what it has for the atoms behind i. Bytes that are no half stay as they are
+unfoldable pub halfWithRow : List ℕ → ℕ → List ℕ → ℕ → List ℕ
+halfWithRow h i row n = cond (isOutside mostAtoms i || ltb (length h) allPairs) h (sets h (startOf i) (partOf row i (min n mostAtoms - i)))
 
 -- the half of a table d: the row of atom i and those after it, `left` of them, one behind the other
 unfoldable pub halfFrom : (ℕ → ℕ → ℕ) → ℕ → ℕ → List ℕ

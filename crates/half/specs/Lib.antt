@@ -7,7 +7,7 @@
 -- | `halfAt h i j`             | what a half says of two atoms                                      | `reads-either`, `self-reads`                                           |
 -- | `halfWith h i j x`         | the half with a number stored                                      | `half-get-put`, `half-other`                                           |
 -- | `halfRow h i`              | the row of an atom out of it                                       | `row-is-rows`                                                          |
--- | `halfWithRow h i row`      | the half with a row stored                                         | `row-same`, `row-other`                                                |
+-- | `halfWithRow h i row n`    | the half with a row of n atoms stored                              | `row-same`, `row-past`, `row-other`                                    |
 -- | `halfOf d`                 | the half of a table d of numbers                                   | `half-is-rows`: it reads as the table does; `half-ext`                 |
 -- | `table n f`                | f 0 to f (n - 1)                                                   | `getD-table`                                                           |
 pub mod Half

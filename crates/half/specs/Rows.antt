@@ -1,5 +1,5 @@
 -- Laws. A row that is stored is read at its pairs, and changes no other atom's. Assumes nothing.
-use Prim.Native.Nat.{ℕ, zero, suc, _+_, _-_, _≤_, _<_}
+use Prim.Native.Nat.{ℕ, zero, suc, _+_, _-_, _≤_, _<_, min}
 use mathlib.Core.Bool.{true, false}
 use mathlib.Core.List.{List, [], _∷_}
 use mathlib.Core.Logic.{_⊎_, inl, inr, ⊎-elim}
@@ -42,27 +42,35 @@ sets-in (v ∷ vs) l at (suc k) h n =
     let e : at + suc k ≡ suc at + k = omega arith in
     rw e (sets-in vs (set l at v) (suc at) k (omega arith) (omega (arith, length-set l at v)))
 
-module _ (h : List ℕ) (i : ℕ) (row : List ℕ) (low : 1 ≤ i) (high : i ≤ mostAtoms) (size : length h ≡ allPairs) where
-  stores : halfWithRow h i row ≡ sets h (startOf i) (partOf row i (mostAtoms - i))
+module _ (h : List ℕ) (i : ℕ) (row : List ℕ) (n : ℕ) (low : 1 ≤ i) (high : i ≤ mostAtoms) (size : length h ≡ allPairs) where
+  -- how many entries are stored
+  abbrev few : ℕ
+  few = min n mostAtoms - i
+
+  stores : halfWithRow h i row n ≡ sets h (startOf i) (partOf row i few)
   unfolding halfWithRow
   stores = rw (ne-eqb i 0 (omega arith), le-ltb mostAtoms i high, le-ltb (length h) allPairs (omega arith))
 
-  pub row-size : length (halfWithRow h i row) ≡ allPairs
-  row-size = rw stores (length-sets h (startOf i) (partOf row i (mostAtoms - i)) ∙ size)
+  pub row-size : length (halfWithRow h i row n) ≡ allPairs
+  row-size = rw stores (length-sets h (startOf i) (partOf row i few) ∙ size)
 
-  pub row-same : (l : ℕ) → Pair i l → getD (halfWithRow h i row) (placeOf i l) 0 ≡ getD row (l - 1) 0
-  row-same l p =
+  pub row-same : (l : ℕ) → Pair i l → l ≤ n → getD (halfWithRow h i row n) (placeOf i l) 0 ≡ getD row (l - 1) 0
+  row-same l p q =
       let n = start-next i low (omega (arith, p .less, p .high)) in
       let m = start-most (suc i) mostAtoms (omega arith) (omega (arith, p .less, p .high)) (omega arith) in
       let e : placeOf i l ≡ startOf i + (l - i - 1) = place-is i l in
       let f : i + (l - i - 1) ≡ l - 1 = omega (arith, p .less) in
       rw (stores, e)
-      (sets-in (partOf row i (mostAtoms - i)) h (startOf i) (l - i - 1) (omega (arith, length-part row i (mostAtoms - i), p .less, p .high)) (omega (arith, length-part row i (mostAtoms - i), start-last))
-      ∙ getD-part row (mostAtoms - i) i (l - i - 1) (omega (arith, p .less, p .high)) ∙ rw f)
+      (sets-in (partOf row i few) h (startOf i) (l - i - 1) (omega (arith, length-part row i few, p .less, p .high)) (omega (arith, length-part row i few, start-last))
+      ∙ getD-part row few i (l - i - 1) (omega (arith, p .less, p .high)) ∙ rw f)
 
-  pub row-other : (k l : ℕ) → Pair k l → (k ≡ i → ⊥) → getD (halfWithRow h i row) (placeOf k l) 0 ≡ getD h (placeOf k l) 0
+  -- behind the n atoms nothing is stored
+  pub row-past : (l : ℕ) → Pair i l → n < l → getD (halfWithRow h i row n) (placeOf i l) 0 ≡ getD h (placeOf i l) 0
+  row-past l p q = rw stores (sets-behind (partOf row i few) h (startOf i) (placeOf i l) (omega (arith, length-part row i few, place-is i l, p .less)))
+
+  pub row-other : (k l : ℕ) → Pair k l → (k ≡ i → ⊥) → getD (halfWithRow h i row n) (placeOf k l) 0 ≡ getD h (placeOf k l) 0
   row-other k l p ne = rw stores (elim (decLt k i) [
-    | yes u ↦ sets-before (partOf row i (mostAtoms - i)) h (startOf i) (placeOf k l) (omega (arith, place-high p, start-most (suc k) i (omega arith) u high))
-    | no u ↦ sets-behind (partOf row i (mostAtoms - i)) h (startOf i) (placeOf k l)
-        (omega (arith, length-part row i (mostAtoms - i), start-next i low (omega (arith, p .less, p .high)), start-most (suc i) k (omega arith) (omega arith) (omega (arith, p .less, p .high)), place-is k l))
+    | yes u ↦ sets-before (partOf row i few) h (startOf i) (placeOf k l) (omega (arith, place-high p, start-most (suc k) i (omega arith) u high))
+    | no u ↦ sets-behind (partOf row i few) h (startOf i) (placeOf k l)
+        (omega (arith, length-part row i few, start-next i low (omega (arith, p .less, p .high)), start-most (suc i) k (omega arith) (omega arith) (omega (arith, p .less, p .high)), place-is k l))
   ])

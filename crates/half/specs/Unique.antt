@@ -20,5 +20,5 @@ module _ (h : List ℕ) (i : ℕ) where
   pub unique-row : (r s : List ℕ) → r ≡ halfRow h i → s ≡ halfRow h i → r ≡ s
   unique-row r s = unique
 
-  pub unique-put-row : (row p q : List ℕ) → p ≡ halfWithRow h i row → q ≡ halfWithRow h i row → p ≡ q
-  unique-put-row row p q = unique
+  pub unique-put-row : (row : List ℕ) (n : ℕ) (p q : List ℕ) → p ≡ halfWithRow h i row n → q ≡ halfWithRow h i row n → p ≡ q
+  unique-put-row row n p q = unique

@@ -1,6 +1,6 @@
 // Half a table of distances: a byte for each two atoms, stored once.
 ghost use mathlib.Core.Path.{_≡_};
-ghost use Prim.Native.Nat.{_≤_};
+ghost use Prim.Native.Nat.{_≤_, min};
 ghost use Rattle.half.specs.Half.{mostAtoms, allPairs, startOf, placeOf, noPair, pairPlace, halfAt, halfWith, halfRow, halfWithRow};
 ghost use Rattle.half.specs.Places.{Pair};
 ghost use Rattle.half.specs.Work.{Upto};
@@ -118,9 +118,16 @@ pub fn row(half: &Half, i: usize) -> Line
     along(half, i, first)
 }
 
-// Stores what a row of atom i has for the atoms behind it. Fewer bytes than a half, or no such atom, change nothing.
-pub fn put_row(half: &mut [u8], i: usize, line: &Line)
-    ensures { λ _. ⌜ now (half .exit) ≡ halfWithRow (now (half .entry)) i (now (line .entry)) ⌝ }
+// n, at most ATOMS.
+fn within(n: usize) -> usize
+    ensures { λ r. ⌜ (r ≡ min n mostAtoms) × (r ≤ mostAtoms) ⌝ }
+{
+    if n < ATOMS { n } else { ATOMS }
+}
+
+// Stores what a row of n atoms, that of atom i, has for the atoms behind it. Fewer bytes than a half, or no such atom, change nothing.
+pub fn put_row(half: &mut [u8], i: usize, line: &Line, n: usize)
+    ensures { λ _. ⌜ now (half .exit) ≡ halfWithRow (now (half .entry)) i (now (line .entry)) n ⌝ }
 {
     if is_outside(ATOMS, i) {
         return;
@@ -128,9 +135,10 @@ pub fn put_row(half: &mut [u8], i: usize, line: &Line)
     if half.len() < PAIRS {
         return;
     }
+    let m = within(n);
     let mut p = start(i);
     let mut j = i;
-    while j < ATOMS {
+    while j < m {
         half[p] = line[j];
         p += 1;
         j += 1;

@@ -1,5 +1,5 @@
 use borrow.Author.Needs.{needs}
-use Prim.Native.Nat.{_-_, _≤_}
+use Prim.Native.Nat.{_-_, _≤_, _<_, min}
 use mathlib.Core.Bool.{false}
 use mathlib.Core.Path.{_≡_, refl, sym, _∙_}
 use native.Mathlib.Omega.{arith}
@@ -11,30 +11,33 @@ use Rattle.half.proofs.put_row.Statement.{statement}
 use Rattle.half.proofs.put_row.Tie as tie
 
 abbrev Inv-loop : tie.InvT-loop
-Inv-loop half₀ i line p₀ j₀ half p j = Storing half₀ line i half p j × (isOutside mostAtoms i ≡ false) × (allPairs ≤ length half₀)
+Inv-loop half₀ i line n m p₀ j₀ half p j = Storing half₀ line i m half p j × (isOutside mostAtoms i ≡ false) × (allPairs ≤ length half₀) × (m ≡ min n mostAtoms)
 
 abbrev μ-loop : tie.MeasureT-loop
-μ-loop half₀ i line p₀ j₀ half p j = mostAtoms - j
+μ-loop half₀ i line n m p₀ j₀ half p j = m - j
 
 is-outside-requires : tie.Need-is-outside-requires Inv-loop μ-loop
 is-outside-requires c κs = tt
 
 returns : tie.Need-returns Inv-loop μ-loop
-returns c = store-out _ _ _ (sym (c .before .is-outside .ensures) ∙ c .if1 .taken)
+returns c = store-out _ _ _ _ (sym (c .before .is-outside .ensures) ∙ c .if1 .taken)
 
 inner : (c : tie.Else1 Inv-loop μ-loop) → isOutside mostAtoms (c .before .before .before .args .i) ≡ false
 inner c = sym (c .before .is-outside .ensures) ∙ c .if1 .left
 
 returns-2 : tie.Need-returns-2 Inv-loop μ-loop
-returns-2 c = store-short _ _ _ (inner (c .before)) (c .if2 .taken)
+returns-2 c = store-short _ _ _ _ (inner (c .before)) (c .if2 .taken)
+
+within-requires : tie.Need-within-requires Inv-loop μ-loop
+within-requires c κs = tt
 
 start-requires : tie.Need-start-requires Inv-loop μ-loop
-start-requires c κs = atom _ (inner (c .before))
+start-requires c κs = atom _ (inner (c .before .before))
 
 loop-holds : tie.Need-loop-holds Inv-loop μ-loop
 loop-holds c =
-    let (l, h) = atom _ (inner (c .before .before)) in
-    (store-first _ _ _ _ l h (c .start .ensures .0), inner (c .before .before), c .before .if2 .left)
+    let (l, h) = atom _ (inner (c .before .before .before)) in
+    (store-first _ _ _ _ _ (c .before .within .ensures .1) l h (c .start .ensures .0), inner (c .before .before .before), c .before .before .if2 .left, c .before .within .ensures .0)
 
 element-copy-out-half : tie.Need-element-copy-out-half Inv-loop μ-loop
 element-copy-out-half c = omega arith
@@ -43,7 +46,10 @@ slice-write-half : tie.Need-slice-write-half Inv-loop μ-loop
 slice-write-half c = let v = c .before .before .loop .inv in store-place (v .0) (c .before .loop-test .taken) (v .2)
 
 add-p : tie.Need-add-p Inv-loop μ-loop
-add-p c = let v = c .before .before .loop .inv in omega (arith, along-place _ _ _ (v .0 .first) (v .0 .low) (c .before .loop-test .taken) refl, v .0 .here)
+add-p c =
+    let v = c .before .before .loop .inv in
+    let l : c .before .before .loop .j < mostAtoms = omega (arith, c .before .loop-test .taken, v .0 .few) in
+    omega (arith, along-place _ _ _ (v .0 .first) (v .0 .low) l refl, v .0 .here)
 
 add-j : tie.Need-add-j Inv-loop μ-loop
 add-j c = omega arith
@@ -54,7 +60,7 @@ loop-less c = omega arith
 loop-again : tie.Need-loop-again Inv-loop μ-loop
 loop-again c =
     let v = c .before .before .loop .inv in
-    (store-next (v .0) (c .before .loop-test .taken), v .1, v .2)
+    (store-next (v .0) (c .before .loop-test .taken), v .1, v .2, v .3)
 
 same-length : tie.Need-same-length Inv-loop μ-loop
 same-length c = c .before .loop .inv .0 .size
@@ -62,7 +68,7 @@ same-length c = c .before .loop .inv .0 .size
 returns-3 : tie.Need-returns-3 Inv-loop μ-loop
 returns-3 c =
     let v = c .before .loop .inv in
-    store-last (v .0) (c .loop-test .left) (v .1) (v .2)
+    store-last (v .0) _ (v .3) (c .loop-test .left) (v .1) (v .2)
 
 pub put-row-spec : {M : Type 1} → statement M
 put-row-spec =
@@ -73,6 +79,7 @@ put-row-spec =
     is-outside-requires
     returns
     returns-2
+    within-requires
     start-requires
     loop-holds
     element-copy-out-half
