@@ -1,4 +1,4 @@
--- Document 01's joined rings by tables and by what is kept of them; and tables that no molecule has.
+-- Work. Two joined rings by tables and by what is kept of them, computed; and tables that no molecule has.
 use Prim.Native.Nat.{ℕ}
 use mathlib.Core.Path.{_≡_, refl}
 use mathlib.Core.Bool.{cond}
