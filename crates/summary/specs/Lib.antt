@@ -8,3 +8,4 @@ pub mod Layout
 pub mod Summary
 pub mod Back
 pub mod Unique
+pub mod Examples
