@@ -135,6 +135,11 @@ tteuyomal_reply tteuyomal_indices(size_t atoms, const uint8_t *bonds, size_t bon
 tteuyomal_reply tteuyomal_vertex(size_t atoms, const uint8_t *bonds, size_t bonds_len, size_t atom, uint64_t *sums,
                                  size_t sums_len);
 
+/* Writes one number: how far the farthest atom is from an atom, the largest of its distances; 0 in a block of one atom.
+ * Refusals: the block's, then 18 at 0 (no such atom), then 9 (largest_len 0). */
+tteuyomal_reply tteuyomal_farthest(size_t atoms, const uint8_t *bonds, size_t bonds_len, size_t atom,
+                                   uint64_t *largest, size_t largest_len);
+
 /* Writes the common denominator D, the least common multiple of the numbers of shortest paths of all pairs, and for
  * each bond, in list order, the whole number D times its contribution to W. These numbers add up to D times W.
  * Refusals: the block's, then 9 (shares_len below the number of bonds, or denominator_len 0), then 8. */

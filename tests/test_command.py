@@ -258,7 +258,7 @@ class Measuring(Room):
         status, said = self.run_command("measure", file)
         self.assertEqual(status, 0)
         self.assertTrue(said.startswith(f"{file}: atoms 10 bonds 11 W 109 even 52 odd 57 polarity 12 "), said)
-        for words in ("J 1.925367726", "Szeged 243"):
+        for words in ("largest 5", "J 1.925367726", "Szeged 243"):
             self.assertIn(words, said)
         self.assertNotIn("Hosoya", said, "the block is no tree")
         tree = self.put("b.mol", Block(4, [(1, 2), (2, 3), (3, 4)]).molfile())

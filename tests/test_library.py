@@ -25,6 +25,7 @@ class Refusals(unittest.TestCase):
         for atom in (0, 7, 2**64, 2**64 + 1):
             with self.subTest(atom):
                 self.refuses(18, 0, library.vertex, 6, RING, atom)
+                self.refuses(18, 0, library.farthest, 6, RING, atom)
                 for asked in ((atom, 1, 1, 1), (1, atom, 1, 1), (1, 1, atom, 1), (1, 1, 1, atom)):
                     self.refuses(18, 0, library.placed_distance, FORTY, *asked)
 
@@ -41,6 +42,7 @@ class Refusals(unittest.TestCase):
             lambda: library.indices(-(2**64) + 6, RING),
             lambda: library.indices(6, [(1, -1)]),
             lambda: library.vertex(6, RING, -1),
+            lambda: library.farthest(6, RING, -1),
             lambda: library.placed_distance(FORTY, 1, -1, 1, 1),
         ):
             with self.assertRaisesRegex(ValueError, "negative"):
@@ -119,6 +121,7 @@ class Answers(unittest.TestCase):
         self.assertEqual(library.indices(6, ring()), (6, 27, 12, 15, 3))
         self.assertEqual(library.contributions(6, ring()), (2, [9] * 6))
         self.assertEqual(library.vertex(6, ring(), 1), (9, 4, 5, 3, 3, 2, 2))
+        self.assertEqual(library.farthest(6, ring(), 1), 3)
 
     def test_bond_bytes(self):
         self.assertEqual(library.indices(6, FORTY[10:22]), (6, 27, 12, 15, 3))

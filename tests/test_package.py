@@ -72,6 +72,7 @@ class Values(unittest.TestCase):
     def test_indices(self):
         self.assertEqual(RING_OF_6.balaban(), 1_999_999_998)
         self.assertEqual(RING_OF_6.szeged(), (54, [9] * 6))
+        self.assertEqual([Block(4, [(1, 2), (2, 3), (3, 4)]).farthest(atom) for atom in (1, 2)], [3, 2])
         self.assertEqual(Block(4, [(1, 2), (2, 3), (3, 4)]).sets(), (5, 8))
 
     def test_one_version(self):

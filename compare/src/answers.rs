@@ -89,6 +89,18 @@ pub fn vertex(atoms: usize, bonds: &[u8], atom: usize, room: usize) -> Result<[u
     Ok(block.vertex(atom).fields())
 }
 
+/// How far the farthest atom is from one: the block's, then 18 at 0, then 9.
+pub fn farthest(atoms: usize, bonds: &[u8], atom: usize, room: usize) -> Result<u64, Refusal> {
+    let block = read_block(atoms, bonds)?;
+    if atom == 0 || atom > block.atoms {
+        return refuse(18, 0);
+    }
+    if room < 1 {
+        return refuse(9, 0);
+    }
+    Ok(block.farthest(atom))
+}
+
 /// D and one share a bond: the block's, then 9 for either output, then 8.
 pub fn contributions(
     atoms: usize,

@@ -32,6 +32,14 @@ mod c {
             sums: *mut u64,
             sums_len: usize,
         ) -> u64;
+        pub fn tteuyomal_farthest(
+            atoms: usize,
+            bonds: *const u8,
+            bonds_len: usize,
+            atom: usize,
+            largest: *mut u64,
+            largest_len: usize,
+        ) -> u64;
         pub fn tteuyomal_contributions(
             atoms: usize,
             bonds: *const u8,
@@ -136,6 +144,10 @@ pub fn indices(atoms: usize, bonds: &[u8], fields: &mut [u64]) -> u64 {
 
 pub fn vertex(atoms: usize, bonds: &[u8], atom: usize, sums: &mut [u64]) -> u64 {
     unsafe { c::tteuyomal_vertex(atoms, bonds.as_ptr(), bonds.len(), atom, sums.as_mut_ptr(), sums.len()) }
+}
+
+pub fn farthest(atoms: usize, bonds: &[u8], atom: usize, largest: &mut [u64]) -> u64 {
+    unsafe { c::tteuyomal_farthest(atoms, bonds.as_ptr(), bonds.len(), atom, largest.as_mut_ptr(), largest.len()) }
 }
 
 pub fn contributions(atoms: usize, bonds: &[u8], shares: &mut [u64], denominator: &mut [u64]) -> u64 {

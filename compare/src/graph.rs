@@ -1,6 +1,6 @@
 //! A molecular graph, plain search from every atom, and the numbers that are sums over distances.
 
-use std::collections::VecDeque;
+use std::collections::{BTreeSet, VecDeque};
 
 /// Atoms are numbered from 1.
 #[derive(Clone, Debug, PartialEq, Eq)]
@@ -112,6 +112,19 @@ impl Graph {
             seen.twos += (d == 2) as u64;
         }
         seen
+    }
+
+    /// How far the farthest atom is: how often the atoms reached grow by those bonded to them until all are reached.
+    pub fn farthest(&self, atom: usize) -> u64 {
+        let neighbours = self.neighbours();
+        let mut reached: BTreeSet<usize> = [atom].into();
+        let mut rounds = 0;
+        while reached.len() < self.atoms {
+            let grown: BTreeSet<usize> = reached.iter().flat_map(|&a| neighbours[a].iter().copied()).collect();
+            reached.extend(grown);
+            rounds += 1;
+        }
+        rounds
     }
 }
 

@@ -142,6 +142,11 @@ fn joining_rules() {
                 [w, ia.even + ib.even + even, ia.polarity + ib.polarity + polarity]
             );
             assert_eq!(found.odd, w - found.even);
+            let largest = |graph: &Graph| graph.distances().concat().into_iter().max();
+            let (fa, fb) = (before.farthest(a), own.farthest(b - before.atoms));
+            let across = (fa + 1 + fb) as usize;
+            assert_eq!(largest(&after), largest(&before).max(largest(own)).max(Some(across)));
+            assert_eq!([after.farthest(a), after.farthest(b)], [fa.max(1 + fb), fb.max(1 + fa)]);
         }
     }
 }

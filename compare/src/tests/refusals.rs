@@ -67,6 +67,11 @@ fn lone_blocks_after_their_own_refusals() {
     assert_eq!(answers::vertex(6, &six, 0, 7), refused(18, 0));
     assert_eq!(answers::vertex(6, &six, 1, 6), refused(9, 0));
     assert_eq!(answers::vertex(6, &six, 1, 7), Ok([9, 4, 5, 3, 3, 2, 2]));
+    assert_eq!(answers::farthest(7, &six, 1, 1), refused(7, 0));
+    assert_eq!(answers::farthest(6, &six, 7, 0), refused(18, 0));
+    assert_eq!(answers::farthest(6, &six, 1, 0), refused(9, 0));
+    assert_eq!(answers::farthest(6, &six, 1, 1), Ok(3));
+    assert_eq!(answers::farthest(1, &[], 1, 1), Ok(0));
     let twenty = squares(20);
     assert_eq!(answers::contributions(61, &twenty.bond_bytes(), 79, 1), refused(9, 0));
     assert_eq!(answers::contributions(61, &twenty.bond_bytes(), 80, 0), refused(9, 0));

@@ -13,7 +13,6 @@ use block::ATOMS;
 use block::Indices;
 use block::Vertex;
 use joining::grown;
-use joining::joined;
 use reply::wide;
 ghost use mathlib.Core.Path.{_≡_};
 ghost use Prim.Native.Nat.{ℕ, _+_, _*_, _-_, _<_};
@@ -22,6 +21,7 @@ ghost use Rattle.graph.specs.Assembly.{written};
 ghost use Rattle.block.specs.Block.{mostAtoms};
 ghost use Rattle.block.specs.Index.{indicesOf};
 ghost use Rattle.assembly.specs.Placements.{mostPlacements};
+ghost use Rattle.joining.specs.Joining.{joinedOf};
 ghost use Rattle.compose.specs.Joints.{ends, entry, link, joinsOf, between, sightAt, Laid, Task, Turn};
 
 // The distance of an atom in the row of an end.
@@ -112,6 +112,22 @@ pub(crate) fn since(
     v
 }
 
+// The running summary: the six numbers of the molecule as far as it is built.
+pub(crate) struct Summary {
+    pub(crate) fields: Indices,
+}
+
+impl Summary {
+    // The summary with a block more, joined by one bond: `core` is counted from its end in the molecule, `own` from its end in the block.
+    fn joined(self, block: Indices, core: Vertex, own: Vertex) -> Summary
+        ensures { λ r. ⌜ r .fields ≡ joinedOf (self .fields) block core own ⌝ }
+    {
+        Summary {
+            fields: joining::joined(self.fields, block, core, own),
+        }
+    }
+}
+
 // The six numbers of the molecule: the first placement's block, and one join after the other. What is counted at a join is kept for the later ones.
 pub(crate) fn composed(
     links: &Links,
@@ -123,14 +139,16 @@ pub(crate) fn composed(
     requires { ⌜ ((blocks : ℕ → Graph) × Task blocks (count - 1) (now links) (now rows) (now counts) (now numbers)) ⌝ }
     ensures { λ r. ⌜ ((blocks : ℕ → Graph) → Task blocks (count - 1) (now (links .entry)) (now (rows .entry)) (now (counts .entry)) (now (numbers .entry)) → r ≡ indicesOf (written blocks (joinsOf (now (links .entry))) (count - 1))) ⌝ }
 {
-    let mut all = numbers_at(numbers, links[0][FIRST]);
+    let mut s = Summary {
+        fields: numbers_at(numbers, links[0][FIRST]),
+    };
     let mut k: usize = 1;
     while k < count {
         let core = since(links, rows, counts, k, begun(links, rows, counts, k));
         let own = counts_at(counts, 2 * k);
-        all = joined(all, numbers_at(numbers, links[k][FIRST]), core, own);
+        s = s.joined(numbers_at(numbers, links[k][FIRST]), core, own);
         counts[2 * k + 1] = count_row(core);
         k += 1;
     }
-    all
+    s.fields
 }

@@ -29,6 +29,16 @@ fn around(n: usize, bonds: &[u8], row: Row) -> bool {
     told::of_around(reply).is(row, 1)
 }
 
+fn farthest(n: usize, bonds: &[u8], row: Row) -> bool {
+    let reply = block::row(n, bonds, row.first(0, FAR));
+    told::of_row(reply).is(row, 1)
+}
+
+fn largest(n: usize, bonds: &[u8], row: Row) -> bool {
+    let reply = block::measure(n, bonds);
+    told::of_largest(reply).is(row, 0)
+}
+
 fn apart(n: usize, bonds: &[u8], row: Row) -> bool {
     let reply = block::distance(n, bonds, row.first(0, FAR), row.first(1, FAR));
     told::of_apart(reply).is(row, 2)
@@ -96,6 +106,8 @@ pub(crate) fn right(letter: u8, n: usize, bonds: &[u8], row: Row) -> bool {
         b'c' => checked(n, bonds, row),
         b'i' => measured(n, bonds, row),
         b'v' => around(n, bonds, row),
+        b'r' => farthest(n, bonds, row),
+        b'l' => largest(n, bonds, row),
         b'a' => apart(n, bonds, row),
         b'd' | b'e' => shared(letter, n, bonds, row),
         b'p' | b'm' | b'n' => valued(letter, n, bonds, row),

@@ -16,6 +16,11 @@ fn composed(deck: &[u8], row: Row) -> bool {
     told::of_measured(reply).is(row, 0)
 }
 
+fn largest(deck: &[u8], row: Row) -> bool {
+    let reply = molecule::compose(deck);
+    told::of_largest(reply).is(row, 0)
+}
+
 // The first field that differs, 0 for none.
 fn judged(deck: &[u8], row: Row) -> bool {
     let reply = molecule::judge(deck);
@@ -70,6 +75,7 @@ fn written(letter: u8, deck: &[u8], row: Row) -> bool {
 pub(crate) fn right(letter: u8, deck: &[u8], row: Row) -> bool {
     match letter {
         b'c' => composed(deck, row),
+        b'l' => largest(deck, row),
         b'j' => judged(deck, row),
         b'a' => apart(deck, row),
         b'f' => found(deck, row),

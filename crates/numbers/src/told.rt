@@ -4,7 +4,10 @@ use crate::row::STAYS;
 use block::Apart;
 use block::Around;
 use block::Measured;
+use block::OneRow;
 use reply::Refusal;
+use reply::Reply;
+use reply::wide;
 use shares::Shares;
 
 // A refusal's number and place, or so many values; behind them the entries that stay.
@@ -55,6 +58,22 @@ pub(crate) fn of_measured(m: Measured) -> Told {
             count: 5,
             values: [x.atoms, x.w, x.even, x.odd, x.polarity, STAYS, STAYS, STAYS],
         },
+    }
+}
+
+// The largest distance alone: of a molecule, and of a row.
+pub(crate) fn of_largest(m: Measured) -> Told {
+    match m {
+        Measured::Refused(r) => refusal(r),
+        Measured::Of(x) => one(x.largest),
+    }
+}
+
+pub(crate) fn of_row(seen: OneRow) -> Told {
+    let reply = seen.reply;
+    match reply {
+        Reply::Refused(r) => refusal(r),
+        Reply::Fine => one(wide(seen.largest)),
     }
 }
 

@@ -22,6 +22,7 @@ pub fn stack(decks: &[&DeckPlan]) {
         ("check_block", most(&blocks, |bonds| archive::check_block(64, bonds))),
         ("indices", most(&blocks, |bonds| archive::indices(64, bonds, &mut [0; 5]))),
         ("vertex", most(&blocks, |bonds| archive::vertex(64, bonds, 64, &mut [0; 7]))),
+        ("farthest", most(&blocks, |bonds| archive::farthest(64, bonds, 64, &mut [0]))),
         ("contributions", most(&blocks, |bonds| archive::contributions(64, bonds, &mut [0; MOST_BONDS], &mut [0]))),
         ("szeged", most(&blocks, |bonds| archive::szeged(64, bonds, &mut [0; MOST_BONDS], &mut [0]))),
         ("balaban", most(&blocks, |bonds| archive::balaban(64, bonds, &mut [0]))),

@@ -177,6 +177,16 @@ impl Checker {
         self.agree(call, code(&right), reply, fault);
     }
 
+    pub fn farthest(&mut self, atoms: usize, bonds: &[u8], atom: usize, room: usize) {
+        let (lent, mut out) = (Shown::new(bonds), Lent::new(room));
+        let reply = archive::farthest(atoms, lent.part(), atom, out.part());
+        self.holds(lent.is_still(bonds), "an input was changed");
+        let right = answers::farthest(atoms, bonds, atom, room);
+        let fault = out.fault(&written(&right, |&largest| vec![largest]));
+        let call = || format!("farthest {atoms} atom {atom} room {room} {}", hex(bonds));
+        self.agree(call, code(&right), reply, fault);
+    }
+
     pub fn contributions(&mut self, atoms: usize, bonds: &[u8], room: usize, d_room: usize) {
         let (lent, mut out, mut d_out) = (Shown::new(bonds), Lent::new(room), Lent::new(d_room));
         let reply = archive::contributions(atoms, lent.part(), out.part(), d_out.part());

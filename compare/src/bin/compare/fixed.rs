@@ -37,6 +37,7 @@ fn whole_block(checker: &mut Checker, atoms: usize, bonds: &[u8]) {
     checker.indices(atoms, bonds, 5);
     for atom in 0..=atoms.min(65) {
         checker.vertex(atoms, bonds, atom, 7);
+        checker.farthest(atoms, bonds, atom, 1);
     }
     checker.contributions(atoms, bonds, bonds.len(), 1);
     checker.szeged(atoms, bonds, bonds.len(), 1);
@@ -138,6 +139,7 @@ fn buffers(checker: &mut Checker) {
                 checker.polynomial(atoms, &ring, 0.0, room);
                 for atom in [0, 1, 7] {
                     checker.vertex(atoms, &ring, atom, room);
+                    checker.farthest(atoms, &ring, atom, room);
                 }
                 for d_room in 0..=3 {
                     checker.contributions(atoms, &ring, room, d_room);
@@ -178,6 +180,8 @@ fn places_asked(checker: &mut Checker) {
         for atom in asked {
             checker.vertex(6, &shapes::ring(6).bond_bytes(), atom, 7);
             checker.vertex(atom, &shapes::ring(6).bond_bytes(), 1, 7);
+            checker.farthest(6, &shapes::ring(6).bond_bytes(), atom, 1);
+            checker.farthest(atom, &shapes::ring(6).bond_bytes(), 1, 1);
             checker.check_block(atom, &shapes::ring(6).bond_bytes());
         }
     });

@@ -159,6 +159,8 @@ fn block(checker: &mut Checker, random: &mut Random) {
     checker.indices(atoms, &bonds, room);
     let (atom, room) = (random.between(0, atoms + 1), about(random, 7));
     checker.vertex(atoms, &bonds, atom, room);
+    let (atom, room) = (random.between(0, atoms + 1), random.below(8).min(1));
+    checker.farthest(atoms, &bonds, atom, room);
     let (room, d_room) = (about(random, bonds.len() / 2), random.below(8).min(1));
     checker.contributions(atoms, &bonds, room, d_room);
     let (room, index_room) = (about(random, bonds.len() / 2), random.below(8).min(1));

@@ -1,4 +1,4 @@
--- `compose::joints::composed` meets its contract. The loop's invariant: all has the numbers of the first k placements, and their joins are made.
+-- `compose::joints::composed` meets its contract. The loop's invariant: s has the numbers of the first k placements, and their joins are made.
 -- Assumes nothing.
 use Prim.Native.Nat.{ℕ, _+_, _*_, _-_, _≤_, _<_}
 use mathlib.Core.Path.{_≡_, sym, _∙_, ap}
@@ -16,13 +16,13 @@ use Rattle.compose.proofs.joints.composed.Statement.{statement}
 use Rattle.compose.proofs.joints.composed.Tie as tie
 
 abbrev Inv-loop : tie.InvT-loop
-Inv-loop links rows numbers counts₀ count all₀ k₀ counts all k =
+Inv-loop links rows numbers counts₀ count s₀ k₀ counts s k =
     (1 ≤ k) × (k - 1 ≤ count - 1) × (length counts ≡ ends)
     × ((blocks : ℕ → Graph) → Task blocks (count - 1) links rows counts₀ numbers
-    → (all ≡ indicesOf (written blocks (joinsOf links) (k - 1))) × Counted blocks (count - 1) links counts k)
+    → (s .fields ≡ indicesOf (written blocks (joinsOf links) (k - 1))) × Counted blocks (count - 1) links counts k)
 
 abbrev μ-loop : tie.MeasureT-loop
-μ-loop links rows numbers counts₀ count all₀ k₀ counts all k = count - k
+μ-loop links rows numbers counts₀ count s₀ k₀ counts s k = count - k
 
 index-1-numbers-at : tie.Need-index-1-numbers-at Inv-loop μ-loop
 index-1-numbers-at c = lit< tt
@@ -86,14 +86,14 @@ module _ (c : tie.After-count-row Inv-loop μ-loop) where
   abbrev turning : tie.In-loop Inv-loop μ-loop
   turning = c .before .before .before .before .before .before .before .before .before
 
-mul-t23 : tie.Need-mul-t23 Inv-loop μ-loop
-mul-t23 c = omega (arith, small (turning c))
+mul-t24 : tie.Need-mul-t24 Inv-loop μ-loop
+mul-t24 c = omega (arith, small (turning c))
 
-add-t29 : tie.Need-add-t29 Inv-loop μ-loop
-add-t29 c = omega (arith, small (turning c))
+add-t30 : tie.Need-add-t30 Inv-loop μ-loop
+add-t30 c = omega (arith, small (turning c))
 
-mul-t31 : tie.Need-mul-t31 Inv-loop μ-loop
-mul-t31 c = omega (arith, small (turning c))
+mul-t32 : tie.Need-mul-t32 Inv-loop μ-loop
+mul-t32 c = omega (arith, small (turning c))
 
 slice-set-from-counts : tie.Need-slice-set-from-counts Inv-loop μ-loop
 slice-set-from-counts c = omega (arith, small (turning c), turning c .before .loop .inv .2)
@@ -125,13 +125,13 @@ loop-again c =
     )
 
 same-length : tie.Need-same-length Inv-loop μ-loop
-same-length c = c .before .loop .inv .2 ∙ sym (c .before .before .before .before .pre .1 .counted .long)
+same-length c = c .before .before .loop .inv .2 ∙ sym (c .before .before .before .before .before .pre .1 .counted .long)
 
 returns : tie.Need-returns Inv-loop μ-loop
 returns c blocks t =
-    let a = c .before .before .before .before .args in
-    let e : c .before .loop .k - 1 ≡ a .count - 1 = omega arith in
-    c .before .loop .inv .3 blocks t .0 ∙ ap (λ (m : ℕ). indicesOf (written blocks (joinsOf (a .links .now)) m)) e
+    let a = c .before .before .before .before .before .args in
+    let e : c .before .before .loop .k - 1 ≡ a .count - 1 = omega arith in
+    c .before .before .loop .inv .3 blocks t .0 ∙ ap (λ (m : ℕ). indicesOf (written blocks (joinsOf (a .links .now)) m)) e
 
 pub composed-spec : {M : Type 1} → statement M
 composed-spec =
@@ -153,9 +153,9 @@ composed-spec =
     numbers-at-requires-2
     joined-requires
     count-row-requires
-    mul-t23
-    add-t29
-    mul-t31
+    mul-t24
+    add-t30
+    mul-t32
     slice-set-from-counts
     add-k
     loop-less
