@@ -35,9 +35,9 @@ extern "C" {
 
 /* ---- The reply of every function: one number ----
  *
- * reply % 256 says what: 0 fine (judging: accepted); 1 to 254 a refusal, by the number of the list below; 255 the
- * sheet differs (judging only). reply / 256 says where: the place of a refusal, or the first wrong field, 1 to 5
- * or, of a sheet of kind 4, 1 to 6.
+ * reply % 256 says what: 0 fine (judging: accepted); 1 to 253 a refusal, by the number of the list below; 254 all
+ * products of a library are done; 255 the sheet differs (judging only). reply / 256 says where: the place of a
+ * refusal, or the first wrong field, 1 to 5 or, of a sheet of kind 4, 1 to 6.
  *
  * A refusal changes no byte of any output. A success writes what the function's comment says, from the front of the
  * output; whatever follows in it stays as it was.
@@ -45,6 +45,7 @@ extern "C" {
 typedef uint64_t tteuyomal_reply;
 
 #define TTEUYOMAL_FINE 0
+#define TTEUYOMAL_DONE 254
 #define TTEUYOMAL_DIFFERS 255
 
 /* What is wrong, by number. The first refusal in a function's order is the one that is told. */
@@ -78,17 +79,20 @@ enum tteuyomal_refusal {
     TTEUYOMAL_MOLFILE_LINE = 25,    /* a line of the molfile is missing or too short */
     TTEUYOMAL_MOLFILE_NUMBER = 26,  /* a count or a bond end of the molfile isn't blanks, then at least one digit */
     TTEUYOMAL_MOLFILE_END = 27,     /* a bond end of the molfile is outside its atom list */
+    TTEUYOMAL_SITE_COUNT = 31,      /* a library's site count is 0 or above 4 */
+    TTEUYOMAL_CANDIDATE_COUNT = 32, /* a site's candidate count is 0 or above 8 */
+    TTEUYOMAL_SITE_TAKEN = 33,      /* a site's atom was used by an earlier site */
     TTEUYOMAL_NO_TREE = 34          /* the block's bonds are not one fewer than its atoms */
 };
 
 /* The place of a refusal. Lone block: the number of the bond, from 1, for 3 to 6, else 0. Deck: the first byte of
- * the record, from 0; of the bond for 3 to 6; of the placement for 16 to 19, 23 and 24; the deck's length where a
+ * the record, from 0; of the bond for 3 to 6; of the placement for 16 to 19, 23 and 24, but of the record for all of a library; the deck's length where a
  * record is expected and the deck ends; the first byte too many. Molfile: for 25 to 27 the first byte of
  * the line, or the file's length where it is missing; for 3 to 6 the number of the kept bond. Neighbour
  * text: for 21 and 22 that byte or the number's first, or the text's length where it ends too early; for 3 to 6 the
  * number of the bond. 0 for 8, 9, 10, 20 and 34. */
 
-/* 0, a refusal's number, or TTEUYOMAL_DIFFERS. */
+/* 0, a refusal's number, TTEUYOMAL_DONE or TTEUYOMAL_DIFFERS. */
 static inline unsigned tteuyomal_what(tteuyomal_reply reply) { return (unsigned)(reply % 256); }
 
 /* The place of a refusal; for TTEUYOMAL_DIFFERS the first wrong field, 1 to 6. */
@@ -97,7 +101,8 @@ static inline uint64_t tteuyomal_where(tteuyomal_reply reply) { return reply / 2
 /* Whether it is a refusal. */
 static inline int tteuyomal_is_refusal(tteuyomal_reply reply)
 {
-    return tteuyomal_what(reply) != TTEUYOMAL_FINE && tteuyomal_what(reply) != TTEUYOMAL_DIFFERS;
+    return tteuyomal_what(reply) != TTEUYOMAL_FINE && tteuyomal_what(reply) != TTEUYOMAL_DIFFERS
+           && tteuyomal_what(reply) != TTEUYOMAL_DONE;
 }
 
 /* The version of these functions: 1,000,000 times the first of its three parts, 1,000 times the second, and the third. The
@@ -127,6 +132,22 @@ tteuyomal_reply tteuyomal_compose_six(const uint8_t *deck, size_t deck_len, uint
  * atom j of placement l. Refusals: 20, the deck's, then 18 at 0 (no such placement or atom), then 9 (no room). */
 tteuyomal_reply tteuyomal_placed_distance(const uint8_t *deck, size_t deck_len, size_t k, size_t i, size_t l, size_t j,
                                           uint64_t *distance, size_t distance_len);
+
+/* ---- Libraries ---- */
+
+/* Writes one number: how many products a library deck has. Refusals: 20, the blocks', 11 to 13, 31, 16, then site by site 13,
+ * 32, 18, 33 and candidate by candidate 13, 16, 18, 19, then 13, 11; then 9 (no room). */
+tteuyomal_reply tteuyomal_library_count(const uint8_t *deck, size_t deck_len, uint64_t *count, size_t count_len);
+
+/* Writes the sheet of the product at a position, from 0: a record of kind 3 (40 bytes) or, where kind is 4, of kind 4 (44
+ * bytes); and the next position. TTEUYOMAL_DONE, with nothing written, at or past the number of products. Refusals: 20, then 9
+ * (no room for a sheet), then the library's, then 9 (no room for the position). */
+tteuyomal_reply tteuyomal_library_step(const uint8_t *deck, size_t deck_len, size_t kind, size_t position, uint8_t *out,
+                                       size_t out_len, uint64_t *next, size_t next_len);
+
+/* The same for the products from a position on, as many whole sheets as fit, one after the other. */
+tteuyomal_reply tteuyomal_library_run(const uint8_t *deck, size_t deck_len, size_t kind, size_t position, uint8_t *out,
+                                      size_t out_len, uint64_t *next, size_t next_len);
 
 /* ---- One block ---- */
 

@@ -184,3 +184,52 @@ class Molfiles(unittest.TestCase):
             with self.subTest(text), self.assertRaises(Refused) as caught:
                 library.read_molfile(text)
             self.assertEqual((caught.exception.number, caught.exception.place), (number, place))
+
+
+class Libraries(unittest.TestCase):
+    """A ring of six and one atom; the atom or another ring at atom 1, the atom at atom 4."""
+
+    RING6 = bytes.fromhex("12000100 0100060006000102020303040405050606 01".replace(" ", ""))
+    ONE = bytes.fromhex("06000100020001000000")
+    TWO = bytes.fromhex("1100050001000200010202000101000104010200 01".replace(" ", ""))
+    DECK = RING6 + ONE + TWO
+
+    def fields(self, sheet):
+        return [int.from_bytes(sheet[at : at + width], "little") for at, width in ((4, 4), (8, 8), (16, 8), (24, 8), (32, 8))]
+
+    def test_products(self):
+        self.assertEqual(library.library_count(self.DECK), 2)
+        first, following = library.library_step(self.DECK, 0)
+        second, last = library.library_step(self.DECK, following)
+        self.assertEqual((following, last), (1, 2))
+        self.assertEqual(self.fields(first), [8, 62, 28, 34, 7])
+        self.assertEqual(self.fields(second), [13, 252, 124, 128, 16])
+        self.assertIsNone(library.library_step(self.DECK, 2))
+        self.assertIsNone(library.library_step(self.DECK, 2**63))
+
+    def test_run_is_the_steps(self):
+        for kind in (3, 4):
+            steps = [library.library_step(self.DECK, position, kind)[0] for position in (0, 1)]
+            self.assertEqual(library.library_run(self.DECK, 0, kind), (steps, 2))
+            self.assertEqual(library.library_run(self.DECK, 0, kind, 1), (steps[:1], 1))
+            self.assertEqual(list(library.library_products(self.DECK, kind)), steps)
+        self.assertIsNone(library.library_run(self.DECK, 2))
+
+    def test_the_assembly_written_out(self):
+        def deck(*placements):
+            return self.RING6 + self.ONE + library.assembly_record(placements)
+
+        for position, block in ((0, 2), (1, 1)):
+            written = deck((1, 0, 0, 0), (block, 1, 1, 1), (2, 1, 4, 1))
+            self.assertEqual(library.library_step(self.DECK, position)[0], library.write_sheet(written))
+            self.assertEqual(library.library_step(self.DECK, position, 4)[0], library.write_six(written))
+
+    def test_refusals(self):
+        for at, byte, number in ((38, 0, 31), (38, 5, 31), (36, 9, 16), (41, 0, 32), (41, 9, 32), (40, 7, 18), (48, 1, 33), (42, 9, 16), (44, 2, 18)):
+            with self.subTest((at, byte)), self.assertRaises(Refused) as caught:
+                library.library_count(self.DECK[:at] + bytes([byte]) + self.DECK[at + 1 :])
+            self.assertEqual((caught.exception.number, caught.exception.place), (number, 32))
+        for function in (library.compose, library.judge):
+            with self.assertRaises(Refused) as caught:
+                function(self.DECK)
+            self.assertEqual((caught.exception.number, caught.exception.place), (12, 32))

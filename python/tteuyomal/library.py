@@ -19,7 +19,7 @@ import numbers
 import operator
 import os
 import struct
-from collections.abc import Iterable
+from collections.abc import Iterable, Iterator
 from ctypes import c_char_p, c_double, c_size_t, c_uint8, c_uint64
 from typing import Any, NamedTuple
 
@@ -124,6 +124,9 @@ WORDS = {
     25: "a line of the molfile is missing or too short",
     26: "a count or a bond end of the molfile isn't blanks, then at least one digit",
     27: "a bond end of the molfile is outside its atom list",
+    31: "a library's site count is 0 or above 4",
+    32: "a site's candidate count is 0 or above 8",
+    33: "a site's atom was used by an earlier site",
     34: "the block's bonds are not one fewer than its atoms",
 }
 
@@ -416,6 +419,7 @@ _write_six = _function("write_six", _DECK + _BYTES)
 _compose_six = _function("compose_six", _DECK + _NUMBERS)
 _library_count = _function("library_count", _DECK + _NUMBERS)
 _library_step = _function("library_step", _DECK + 2 * [c_size_t] + _BYTES + _NUMBERS)
+_library_run = _function("library_run", _DECK + 2 * [c_size_t] + _BYTES + _NUMBERS)
 _read_molfile = _function("read_molfile", _TEXT + _BYTES + _NUMBERS)
 _write_molfile = _function("write_molfile", _BLOCK + _BYTES + _NUMBERS)
 _read_neighbours = _function("read_neighbours", _TEXT + _BYTES + _NUMBERS)
@@ -474,6 +478,26 @@ def library_step(deck: Bytes, position: int, kind: int = 3) -> tuple[bytes, int]
         return None
     _told(reply)
     return bytes(out)[: 44 if kind == 4 else 40], following[0]
+
+
+def library_run(deck: Bytes, position: int = 0, kind: int = 3, sheets: int = 4096) -> tuple[list[bytes], int] | None:
+    """The sheets of at most so many products from a position on, and the next position; None past the last."""
+    size = 44 if kind == 4 else 40
+    out, following = (c_uint8 * (size * sheets))(), (c_uint64 * 1)()
+    reply = _library_run(*_lent(deck), kind, _size(position, "the position"), out, size * sheets, following, 1)
+    if reply % 256 == 254:
+        return None
+    _told(reply)
+    written = bytes(out)[: size * (following[0] - position)]
+    return [written[at : at + size] for at in range(0, len(written), size)], following[0]
+
+
+def library_products(deck: Bytes, kind: int = 3, start: int = 0) -> Iterator[bytes]:
+    """The sheet of each product from a position on, in order: the last site turns fastest."""
+    position = start
+    while (told := library_run(deck, position, kind, 256)) is not None:
+        sheets, position = told
+        yield from sheets
 
 
 def _read_text(function: Any, text: Bytes) -> ReadBlock:

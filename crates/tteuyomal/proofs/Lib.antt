@@ -5,3 +5,4 @@ pub mod Shared
 pub mod Indexed
 pub mod MolfileReplies
 pub mod Texts
+pub mod Walking

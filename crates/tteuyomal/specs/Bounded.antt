@@ -13,7 +13,7 @@ use Rattle.reply.specs.Read.{Read, refused, read, _then_, refuseIf, refuseFor, 
 use Rattle.reply.specs.Chain.{if-read, neither}
 use Rattle.reply.specs.declared.Refusal.{Refusal}
 use Rattle.block.specs.Block.{mostAtoms, mostBytes, limit, bondsOf, graphOf, bondFault, bondsReply, blockReply}
-use Rattle.records.specs.Records.{blockKind, assemblyKind, lengthAt, kindAt, endAt, wanted, payloadAt, kindReply, lengthReply, recordReply}
+use Rattle.records.specs.Records.{blockKind, assemblyKind, kindAt, endAt, payloadAt, kindReply, isWrong, lengthReply, recordReply}
 use Rattle.records.specs.Taken.{taken}
 use Rattle.records.specs.declared.Kind.{Kind}
 use Rattle.assembly.specs.Book.{Book, used, bondBytes, bookOf, mostBlocks}
@@ -111,7 +111,7 @@ unfolding recordReply lengthReply
 record-bounded c ks d at h =
     then-bounded c (refuseIf (ltb (length d) (endAt d at)) 11 at) _ (if-bounded c (ltb (length d) (endAt d at)) 11 at (omega arith)) (λ u e.
     then-bounded c (kindReply ks d at) (λ k. lengthReply k d at) (kind-bounded c ks d at h) (λ k f.
-    if-bounded c (not (eqb (lengthAt d at) (wanted k d at))) 13 at (omega arith)))
+    if-bounded c (isWrong k d at) 13 at (omega arith)))
 
 -- An assembly: the place is at most the number of placements.
 first-number : (q : Placement) → firstFault q ≤ mostNumber

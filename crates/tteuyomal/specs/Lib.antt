@@ -10,6 +10,7 @@ pub mod Replies
 pub mod Szeged
 pub mod Balaban
 pub mod FarthestAtom
+pub mod Libraries
 pub mod CountSets
 pub mod Molfiles
 pub mod Texts

@@ -27,6 +27,7 @@ use sheets::fields_of;
 mod balaban_j;
 mod count_sets;
 mod farthest_atom;
+mod libraries;
 mod molfiles;
 mod neighbour_text;
 mod szeged_terms;
