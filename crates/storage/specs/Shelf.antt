@@ -19,9 +19,12 @@ seek g x k (suc left) = cond (eqb (g k) x) k (seek g x (suc k) left)
 abbrev pub placeBy : (ℕ → ℕ) → ℕ → ℕ
 placeBy g x = seek g x 0 places
 
--- whether a place has the number: 0 is no block's
+-- whether k, where the search for x ended, is a place that has it: 0 is no block's number
+abbrev pub isHeld : ℕ → ℕ → Bool
+isHeld x k = not (eqb x 0) && ltb k places
+
 unfoldable pub heldBy : (ℕ → ℕ) → ℕ → Bool
-heldBy g x = not (eqb x 0) && ltb (placeBy g x) places
+heldBy g x = isHeld x (placeBy g x)
 
 -- what a refusal keeps
 abbrev pub unless : {A B : Type 0} → Read A → B → B → B

@@ -1,0 +1,2 @@
+-- Two queues at one table.
+pub mod Queues
