@@ -1,0 +1,1 @@
+// Blocks under numbers, gathered into a deck: definitions and laws. No code.
