@@ -83,7 +83,7 @@ module _ {G F O S T : Type 0} (trade : Trade G F O S T) where
     -- at the table a call is told what its shelf tells, and only the shelf changes
     pub table-answer : (q : Queue) (c : Call G O) → tableAnswer trade q t c ≡ answer trade (shelf w q t) c
     table-answer q (add x g) = ap (λ (b : Bool). done (refuseIf b 9 0 then λ _. addReply w (shelf w q t) (x .value) (trade .check g))) (le-ltb (length t) (tableBytes w) long)
-    table-answer q (look x) = ap (λ (b : Bool). fields (refuseIf b 9 0 then λ _. lookReply w (shelf w q t) (trade .fieldsAt) x)) (le-ltb (length t) (tableBytes w) long)
+    table-answer q (look x) = ap (λ (b : Bool). fields (refuseIf b 9 0 then λ _. lookReply w (shelf w q t) (trade .fieldsOf) x)) (le-ltb (length t) (tableBytes w) long)
     table-answer q (remove x) = ap (λ (b : Bool). done (refuseIf b 9 0 then λ _. dropReply w (shelf w q t) x)) (le-ltb (length t) (tableBytes w) long)
     table-answer q (compose o) = ap (λ (b : Bool). sheet (trade .said o (refuseIf b 9 0 then λ _. trade .composed (shelf w q t) o))) (le-ltb (length t) (tableBytes w) long)
 

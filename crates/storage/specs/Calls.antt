@@ -18,7 +18,7 @@ pub record Trade (Goods Fields Order Sheet Told : Type 0) : Type 0 where
   pub width : ℕ
   pub check : Goods → Read (Unit {0})
   pub stored : ℕ → Goods → List ℕ
-  pub fieldsAt : List ℕ → ℕ → Fields
+  pub fieldsOf : List ℕ → Fields
   pub composed : List ℕ → Order → Read Sheet
   pub said : Order → Read Sheet → Told
 
@@ -59,7 +59,7 @@ module _ {G F O S T : Type 0} (trade : Trade G F O S T) where
   -- what a shelf's bytes tell, and the bytes after the call
   abbrev pub answer : List ℕ → Call G O → Answer F T
   answer s (add x g) = done (addReply (trade .width) s (x .value) (trade .check g))
-  answer s (look x) = fields (lookReply (trade .width) s (trade .fieldsAt) x)
+  answer s (look x) = fields (lookReply (trade .width) s (trade .fieldsOf) x)
   answer s (drop x) = done (dropReply (trade .width) s x)
   answer s (compose o) = sheet (trade .said o (trade .composed s o))
 
@@ -76,7 +76,7 @@ module _ {G F O S T : Type 0} (trade : Trade G F O S T) where
   -- the same at the table: 9 first. These are the promises of the calls.
   abbrev pub tableAnswer : Queue → List ℕ → Call G O → Answer F T
   tableAnswer q t (add x g) = done (onTable (trade .width) t (addReply (trade .width) (shelf (trade .width) q t) (x .value) (trade .check g)))
-  tableAnswer q t (look x) = fields (onTable (trade .width) t (lookReply (trade .width) (shelf (trade .width) q t) (trade .fieldsAt) x))
+  tableAnswer q t (look x) = fields (onTable (trade .width) t (lookReply (trade .width) (shelf (trade .width) q t) (trade .fieldsOf) x))
   tableAnswer q t (drop x) = done (onTable (trade .width) t (dropReply (trade .width) (shelf (trade .width) q t) x))
   tableAnswer q t (compose o) = sheet (trade .said o (onTable (trade .width) t (trade .composed (shelf (trade .width) q t) o)))
 

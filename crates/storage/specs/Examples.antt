@@ -17,7 +17,7 @@ bytes = record {
   width = 3;
   check = λ g. refuseIf (ltb 255 g) 1 0;
   stored = λ x g. (x % 256) ∷ (x / 256) ∷ g ∷ [];
-  fieldsAt = λ s at. byteAt s (at + 2);
+  fieldsOf = λ l. byteAt l 2;
   composed = λ s x. refuseIf (not (holds 3 s x)) 16 0 then λ _. read (byteAt s (3 * placeOf 3 s x + 2) + 100);
   said = λ x r. r;
 }

@@ -4,7 +4,7 @@ use mathlib.Core.List.{List, [], _∷_}
 use mathlib.Core.Path.{_≡_}
 use lib.ListN.{length}
 use Rattle.reply.specs.Read.{Read, read}
-use Rattle.records.specs.Bytes.{le16, part}
+use Rattle.records.specs.Bytes.{le16}
 use Rattle.storage.specs.Calls.{Trade}
 use Rattle.storage.specs.Model.{Entry, Meaning}
 use Rattle.storage.specs.Storage.{Stores}
@@ -32,5 +32,5 @@ module _ {G F O S T : Type 0} (trade : Trade G F O S T) (m : Meaning G F O T) wh
     pub check : (g : G) → trade .check g ≡ m .fine g
     pub size : (x : ℕ) (g : G) → length (trade .stored x g) ≡ trade .width
     pub number : (x : ℕ) (g : G) → x < 65536 → le16 (trade .stored x g) 0 ≡ x
-    pub fields : (s : List ℕ) (at x : ℕ) (g : G) → m .fine g ≡ read tt → part s at (trade .width) ≡ trade .stored x g → trade .fieldsAt s at ≡ m .fieldsOf g
+    pub fields : (x : ℕ) (g : G) → m .fine g ≡ read tt → trade .fieldsOf (trade .stored x g) ≡ m .fieldsOf g
     pub composed : (s : List ℕ) (q : List (Entry G)) → Keeps wide s q → (o : O) → trade .said o (trade .composed s o) ≡ m .composedOf q o

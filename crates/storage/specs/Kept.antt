@@ -11,7 +11,7 @@ use lib.Seq.{sets}
 use Rattle.reply.specs.Read.{Read, refused, read, _then_, refuseIf}
 use Rattle.reply.specs.Chain.{then-read, if-read}
 use Rattle.records.specs.Bytes.{part}
-use Rattle.storage.specs.Shelf.{places, numberIn, placeOf, holds, unless, noNumber, roomReply, addReply, added, lookReply, dropReply, dropped}
+use Rattle.storage.specs.Shelf.{places, numberIn, placeOf, placeAt, holds, unless, noNumber, roomReply, addReply, added, lookReply, dropReply, dropped}
 use Rattle.storage.specs.Calls.{Number, Trade, Call, add, look, drop, compose, Answer, done, fields, sheet, answer, after}
 use Rattle.storage.specs.Model.{Entry, lookup, has, without, Meaning, toldAdd, toldLook, toldDrop, told, left}
 use Rattle.storage.specs.Seeks.{taken-most}
@@ -43,7 +43,7 @@ module _ {G F O S T : Type 0} {trade : Trade G F O S T} {m : Meaning G F O T} (h
     proper-at x e = lookup-proper q x (k .proper) (has-positive (m .nothing) q x e) (has-number (m .nothing) q x e)
 
     -- under a number that is held stands what was stored
-    pub stands : (x : ℕ) → has (m .nothing) q x ≡ true → part s (trade .width * placeOf (trade .width) s x) (trade .width) ≡ trade .stored x (lookup (m .nothing) q x .goods)
+    pub stands : (x : ℕ) → has (m .nothing) q x ≡ true → placeAt (trade .width) s (placeOf (trade .width) s x) ≡ trade .stored x (lookup (m .nothing) q x .goods)
     stands x e =
         let n = has-number (m .nothing) q x e in
         ap (part s (trade .width * placeOf (trade .width) s x)) (sym (h .size (lookup (m .nothing) q x .number) (lookup (m .nothing) q x .goods)))
@@ -58,13 +58,13 @@ module _ {G F O S T : Type 0} {trade : Trade G F O S T} {m : Meaning G F O T} (h
     unfolding dropReply toldDrop
     same-drop x = rw (k .stores .numbers x)
 
-    pub same-look : (x : ℕ) → lookReply (trade .width) s (trade .fieldsAt) x ≡ toldLook m q x
+    pub same-look : (x : ℕ) → lookReply (trade .width) s (trade .fieldsOf) x ≡ toldLook m q x
     unfolding lookReply toldLook
     same-look x = rw (k .stores .numbers x) (go (has (m .nothing) q x) refl)
       where
         go : (t : Bool) → has (m .nothing) q x ≡ t
-            → (refuseIf (not t) 30 0 then λ _. read (trade .fieldsAt s (trade .width * placeOf (trade .width) s x))) ≡ (refuseIf (not t) 30 0 then λ _. read (m .fieldsOf (lookup (m .nothing) q x .goods)))
-        go true e = ap read (h .fields s (trade .width * placeOf (trade .width) s x) x (lookup (m .nothing) q x .goods) (proper-at x e .fine) (stands x e))
+            → (refuseIf (not t) 30 0 then λ _. read (trade .fieldsOf (placeAt (trade .width) s (placeOf (trade .width) s x)))) ≡ (refuseIf (not t) 30 0 then λ _. read (m .fieldsOf (lookup (m .nothing) q x .goods)))
+        go true e = ap read (ap (trade .fieldsOf) (stands x e) ∙ h .fields x (lookup (m .nothing) q x .goods) (proper-at x e .fine))
         go false e = refl
 
     -- never more than eight

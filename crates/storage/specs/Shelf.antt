@@ -5,7 +5,7 @@ use mathlib.Core.List.{List, [], _∷_}
 use lib.Dec.{eqb, ltb}
 use lib.Seq.{sets}
 use Rattle.reply.specs.Read.{Read, refused, read, _then_, refuseIf}
-use Rattle.records.specs.Bytes.{le16}
+use Rattle.records.specs.Bytes.{le16, part}
 
 -- the places of a queue
 abbrev pub places : ℕ
@@ -59,9 +59,13 @@ module _ (w : ℕ) (s : List ℕ) where
   unfoldable pub added : ℕ → Read (Unit {0}) → List ℕ → List ℕ
   added x r new = unless (addReply x r) s (sets s (w * placeOf 0) new)
 
-  -- looking up: 30, then what the bytes say at the place
-  unfoldable pub lookReply : {F : Type 0} → (List ℕ → ℕ → F) → ℕ → Read F
-  lookReply fieldsAt x = refuseIf (not (holds x)) 30 0 then λ _. read (fieldsAt s (w * placeOf x))
+  -- the bytes of a place
+  abbrev pub placeAt : ℕ → List ℕ
+  placeAt k = part s (w * k) w
+
+  -- looking up: 30, then what the bytes of the place say
+  unfoldable pub lookReply : {F : Type 0} → (List ℕ → F) → ℕ → Read F
+  lookReply fieldsOf x = refuseIf (not (holds x)) 30 0 then λ _. read (fieldsOf (placeAt (placeOf x)))
 
   -- dropping: 30; the place has number 0 then
   unfoldable pub dropReply : ℕ → Read (Unit {0})
