@@ -4,10 +4,11 @@ use mathlib.Core.Bool.{Bool, true, false}
 use mathlib.Core.List.{List}
 use mathlib.Core.Path.{_≡_, refl, sym, ap, _∙_}
 use Rattle.graph.specs.Graph.{distance}
+use Rattle.graph.specs.Farthest.{farthest}
 use Rattle.reply.specs.Read.{Read, refused, read, _then_, refuseIf, refusal, isOutside}
 use Rattle.reply.specs.Chain.{not-read}
 use Rattle.block.specs.Block.{mostAtoms, graphOf, blockReply}
-use Rattle.block.specs.Rows.{rowOf, rowsOf, emptyRow, rowReply, saidRow}
+use Rattle.block.specs.Rows.{rowOf, rowsOf, farOf, emptyRow, rowReply, saidRow}
 use Rattle.block.specs.Index.{indicesReply, saidIndices, vertexOf, vertexReply, saidVertex, distanceReply, saidDistance, pairsOf, pairsReply, saidPairs}
 use Rattle.block.specs.Sums.{entry, pairEntry, indicesBy, countsBy, vertexBy}
 use Rattle.block.specs.Faults.{inside}
@@ -25,13 +26,13 @@ use Rattle.block.specs.declared.OneRow.{OneRow}
 use Rattle.block.proofs.Filling.{no-row}
 use Rattle.block.proofs.Replies.{not-fine}
 
-said-out : (m : Read (List ℕ)) (r : Refusal) → reply.Refused r ≡ saidRow m .reply → m ≡ refused r
+said-out : (m : Read (List ℕ × ℕ)) (r : Refusal) → reply.Refused r ≡ saidRow m .reply → m ≡ refused r
 said-out (refused s) r e = cc
-said-out (read row) r e = absurd (not-fine e)
+said-out (read x) r e = absurd (not-fine e)
 
-said-in : (m : Read (List ℕ)) → reply.Fine ≡ saidRow m .reply → m ≡ read (saidRow m .row)
+said-in : (m : Read (List ℕ × ℕ)) → reply.Fine ≡ saidRow m .reply → m ≡ read (saidRow m .row, saidRow m .largest)
 said-in (refused s) e = absurd (not-fine (sym e))
-said-in (read row) e = refl
+said-in (read x) e = refl
 
 -- a chain that asks for an atom first
 abbrev asked : {A : Type 0} → Read (Unit {0}) → Bool → Read A → Read A
@@ -52,9 +53,10 @@ module _ (n : ℕ) (xs : List ℕ) where
   unfolding indicesReply
   measure-refused r e = rw e
 
-  pub measure-fine : blockReply n xs ≡ read tt → (rows : List (List ℕ)) → rows ≡ rowsOf n xs → (x : Indices) → x ≡ indicesBy (min n mostAtoms) (pairEntry rows) → measured.Of x ≡ saidIndices (indicesReply n xs)
+  pub measure-fine : blockReply n xs ≡ read tt → (rows : List (List ℕ)) → rows ≡ rowsOf n xs → (far : List ℕ) → far ≡ farOf n xs
+      → (x : Indices) → x ≡ indicesBy (min n mostAtoms) (pairEntry rows) (entry far) → measured.Of x ≡ saidIndices (indicesReply n xs)
   unfolding indicesReply
-  measure-fine e rows q x p = rw (e, p, q, all-atoms n xs e, indices-are n xs e)
+  measure-fine e rows q far f x p = rw (e, p, q, f, all-atoms n xs e, indices-are n xs e)
 
   pub pairs-refused : (p : Pairs) (r : Refusal) → blockReply n xs ≡ refused r → p .reply ≡ reply.Refused r → p .at ≡ emptyRow → p ≡ saidPairs (pairsReply n xs)
   unfolding pairsReply
@@ -76,28 +78,34 @@ module _ (n : ℕ) (xs : List ℕ) where
 
       pub vertex-refused : around.Refused r ≡ saidVertex (vertexReply n xs i)
       unfolding vertexReply rowReply
-      vertex-refused = rw (asked-out (blockReply n xs) (isOutside n i) (rowOf (graphOf n xs) i) (read (vertexOf (graphOf n xs) i)) r out)
+      vertex-refused = rw (asked-out (blockReply n xs) (isOutside n i) (rowOf (graphOf n xs) i, farthest (graphOf n xs) i) (read (vertexOf (graphOf n xs) i)) r out)
 
       pub distance-refused : (j : ℕ) → apart.Refused r ≡ saidDistance (distanceReply n xs i j)
       unfolding distanceReply rowReply
-      distance-refused j = rw (asked-out (blockReply n xs) (isOutside n i) (rowOf (graphOf n xs) i) (asked (read tt) (isOutside n j) (read (distance (graphOf n xs) i j))) r out)
+      distance-refused j = rw (asked-out (blockReply n xs) (isOutside n i) (rowOf (graphOf n xs) i, farthest (graphOf n xs) i) (asked (read tt) (isOutside n j) (read (distance (graphOf n xs) i j))) r out)
 
     -- the row was read: of a block that is fine, for one of its atoms
     pub record Seen : Type 0 where
       pub fine : blockReply n xs ≡ read tt
       pub inner : isOutside n i ≡ false
       pub row-is : v .row ≡ rowOf (graphOf n xs) i
+      pub largest-is : v .largest ≡ farthest (graphOf n xs) i
 
     module _ (e : v .reply ≡ reply.Fine) where
       pub seen : Seen
       unfolding rowReply
       seen =
-          let (f, o, s) = asked-in (blockReply n xs) (isOutside n i) (rowOf (graphOf n xs) i) (saidRow (rowReply n xs i) .row) (said-in (rowReply n xs i) (sym e ∙ replied)) in
-          record { fine = f; inner = o; row-is = ap (λ (x : OneRow). x .row) W ∙ s }
+          let (f, o, s) = asked-in (blockReply n xs) (isOutside n i) (rowOf (graphOf n xs) i, farthest (graphOf n xs) i) (saidRow (rowReply n xs i) .row, saidRow (rowReply n xs i) .largest) (said-in (rowReply n xs i) (sym e ∙ replied)) in
+          record {
+            fine = f;
+            inner = o;
+            row-is = ap (λ (x : OneRow). x .row) W ∙ ap (λ (y : List ℕ × ℕ). y .0) s;
+            largest-is = ap (λ (x : OneRow). x .largest) W ∙ ap (λ (y : List ℕ × ℕ). y .1) s;
+          }
 
-      pub vertex-fine : (x : Vertex) → x ≡ vertexBy (min n mostAtoms) (entry (v .row)) → around.Of x ≡ saidVertex (vertexReply n xs i)
+      pub vertex-fine : (x : Vertex) → x ≡ vertexBy (min n mostAtoms) (entry (v .row)) (v .largest) → around.Of x ≡ saidVertex (vertexReply n xs i)
       unfolding vertexReply
-      vertex-fine x p = let S = seen in rw (S .fine, S .inner, p, S .row-is, all-atoms n xs (S .fine), vertex-is n xs (S .fine) i)
+      vertex-fine x p = let S = seen in rw (S .fine, S .inner, p, S .row-is, S .largest-is, all-atoms n xs (S .fine), vertex-is n xs (S .fine) i)
 
       pub distance-outside : (j : ℕ) → isOutside n j ≡ true → apart.Refused (refusal 18 0) ≡ saidDistance (distanceReply n xs i j)
       unfolding distanceReply

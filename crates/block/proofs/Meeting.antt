@@ -15,9 +15,10 @@ use lib.Pow.{pow-pos, pow-mono}
 use lib.Seq.{getD-set-same, getD-set-other, ext-getD}
 use borrow.Author.Tests.{eq-eqb, ne-eqb, lt-ltb, le-ltb}
 use Rattle.graph.specs.Graph.{Graph, Within, Sound, Walk, bonded, connected, distance}
+use Rattle.graph.specs.Farthest.{farthest}
 use Rattle.graph.specs.Connected.{connected-from, unconnected, connected-molecule}
 use Rattle.graph.specs.Sets.{has, alone, firsts, has-and, has-or, has-xor, has-none, has-alone, has-firsts, beyond, lowest, taken-one, taken-some}
-use Rattle.graph.specs.Search.{State, Seen, begin, depth-below, looked, deepened, met-distance, unmet-walk}
+use Rattle.graph.specs.Search.{State, Seen, Deepens, begin, depth-below, looked, deepened, met-distance, unmet-walk, last-level}
 use Rattle.block.specs.Block.{mostAtoms}
 use Rattle.block.specs.Rows.{table, rowOf}
 use Rattle.block.specs.Near.{Shows}
@@ -48,6 +49,12 @@ module _ (g : Graph) (near : List ℕ) (i : ℕ) where
     pub behind : (p : ℕ) → g .atoms ≤ p → getD row p 0 ≡ 0
     pub fits : rest + level < 2 ^ g .atoms
     pub seen : Seen g i (view row rest level next d)
+
+  -- the search is over: nothing is ahead, and d is one level more than the largest distance
+  pub record Over (next d : ℕ) : Type 0 where
+    pub ended : next ≡ 0
+    pub some : 1 ≤ d
+    pub deep : connected g ≡ true → d ≡ farthest g i + 1
 
   module _ (D : Shows g near) where
     fits-word : {m : ℕ} → m < 2 ^ g .atoms → m < 2 ^ mostAtoms
@@ -142,27 +149,28 @@ module _ (g : Graph) (near : List ℕ) (i : ℕ) where
               (record { met = λ v b. refl; waits = waits-then; near = near-then; level = level-then; depth = refl });
         }
 
+        -- the atom that was looked at is at the deepest level
+        pub looked-at : Within (g .atoms) u × (cond (has (bitXor level (2 ^ p)) u) d (getD (set row p d) (u - 1) 0) ≡ d)
+        looked-at = (u-atom, level-then u u-atom ∙ rw (low .1) refl)
+
     -- no atom waits: one level deeper
     module _ (row : List ℕ) (rest level next d : ℕ) (R : Running row rest level next d) (none : level ≡ 0) where
-      quiet : (v : ℕ) → Within (g .atoms) v → has level v ≡ false
+      pub quiet : (v : ℕ) → Within (g .atoms) v → has level v ≡ false
       quiet v b = ap (λ (x : ℕ). has x v) none ∙ has-none v
 
       pub kept : bitXor rest (bitAnd next rest) + bitAnd next rest ≡ rest
       kept = taken-some rest next
 
-      pub run-deeper : Running row (bitXor rest (bitAnd next rest)) (bitAnd next rest) 0 (d + 1)
-      run-deeper = record {
-        size = R .size;
-        behind = R .behind;
-        fits = omega (arith, R .fits, kept);
-        seen = deepened g i (sound D) (view row rest level next d) (R .seen) quiet (view row (bitXor rest (bitAnd next rest)) (bitAnd next rest) 0 (d + 1))
-            (record {
-              met = λ v b. ap not (has-xor rest (bitAnd next rest) v) ∙ rw (has-and next rest v) (met-then (has rest v) (has next v));
-              waits = λ v b. has-and next rest v ∙ ap (λ (t : Bool). has next v && t) (sym (not-not (has rest v)));
-              near = λ v b. has-none v;
-              level = λ v b. rw (quiet v b, add-one d) refl;
-              depth = add-one d;
-            });
+      abbrev deeper : State
+      deeper = view row (bitXor rest (bitAnd next rest)) (bitAnd next rest) 0 (d + 1)
+
+      pub deepens : Deepens g i (view row rest level next d) deeper
+      deepens = record {
+        met = λ v b. ap not (has-xor rest (bitAnd next rest) v) ∙ rw (has-and next rest v) (met-then (has rest v) (has next v));
+        waits = λ v b. has-and next rest v ∙ ap (λ (t : Bool). has next v && t) (sym (not-not (has rest v)));
+        near = λ v b. has-none v;
+        level = λ v b. rw (quiet v b, add-one d) refl;
+        depth = add-one d;
       }
         where
           not-not : (t : Bool) → not (not t) ≡ t
@@ -174,6 +182,14 @@ module _ (g : Graph) (near : List ℕ) (i : ℕ) where
           met-then true false = refl
           met-then false true = refl
           met-then false false = refl
+
+      pub run-deeper : Running row (bitXor rest (bitAnd next rest)) (bitAnd next rest) 0 (d + 1)
+      run-deeper = record {
+        size = R .size;
+        behind = R .behind;
+        fits = omega (arith, R .fits, kept);
+        seen = deepened g i (sound D) (view row rest level next d) (R .seen) quiet deeper deepens;
+      }
 
       -- nothing is left to look at
       module _ (ended : next ≡ 0) where
@@ -200,13 +216,16 @@ module _ (g : Graph) (near : List ℕ) (i : ℕ) where
               | no l ↦ omega arith
             ]
 
-        -- in a connected graph the row holds the distances
-        entry-is : connected g ≡ true → (j : ℕ) → Within (g .atoms) j → getD row (j - 1) 0 ≡ distance g i j
-        entry-is c j a = go (has rest j) refl
+        -- in a connected graph all atoms are met, and the row holds the distances
+        pub all-met : connected g ≡ true → (j : ℕ) → Within (g .atoms) j → not (has rest j) ≡ true
+        all-met c j a = go (has rest j) refl
           where
-            go : (t : Bool) → has rest j ≡ t → getD row (j - 1) 0 ≡ distance g i j
+            go : (t : Bool) → has rest j ≡ t → not t ≡ true
             go true e = let (k, w) = connected-molecule (sound D) c .linked i j (R .seen .start) a in absurd (left-out j e k w)
-            go false e = sym (met-distance g i (sound D) s (R .seen) quiet over j a (ap not e) ∙ rw (quiet j a) refl)
+            go false e = refl
+
+        entry-is : connected g ≡ true → (j : ℕ) → Within (g .atoms) j → getD row (j - 1) 0 ≡ distance g i j
+        entry-is c j a = sym (met-distance g i (sound D) s (R .seen) quiet over j a (all-met c j a) ∙ rw (quiet j a) refl)
 
         abbrev entry : ℕ → ℕ
         entry j = cond (ltb j (g .atoms)) (distance g i (suc j)) 0
@@ -223,5 +242,19 @@ module _ (g : Graph) (near : List ℕ) (i : ℕ) where
                 rw (lt-ltb j (g .atoms) h) (subst (λ (x : ℕ). getD row x 0 ≡ distance g i (suc j)) e (entry-is c (suc j) (omega arith)))
             at j (no h) = rw (le-ltb j (g .atoms) (omega arith)) (R .behind j (omega arith))
 
-        pub run-end : Searched g i row rest
-        run-end = record { whole = whole; apart = apart; far = row-is }
+        pub run-end : (connected g ≡ true → d ≡ farthest g i + 1) → Searched g i row rest (d - 1)
+        run-end deep = record { whole = whole; apart = apart; far = row-is; deep = λ c. omega (arith, deep c) }
+
+    -- no atom waits, and one level deeper none does: the level before is the last
+    module _ (row : List ℕ) (rest level next d : ℕ) (R : Running row rest level next d) (none : level ≡ 0) (out : bitAnd next rest ≡ 0) where
+      pub run-over : (u : ℕ) → Within (g .atoms) u × (cond (has level u) d (getD row (u - 1) 0) ≡ d) → Over 0 (d + 1)
+      run-over u (a, e) = record { ended = refl; some = omega arith; deep = λ c. omega (arith, last c) }
+        where
+          met : connected g ≡ true → (v : ℕ) → Within (g .atoms) v → not (has (bitXor rest (bitAnd next rest)) v) ≡ true
+          met c = all-met row (bitXor rest (bitAnd next rest)) (bitAnd next rest) 0 (d + 1) (run-deeper row rest level next d R none) out refl c
+
+          last : connected g ≡ true → farthest g i ≡ d
+          last c =
+              last-level g i (sound D) (view row rest level next d) (R .seen) (quiet row rest level next d R none)
+              (view row (bitXor rest (bitAnd next rest)) (bitAnd next rest) 0 (d + 1)) (deepens row rest level next d R none)
+              (λ v b. ap (λ (x : ℕ). has x v) out ∙ has-none v) (met c) u a e

@@ -4,6 +4,7 @@ use mathlib.Core.List.{List, [], _∷_}
 use mathlib.Core.Path.{_≡_, refl}
 use lib.ListN.{replicate}
 use Rattle.graph.specs.Graph.{joins, anyJoins, bonded, anyAtom, reaches, firstFrom, distance, allAtoms, connected, degree, sum, sumPairs, evenOf, oddOf, evenOne, oddOne, isAt, total, vertex}
+use Rattle.graph.specs.Farthest.{most, mostPairs, farthest, largest}
 use Rattle.reply.specs.Read.{refused, read, refusal}
 use Rattle.block.specs.Block.{mostAtoms, limit, mostBytes, bondsOf, bondFault, bondsReply, blockReply}
 use Rattle.block.specs.Index.{indicesOf, indicesReply, vertexOf, vertexReply, distanceReply}
@@ -14,16 +15,16 @@ ring = 1 ∷ 2 ∷ 2 ∷ 3 ∷ 3 ∷ 4 ∷ 4 ∷ 5 ∷ 5 ∷ 6 ∷ 6 ∷ 1 ∷ [
 unfoldable pub rings : List ℕ
 rings = 1 ∷ 2 ∷ 2 ∷ 3 ∷ 3 ∷ 4 ∷ 4 ∷ 5 ∷ 5 ∷ 6 ∷ 6 ∷ 1 ∷ 7 ∷ 8 ∷ 8 ∷ 9 ∷ 9 ∷ 10 ∷ 10 ∷ 11 ∷ 11 ∷ 12 ∷ 12 ∷ 7 ∷ 1 ∷ 7 ∷ []
 
-pub of-ring : indicesReply 6 ring ≡ read (record { atoms = 6; w = 27; even = 12; odd = 15; polarity = 3 })
-unfolding ring joins anyJoins bonded anyAtom reaches firstFrom distance allAtoms connected degree sum sumPairs evenOf oddOf isAt total bondsOf bondFault bondsReply blockReply indicesOf indicesReply
+pub of-ring : indicesReply 6 ring ≡ read (record { atoms = 6; w = 27; even = 12; odd = 15; polarity = 3; largest = 3 })
+unfolding ring joins anyJoins bonded anyAtom reaches firstFrom distance allAtoms connected degree sum sumPairs evenOf oddOf isAt total most mostPairs largest bondsOf bondFault bondsReply blockReply indicesOf indicesReply
 of-ring = refl
 
-pub of-rings : indicesReply 12 rings ≡ read (record { atoms = 12; w = 198; even = 96; odd = 102; polarity = 14 })
-unfolding rings joins anyJoins bonded anyAtom reaches firstFrom distance allAtoms connected degree sum sumPairs evenOf oddOf isAt total bondsOf bondFault bondsReply blockReply indicesOf indicesReply
+pub of-rings : indicesReply 12 rings ≡ read (record { atoms = 12; w = 198; even = 96; odd = 102; polarity = 14; largest = 7 })
+unfolding rings joins anyJoins bonded anyAtom reaches firstFrom distance allAtoms connected degree sum sumPairs evenOf oddOf isAt total most mostPairs largest bondsOf bondFault bondsReply blockReply indicesOf indicesReply
 of-rings = refl
 
-pub of-atom : vertexReply 6 ring 2 ≡ read (record { sum = 9; even = 4; odd = 5; evens = 3; odds = 3; ones = 2; twos = 2 })
-unfolding ring joins anyJoins bonded anyAtom reaches firstFrom distance allAtoms connected degree sum evenOf oddOf evenOne oddOne isAt vertex bondsOf bondFault bondsReply blockReply vertexOf vertexReply
+pub of-atom : vertexReply 6 ring 2 ≡ read (record { sum = 9; even = 4; odd = 5; evens = 3; odds = 3; ones = 2; twos = 2; farthest = 3 })
+unfolding ring joins anyJoins bonded anyAtom reaches firstFrom distance allAtoms connected degree sum evenOf oddOf evenOne oddOne isAt vertex most farthest bondsOf bondFault bondsReply blockReply vertexOf vertexReply
 of-atom = refl
 
 -- an answer of 18 comes after the block's own refusals

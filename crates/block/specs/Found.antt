@@ -5,6 +5,7 @@ use mathlib.Core.Bool.{true, false}
 use mathlib.Core.Logic.{_≢_}
 use mathlib.Core.Path.{_≡_}
 use Rattle.graph.specs.Graph.{Graph, Within, connected}
+use Rattle.graph.specs.Farthest.{farthest}
 use Rattle.block.specs.Rows.{rowOf}
 use Rattle.block.specs.Near.{Shows}
 
@@ -14,8 +15,9 @@ pub record Task (g : Graph) (near : List ℕ) (n i : ℕ) : Type 0 where
   pub size : n ≡ g .atoms
   pub start : Within (g .atoms) i
 
--- it leaves no atom exactly where the graph is connected, and then its row is that of the distances
-pub record Searched (g : Graph) (i : ℕ) (row : List ℕ) (rest : ℕ) : Type 0 where
+-- it leaves no atom exactly where the graph is connected; then its row is that of the distances, and its last level the largest of them
+pub record Searched (g : Graph) (i : ℕ) (row : List ℕ) (rest last : ℕ) : Type 0 where
   pub whole : rest ≡ 0 → connected g ≡ true
   pub apart : rest ≢ 0 → connected g ≡ false
   pub far : connected g ≡ true → row ≡ rowOf g i
+  pub deep : connected g ≡ true → last ≡ farthest g i

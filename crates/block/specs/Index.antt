@@ -2,6 +2,7 @@
 use Prim.Native.Nat.{ℕ}
 use mathlib.Core.List.{List}
 use Rattle.graph.specs.Graph.{Graph, distance, wiener, evenPart, oddPart, polarity, pairsAt, vertexSum, vertexEven, vertexOdd, evenCount, oddCount, countAt}
+use Rattle.graph.specs.Farthest.{farthest, largest}
 use Rattle.reply.specs.Read.{Read, refused, read, _then_, refuseIf, isOutside}
 use Rattle.block.specs.Block.{mostAtoms, graphOf, blockReply}
 use Rattle.block.specs.Rows.{table, noRow}
@@ -17,7 +18,7 @@ use Rattle.block.specs.declared.Apart.the-variants as apart
 use Rattle.block.specs.declared.Pairs.{Pairs}
 
 unfoldable pub indicesOf : Graph → Indices
-indicesOf g = record { atoms = g .atoms; w = wiener g; even = evenPart g; odd = oddPart g; polarity = polarity g }
+indicesOf g = record { atoms = g .atoms; w = wiener g; even = evenPart g; odd = oddPart g; polarity = polarity g; largest = largest g }
 
 unfoldable pub indicesReply : ℕ → List ℕ → Read Indices
 indicesReply n xs = blockReply n xs then λ _. read (indicesOf (graphOf n xs))
@@ -36,6 +37,7 @@ vertexOf g a = record {
   odds = oddCount g a;
   ones = countAt g a 1;
   twos = countAt g a 2;
+  farthest = farthest g a;
 }
 
 -- 18 at place 0 where there is no atom a

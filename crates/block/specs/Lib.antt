@@ -3,8 +3,8 @@
 -- | notion                                                       | meaning                                             | the law that matters                                         |
 -- | `graphOf n xs`                                               | the graph that an atom count and bond bytes say     | `molecule`: of a block that is not refused                   |
 -- | `blockReply`                                                 | refusals 1 to 7, in order                           | `passed`: the tests that a fine block passed; `place-within` |
--- | `rowReply`, `rowsOf`                                         | the distances from one atom, from all               | `row-at`, `distance-at`                                      |
--- | `indicesReply`, `vertexReply`, `distanceReply`, `pairsReply` | the five numbers, one atom's sums, a distance, n(k) | `indices-are`, `vertex-is`, `counts-are`                     |
+-- | `rowReply`, `rowsOf`, `farOf`                                | the distances from one atom, from all; the largest  | `row-at`, `distance-at`, `farthest-at`                       |
+-- | `indicesReply`, `vertexReply`, `distanceReply`, `pairsReply` | the six numbers, one atom's sums, a distance, n(k)  | `indices-are`, `vertex-is`, `counts-are`                     |
 -- | `indicesBy`, `vertexBy`                                      | the same sums over any table of numbers             | `unique-sums`, `unique-around-row`                           |
 -- | `limit`, `mostAtoms`, `mostBytes`                            | the limits of a block                               | `few-bonds`, `few-atoms`                                     |
 pub mod Block

@@ -1,17 +1,19 @@
 -- Laws. The sums over the rows of a block that is not refused are its indices, its vertex sums and its counts of pairs. Assumes nothing.
 use Prim.Native.Nat.{ℕ, _-_, min}
 use mathlib.Core.List.{List}
-use mathlib.Core.Path.{_≡_, ap, fun-ext, _∙_}
+use mathlib.Core.Path.{_≡_, sym, ap, fun-ext, _∙_}
 use native.Mathlib.Omega.{arith}
 use Rattle.graph.specs.Graph.{Graph, sum, sumPairs, total, vertex, itself, evenOf, oddOf, evenOne, oddOne, isAt}
+use Rattle.graph.specs.Farthest.{most, farthest, largest}
 use Rattle.graph.specs.Distance.{distance-sym}
 use Rattle.graph.specs.Sums.{sum-cong, sumPairs-cong}
+use Rattle.graph.specs.Largest.{most-cong, largest-is}
 use Rattle.reply.specs.Read.{read}
 use Rattle.block.specs.Block.{mostAtoms, graphOf, blockReply}
-use Rattle.block.specs.Rows.{table, rowOf, rowsOf}
+use Rattle.block.specs.Rows.{table, rowOf, rowsOf, farOf}
 use Rattle.block.specs.Index.{indicesOf, vertexOf, pairsOf}
 use Rattle.block.specs.Sums.{entry, pairEntry, indicesBy, countsBy, vertexBy}
-use Rattle.block.specs.Told.{few-atoms, molecule, entry-at, distance-at}
+use Rattle.block.specs.Told.{few-atoms, molecule, entry-at, distance-at, farthest-at}
 
 module _ (n : ℕ) (xs : List ℕ) (fine : blockReply n xs ≡ read tt) where
   abbrev g : Graph
@@ -26,15 +28,18 @@ module _ (n : ℕ) (xs : List ℕ) (fine : blockReply n xs ≡ read tt) where
   unfolding vertex
   row-same a f = sum-cong n (λ j w. ap f (entry-at n xs fine a w))
 
-  pub indices-are : indicesBy n (pairEntry (rowsOf n xs)) ≡ indicesOf g
+  largest-same : most n (entry (farOf n xs)) ≡ largest g
+  largest-same = most-cong n (λ i w. farthest-at n xs fine w) ∙ sym (largest-is (molecule n xs fine))
+
+  pub indices-are : indicesBy n (pairEntry (rowsOf n xs)) (entry (farOf n xs)) ≡ indicesOf g
   unfolding indicesBy indicesOf
-  indices-are = rw (pairs-same itself, pairs-same evenOf, pairs-same oddOf, pairs-same (isAt 3))
+  indices-are = rw (pairs-same itself, pairs-same evenOf, pairs-same oddOf, pairs-same (isAt 3), largest-same)
 
   pub counts-are : countsBy n (pairEntry (rowsOf n xs)) ≡ pairsOf g
   unfolding countsBy pairsOf
   counts-are = ap (table mostAtoms) (fun-ext (λ k. pairs-same (isAt k)))
 
-  pub vertex-is : (a : ℕ) → vertexBy n (entry (rowOf g a)) ≡ vertexOf g a
+  pub vertex-is : (a : ℕ) → vertexBy n (entry (rowOf g a)) (farthest g a) ≡ vertexOf g a
   unfolding vertexBy vertexOf
   vertex-is a = rw (row-same a itself, row-same a evenOf, row-same a oddOf, row-same a evenOne, row-same a oddOne, row-same a (isAt 1), row-same a (isAt 2))
 

@@ -1,10 +1,11 @@
--- Definitions. The distances of a block: 64 rows of 64, 0 beyond its atoms and where it is refused.
+-- Definitions. The distances of a block: 64 rows of 64, and the largest of each row; 0 beyond its atoms and where it is refused.
 use Prim.Native.Nat.{ℕ, zero, suc, _-_}
 use mathlib.Core.Bool.{_||_, cond}
 use mathlib.Core.List.{List, [], _∷_}
 use lib.Dec.{ltb}
 use lib.ListN.{getD, replicate}
 use Rattle.graph.specs.Graph.{Graph, distance}
+use Rattle.graph.specs.Farthest.{farthest}
 use Rattle.reply.specs.Read.{Read, refused, read, _then_, refuseIf, isOutside}
 use Rattle.block.specs.Block.{mostAtoms, graphOf, blockReply}
 use Rattle.block.specs.declared.OneRow.{OneRow}
@@ -25,17 +26,24 @@ noRow = table mostAtoms (λ j. 0)
 abbrev pub emptyRow : List ℕ
 emptyRow = replicate mostAtoms 0
 
--- the row of one atom: 18 at place 0 where there is none
-unfoldable pub rowReply : ℕ → List ℕ → ℕ → Read (List ℕ)
-rowReply n xs i = blockReply n xs then λ _. refuseIf (isOutside n i) 18 0 then λ _. read (rowOf (graphOf n xs) i)
+-- the row of one atom, and the largest distance from it: 18 at place 0 where there is no such atom
+unfoldable pub rowReply : ℕ → List ℕ → ℕ → Read (List ℕ × ℕ)
+rowReply n xs i =
+    blockReply n xs then λ _.
+    refuseIf (isOutside n i) 18 0 then λ _.
+    read (rowOf (graphOf n xs) i, farthest (graphOf n xs) i)
 
-abbrev pub saidRow : Read (List ℕ) → OneRow
-saidRow (refused r) = record { reply = Refused r; row = noRow }
-saidRow (read row) = record { reply = Fine; row = row }
+abbrev pub saidRow : Read (List ℕ × ℕ) → OneRow
+saidRow (refused r) = record { reply = Refused r; row = noRow; largest = 0 }
+saidRow (read x) = record { reply = Fine; row = x .0; largest = x .1 }
 
 -- the row of atom i at place i - 1
 unfoldable pub rowsOf : ℕ → List ℕ → List (List ℕ)
 rowsOf n xs = table mostAtoms (λ i. saidRow (rowReply n xs (suc i)) .row)
+
+-- the largest distance from atom i at place i - 1
+unfoldable pub farOf : ℕ → List ℕ → List ℕ
+farOf n xs = table mostAtoms (λ i. saidRow (rowReply n xs (suc i)) .largest)
 
 -- what a matrix has for atom i, and for atoms i and j; 0 for none
 unfoldable pub rowAt : List (List ℕ) → ℕ → List ℕ

@@ -1,8 +1,9 @@
--- Definitions. Sums over distances d, whatever says them: a graph, a row, or rows.
+-- Definitions. Sums over distances d, whatever says them: a graph, a row, or rows; and what is farthest from each atom, as it is handed in.
 use Prim.Native.Nat.{ℕ, _-_}
 use mathlib.Core.List.{List, []}
 use lib.ListN.{getD}
 use Rattle.graph.specs.Graph.{sum, sumPairs, evenOf, oddOf, evenOne, oddOne, isAt}
+use Rattle.graph.specs.Farthest.{most}
 use Rattle.block.specs.Block.{mostAtoms}
 use Rattle.block.specs.Rows.{table}
 use Rattle.block.specs.declared.Indices.{Indices}
@@ -15,22 +16,23 @@ entry row j = getD row (j - 1) 0
 abbrev pub pairEntry : List (List ℕ) → ℕ → ℕ → ℕ
 pairEntry rows i j = entry (getD rows (j - 1) []) i
 
--- over the pairs i < j of n atoms
-unfoldable pub indicesBy : ℕ → (ℕ → ℕ → ℕ) → Indices
-indicesBy n d = record {
+-- over the pairs i < j of n atoms; far says how far the farthest is from each
+unfoldable pub indicesBy : ℕ → (ℕ → ℕ → ℕ) → (ℕ → ℕ) → Indices
+indicesBy n d far = record {
   atoms = n;
   w = sumPairs n (λ i j. d i j);
   even = sumPairs n (λ i j. evenOf (d i j));
   odd = sumPairs n (λ i j. oddOf (d i j));
   polarity = sumPairs n (λ i j. isAt 3 (d i j));
+  largest = most n far;
 }
 
 unfoldable pub countsBy : ℕ → (ℕ → ℕ → ℕ) → List ℕ
 countsBy n d = table mostAtoms (λ k. sumPairs n (λ i j. isAt k (d i j)))
 
--- over n atoms, from one of them
-unfoldable pub vertexBy : ℕ → (ℕ → ℕ) → Vertex
-vertexBy n d = record {
+-- over n atoms, from one of them, from which the farthest is far
+unfoldable pub vertexBy : ℕ → (ℕ → ℕ) → ℕ → Vertex
+vertexBy n d far = record {
   sum = sum n (λ j. d j);
   even = sum n (λ j. evenOf (d j));
   odd = sum n (λ j. oddOf (d j));
@@ -38,4 +40,5 @@ vertexBy n d = record {
   odds = sum n (λ j. oddOne (d j));
   ones = sum n (λ j. isAt 1 (d j));
   twos = sum n (λ j. isAt 2 (d j));
+  farthest = far;
 }

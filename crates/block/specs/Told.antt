@@ -1,4 +1,4 @@
--- Laws. What a block tells that is not refused: it is a molecule of at most 64 atoms, none with more bonds than the limit, and its rows hold its distances. Assumes nothing.
+-- Laws. What a block tells that is not refused: it is a molecule of at most 64 atoms, none with more bonds than the limit, and its rows hold its distances and the largest of them. Assumes nothing.
 use Prim.Native.Nat.{ℕ, zero, suc, _+_, _-_, _%_, _≤_}
 use mathlib.Core.Bool.{Bool, true, false, _||_, not, cond, true≢false}
 use mathlib.Core.List.{List, [], _∷_}
@@ -10,13 +10,14 @@ use lib.Dec.{eqb, ltb}
 use lib.ListN.{length, getD}
 use borrow.Author.Tests.{lt-ltb, le-ltb, ne-eqb, eq-eqb, not-false}
 use Rattle.graph.specs.Graph.{Bond, Within, Sound, Molecule, anyJoins, bonded, connected, degree, distance}
+use Rattle.graph.specs.Farthest.{farthest}
 use Rattle.graph.specs.Bonds.{Joins, any-out, any-head, any-tail, any-none, bonded-sym}
 use Rattle.graph.specs.Connected.{connected-molecule}
 use Rattle.graph.specs.Distance.{not-true}
 use Rattle.reply.specs.Read.{Read, refused, read, _then_, refuseIf, refuseFor, refusal, isOutside}
 use Rattle.reply.specs.Chain.{not-read, then-read, if-read, for-read}
 use Rattle.block.specs.Block.{mostAtoms, mostBytes, limit, bondsOf, graphOf, bondFault, bondsReply, blockReply}
-use Rattle.block.specs.Rows.{rowOf, rowReply, saidRow, rowsOf, rowAt, distanceAt}
+use Rattle.block.specs.Rows.{rowOf, rowReply, saidRow, rowsOf, farOf, rowAt, distanceAt}
 use Rattle.block.specs.Faults.{inside, Faultless, faultless}
 use Rattle.block.specs.Tables.{getD-table}
 use Rattle.reply.specs.declared.Refusal.{Refusal}
@@ -156,7 +157,7 @@ module _ (n : ℕ) (xs : List ℕ) (fine : blockReply n xs ≡ read tt) where
   each-bond P none more = bonds-by n P none more [] (bondsOf xs) (passed .bonds)
 
   -- the row of an atom, and what stands in it for an atom
-  pub row-read : {a : ℕ} → Within n a → rowReply n xs a ≡ read (rowOf (graphOf n xs) a)
+  pub row-read : {a : ℕ} → Within n a → rowReply n xs a ≡ read (rowOf (graphOf n xs) a, farthest (graphOf n xs) a)
   unfolding rowReply
   row-read {a} w = rw (fine, within-inside n a w)
 
@@ -165,6 +166,13 @@ module _ (n : ℕ) (xs : List ℕ) (fine : blockReply n xs ≡ read tt) where
   row-at {a} w =
       let k : suc (a - 1) ≡ a = omega arith in
       getD-table mostAtoms (λ i. saidRow (rowReply n xs (suc i)) .row) (a - 1) [] (omega (arith, few-atoms))
+      ∙ rw (k, row-read w)
+
+  pub farthest-at : {a : ℕ} → Within n a → getD (farOf n xs) (a - 1) 0 ≡ farthest (graphOf n xs) a
+  unfolding farOf
+  farthest-at {a} w =
+      let k : suc (a - 1) ≡ a = omega arith in
+      getD-table mostAtoms (λ i. saidRow (rowReply n xs (suc i)) .largest) (a - 1) 0 (omega (arith, few-atoms))
       ∙ rw (k, row-read w)
 
   pub entry-at : (a : ℕ) {b : ℕ} → Within n b → getD (rowOf (graphOf n xs) a) (b - 1) 0 ≡ distance (graphOf n xs) a b

@@ -3,7 +3,7 @@ ghost use mathlib.Core.Path.{_≡_};
 ghost use Prim.Native.Nat.{min};
 ghost use Rattle.reply.specs.Read.{refusal, saidReply};
 ghost use Rattle.block.specs.Block.{mostAtoms, blockReply};
-ghost use Rattle.block.specs.Rows.{rowsOf, rowReply, saidRow, rowAt, distanceAt};
+ghost use Rattle.block.specs.Rows.{rowsOf, farOf, rowReply, saidRow, rowAt, distanceAt};
 ghost use Rattle.block.specs.Index.{indicesReply, saidIndices, vertexReply, saidVertex, distanceReply, saidDistance, pairsReply, saidPairs};
 ghost use Rattle.block.specs.Sums.{entry, pairEntry, indicesBy, vertexBy};
 ghost use Rattle.block.specs.Opened.{openedReply, saidOpened};
@@ -30,19 +30,24 @@ pub type DistanceRow = [u8; ATOMS];
 
 pub type DistanceMatrix = [DistanceRow; ATOMS];
 
-// The distances from one atom, that to atom j at j - 1; all 0 where the reply is a refusal.
+// How far the farthest atom is from each: from atom i at i - 1.
+pub type Farthest = [u8; ATOMS];
+
+// The distances from one atom, that to atom j at j - 1, and the largest of them; all 0 where the reply is a refusal.
 pub struct OneRow {
     pub reply: Reply,
     pub row: DistanceRow,
+    pub largest: u8,
 }
 
-// The atom count, W, its even and odd parts and the polarity.
+// The atom count, W, its even and odd parts, the polarity and the largest distance.
 pub struct Indices {
     pub atoms: u64,
     pub w: u64,
     pub even: u64,
     pub odd: u64,
     pub polarity: u64,
+    pub largest: u64,
 }
 
 pub enum Measured {
@@ -50,7 +55,7 @@ pub enum Measured {
     Of(Indices),
 }
 
-// The vertex sum of an atom, its even and odd parts, its even and odd counts, and how many atoms lie at distance 1 and 2.
+// The vertex sum of an atom, its even and odd parts, its even and odd counts, how many atoms lie at distance 1 and 2, and how far the farthest is.
 pub struct Vertex {
     pub sum: u64,
     pub even: u64,
@@ -59,6 +64,7 @@ pub struct Vertex {
     pub odds: u64,
     pub ones: u64,
     pub twos: u64,
+    pub farthest: u64,
 }
 
 pub enum Around {
@@ -155,34 +161,38 @@ pub fn check(n: usize, bonds: &[u8]) -> Reply
     admitted.reply
 }
 
-// The distances of a block: those from atom i are row i - 1, and that to atom j stands there at j - 1. All is 0 beyond the atoms, and
-// where the block is refused.
-pub fn rows(n: usize, bonds: &[u8]) -> DistanceMatrix
-    ensures { λ r. ⌜ r ≡ rowsOf n (now (bonds .entry)) ⌝ }
+// The distances of a block: those from atom i are row i - 1, and that to atom j stands there at j - 1; and in what is lent the largest of
+// each row. All is 0 beyond the atoms, and where the block is refused.
+pub fn rows(n: usize, bonds: &[u8], far: &mut Farthest) -> DistanceMatrix
+    ensures rows { λ r. ⌜ r ≡ rowsOf n (now (bonds .entry)) ⌝ }
+    ensures far { λ _. ⌜ now (far .exit) ≡ farOf n (now (bonds .entry)) ⌝ }
 {
     let admitted = admit(n, bonds);
     let reply = admitted.reply;
     let Reply::Fine = reply else {
+        *far = [0u8; ATOMS];
         return [[0u8; ATOMS]; ATOMS];
     };
-    search::from_all(&admitted.near, n)
+    search::from_all(&admitted.near, n, far)
 }
 
-// The reply to a block and its neighbours, and its distances, as rows gives them, in a lent matrix: the block is read once for all of them.
-pub fn table(n: usize, bonds: &[u8], rows: &mut DistanceMatrix) -> Opened
+// The reply to a block and its neighbours, and its distances, as rows gives them, in what is lent: the block is read once for all of them.
+pub fn table(n: usize, bonds: &[u8], rows: &mut DistanceMatrix, far: &mut Farthest) -> Opened
     ensures reply { λ r. ⌜ r ≡ saidOpened (openedReply n (now (bonds .entry))) ⌝ }
     ensures rows { λ _. ⌜ now (rows .exit) ≡ rowsOf n (now (bonds .entry)) ⌝ }
+    ensures far { λ _. ⌜ now (far .exit) ≡ farOf n (now (bonds .entry)) ⌝ }
 {
     let admitted = admit(n, bonds);
     let reply = admitted.reply;
     let Reply::Fine = reply else {
         *rows = [[0u8; ATOMS]; ATOMS];
+        *far = [0u8; ATOMS];
         return Opened {
             reply,
             near: [0u64; ATOMS],
         };
     };
-    *rows = search::from_all(&admitted.near, n);
+    *rows = search::from_all(&admitted.near, n, far);
     admitted
 }
 
@@ -212,7 +222,7 @@ pub fn distance_at(rows: &DistanceMatrix, i: usize, j: usize) -> u64
     wide(rows[k][l])
 }
 
-// The distances from atom i of a block, or its refusal; 18 at place 0 where there is no such atom.
+// The distances from atom i of a block and the largest of them, or its refusal; 18 at place 0 where there is no such atom.
 pub fn row(n: usize, bonds: &[u8], i: usize) -> OneRow
     ensures { λ r. ⌜ r ≡ saidRow (rowReply n (now (bonds .entry)) i) ⌝ }
 {
@@ -222,6 +232,7 @@ pub fn row(n: usize, bonds: &[u8], i: usize) -> OneRow
         return OneRow {
             reply,
             row: [0u8; ATOMS],
+            largest: 0,
         };
     };
     if is_outside(n, i) {
@@ -231,27 +242,34 @@ pub fn row(n: usize, bonds: &[u8], i: usize) -> OneRow
                 place: 0,
             }),
             row: [0u8; ATOMS],
+            largest: 0,
         };
     }
     let mut row = [0u8; ATOMS];
-    search::from_atom(&admitted.near, n, i, &mut row);
-    OneRow { reply, row }
+    let ended = search::from_atom(&admitted.near, n, i, &mut row);
+    OneRow {
+        reply,
+        row,
+        largest: ended.last,
+    }
 }
 
-// The indices of the first n atoms, at most ATOMS, by rows of their distances: the pair i < j is read in the row of j.
-pub fn sums(rows: &DistanceMatrix, n: usize) -> Indices
-    ensures { λ r. ⌜ r ≡ indicesBy (min n mostAtoms) (pairEntry (now (rows .entry))) ⌝ }
+// The indices of the first n atoms, at most ATOMS, by rows of their distances and the largest of each: the pair i < j is read in the row of j.
+pub fn sums(rows: &DistanceMatrix, far: &Farthest, n: usize) -> Indices
+    ensures { λ r. ⌜ r ≡ indicesBy (min n mostAtoms) (pairEntry (now (rows .entry))) (entry (now (far .entry))) ⌝ }
 {
     let m = totals::within(n);
     let mut even: u64 = 0;
     let mut odd: u64 = 0;
     let mut threes: u64 = 0;
+    let mut largest: u64 = 0;
     let mut j = 0;
     while j < m {
         let t = totals::along(&rows[j], j);
         even += t.even;
         odd += t.odd;
         threes += t.threes;
+        largest = totals::larger(largest, wide(far[j]));
         j += 1;
     }
     Indices {
@@ -260,12 +278,13 @@ pub fn sums(rows: &DistanceMatrix, n: usize) -> Indices
         even,
         odd,
         polarity: threes,
+        largest,
     }
 }
 
-// The vertex sum of an atom and what goes with it, by the row of its distances to the first n atoms, at most ATOMS.
-pub fn around_row(row: &DistanceRow, n: usize) -> Vertex
-    ensures { λ r. ⌜ r ≡ vertexBy (min n mostAtoms) (entry (now (row .entry))) ⌝ }
+// The vertex sum of an atom and what goes with it, by the row of its distances to the first n atoms, at most ATOMS, and the largest of them.
+pub fn around_row(row: &DistanceRow, n: usize, farthest: u8) -> Vertex
+    ensures { λ r. ⌜ r ≡ vertexBy (min n mostAtoms) (entry (now (row .entry))) farthest ⌝ }
 {
     let m = totals::within(n);
     let t = totals::along(row, m);
@@ -277,6 +296,7 @@ pub fn around_row(row: &DistanceRow, n: usize) -> Vertex
         odds: t.odds,
         ones: t.ones,
         twos: t.twos,
+        farthest: wide(farthest),
     }
 }
 
@@ -289,8 +309,9 @@ pub fn measure(n: usize, bonds: &[u8]) -> Measured
     match reply {
         Reply::Refused(refusal) => Measured::Refused(refusal),
         Reply::Fine => {
-            let rows = search::from_all(&admitted.near, n);
-            let indices = sums(&rows, n);
+            let mut far = [0u8; ATOMS];
+            let rows = search::from_all(&admitted.near, n, &mut far);
+            let indices = sums(&rows, &far, n);
             Measured::Of(indices)
         }
     }
@@ -328,7 +349,7 @@ pub fn vertex_sums(n: usize, bonds: &[u8], a: usize) -> Around
         Reply::Refused(refusal) => Around::Refused(refusal),
         Reply::Fine => {
             let row = seen.row;
-            let vertex = around_row(&row, n);
+            let vertex = around_row(&row, n, seen.largest);
             Around::Of(vertex)
         }
     }
@@ -346,7 +367,8 @@ pub fn pair_counts(n: usize, bonds: &[u8]) -> Pairs
             at: [0u16; ATOMS],
         };
     };
-    let rows = search::from_all(&admitted.near, n);
+    let mut far = [0u8; ATOMS];
+    let rows = search::from_all(&admitted.near, n, &mut far);
     let at = totals::count_pairs(&rows, n);
     Pairs { reply, at }
 }

@@ -1,6 +1,7 @@
 // Distances by search, level by level: a set of atoms is one number.
 use super::ATOMS;
 use super::DistanceMatrix;
+use super::Farthest;
 use super::Neighbours;
 ghost use mathlib.Core.Path.{_≡_};
 ghost use mathlib.Core.List.{List};
@@ -8,7 +9,7 @@ ghost use Prim.Native.Nat.{ℕ};
 ghost use Rattle.graph.specs.Graph.{Graph, Within, connected as isConnected};
 ghost use Rattle.graph.specs.Sets.{firsts};
 ghost use Rattle.block.specs.Block.{mostAtoms, graphOf};
-ghost use Rattle.block.specs.Rows.{emptyRow, rowsOf};
+ghost use Rattle.block.specs.Rows.{emptyRow, rowsOf, farOf};
 ghost use Rattle.block.specs.Near.{Ready};
 ghost use Rattle.block.specs.Found.{Task, Searched};
 
@@ -20,11 +21,17 @@ fn all(n: usize) -> u64
     u64::MAX >> (ATOMS - n)
 }
 
-// The search from atom i: it fills an empty row with the distances, and gives the set of the atoms that were not met. The atoms of level wait
-// until their neighbours were looked at, which go into next; rest is not met yet.
-pub(crate) fn from_atom(near: &Neighbours, n: usize, i: usize, row: &mut [u8]) -> u64
+// How a search ended: the set of the atoms that were not met, and the last level, which is how far the farthest atom is.
+pub(crate) struct Ended {
+    pub(crate) rest: u64,
+    pub(crate) last: u8,
+}
+
+// The search from atom i: it fills an empty row with the distances. The atoms of level wait until their neighbours were looked at, which go into
+// next; rest is not met yet.
+pub(crate) fn from_atom(near: &Neighbours, n: usize, i: usize, row: &mut [u8]) -> Ended
     requires { ⌜ ((g : Graph) × Task g (now near) n i) × (now row ≡ emptyRow) ⌝ }
-    ensures { λ r. ⌜ ((g : Graph) → Task g (now (near .entry)) n i → Searched g i (now (row .exit)) r) ⌝ }
+    ensures { λ r. ⌜ ((g : Graph) → Task g (now (near .entry)) n i → Searched g i (now (row .exit)) (r .rest) (r .last)) ⌝ }
 {
     let mut level = 1u64 << (i - 1);
     let mut rest = all(n) ^ level;
@@ -42,7 +49,7 @@ pub(crate) fn from_atom(near: &Neighbours, n: usize, i: usize, row: &mut [u8]) -
             d += 1;
         }
     }
-    rest
+    Ended { rest, last: d - 1 }
 }
 
 // Whether every pair of n atoms has a path.
@@ -51,19 +58,24 @@ pub(crate) fn connected(near: &Neighbours, n: usize) -> bool
     ensures { λ r. ⌜ ((xs : List ℕ) → Task (graphOf n xs) (now (near .entry)) n 1 → r ≡ isConnected (graphOf n xs)) ⌝ }
 {
     let mut row = [0u8; ATOMS];
-    from_atom(near, n, 1, &mut row) == 0
+    let ended = from_atom(near, n, 1, &mut row);
+    ended.rest == 0
 }
 
-// The rows of a block of n atoms, filled one by one.
-pub(crate) fn from_all(near: &Neighbours, n: usize) -> DistanceMatrix
+// The rows of a block of n atoms, filled one by one, and in what is lent the largest distance of each.
+pub(crate) fn from_all(near: &Neighbours, n: usize, far: &mut Farthest) -> DistanceMatrix
     requires { ⌜ ((xs : List ℕ) × Ready n xs (now near)) ⌝ }
-    ensures { λ r. ⌜ ((xs : List ℕ) → Ready n xs (now (near .entry)) → r ≡ rowsOf n xs) ⌝ }
+    ensures rows { λ r. ⌜ ((xs : List ℕ) → Ready n xs (now (near .entry)) → r ≡ rowsOf n xs) ⌝ }
+    ensures far { λ _. ⌜ ((xs : List ℕ) → Ready n xs (now (near .entry)) → now (far .exit) ≡ farOf n xs) ⌝ }
 {
     let mut all = [[0u8; ATOMS]; ATOMS];
+    let mut deep = [0u8; ATOMS];
     let mut i = 0;
     while i < n {
-        from_atom(near, n, i + 1, &mut all[i]);
+        let ended = from_atom(near, n, i + 1, &mut all[i]);
+        deep[i] = ended.last;
         i += 1;
     }
+    *far = deep;
     all
 }

@@ -5,7 +5,7 @@ use super::DistanceRow;
 use super::Tally;
 use reply::wide;
 ghost use mathlib.Core.Path.{_≡_};
-ghost use Prim.Native.Nat.{min, _*_, _≤_};
+ghost use Prim.Native.Nat.{min, max, _*_, _≤_};
 ghost use Rattle.block.specs.Block.{mostAtoms};
 ghost use Rattle.block.specs.Sums.{pairEntry, countsBy};
 ghost use Rattle.block.specs.Tally.{Tallied, Counts, Counted};
@@ -53,6 +53,13 @@ pub(crate) fn within(n: usize) -> usize
     ensures { λ r. ⌜ r ≡ min n mostAtoms ⌝ }
 {
     if n < ATOMS { n } else { ATOMS }
+}
+
+// The larger of two numbers.
+pub(crate) fn larger(a: u64, b: u64) -> u64
+    ensures { λ r. ⌜ r ≡ max a b ⌝ }
+{
+    if a < b { b } else { a }
 }
 
 // How often each number stands among the first k entries of a row, added to counts.

@@ -3,6 +3,7 @@ use Prim.Native.Nat.{ℕ}
 use mathlib.Core.List.{List, [], _∷_}
 use mathlib.Core.Path.{_≡_, refl}
 use Rattle.graph.specs.Graph.{Graph, bond, joins, anyJoins, bonded, anyAtom, reaches, firstFrom, distance, sum, sumPairs, evenOf, oddOf, evenOne, oddOne, isAt, total, vertex, wiener, evenPart, oddPart, polarity, pairsAt, vertexSum, vertexEven, vertexOdd, evenCount, oddCount, countAt}
+use Rattle.graph.specs.Farthest.{most, mostPairs, farthest, largest}
 use Rattle.graph.specs.Table.{ring6}
 
 pub naphthalene : Graph
@@ -30,3 +31,8 @@ of-naphthalene = refl
 around-ring : around ring6 2 ≡ 9 ∷ 4 ∷ 5 ∷ 3 ∷ 3 ∷ 1 ∷ 2 ∷ 2 ∷ []
 unfolding around ring6
 around-ring = refl
+
+-- from an atom in the middle of naphthalene the farthest is nearer than the two that are farthest from each other; one atom alone has 0
+farthest-in : farthest naphthalene 3 ∷ largest naphthalene ∷ largest (record { atoms = 1; bonds = [] }) ∷ [] ≡ 3 ∷ 5 ∷ 0 ∷ []
+unfolding naphthalene joins anyJoins bonded anyAtom reaches firstFrom distance most mostPairs farthest largest
+farthest-in = refl

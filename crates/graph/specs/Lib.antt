@@ -5,10 +5,12 @@
 -- | `connected`                 | every two atoms have a path, as a test that computes             | `connected-is-linked`: for walks of any length           |
 -- | `Molecule`                  | a sound graph in which a walk leads from each atom to each       | `connected-molecule`                                     |
 -- | `total g f`, `vertex g a f` | sums of f over the distances of all pairs, and from one atom     | `total-joined`: one law for all joining rules            |
+-- | `farthest`, `largest`       | the largest distance from an atom, and of a graph                | `largest-over`, `largest-met`, `largest-joined`          |
 -- | `joined`, `written`         | two graphs joined by a bond; an assembly written out             | `written-molecule`, `wiener-joined` .. `polarity-joined` |
 -- | `atomOf`                    | a placed atom's number in the molecule written out               | `apart-later`, `apart-earlier`                           |
 -- | sets of atoms               | one number of 64 bits, atom v at the digit v - 1                 | Sets; a search's levels are the distances: Search        |
 pub mod Graph
+pub mod Farthest
 pub mod Assembly
 pub mod Sets
 pub mod Examples
@@ -20,8 +22,10 @@ pub mod Sums
 pub mod BondSums
 pub mod Connected
 pub mod Tree
+pub mod Splits
 pub mod Join
 pub mod Rules
+pub mod Largest
 pub mod Climb
 pub mod Bounds
 pub mod Parts

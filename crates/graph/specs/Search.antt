@@ -14,6 +14,8 @@ use Rattle.graph.specs.Graph.Walk.{stay, step}
 use Rattle.graph.specs.Walk.{far-end}
 use Rattle.graph.specs.Bonds.{both, one-of, first-of, second-of}
 use Rattle.graph.specs.Distance.{shortest-below, search-found, search-missed}
+use Rattle.graph.specs.Farthest.{farthest}
+use Rattle.graph.specs.Largest.{farthest-is}
 
 pub record State : Type 0 where
   pub met : ℕ → Bool
@@ -208,3 +210,21 @@ module _ (g : Graph) (i : ℕ) where
 
         pub unmet-walk : (j : ℕ) → s .met j ≡ false → (k : ℕ) → Walk g i j k → ⊥
         unmet-walk j u k w = search-missed sound (S .start) (λ v. s .met v ≡ true) (s .level) (S .origin) (S .zeroth) closed (λ m. false≢true (sym u ∙ m)) w
+
+  -- One level deeper nothing waits, all atoms are met, and u was met at the deepest level: that is how far the farthest atom is.
+  module _ (sound : Sound g) (s : State) (S : Seen s) (quiet : (v : ℕ) → Atom v → s .waits v ≡ false) (t : State) (D : Deepens s t)
+      (rests : (v : ℕ) → Atom v → t .waits v ≡ false) (whole : (v : ℕ) → Atom v → t .met v ≡ true) where
+    away : (v : ℕ) → Atom v → distance g i v ≡ s .level v
+    away v b = met-distance sound t (deepened sound s S quiet t D) rests (D .near) v b (whole v b) ∙ D .level v b ∙ rw (rests v b) refl
+
+    -- what did not come now was met before
+    before : (v : ℕ) → Atom v → s .met v ≡ true
+    before v b = go (s .met v) (s .near v) (sym (D .met v b) ∙ whole v b) (sym (D .waits v b) ∙ rests v b)
+      where
+        go : (m n : Bool) → (m || n) ≡ true → (n && not m) ≡ false → m ≡ true
+        go true n e f = refl
+        go false true e f = sym f
+        go false false e f = e
+
+    pub last-level : (u : ℕ) → Atom u → s .level u ≡ s .depth → farthest g i ≡ s .depth
+    last-level u a e = farthest-is g i (s .depth) (λ v b. omega (arith, away v b, S .deepest v b (before v b))) u a (away u a ∙ e)

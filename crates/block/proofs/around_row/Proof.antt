@@ -12,11 +12,16 @@ within-requires c κs = search needs
 along-requires : tie.Need-along-requires
 along-requires c κs = search needs
 
-add-t5 : tie.Need-add-t5
-add-t5 c = search needs
+add-t6 : tie.Need-add-t6
+add-t6 c = search needs
+
+wide-requires : tie.Need-wide-requires
+wide-requires c κs = search needs
 
 returns : tie.Need-returns
-returns c = vertex-total _ _ _ (c .before .along .ensures) ∙ ap (λ (m : ℕ). vertexBy m (entry (c .before .before .before .args .row .now))) (c .before .before .within .ensures)
+returns c =
+    let d = c .before in
+    vertex-total _ _ _ _ _ (d .before .along .ensures) (c .wide .ensures .0) ∙ ap (λ (m : ℕ). vertexBy m (entry (d .before .before .before .args .row .now)) (d .before .before .before .args .farthest)) (d .before .before .within .ensures)
 
 pub around-row-spec : {M : Type 1} → statement M
-around-row-spec = tie.close (tie.spec within-requires along-requires add-t5 returns)
+around-row-spec = tie.close (tie.spec within-requires along-requires add-t6 wide-requires returns)

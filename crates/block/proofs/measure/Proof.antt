@@ -19,7 +19,7 @@ ready : (c : tie.After-enum-told) → let s = c .before .before .before .before 
 ready c = c .before .before .admit .ensures .ready (c .enum-told .given .1)
 
 from-all-requires : tie.Need-from-all-requires
-from-all-requires c κs = (_, ready (c .before .before))
+from-all-requires c κs = (_, ready (c .before .before .before))
 
 sums-requires : tie.Need-sums-requires
 sums-requires c κs = search needs
@@ -29,8 +29,9 @@ returns c = measure-refused _ _ _ (said-refused _ _ (sym (c .before .reply .give
 
 returns-2 : tie.Need-returns-2
 returns-2 c =
-    let R = ready (c .before .before .before .before .before) in
-    measure-fine _ _ (R .fine) _ (c .before .before .from-all .ensures _ R) _ (c .sums .ensures)
+    let d = c .before .before .before in
+    let R = ready (d .before .before .before .before) in
+    measure-fine _ _ (R .fine) _ (d .from-all .ensures .0 _ R) _ (d .from-all .ensures .1 _ R) _ (c .sums .ensures)
 
 pub measure-spec : {M : Type 1} → statement M
 measure-spec =

@@ -24,16 +24,16 @@ ready : (c : tie.After-enum-told) → let s = c .before .before .before .before 
 ready c = c .before .before .admit .ensures .ready (c .enum-told .given .1)
 
 from-all-requires : tie.Need-from-all-requires
-from-all-requires c κs = (_, ready (c .before .before))
+from-all-requires c κs = (_, ready (c .before .before .before))
 
 count-pairs-requires : tie.Need-count-pairs-requires
 count-pairs-requires c κs = search needs
 
 returns-2 : tie.Need-returns-2
 returns-2 c =
-    let d = c .before .before .before .before .before in
+    let d = c .before .before .before .before .before .before in
     let R = ready d in
-    pairs-fine _ _ (R .fine) _ (c .before .before .from-all .ensures _ R) _ (d .enum-told .given .1) (c .count-pairs .ensures)
+    pairs-fine _ _ (R .fine) _ (c .before .before .from-all .ensures .0 _ R) _ (d .enum-told .given .1) (c .count-pairs .ensures)
 
 pub pair-counts-spec : {M : Type 1} → statement M
 pair-counts-spec =

@@ -23,7 +23,7 @@ enum-told-2 c = search needs
 returns : tie.Need-returns
 returns c =
     let e = c .enum-told2 .given .1 in
-    row-refused _ _ _ _ _ (said-refused _ _ (sym e ∙ c .before .before .admit .ensures .replied)) e refl
+    row-refused _ _ _ _ _ (said-refused _ _ (sym e ∙ c .before .before .admit .ensures .replied)) e refl refl
 
 is-outside-requires : tie.Need-is-outside-requires
 is-outside-requires c κs = search needs
@@ -33,7 +33,7 @@ ready : (c : tie.After-enum-told) → let s = c .before .before .before .before 
 ready c = c .before .before .admit .ensures .ready (c .enum-told .given .1)
 
 returns-2 : tie.Need-returns-2
-returns-2 c = row-outside _ _ _ _ (ready (c .before .before) .fine) (sym (c .before .is-outside .ensures) ∙ c .if1 .taken) refl refl
+returns-2 c = row-outside _ _ _ _ (ready (c .before .before) .fine) (sym (c .before .is-outside .ensures) ∙ c .if1 .taken) refl refl refl
 
 atom : (c : tie.Else1) → let s = c .before .before .before .before .before .before .args in Within (s .n) (s .i)
 atom c = inside _ _ (sym (c .before .is-outside .ensures) ∙ c .if1 .left)
@@ -51,7 +51,9 @@ returns-3 : tie.Need-returns-3
 returns-3 c =
     let d = c .before .before .before .before .before in
     let f = ready (d .before .before) .fine in
-    row-fine _ _ _ _ f (atom d) (d .before .before .enum-told .given .1) (c .before .from-atom .ensures _ (task d) .far (passed _ _ f .whole))
+    let S = c .before .from-atom .ensures _ (task d) in
+    let whole = passed _ _ f .whole in
+    row-fine _ _ _ _ f (atom d) (d .before .before .enum-told .given .1) (S .far whole) (S .deep whole)
 
 pub row-spec : {M : Type 1} → statement M
 row-spec =

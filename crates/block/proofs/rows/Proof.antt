@@ -1,6 +1,7 @@
 use mathlib.Core.Path.{sym, _∙_}
 use borrow.Author.Needs.{needs}
-use Rattle.block.proofs.Filling.{refused-rows}
+use Rattle.block.specs.Near.{Ready}
+use Rattle.block.proofs.Filling.{refused-rows, refused-far}
 use Rattle.block.proofs.Replies.{said-refused}
 use Rattle.block.proofs.rows.Statement.{statement}
 use Rattle.block.proofs.rows.Tie as tie
@@ -15,13 +16,21 @@ enum-told-2 : tie.Need-enum-told-2
 enum-told-2 c = search needs
 
 returns : tie.Need-returns
-returns c = refused-rows _ _ _ (said-refused _ _ (sym (c .enum-told2 .given .1) ∙ c .before .before .admit .ensures .replied))
+returns c =
+    let d = c .before in
+    let b = said-refused _ _ (sym (d .enum-told2 .given .1) ∙ d .before .before .admit .ensures .replied) in
+    (refused-rows _ _ _ b, refused-far _ _ _ b)
+
+ready : (c : tie.After-enum-told) → let s = c .before .before .before .before .args in Ready (s .n) (s .bonds .now) (c .before .before .admit .result .near)
+ready c = c .before .before .admit .ensures .ready (c .enum-told .given .1)
 
 from-all-requires : tie.Need-from-all-requires
-from-all-requires c κs = (c .before .before .before .before .before .before .args .bonds .now, c .before .before .before .before .admit .ensures .ready (c .before .before .enum-told .given .1))
+from-all-requires c κs = (_, ready (c .before .before .before))
 
 returns-2 : tie.Need-returns-2
-returns-2 c = c .from-all .ensures _ (c .before .before .before .before .before .admit .ensures .ready (c .before .before .before .enum-told .given .1))
+returns-2 c =
+    let R = ready (c .before .before .before .before) in
+    (c .from-all .ensures .0 _ R, c .from-all .ensures .1 _ R)
 
 pub rows-spec : {M : Type 1} → statement M
 rows-spec = tie.close (tie.spec admit-requires enum-told enum-told-2 returns from-all-requires returns-2)

@@ -1,6 +1,6 @@
 use mathlib.Core.Path.{refl, sym, _∙_}
 use borrow.Author.Needs.{needs}
-use Rattle.block.proofs.Filling.{refused-rows, opened-refused, opened-fine}
+use Rattle.block.proofs.Filling.{refused-rows, refused-far, opened-refused, opened-fine}
 use Rattle.block.proofs.Replies.{said-refused}
 use Rattle.block.proofs.table.Statement.{statement}
 use Rattle.block.proofs.table.Tie as tie
@@ -16,18 +16,19 @@ enum-told-2 c = search needs
 
 returns : tie.Need-returns
 returns c =
-    let e = c .before .enum-told2 .given .1 in
-    let b = said-refused _ _ (sym e ∙ c .before .before .before .admit .ensures .replied) in
-    (opened-refused _ _ _ _ b e refl, refused-rows _ _ _ b)
+    let e = c .before .before .enum-told2 .given .1 in
+    let b = said-refused _ _ (sym e ∙ c .before .before .before .before .admit .ensures .replied) in
+    (opened-refused _ _ _ _ b e refl, (refused-rows _ _ _ b, refused-far _ _ _ b))
 
 from-all-requires : tie.Need-from-all-requires
-from-all-requires c κs = (_, c .before .before .before .before .admit .ensures .ready (c .before .before .enum-told .given .1))
+from-all-requires c κs = (_, c .before .before .before .before .before .admit .ensures .ready (c .before .before .before .enum-told .given .1))
 
 returns-2 : tie.Need-returns-2
 returns-2 c =
-    let e = c .before .before .before .enum-told .given .1 in
-    let R = c .before .before .before .before .before .admit .ensures .ready e in
-    (opened-fine _ _ _ R e, c .from-all .ensures _ R)
+    let d = c .before .before .before .before in
+    let e = d .enum-told .given .1 in
+    let R = d .before .before .admit .ensures .ready e in
+    (opened-fine _ _ _ R e, (c .from-all .ensures .0 _ R, c .from-all .ensures .1 _ R))
 
 pub table-spec : {M : Type 1} → statement M
 table-spec = tie.close (tie.spec admit-requires enum-told enum-told-2 returns from-all-requires returns-2)

@@ -13,8 +13,8 @@ from-atom-requires c κs = search needs
 
 returns : tie.Need-returns
 returns c xs T =
-    let S = c .before .from-atom .ensures _ T in
-    elim (ℕ-discrete (c .before .from-atom .result) 0) [
+    let S = c .before .before .from-atom .ensures _ T in
+    elim (ℕ-discrete (c .before .before .from-atom .result .rest) 0) [
       | yes e ↦ rw (eq-eqb _ _ e) (sym (S .whole e))
       | no ne ↦ rw (ne-eqb _ _ ne) (sym (S .apart ne))
     ]

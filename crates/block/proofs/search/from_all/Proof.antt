@@ -1,23 +1,23 @@
 use Prim.Native.Nat.{ℕ, _≤_, _-_}
 use mathlib.Core.List.{List}
-use mathlib.Core.Path.{_≡_, refl, sym, _∙_}
+use mathlib.Core.Path.{_≡_, refl}
 use native.Mathlib.Numerals.{add-one}
 use native.Mathlib.Omega.{arith}
 use Rattle.block.specs.Block.{graphOf, mostAtoms}
 use Rattle.block.specs.Near.{Ready}
 use Rattle.block.specs.Told.{passed}
-use Rattle.block.proofs.Filling.{Filled, no-row, fill-start, fill-next, fill-end}
+use Rattle.block.proofs.Filling.{Rows, rows-start, rows-next, rows-end}
 use Rattle.block.proofs.search.from_all.Statement.{statement}
 use Rattle.block.proofs.search.from_all.Tie as tie
 
 abbrev Inv-loop : tie.InvT-loop
-Inv-loop near n all₀ i₀ all i = (i ≤ n) × (n ≤ mostAtoms) × ((xs : List ℕ) → Ready n xs near → Filled n xs all i)
+Inv-loop near n far all₀ deep₀ i₀ all deep i = (i ≤ n) × (n ≤ mostAtoms) × ((xs : List ℕ) → Ready n xs near → Rows n xs all deep i)
 
 abbrev μ-loop : tie.MeasureT-loop
-μ-loop near n all₀ i₀ all i = n - i
+μ-loop near n far all₀ deep₀ i₀ all deep i = n - i
 
 loop-holds : tie.Need-loop-holds Inv-loop μ-loop
-loop-holds c = (omega arith, c .pre .1 .shown .small, λ xs R. fill-start _ xs)
+loop-holds c = (omega arith, c .pre .1 .shown .small, λ xs R. rows-start _ xs)
 
 add-from-atom : tie.Need-add-from-atom Inv-loop μ-loop
 add-from-atom c = omega arith
@@ -33,7 +33,10 @@ from-atom-requires c κs =
     let s = c .before .before .before in
     let l = c .before .before .loop in
     let (xs, R) = s .pre in
-    ((graphOf (s .args .n) xs, record { shown = R .shown; size = refl; start = omega arith }), l .inv .2 xs R .rest (l .i) (omega arith) (omega arith) ∙ sym no-row)
+    ((graphOf (s .args .n) xs, record { shown = R .shown; size = refl; start = omega arith }), l .inv .2 xs R .rows .rest (l .i) (omega arith) (omega arith))
+
+array-write-deep : tie.Need-array-write-deep Inv-loop μ-loop
+array-write-deep c = omega arith
 
 add-i : tie.Need-add-i Inv-loop μ-loop
 add-i c = omega arith
@@ -48,13 +51,14 @@ loop-again c =
       l .inv .1,
       λ xs R.
           let S = c .from-atom .ensures _ (record { shown = R .shown; size = refl; start = omega arith }) in
-          rw (add-one (l .i)) (fill-next _ xs _ (l .i) _ (omega arith) (l .inv .2 xs R) (rw (add-one (l .i)) at (S .far (passed _ xs (R .fine) .whole)))),
+          let w = passed _ xs (R .fine) .whole in
+          rw (add-one (l .i)) (rows-next _ xs _ _ (l .i) _ _ (omega arith) (l .inv .2 xs R) (rw (add-one (l .i)) at (S .far w)) (rw (add-one (l .i)) at (S .deep w))),
     )
 
 returns : tie.Need-returns Inv-loop μ-loop
-returns c xs R =
+returns c =
     let e : c .before .loop .i ≡ c .before .before .args .n = omega arith in
-    fill-end _ xs (R .fine) _ (rw e at (c .before .loop .inv .2 xs R))
+    (λ xs R. rows-end _ xs (R .fine) _ _ (rw e at (c .before .loop .inv .2 xs R)) .0, λ xs R. rows-end _ xs (R .fine) _ _ (rw e at (c .before .loop .inv .2 xs R)) .1)
 
 pub from-all-spec : {M : Type 1} → statement M
 from-all-spec =
@@ -67,6 +71,7 @@ from-all-spec =
     mul-from-atom
     index-1-from-atom
     from-atom-requires
+    array-write-deep
     add-i
     loop-less
     loop-again

@@ -8,12 +8,12 @@ use Rattle.graph.specs.Graph.{Graph, Within}
 use Rattle.graph.specs.Sets.{shifted, taken-some, lowest-dropped}
 use Rattle.block.specs.Block.{mostAtoms}
 use Rattle.block.specs.Found.{Task}
-use Rattle.block.proofs.Meeting.{Running, first, fits-level, run-start, small, shallow, less, run-looked, run-deeper, run-end}
+use Rattle.block.proofs.Meeting.{Running, Over, first, fits-level, run-start, small, shallow, less, run-looked, looked-at, run-deeper, run-over, run-end}
 use Rattle.block.proofs.search.from_atom.Statement.{statement}
 use Rattle.block.proofs.search.from_atom.Tie as tie
 
 abbrev Inv-loop : tie.InvT-loop
-Inv-loop near n i row₀ level₀ rest₀ next₀ d₀ row level rest next d = (g : Graph) → Task g near n i → Running g near i row rest level next d × (level ≡ 0 → next ≡ 0)
+Inv-loop near n i row₀ level₀ rest₀ next₀ d₀ row level rest next d = (g : Graph) → Task g near n i → Running g near i row rest level next d × (level ≡ 0 → Over g near i next d)
 
 abbrev μ-loop : tie.MeasureT-loop
 μ-loop near n i row₀ level₀ rest₀ next₀ d₀ row level rest next d = rest + level
@@ -36,7 +36,7 @@ all-requires : tie.Need-all-requires Inv-loop μ-loop
 all-requires c κs = begins (c .before) .0
 
 loop-holds : tie.Need-loop-holds Inv-loop μ-loop
-loop-holds c g T = (rw (c .before .before .pre .1, shifted mostAtoms _ (shl-level (c .before)), c .all .ensures, T .size) (run-start g _ _ (T .shown) (T .start)), λ e. refl)
+loop-holds c g T = (rw (c .before .before .pre .1, shifted mostAtoms _ (shl-level (c .before)), c .all .ensures, T .size) (run-start g _ _ (T .shown) (T .start)), λ e. absurd (omega (arith, e, shifted mostAtoms _ (shl-level (c .before)), pow-pos (c .before .before .args .i - 1))))
 
 -- in a turn some atom waits
 small-in : (c : tie.In-loop Inv-loop μ-loop) → (first (c .before .loop .level) < mostAtoms) × (c .before .loop .d < mostAtoms)
@@ -80,7 +80,10 @@ loop-less c =
 loop-again : tie.Need-loop-again Inv-loop μ-loop
 loop-again c g T =
     let d = c .before .before in
-    (run-deeper g _ _ (T .shown) _ _ _ _ _ (run-looked g _ _ (T .shown) _ _ _ _ _ (d .before .loop .inv g T .0) (d .loop-test .taken)) (rw (out d) at (c .if1 .taken)), λ e. refl)
+    let R = d .before .loop .inv g T .0 in
+    let L = run-looked g _ _ (T .shown) _ _ _ _ _ R (d .loop-test .taken) in
+    let none = rw (out d) at (c .if1 .taken) in
+    (run-deeper g _ _ (T .shown) _ _ _ _ _ L none, λ e. run-over g _ _ (T .shown) _ _ _ _ _ L none e _ (looked-at g _ _ (T .shown) _ _ _ _ _ R (d .loop-test .taken)))
 
 loop-less-2 : tie.Need-loop-less-2 Inv-loop μ-loop
 loop-less-2 c =
@@ -93,13 +96,21 @@ loop-again-2 c g T =
     let d = c .before .before in
     (rw (out d) (run-looked g _ _ (T .shown) _ _ _ _ _ (d .before .loop .inv g T .0) (d .loop-test .taken)), λ e. absurd (c .if1 .left e))
 
+sub-t19 : tie.Need-sub-t19 Inv-loop μ-loop
+sub-t19 c =
+    let (g, T) = c .before .before .before .before .pre .0 in
+    omega (arith, c .before .loop .inv g T .1 (c .loop-test .left) .some)
+
 same-length : tie.Need-same-length Inv-loop μ-loop
 same-length c =
     let (g, T) = c .before .before .before .before .pre .0 in
     omega (arith, c .before .loop .inv g T .0 .size, ap length (c .before .before .before .before .pre .1))
 
 returns : tie.Need-returns Inv-loop μ-loop
-returns c g T = run-end g _ _ (T .shown) _ _ _ _ _ (c .before .loop .inv g T .0) (c .loop-test .left) (c .before .loop .inv g T .1 (c .loop-test .left))
+returns c g T =
+    let l = c .before .loop in
+    let o = l .inv g T .1 (c .loop-test .left) in
+    run-end g _ _ (T .shown) _ _ _ _ _ (l .inv g T .0) (c .loop-test .left) (o .ended) (o .deep)
 
 pub from-atom-spec : {M : Type 1} → statement M
 from-atom-spec =
@@ -121,5 +132,6 @@ from-atom-spec =
     loop-again
     loop-less-2
     loop-again-2
+    sub-t19
     same-length
     returns)

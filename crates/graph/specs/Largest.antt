@@ -1,5 +1,5 @@
 -- Laws. The largest distance: it is met by some atom and exceeded by none, and how it grows when two molecules are joined. Assumes nothing.
-use Prim.Native.Nat.{ℕ, zero, suc, _+_, _≤_, max}
+use Prim.Native.Nat.{ℕ, zero, suc, _+_, _≤_, _<_, max}
 use mathlib.Core.Logic.{⊎-elim}
 use mathlib.Core.Path.{_≡_, refl, sym, _∙_, ap, ap₂}
 use native.Mathlib.Nat.{add-zero, add-suc, le-suc-iff}
@@ -8,7 +8,7 @@ use native.Mathlib.Decide.{decLt}
 use Rattle.graph.specs.Graph.{Graph, Within, Molecule, distance}
 use Rattle.graph.specs.Farthest.{most, mostPairs, farthest, largest}
 use Rattle.graph.specs.Assembly.{joined}
-use Rattle.graph.specs.Distance.{distance-sym}
+use Rattle.graph.specs.Distance.{distance-sym, distance-self, distance-below}
 use Rattle.graph.specs.Sums.{wider, last}
 use Rattle.graph.specs.Join.{distance-first, distance-second, distance-cross, distance-back}
 
@@ -26,11 +26,26 @@ most-met (suc zero) f h = (1, last 0, omega arith)
 most-met (suc (suc n)) f h =
     let r = most-met (suc n) f (omega arith) in
     elim (decLt (max (most n f) (f (suc n))) (f (suc (suc n)))) [
-      yes l ↦ (suc (suc n), last (suc n), omega arith)
-    | no l ↦ (r .0, wider (r .1), omega (arith, r .2))
+      | yes l ↦ (suc (suc n), last (suc n), omega arith)
+      | no l ↦ (r .0, wider (r .1), omega (arith, r .2))
     ]
 
+-- what each of them is at most, the largest is at most; so a number that is met and not exceeded is the largest
+pub most-below : (n : ℕ) (f : ℕ → ℕ) (m : ℕ) → ((i : ℕ) → Within n i → f i ≤ m) → most n f ≤ m
+unfolding most
+most-below zero f m h = omega arith
+most-below (suc n) f m h = omega (arith, most-below n f m (λ i w. h i (wider w)), h (suc n) (last n))
+
+most-is : (n : ℕ) (f : ℕ → ℕ) (m : ℕ) → ((i : ℕ) → Within n i → f i ≤ m) → (v : ℕ) → Within n v → f v ≡ m → most n f ≡ m
+most-is n f m h v w e = omega (arith, most-below n f m h, most-over n f v w)
+
 -- the same of the pairs
+mostPairs-below : (n : ℕ) (f : ℕ → ℕ → ℕ) (m : ℕ) → ((i j : ℕ) → Within n i → Within n j → f i j ≤ m) → mostPairs n f ≤ m
+unfolding mostPairs
+mostPairs-below zero f m h = omega arith
+mostPairs-below (suc n) f m h =
+    omega (arith, mostPairs-below n f m (λ i j w v. h i j (wider w) (wider v)), most-below n (λ i. f i (suc n)) m (λ i w. h i (suc n) (wider w) (last n)))
+
 pub mostPairs-over : (n : ℕ) (f : ℕ → ℕ → ℕ) (i j : ℕ) → 1 ≤ i → suc i ≤ j → j ≤ n → f i j ≤ mostPairs n f
 unfolding mostPairs
 mostPairs-over zero f i j a b c = absurd (omega arith)
@@ -46,6 +61,48 @@ farthest-over g a j w = most-over (g .atoms) (distance g a) j w
 pub farthest-met : (g : Graph) (a : ℕ) → 1 ≤ g .atoms → (j : ℕ) × Within (g .atoms) j × (distance g a j ≡ farthest g a)
 unfolding farthest
 farthest-met g a h = most-met (g .atoms) (distance g a) h
+
+pub farthest-is : (g : Graph) (a d : ℕ) → ((j : ℕ) → Within (g .atoms) j → distance g a j ≤ d) → (j : ℕ) → Within (g .atoms) j → distance g a j ≡ d → farthest g a ≡ d
+unfolding farthest
+farthest-is g a d h j w e = most-is (g .atoms) (distance g a) d h j w e
+
+-- The two atoms that are farthest from each other: there are such, and none are farther. So the largest is that of the farthest from each atom.
+module _ {g : Graph} (m : Molecule g) where
+  pub largest-over : (i j : ℕ) → Within (g .atoms) i → Within (g .atoms) j → distance g i j ≤ largest g
+  unfolding largest
+  largest-over i j w v = elim (decLt i j) [
+    | yes l ↦ mostPairs-over (g .atoms) (distance g) i j (w .low) l (v .high)
+    | no l ↦ elim (decLt j i) [
+      | yes k ↦ omega (arith, distance-sym m w v, mostPairs-over (g .atoms) (distance g) j i (v .low) k (w .high))
+      | no k ↦ let e : j ≡ i = omega arith in omega (arith, ap (distance g i) e, distance-self (m .sound) w)
+    ]
+  ]
+
+  largest-low : largest g ≤ most (g .atoms) (farthest g)
+  unfolding largest
+  largest-low =
+      mostPairs-below (g .atoms) (distance g) (most (g .atoms) (farthest g)) (λ i j w v. omega (arith, farthest-over g i j v, most-over (g .atoms) (farthest g) i w))
+
+  largest-high : most (g .atoms) (farthest g) ≤ largest g
+  unfolding farthest
+  largest-high =
+      most-below (g .atoms) (farthest g) (largest g) (λ i w. most-below (g .atoms) (distance g i) (largest g) (λ j v. largest-over i j w v))
+
+  pub largest-is : largest g ≡ most (g .atoms) (farthest g)
+  largest-is = omega (arith, largest-low, largest-high)
+
+  pub largest-met : 1 ≤ g .atoms → (i : ℕ) × (j : ℕ) × Within (g .atoms) i × Within (g .atoms) j × (distance g i j ≡ largest g)
+  largest-met h =
+      let (i, w, e) = most-met (g .atoms) (farthest g) h in
+      let (j, v, f) = farthest-met g i h in
+      (i, j, w, v, f ∙ e ∙ sym largest-is)
+
+  -- both are below the atom count
+  pub farthest-below : {a : ℕ} → Within (g .atoms) a → farthest g a < g .atoms
+  farthest-below {a} w = let (j, v, e) = farthest-met g a (omega (arith, w .low, w .high)) in omega (arith, distance-below m w v)
+
+  pub largest-below : 1 ≤ g .atoms → largest g < g .atoms
+  largest-below h = let (i, j, w, v, e) = largest-met h in omega (arith, distance-below m w v)
 
 -- Equal numbers have equal largest ones, and those of two parts are taken together.
 pub most-cong : (n : ℕ) {f h : ℕ → ℕ} → ((i : ℕ) → Within n i → f i ≡ h i) → most n f ≡ most n h
@@ -64,13 +121,13 @@ unfolding most
 most-split n zero f = ap (λ (k : ℕ). most k f) (add-zero n) ∙ omega arith
 most-split n (suc m) f = ap (λ (k : ℕ). most k f) (add-suc n m) ∙ omega (arith, most-split n m f, ap f (add-suc n m))
 
-most-max : (n : ℕ) (f h : ℕ → ℕ) → most n (λ i. max (f i) (h i)) ≡ max (most n f) (most n h)
+pub most-max : (n : ℕ) (f h : ℕ → ℕ) → most n (λ i. max (f i) (h i)) ≡ max (most n f) (most n h)
 unfolding most
 most-max zero f h = refl
 most-max (suc n) f h = omega (arith, most-max n f h)
 
 -- a number added to each of at least one
-most-add : (n : ℕ) (f : ℕ → ℕ) (c : ℕ) → 1 ≤ n → most n (λ i. c + f i) ≡ c + most n f
+pub most-add : (n : ℕ) (f : ℕ → ℕ) (c : ℕ) → 1 ≤ n → most n (λ i. c + f i) ≡ c + most n f
 unfolding most
 most-add zero f c h = absurd (omega arith)
 most-add (suc zero) f c h = omega arith
@@ -88,7 +145,7 @@ right : (x y z : ℕ) → max (max x y) z ≡ max x (max y z)
 right x y z = omega arith
 
 -- the pairs of 1 to n + m: those of the first n, those of the last m, and those across
-mostPairs-split : (n m : ℕ) (f : ℕ → ℕ → ℕ)
+pub mostPairs-split : (n m : ℕ) (f : ℕ → ℕ → ℕ)
     → mostPairs (n + m) f ≡ max (max (mostPairs n f) (mostPairs m (λ i j. f (n + i) (n + j)))) (most n (λ i. most m (λ j. f i (n + j))))
 unfolding mostPairs most
 mostPairs-split n zero f = ap (λ (k : ℕ). mostPairs k f) (add-zero n) ∙ omega (arith, most-none n)

@@ -1,0 +1,3 @@
+-- Laws that several functions' proofs cite.
+pub mod Pairs
+pub mod Lines

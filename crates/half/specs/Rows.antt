@@ -1,0 +1,68 @@
+-- Laws. A row that is stored is read at its pairs, and changes no other atom's. Assumes nothing.
+use Prim.Native.Nat.{ℕ, zero, suc, _+_, _-_, _≤_, _<_}
+use mathlib.Core.Bool.{true, false}
+use mathlib.Core.List.{List, [], _∷_}
+use mathlib.Core.Logic.{_⊎_, inl, inr, ⊎-elim}
+use mathlib.Core.Path.{_≡_, refl, sym, _∙_, ap}
+use native.Mathlib.Decide.{decLt}
+use native.Mathlib.Omega.{arith}
+use borrow.Author.Tests.{ne-eqb, le-ltb}
+use lib.ListN.{length, getD, set, length-set}
+use lib.Seq.{sets, length-sets, getD-set-same, getD-set-other}
+use Rattle.reply.specs.Read.{isOutside}
+use Rattle.half.specs.Half.{mostAtoms, allPairs, startOf, placeOf, partOf, halfWithRow}
+use Rattle.half.specs.Places.{Pair, start-last, start-next, start-most, place-is, place-high}
+
+pub length-part : (row : List ℕ) (j m : ℕ) → length (partOf row j m) ≡ m
+unfolding partOf
+length-part row j zero = refl
+length-part row j (suc m) = ap suc (length-part row (suc j) m)
+
+getD-part : (row : List ℕ) (m j k : ℕ) → k < m → getD (partOf row j m) k 0 ≡ getD row (j + k) 0
+unfolding partOf
+getD-part row zero j k l = absurd (omega arith)
+getD-part row (suc m) j zero l = let e : j + 0 ≡ j = omega arith in rw e
+getD-part row (suc m) j (suc k) l = let e : j + suc k ≡ suc j + k = omega arith in rw e (getD-part row m (suc j) k (omega arith))
+
+-- entries put one behind the other, and what stands elsewhere
+sets-before : (vs l : List ℕ) (at p : ℕ) → p < at → getD (sets l at vs) p 0 ≡ getD l p 0
+sets-before [] l at p h = refl
+sets-before (v ∷ vs) l at p h = sets-before vs (set l at v) (suc at) p (omega arith) ∙ getD-set-other l at p v 0 (λ e. omega arith)
+
+sets-behind : (vs l : List ℕ) (at p : ℕ) → at + length vs ≤ p → getD (sets l at vs) p 0 ≡ getD l p 0
+sets-behind [] l at p h = refl
+sets-behind (v ∷ vs) l at p h = sets-behind vs (set l at v) (suc at) p (omega arith) ∙ getD-set-other l at p v 0 (λ e. omega arith)
+
+sets-in : (vs l : List ℕ) (at k : ℕ) → k < length vs → at + length vs ≤ length l → getD (sets l at vs) (at + k) 0 ≡ getD vs k 0
+sets-in [] l at k h n = absurd (omega arith)
+sets-in (v ∷ vs) l at zero h n =
+    let e : at + 0 ≡ at = omega arith in
+    rw e (sets-before vs (set l at v) (suc at) at (omega arith) ∙ getD-set-same l at v 0 (omega arith))
+sets-in (v ∷ vs) l at (suc k) h n =
+    let e : at + suc k ≡ suc at + k = omega arith in
+    rw e (sets-in vs (set l at v) (suc at) k (omega arith) (omega (arith, length-set l at v)))
+
+module _ (h : List ℕ) (i : ℕ) (row : List ℕ) (low : 1 ≤ i) (high : i ≤ mostAtoms) (size : length h ≡ allPairs) where
+  stores : halfWithRow h i row ≡ sets h (startOf i) (partOf row i (mostAtoms - i))
+  unfolding halfWithRow
+  stores = rw (ne-eqb i 0 (omega arith), le-ltb mostAtoms i high, le-ltb (length h) allPairs (omega arith))
+
+  pub row-size : length (halfWithRow h i row) ≡ allPairs
+  row-size = rw stores (length-sets h (startOf i) (partOf row i (mostAtoms - i)) ∙ size)
+
+  pub row-same : (l : ℕ) → Pair i l → getD (halfWithRow h i row) (placeOf i l) 0 ≡ getD row (l - 1) 0
+  row-same l p =
+      let n = start-next i low (omega (arith, p .less, p .high)) in
+      let m = start-most (suc i) mostAtoms (omega arith) (omega (arith, p .less, p .high)) (omega arith) in
+      let e : placeOf i l ≡ startOf i + (l - i - 1) = place-is i l in
+      let f : i + (l - i - 1) ≡ l - 1 = omega (arith, p .less) in
+      rw (stores, e)
+      (sets-in (partOf row i (mostAtoms - i)) h (startOf i) (l - i - 1) (omega (arith, length-part row i (mostAtoms - i), p .less, p .high)) (omega (arith, length-part row i (mostAtoms - i), start-last))
+      ∙ getD-part row (mostAtoms - i) i (l - i - 1) (omega (arith, p .less, p .high)) ∙ rw f)
+
+  pub row-other : (k l : ℕ) → Pair k l → (k ≡ i → ⊥) → getD (halfWithRow h i row) (placeOf k l) 0 ≡ getD h (placeOf k l) 0
+  row-other k l p ne = rw stores (elim (decLt k i) [
+    | yes u ↦ sets-before (partOf row i (mostAtoms - i)) h (startOf i) (placeOf k l) (omega (arith, place-high p, start-most (suc k) i (omega arith) u high))
+    | no u ↦ sets-behind (partOf row i (mostAtoms - i)) h (startOf i) (placeOf k l)
+        (omega (arith, length-part row i (mostAtoms - i), start-next i low (omega (arith, p .less, p .high)), start-most (suc i) k (omega arith) (omega arith) (omega (arith, p .less, p .high)), place-is k l))
+  ])

@@ -1,0 +1,62 @@
+-- Work. Numbers that are not cut down: there joining is by the rules themselves.
+use Prim.Native.Nat.{ℕ, _^_, _≤_, min}
+use mathlib.Core.Path.{_≡_, ap₂}
+use native.Mathlib.Omega.{arith}
+use Rattle.tables.specs.Parts.{grow, joinSix}
+use Rattle.block.specs.declared.Indices.{Indices}
+use Rattle.block.specs.declared.Vertex.{Vertex}
+use Rattle.joining.specs.Joining.{mostCounted, mostField, counted, held, grownOf, joinedOf}
+
+-- each number that is counted is no more than n
+pub record AtMost (n : ℕ) (v : Vertex) : Type 0 where
+  pub sum : v .sum ≤ n
+  pub even : v .even ≤ n
+  pub odd : v .odd ≤ n
+  pub evens : v .evens ≤ n
+  pub odds : v .odds ≤ n
+  pub ones : v .ones ≤ n
+  pub twos : v .twos ≤ n
+  pub farthest : v .farthest ≤ n
+
+abbrev pub Small : Vertex → Type 0
+Small v = AtMost mostCounted v
+
+-- with room for a sum
+abbrev pub Low : Vertex → Type 0
+Low v = AtMost (2 ^ 60) v
+
+pub record Room (x : Indices) : Type 0 where
+  pub atoms : x .atoms ≤ mostField
+  pub w : x .w ≤ mostField
+  pub even : x .even ≤ mostField
+  pub odd : x .odd ≤ mostField
+  pub polarity : x .polarity ≤ mostField
+  pub largest : x .largest ≤ mostField
+
+-- what is cut down is small, and what is small stays as it is
+pub counted-small : (v : Vertex) → Small (counted v)
+unfolding counted
+counted-small v = record { sum = omega arith; even = omega arith; odd = omega arith; evens = omega arith; odds = omega arith; ones = omega arith; twos = omega arith; farthest = omega arith }
+
+pub held-room : (x : Indices) → Room (held x)
+unfolding held
+held-room x = record { atoms = omega arith; w = omega arith; even = omega arith; odd = omega arith; polarity = omega arith; largest = omega arith }
+
+whole : {a n : ℕ} → a ≤ n → min a n ≡ a
+whole h = omega arith
+
+small-counted : {v : Vertex} → Small v → counted v ≡ v
+unfolding counted
+small-counted s = rw (whole (s .sum), whole (s .even), whole (s .odd), whole (s .evens), whole (s .odds), whole (s .ones), whole (s .twos), whole (s .farthest))
+
+room-held : {x : Indices} → Room x → held x ≡ x
+unfolding held
+room-held r = rw (whole (r .atoms), whole (r .w), whole (r .even), whole (r .odd), whole (r .polarity), whole (r .largest))
+
+pub grown-small : {v o : Vertex} {d : ℕ} → Small v → d ≤ mostCounted → Small o → grownOf v d o ≡ grow v d o
+unfolding grownOf
+grown-small s h t = rw (small-counted s, whole h, small-counted t)
+
+pub joined-small : {x y : Indices} {c o : Vertex} → Room x → Room y → Small c → Small o → joinedOf x y c o ≡ joinSix x y c o
+unfolding joinedOf
+joined-small p q s t = rw (room-held p, room-held q, small-counted s, small-counted t)

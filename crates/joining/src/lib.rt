@@ -1,0 +1,195 @@
+// What is counted from an atom, and the six fields, as they grow when two are joined by a bond. For any numbers: larger ones than can be are cut down.
+use block::Indices;
+use block::Vertex;
+ghost use mathlib.Core.Path.{_≡_};
+ghost use Prim.Native.Nat.{_+_, _*_, _^_, _<_, _≤_, max, min};
+ghost use Rattle.graph.specs.Graph.{isAt};
+ghost use Rattle.tables.specs.Parts.{beyond, both, evenAcross, oddAcross, joinSix};
+ghost use Rattle.joining.specs.Joining.{mostCounted, mostField, counted, held, grownOf, joinedOf};
+ghost use Rattle.joining.specs.Small.{Small, Low, Room};
+
+// The largest number that is counted from an atom, and the largest field: 2^29 - 1 and 2^60 - 1.
+const MOST_COUNTED: u64 = 536870911;
+
+const MOST_FIELD: u64 = 1152921504606846975;
+
+fn smaller(a: u64, b: u64) -> u64
+    ensures { λ r. ⌜ r ≡ min a b ⌝ }
+{
+    if a < b { a } else { b }
+}
+
+fn larger(a: u64, b: u64) -> u64
+    ensures { λ r. ⌜ r ≡ max a b ⌝ }
+{
+    if a < b { b } else { a }
+}
+
+fn times(a: u64, b: u64) -> u64
+    requires { ⌜ (a ≤ 2 ^ 29) × (b ≤ 2 ^ 29) ⌝ }
+    ensures { λ r. ⌜ (r ≡ a * b) × (r ≤ 2 ^ 58) ⌝ }
+{
+    a * b
+}
+
+// 1 if d is k, else 0.
+fn is_at(k: u64, d: u64) -> u64
+    ensures { λ r. ⌜ (r ≡ isAt k d) × (r < 2) ⌝ }
+{
+    if d == k { 1 } else { 0 }
+}
+
+fn cut(v: Vertex) -> Vertex
+    ensures { λ r. ⌜ (r ≡ counted v) × Small r ⌝ }
+{
+    Vertex {
+        sum: smaller(v.sum, MOST_COUNTED),
+        even: smaller(v.even, MOST_COUNTED),
+        odd: smaller(v.odd, MOST_COUNTED),
+        evens: smaller(v.evens, MOST_COUNTED),
+        odds: smaller(v.odds, MOST_COUNTED),
+        ones: smaller(v.ones, MOST_COUNTED),
+        twos: smaller(v.twos, MOST_COUNTED),
+        farthest: smaller(v.farthest, MOST_COUNTED),
+    }
+}
+
+fn cut_fields(x: Indices) -> Indices
+    ensures { λ r. ⌜ (r ≡ held x) × Room r ⌝ }
+{
+    Indices {
+        atoms: smaller(x.atoms, MOST_FIELD),
+        w: smaller(x.w, MOST_FIELD),
+        even: smaller(x.even, MOST_FIELD),
+        odd: smaller(x.odd, MOST_FIELD),
+        polarity: smaller(x.polarity, MOST_FIELD),
+        largest: smaller(x.largest, MOST_FIELD),
+    }
+}
+
+// What is counted of o, from an atom d bonds before the joining bond at whose other end o is counted: all is d + 1 farther.
+fn farther(d: u64, o: Vertex) -> Vertex
+    requires { ⌜ d ≤ mostCounted ⌝ }
+    requires { ⌜ Small o ⌝ }
+    ensures { λ r. ⌜ (r ≡ beyond d o) × Low r ⌝ }
+{
+    let by = d + 1;
+    let ones = is_at(0, d);
+    let twos = times(ones, o.ones) + is_at(1, d);
+    if d % 2 == 0 {
+        let even = times(by, o.odds) + o.odd;
+        let odd = times(by, o.evens) + o.even;
+        return Vertex {
+            sum: even + odd,
+            even,
+            odd,
+            evens: o.odds,
+            odds: o.evens,
+            ones,
+            twos,
+            farthest: by + o.farthest,
+        };
+    }
+    let even = times(by, o.evens) + o.even;
+    let odd = times(by, o.odds) + o.odd;
+    Vertex {
+        sum: even + odd,
+        even,
+        odd,
+        evens: o.evens,
+        odds: o.odds,
+        ones,
+        twos,
+        farthest: by + o.farthest,
+    }
+}
+
+// What is counted of both.
+fn with(v: Vertex, w: Vertex) -> Vertex
+    requires { ⌜ Small v ⌝ }
+    requires { ⌜ Low w ⌝ }
+    ensures { λ r. ⌜ r ≡ both v w ⌝ }
+{
+    Vertex {
+        sum: v.sum + w.sum,
+        even: v.even + w.even,
+        odd: v.odd + w.odd,
+        evens: v.evens + w.evens,
+        odds: v.odds + w.odds,
+        ones: v.ones + w.ones,
+        twos: v.twos + w.twos,
+        farthest: larger(v.farthest, w.farthest),
+    }
+}
+
+// What an atom counts, once another molecule is joined: v before, d bonds lead to the joining bond, and o is counted from its other end.
+pub fn grown(v: Vertex, d: u64, o: Vertex) -> Vertex
+    ensures { λ r. ⌜ r ≡ grownOf v d o ⌝ }
+{
+    with(cut(v), farther(smaller(d, MOST_COUNTED), cut(o)))
+}
+
+// The even distances across the joining bond: c is counted from one end, o from the other.
+fn even_across(c: Vertex, o: Vertex) -> u64
+    requires { ⌜ Small c ⌝ }
+    requires { ⌜ Small o ⌝ }
+    ensures { λ r. ⌜ (r ≡ evenAcross c o) × (r ≤ 6 * 2 ^ 58) ⌝ }
+{
+    times(c.even, o.odds)
+        + times(c.evens, o.odds)
+        + times(c.evens, o.odd)
+        + times(c.odd, o.evens)
+        + times(c.odds, o.evens)
+        + times(c.odds, o.even)
+}
+
+// The odd ones.
+fn odd_across(c: Vertex, o: Vertex) -> u64
+    requires { ⌜ Small c ⌝ }
+    requires { ⌜ Small o ⌝ }
+    ensures { λ r. ⌜ (r ≡ oddAcross c o) × (r ≤ 6 * 2 ^ 58) ⌝ }
+{
+    times(c.even, o.evens)
+        + times(c.evens, o.evens)
+        + times(c.evens, o.even)
+        + times(c.odd, o.odds)
+        + times(c.odds, o.odds)
+        + times(c.odds, o.odd)
+}
+
+// How many are 3.
+fn threes_across(c: Vertex, o: Vertex) -> u64
+    requires { ⌜ Small c ⌝ }
+    requires { ⌜ Small o ⌝ }
+    ensures { λ r. ⌜ (r ≡ o .twos + c .ones * o .ones + c .twos) × (r ≤ 2 ^ 59) ⌝ }
+{
+    o.twos + times(c.ones, o.ones) + c.twos
+}
+
+// The fields of both, c and o small.
+fn added(x: Indices, y: Indices, c: Vertex, o: Vertex) -> Indices
+    requires { ⌜ Room x ⌝ }
+    requires { ⌜ Room y ⌝ }
+    requires { ⌜ Small c ⌝ }
+    requires { ⌜ Small o ⌝ }
+    ensures { λ r. ⌜ r ≡ joinSix x y c o ⌝ }
+{
+    let even = x.even + y.even + even_across(c, o);
+    let odd = x.odd + y.odd + odd_across(c, o);
+    let polarity = x.polarity + y.polarity + threes_across(c, o);
+    Indices {
+        atoms: x.atoms + y.atoms,
+        w: even + odd,
+        even,
+        odd,
+        polarity,
+        largest: larger(larger(x.largest, y.largest), c.farthest + 1 + o.farthest),
+    }
+}
+
+// The six fields of two molecules joined by a bond: x and y are theirs, c and o are counted from its ends.
+pub fn joined(x: Indices, y: Indices, c: Vertex, o: Vertex) -> Indices
+    ensures { λ r. ⌜ r ≡ joinedOf x y c o ⌝ }
+{
+    added(cut_fields(x), cut_fields(y), cut(c), cut(o))
+}

@@ -1,0 +1,1 @@
+// Tables of distances joined by single bonds: laws over what block keeps of a molecule and of an atom. No code.
