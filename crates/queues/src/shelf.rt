@@ -1,18 +1,19 @@
 // A shelf: one queue's eight places, a summary each. A place is empty where its number is 0.
 use super::TABLE;
+use block::Measured;
 use records::le16_at;
 use reply::Refusal;
 use reply::Reply;
+use summary::SUMMARY;
 ghost use mathlib.Core.Path.{_≡_};
 ghost use Prim.Native.Nat.{_+_, _≤_, _<_};
 ghost use lib.ListN.{length};
 ghost use lib.Seq.{sets};
 ghost use Rattle.reply.specs.Read.{refusal, saidReply};
-ghost use Rattle.storage.specs.Shelf.{places, isHeld, placeOf, noNumber, roomReply, dropReply, dropped};
+ghost use Rattle.block.specs.Index.{saidIndices};
+ghost use Rattle.summary.specs.Layout.{summaryBytes, fieldsOf};
+ghost use Rattle.storage.specs.Shelf.{places, isHeld, placeOf, noNumber, roomReply, lookReply, dropReply, dropped};
 ghost use Rattle.storage.specs.Table.{shelfBytes, tableBytes, zeroed};
-ghost use Rattle.queues.specs.Queues.{placeBytes};
-
-pub(crate) const SUMMARY: usize = 2672;
 
 pub(crate) const PLACES: usize = 8;
 
@@ -27,7 +28,7 @@ pub(crate) fn refused(number: usize) -> Reply
 
 // The first place that has a number; PLACES where none has it.
 pub(crate) fn place_of(s: &[u8], number: u16) -> usize
-    ensures { λ r. ⌜ (r ≡ placeOf placeBytes (now (s .entry)) number) × (r ≤ places) ⌝ }
+    ensures { λ r. ⌜ (r ≡ placeOf summaryBytes (now (s .entry)) number) × (r ≤ places) ⌝ }
 {
     let mut k = 0;
     while k < PLACES {
@@ -48,7 +49,7 @@ pub(crate) fn is_held(number: u16, k: usize) -> bool
 
 // Refusals 14, 29 and 28 of a number that is to be added.
 pub(crate) fn room_reply(s: &[u8], number: u16) -> Reply
-    ensures { λ r. ⌜ r ≡ saidReply (roomReply placeBytes (now (s .entry)) number) ⌝ }
+    ensures { λ r. ⌜ r ≡ saidReply (roomReply summaryBytes (now (s .entry)) number) ⌝ }
 {
     if number == 0 {
         return refused(14);
@@ -62,6 +63,23 @@ pub(crate) fn room_reply(s: &[u8], number: u16) -> Reply
     refused(28)
 }
 
+// The fields of the block that has a number.
+pub(crate) fn look_in(s: &[u8], number: u16) -> Measured
+    requires { ⌜ length (now s) ≡ shelfBytes summaryBytes ⌝ }
+    ensures { λ r. ⌜ r ≡ saidIndices (lookReply summaryBytes (now (s .entry)) fieldsOf number) ⌝ }
+{
+    let k = place_of(s, number);
+    if !is_held(number, k) {
+        return Measured::Refused(Refusal {
+            number: 30,
+            place: 0,
+        });
+    }
+    let start = SUMMARY * k;
+    let end = start + SUMMARY;
+    Measured::Of(summary::fields(&s[start..end]))
+}
+
 // Sets the number at a place to 0.
 fn free(s: &mut [u8], at: usize)
     requires { ⌜ at + 2 ≤ length (now s) ⌝ }
@@ -73,9 +91,9 @@ fn free(s: &mut [u8], at: usize)
 
 // Drops the block that has a number.
 pub(crate) fn drop_from(s: &mut [u8], number: u16) -> Reply
-    requires { ⌜ length (now s) ≡ shelfBytes placeBytes ⌝ }
-    ensures reply { λ r. ⌜ r ≡ saidReply (dropReply placeBytes (now (s .entry)) number) ⌝ }
-    ensures bytes { λ _. ⌜ now (s .exit) ≡ dropped placeBytes (now (s .entry)) number ⌝ }
+    requires { ⌜ length (now s) ≡ shelfBytes summaryBytes ⌝ }
+    ensures reply { λ r. ⌜ r ≡ saidReply (dropReply summaryBytes (now (s .entry)) number) ⌝ }
+    ensures bytes { λ _. ⌜ now (s .exit) ≡ dropped summaryBytes (now (s .entry)) number ⌝ }
 {
     let k = place_of(s, number);
     if !is_held(number, k) {
@@ -87,8 +105,8 @@ pub(crate) fn drop_from(s: &mut [u8], number: u16) -> Reply
 
 // Sets the bytes of the table to 0.
 pub(crate) fn clear(t: &mut [u8])
-    requires { ⌜ tableBytes placeBytes ≤ length (now t) ⌝ }
-    ensures { λ _. ⌜ now (t .exit) ≡ zeroed placeBytes (now (t .entry)) ⌝ }
+    requires { ⌜ tableBytes summaryBytes ≤ length (now t) ⌝ }
+    ensures { λ _. ⌜ now (t .exit) ≡ zeroed summaryBytes (now (t .entry)) ⌝ }
 {
     let mut k = 0;
     while k < TABLE {

@@ -6,7 +6,7 @@ use mathlib.Core.Path.{sym, _∙_, ap}
 use native.Mathlib.Omega.{arith}
 use Rattle.reply.specs.Read.{saidReply}
 use Rattle.storage.specs.Table.{shelf}
-use Rattle.queues.specs.Queues.{placeBytes}
+use Rattle.summary.specs.Layout.{summaryBytes}
 use Rattle.queues.proofs.Answers.{short-reply, short-after, reply-on, after-on}
 use borrow.Author.Needs.{needs}
 use Rattle.queues.proofs.drop.Statement.{statement}
@@ -19,7 +19,7 @@ returns : tie.Need-returns
 returns c =
     let a = c .before .before .before .args in
     let l = c .before .if1 .taken in
-    (c .refused .ensures ∙ sym (ap saidReply (short-reply (a .table .now) (dropReply placeBytes (shelf placeBytes (a .queue) (a .table .now)) (a .number)) l)), short-after (a .table .now) (a .queue) (dropped placeBytes (shelf placeBytes (a .queue) (a .table .now)) (a .number)) l)
+    (c .refused .ensures ∙ sym (ap saidReply (short-reply (a .table .now) (dropReply summaryBytes (shelf summaryBytes (a .queue) (a .table .now)) (a .number)) l)), short-after (a .table .now) (a .queue) (dropped summaryBytes (shelf summaryBytes (a .queue) (a .table .now)) (a .number)) l)
 
 start-of-requires : tie.Need-start-of-requires
 start-of-requires c κs = search needs
@@ -48,8 +48,8 @@ returns-2 c =
     let s = c .before .before .before .before .start-of in
     let l = c .before .before .before .before .before .if1 .left in
     let r = c .before .before .drop-from in (
-      reply-on (a .queue) (a .table .now) (s .result) (s .ensures .0) (omega (arith, l)) saidReply (λ (t : List ℕ). dropReply placeBytes t (a .number)) (r .result) (r .ensures .0),
-      after-on (a .queue) (a .table .now) (s .result) (s .ensures .0) (omega (arith, l)) (λ (t : List ℕ). dropped placeBytes t (a .number)) (r .last .0) (r .ensures .1),
+      reply-on (a .queue) (a .table .now) (s .result) (s .ensures .0) (omega (arith, l)) saidReply (λ (t : List ℕ). dropReply summaryBytes t (a .number)) (r .result) (r .ensures .0),
+      after-on (a .queue) (a .table .now) (s .result) (s .ensures .0) (omega (arith, l)) (λ (t : List ℕ). dropped summaryBytes t (a .number)) (r .last .0) (r .ensures .1),
     )
 
 pub drop-spec : {M : Type 1} → statement M

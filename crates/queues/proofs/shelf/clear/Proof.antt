@@ -7,19 +7,19 @@ use lib.ListN.{length, length-set, replicate}
 use lib.Seq.{sets}
 use Rattle.queues.proofs.Steps.{clear-start, clear-one, clear-none}
 use Rattle.storage.specs.Table.{tableBytes, zeroed}
-use Rattle.queues.specs.Queues.{placeBytes}
+use Rattle.summary.specs.Layout.{summaryBytes}
 use borrow.Author.Needs.{needs}
 use Rattle.queues.proofs.shelf.clear.Statement.{statement}
 use Rattle.queues.proofs.shelf.clear.Tie as tie
 
 abbrev Inv-loop : tie.InvT-loop
-Inv-loop t₀ k₀ t k = (length t ≡ length t₀) × (tableBytes placeBytes ≤ length t₀) × (sets t₀ 0 (replicate (tableBytes placeBytes) 0) ≡ sets t k (replicate (tableBytes placeBytes - k) 0))
+Inv-loop t₀ k₀ t k = (length t ≡ length t₀) × (tableBytes summaryBytes ≤ length t₀) × (sets t₀ 0 (replicate (tableBytes summaryBytes) 0) ≡ sets t k (replicate (tableBytes summaryBytes - k) 0))
 
 abbrev μ-loop : tie.MeasureT-loop
-μ-loop t₀ k₀ t k = tableBytes placeBytes - k
+μ-loop t₀ k₀ t k = tableBytes summaryBytes - k
 
 loop-holds : tie.Need-loop-holds Inv-loop μ-loop
-loop-holds c = let a = c .args in (refl, c .pre, clear-start (now (a .t)) (tableBytes placeBytes))
+loop-holds c = let a = c .args in (refl, c .pre, clear-start (now (a .t)) (tableBytes summaryBytes))
 
 slice-write-t : tie.Need-slice-write-t Inv-loop μ-loop
 slice-write-t c = search needs
