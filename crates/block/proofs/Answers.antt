@@ -6,11 +6,12 @@ use mathlib.Core.Path.{_≡_, refl, sym, ap, _∙_}
 use Rattle.graph.specs.Graph.{distance}
 use Rattle.graph.specs.Farthest.{farthest}
 use Rattle.reply.specs.Read.{Read, refused, read, _then_, refuseIf, refusal, isOutside}
+use Rattle.half.specs.Half.{halfAt}
 use Rattle.reply.specs.Chain.{not-read}
 use Rattle.block.specs.Block.{mostAtoms, graphOf, blockReply}
-use Rattle.block.specs.Rows.{rowOf, rowsOf, farOf, emptyRow, rowReply, saidRow}
+use Rattle.block.specs.Rows.{rowOf, tableOf, farOf, emptyRow, rowReply, saidRow}
 use Rattle.block.specs.Index.{indicesReply, saidIndices, vertexOf, vertexReply, saidVertex, distanceReply, saidDistance, pairsOf, pairsReply, saidPairs}
-use Rattle.block.specs.Sums.{entry, pairEntry, indicesBy, countsBy, vertexBy}
+use Rattle.block.specs.Sums.{entry, indicesBy, countsBy, vertexBy}
 use Rattle.block.specs.Faults.{inside}
 use Rattle.block.specs.Told.{entry-at}
 use Rattle.block.specs.Measures.{all-atoms, indices-are, counts-are, vertex-is}
@@ -53,18 +54,18 @@ module _ (n : ℕ) (xs : List ℕ) where
   unfolding indicesReply
   measure-refused r e = rw e
 
-  pub measure-fine : blockReply n xs ≡ read tt → (rows : List (List ℕ)) → rows ≡ rowsOf n xs → (far : List ℕ) → far ≡ farOf n xs
-      → (x : Indices) → x ≡ indicesBy (min n mostAtoms) (pairEntry rows) (entry far) → measured.Of x ≡ saidIndices (indicesReply n xs)
+  pub measure-fine : blockReply n xs ≡ read tt → (half : List ℕ) → half ≡ tableOf n xs → (far : List ℕ) → far ≡ farOf n xs
+      → (x : Indices) → x ≡ indicesBy (min n mostAtoms) (halfAt half) (entry far) → measured.Of x ≡ saidIndices (indicesReply n xs)
   unfolding indicesReply
-  measure-fine e rows q far f x p = rw (e, p, q, f, all-atoms n xs e, indices-are n xs e)
+  measure-fine e half q far f x p = rw (e, p, q, f, all-atoms n xs e, indices-are n xs e)
 
   pub pairs-refused : (p : Pairs) (r : Refusal) → blockReply n xs ≡ refused r → p .reply ≡ reply.Refused r → p .at ≡ emptyRow → p ≡ saidPairs (pairsReply n xs)
   unfolding pairsReply
   pairs-refused p r e q a = rw e (λ i. record { reply = q i; at = (a ∙ no-row) i })
 
-  pub pairs-fine : blockReply n xs ≡ read tt → (rows : List (List ℕ)) → rows ≡ rowsOf n xs → (p : Pairs) → p .reply ≡ reply.Fine → p .at ≡ countsBy (min n mostAtoms) (pairEntry rows) → p ≡ saidPairs (pairsReply n xs)
+  pub pairs-fine : blockReply n xs ≡ read tt → (half : List ℕ) → half ≡ tableOf n xs → (p : Pairs) → p .reply ≡ reply.Fine → p .at ≡ countsBy (min n mostAtoms) (halfAt half) → p ≡ saidPairs (pairsReply n xs)
   unfolding pairsReply
-  pairs-fine e rows q p f a =
+  pairs-fine e half q p f a =
       let b : p .at ≡ pairsOf (graphOf n xs) = rw (a, q, all-atoms n xs e) (counts-are n xs e) in
       rw e (λ i. record { reply = f i; at = b i })
 

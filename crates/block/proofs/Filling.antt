@@ -1,4 +1,4 @@
--- The rows are filled one by one, and a row is looked up. Assumes nothing.
+-- The rows are stored one by one in half a table. Assumes nothing.
 use Prim.Native.Nat.{ℕ, suc, _-_, _≤_, _<_}
 use mathlib.Core.Bool.{true, false}
 use mathlib.Core.List.{List, []}
@@ -11,13 +11,18 @@ use borrow.Author.Tests.{lt-ltb, ne-eqb}
 use Rattle.graph.specs.Graph.{Within}
 use Rattle.graph.specs.Farthest.{farthest}
 use Rattle.reply.specs.Read.{refused, read, refusal, isOutside}
+use Rattle.half.specs.Half.{allPairs, placeOf, halfWithRow}
+use Rattle.half.specs.Places.{Pair}
+use Rattle.half.specs.Rows.{row-size, row-same, row-other}
 use Rattle.block.specs.Block.{mostAtoms, graphOf, blockReply}
-use Rattle.block.specs.Rows.{table, rowOf, noRow, emptyRow, saidRow, rowReply, rowsOf, farOf, rowAt, distanceAt}
+use Rattle.block.specs.Rows.{table, rowOf, noRow, emptyRow, saidRow, rowReply, farOf, tableOf}
 use Rattle.block.specs.Tables.{length-table, getD-table}
 use Rattle.block.specs.Opened.{neighboursOf, openedReply, saidOpened}
 use Rattle.block.specs.Near.{Ready}
 use Rattle.block.specs.Told.{row-read}
 use Rattle.block.specs.Drawn.{drawn-is}
+use Rattle.block.specs.Halved.{table-end}
+use Rattle.block.specs.Lent.{zeros}
 use Rattle.reply.specs.declared.Refusal.{Refusal}
 use Rattle.reply.specs.declared.Reply.the-variants.{Fine, Refused}
 use Rattle.block.specs.declared.OneRow.{OneRow}
@@ -47,78 +52,62 @@ module _ {A : Type 0} {F : ℕ → A} {none d : A} where
     rest = λ k h m. getD-set-other all i k x d (omega arith) ∙ P .rest k (omega arith) m;
   }
 
-  pub fill-end : (T : ℕ → A) (n : ℕ) → ((k : ℕ) → k < n → F k ≡ T k) → ((k : ℕ) → n ≤ k → none ≡ T k) → (all : List A) → Filled F none d all n → all ≡ table mostAtoms T
+  pub fill-end : (T : ℕ → A) (n : ℕ) → ((k : ℕ) → k < n → F k ≡ T k) → ((k : ℕ) → n ≤ k → k < mostAtoms → none ≡ T k) → (all : List A) → Filled F none d all n → all ≡ table mostAtoms T
   fill-end T n first behind all P =
       ext-getD d all (table mostAtoms T) (P .size ∙ sym (length-table mostAtoms T))
       (λ i l. let m : i < mostAtoms = omega (arith, P .size) in at i m (decLt i n) ∙ sym (getD-table mostAtoms T i d m))
     where
       at : (i : ℕ) → i < mostAtoms → Dec (i < n) → getD all i d ≡ T i
       at i l (yes h) = P .done i h ∙ first i h
-      at i l (no h) = P .rest i (omega arith) l ∙ behind i (omega arith)
-
-abbrev pub emptyRows : List (List ℕ)
-emptyRows = replicate mostAtoms emptyRow
+      at i l (no h) = P .rest i (omega arith) l ∙ behind i (omega arith) l
 
 pub no-row : emptyRow ≡ noRow
 unfolding noRow table
 no-row = refl
 
--- what is looked up in a matrix
-module _ (rows : List (List ℕ)) (i : ℕ) where
-  pub row-none : isOutside mostAtoms i ≡ true → emptyRow ≡ rowAt rows i
-  unfolding rowAt
-  row-none e = rw e no-row
-
-  pub row-some : isOutside mostAtoms i ≡ false → getD rows (i - 1) [] ≡ rowAt rows i
-  unfolding rowAt
-  row-some e = rw e
-
-  module _ (j : ℕ) where
-    pub distance-none : isOutside mostAtoms i ≡ true → 0 ≡ distanceAt rows i j
-    unfolding distanceAt
-    distance-none e = rw e
-
-    pub distance-none′ : isOutside mostAtoms i ≡ false → isOutside mostAtoms j ≡ true → 0 ≡ distanceAt rows i j
-    unfolding distanceAt
-    distance-none′ e f = rw (e, f)
-
-    pub distance-some : isOutside mostAtoms i ≡ false → isOutside mostAtoms j ≡ false → getD (getD rows (i - 1) []) (j - 1) 0 ≡ distanceAt rows i j
-    unfolding distanceAt
-    distance-some e f = rw (e, f)
-
 module _ (n : ℕ) (xs : List ℕ) where
-  -- the first i rows are filled, and the largest of each
-  pub record Rows (all : List (List ℕ)) (far : List ℕ) (i : ℕ) : Type 0 where
-    pub rows : Filled (λ k. rowOf (graphOf n xs) (suc k)) emptyRow [] all i
+  -- the rows of the first i atoms are stored, and the largest of each
+  pub record Rows (h far : List ℕ) (i : ℕ) : Type 0 where
+    pub size : length h ≡ allPairs
+    pub done : (k l : ℕ) → Pair k l → k ≤ i → getD h (placeOf k l) 0 ≡ getD (rowOf (graphOf n xs) k) (l - 1) 0
+    pub rest : (k l : ℕ) → Pair k l → i < k → getD h (placeOf k l) 0 ≡ 0
     pub largest : Filled (λ k. farthest (graphOf n xs) (suc k)) 0 0 far i
 
-  pub rows-start : Rows emptyRows emptyRow 0
-  rows-start = record { rows = fill-start; largest = fill-start }
+  pub rows-start : Rows (replicate allPairs 0) emptyRow 0
+  rows-start = record {
+    size = length-replicate {A = ℕ} allPairs 0;
+    done = λ k l p m. absurd (omega (arith, p .low));
+    rest = λ k l p m. zeros allPairs (placeOf k l);
+    largest = fill-start;
+  }
 
-  pub rows-next : (all : List (List ℕ)) (far : List ℕ) (i : ℕ) (row : List ℕ) (d : ℕ) → i < mostAtoms → Rows all far i
-      → row ≡ rowOf (graphOf n xs) (suc i) → d ≡ farthest (graphOf n xs) (suc i) → Rows (set all i row) (set far i d) (suc i)
-  rows-next all far i row d l P e f = record { rows = fill-next all i row l (P .rows) e; largest = fill-next far i d l (P .largest) f }
+  pub rows-next : (h far : List ℕ) (i : ℕ) (row : List ℕ) (d : ℕ) → i < mostAtoms → Rows h far i
+      → row ≡ rowOf (graphOf n xs) (suc i) → d ≡ farthest (graphOf n xs) (suc i) → Rows (halfWithRow h (suc i) row) (set far i d) (suc i)
+  rows-next h far i row d l P e f = record {
+    size = row-size h (suc i) row (omega arith) l (P .size);
+    done = λ k j p m. elim (ℕ-discrete k (suc i)) [
+      | yes q ↦ subst⁻¹ (λ (x : ℕ). Pair x j → getD (halfWithRow h (suc i) row) (placeOf x j) 0 ≡ getD (rowOf (graphOf n xs) x) (j - 1) 0) q
+          (λ p. row-same h (suc i) row (omega arith) l (P .size) j p ∙ ap (λ (x : List ℕ). getD x (j - 1) 0) e) p
+      | no q ↦ row-other h (suc i) row (omega arith) l (P .size) k j p q ∙ P .done k j p (omega arith)
+    ];
+    rest = λ k j p m. row-other h (suc i) row (omega arith) l (P .size) k j p (λ q. omega arith) ∙ P .rest k j p (omega arith);
+    largest = fill-next far i d l (P .largest) f;
+  }
 
   module _ (fine : blockReply n xs ≡ read tt) where
-    within : (k : ℕ) → k < n → saidRow (rowReply n xs (suc k)) ≡ record { reply = Fine; row = rowOf (graphOf n xs) (suc k); largest = farthest (graphOf n xs) (suc k) }
+    within : (k : ℕ) → k < n → saidRow (rowReply n xs (suc k)) .largest ≡ farthest (graphOf n xs) (suc k)
     within k h = rw (row-read n xs fine {a = suc k} (omega arith))
 
-    beyond : (k : ℕ) → n ≤ k → saidRow (rowReply n xs (suc k)) ≡ record { reply = Refused (refusal 18 0); row = noRow; largest = 0 }
+    beyond : (k : ℕ) → n ≤ k → _≡_ {A = ℕ} (saidRow (rowReply n xs (suc k)) .largest) 0
     unfolding rowReply
     beyond k l = rw (fine, ne-eqb (suc k) 0 (omega arith), lt-ltb n (suc k) (omega arith))
 
-    pub rows-end : (all : List (List ℕ)) (far : List ℕ) → Rows all far n → (all ≡ rowsOf n xs) × (far ≡ farOf n xs)
-    unfolding rowsOf farOf
-    rows-end all far P = (
-      fill-end (λ k. saidRow (rowReply n xs (suc k)) .row) n (λ k h. sym (ap (λ (x : OneRow). x .row) (within k h)))
-          (λ k h. no-row ∙ sym (ap (λ (x : OneRow). x .row) (beyond k h))) all (P .rows),
-      fill-end (λ k. saidRow (rowReply n xs (suc k)) .largest) n (λ k h. sym (ap (λ (x : OneRow). x .largest) (within k h)))
-          (λ k h. sym (ap (λ (x : OneRow). x .largest) (beyond k h))) far (P .largest),
+    pub rows-end : (h far : List ℕ) → Rows h far n → (h ≡ tableOf n xs) × (far ≡ farOf n xs)
+    unfolding farOf
+    rows-end h far P = (
+      table-end n xs fine h (P .size) (P .done) (P .rest),
+      fill-end (λ k. saidRow (rowReply n xs (suc k)) .largest) n (λ k l. sym (within k l)) (λ k l m. sym (beyond k l)) far (P .largest),
     )
-
-  pub refused-rows : (r : Refusal) → blockReply n xs ≡ refused r → emptyRows ≡ rowsOf n xs
-  unfolding rowsOf rowReply table noRow
-  refused-rows r e = rw e
 
   pub refused-far : (r : Refusal) → blockReply n xs ≡ refused r → emptyRow ≡ farOf n xs
   unfolding farOf rowReply table

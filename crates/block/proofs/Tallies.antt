@@ -1,8 +1,9 @@
--- How a tally grows by one distance. Assumes nothing.
-use Prim.Native.Nat.{ℕ, suc, _+_, _-_, _%_, _≤_}
+-- How a tally, and a run, grow by one distance. Assumes nothing.
+use Prim.Native.Nat.{ℕ, suc, _+_, _-_, _*_, _%_, _≤_}
 use mathlib.Core.Bool.{Bool, true, false, cond}
 use mathlib.Core.List.{List}
 use mathlib.Core.Path.{_≡_, refl, _∙_}
+use native.Mathlib.Decide.{ℕ-discrete}
 use native.Mathlib.Numerals.{add-one}
 use native.Mathlib.Omega.{arith}
 use borrow.Author.Tests.{eq-eqb, ne-eqb}
@@ -11,8 +12,9 @@ use lib.ListN.{getD}
 use mir.Val.{boolByte}
 use Rattle.graph.specs.Graph.{sum, evenOf, oddOf, evenOne, oddOne, isAt}
 use Rattle.block.specs.Sums.{entry}
-use Rattle.block.specs.Tally.{tallyBy, Tallied}
+use Rattle.block.specs.Tally.{tallyBy, Tallied, runAt, Ran}
 use Rattle.block.specs.declared.Tally.{Tally}
+use Rattle.block.specs.declared.Run.{Run}
 
 -- a test as a number
 pub bit-low : (b : Bool) → boolByte b ≤ 1
@@ -23,7 +25,7 @@ bit-cond : (b : Bool) → boolByte b ≡ cond b 1 0
 bit-cond true = refl
 bit-cond false = refl
 
-bit-at : (k d : ℕ) → boolByte (eqb d k) ≡ isAt k d
+pub bit-at : (k d : ℕ) → boolByte (eqb d k) ≡ isAt k d
 unfolding isAt
 bit-at k d = bit-cond (eqb d k)
 
@@ -51,10 +53,9 @@ grown t d = record {
   odds = t .odds + oddOne d;
   ones = t .ones + isAt 1 d;
   twos = t .twos + isAt 2 d;
-  threes = t .threes + isAt 3 d;
 }
 
-pub tally-none : (row : List ℕ) → Tallied row 0 (record { even = 0; odd = 0; evens = 0; odds = 0; ones = 0; twos = 0; threes = 0 })
+pub tally-none : (row : List ℕ) → Tallied row 0 (record { even = 0; odd = 0; evens = 0; odds = 0; ones = 0; twos = 0 })
 unfolding tallyBy sum
 tally-none row = record { equal = refl; low = omega arith }
 
@@ -78,20 +79,48 @@ module _ (row : List ℕ) (j : ℕ) (t : Tally) (T : Tallied row j t) (d : ℕ) 
       odds = t .odds + f;
       ones = t .ones + byte 1;
       twos = t .twos + byte 2;
-      threes = t .threes + byte 3;
     }
 
     next-grown : next ≡ grown t d
-    next-grown = rw (P .even-is, P .odd-is, P .evens-is, P .odds-is, ← bit-at 1 d, ← bit-at 2 d, ← bit-at 3 d)
+    next-grown = rw (P .even-is, P .odd-is, P .evens-is, P .odds-is, ← bit-at 1 d, ← bit-at 2 d)
 
     tallied : Tallied row (j + 1) next
-    tallied = record { equal = next-grown ∙ grown-is; low = let B = T .low in omega (arith, bit-low (eqb d 1), bit-low (eqb d 2), bit-low (eqb d 3)) }
+    tallied = record { equal = next-grown ∙ grown-is; low = let B = T .low in omega (arith, bit-low (eqb d 1), bit-low (eqb d 2)) }
 
   drop-zero : (x : ℕ) → x ≡ x + 0
   drop-zero x = omega arith
 
-  pub tally-even : d % 2 ≡ 0 → Tallied row (j + 1) (record { even = t .even + d; odd = t .odd; evens = t .evens + 1; odds = t .odds; ones = t .ones + byte 1; twos = t .twos + byte 2; threes = t .threes + byte 3 })
+  pub tally-even : d % 2 ≡ 0 → Tallied row (j + 1) (record { even = t .even + d; odd = t .odd; evens = t .evens + 1; odds = t .odds; ones = t .ones + byte 1; twos = t .twos + byte 2 })
   tally-even p = rw (drop-zero (t .odd), drop-zero (t .odds)) (tallied d 0 1 0 (parts-even d p) l (omega arith) (omega arith) (omega arith))
 
-  pub tally-odd : (d % 2 ≡ 0 → ⊥) → Tallied row (j + 1) (record { even = t .even; odd = t .odd + d; evens = t .evens; odds = t .odds + 1; ones = t .ones + byte 1; twos = t .twos + byte 2; threes = t .threes + byte 3 })
+  pub tally-odd : (d % 2 ≡ 0 → ⊥) → Tallied row (j + 1) (record { even = t .even; odd = t .odd + d; evens = t .evens; odds = t .odds + 1; ones = t .ones + byte 1; twos = t .twos + byte 2 })
   tally-odd p = rw (drop-zero (t .even), drop-zero (t .evens)) (tallied 0 d 0 1 (parts-odd d p) (omega arith) l (omega arith) (omega arith))
+
+-- a distance times its last binary digit
+odd-product : (d : ℕ) → d * (d % 2) ≡ oddOf d
+odd-product d = elim (ℕ-discrete (d % 2) 0) [
+  | yes e ↦ rw (e, parts-even d e .odd-is) (omega arith)
+  | no e ↦ let o : d % 2 ≡ 1 = omega arith in rw (o, parts-odd d e .odd-is) (omega arith)
+]
+
+pub odd-low : (d : ℕ) → d * (d % 2) ≤ d
+odd-low d = elim (ℕ-discrete (d % 2) 0) [ yes e ↦ rw e (omega arith) | no e ↦ let o : d % 2 ≡ 1 = omega arith in rw o (omega arith) ]
+
+pub run-here : (h : List ℕ) (from j : ℕ) → getD h (from + j) 0 ≡ runAt h from (suc j)
+run-here h from j = let k : suc j - 1 ≡ j = omega arith in rw k
+
+pub run-none : (h : List ℕ) (from : ℕ) → Ran h from 0 (record { all = 0; odd = 0; threes = 0 })
+unfolding sum
+run-none h from = record { all-is = refl; odd-is = refl; threes-is = refl; low = omega arith }
+
+pub run-more : (h : List ℕ) (from j : ℕ) (r : Run) → Ran h from j r → (d : ℕ) → d ≡ getD h (from + j) 0 → d ≤ 255
+    → Ran h from (j + 1) (record { all = r .all + d; odd = r .odd + d * (d % 2); threes = r .threes + boolByte (eqb d 3) })
+unfolding sum
+run-more h from j r R d e l =
+    let q : d ≡ runAt h from (suc j) = e ∙ run-here h from j in
+    record {
+      all-is = rw (add-one j, ← q, R .all-is);
+      odd-is = rw (add-one j, ← q, R .odd-is, odd-product d);
+      threes-is = rw (add-one j, ← q, R .threes-is, bit-at 3 d);
+      low = omega (arith, R .low, odd-low d, bit-low (eqb d 3));
+    }

@@ -5,12 +5,10 @@ use mathlib.Core.List.{List, [], _∷_}
 use lib.Dec.{eqb, leb, ltb}
 use lib.ListN.{length}
 use Rattle.graph.specs.Graph.{Graph, Bond, bond, anyJoins, connected, degree}
+pub use Rattle.half.specs.Half.{mostAtoms}
 use Rattle.reply.specs.Read.{Read, read, _then_, refuseIf, refuseFor, isOutside}
 
--- the most atoms of a block, the most bonds of an atom, and the most bytes that the bonds take: two bytes a bond, which is one of the bonds of two atoms
-abbrev pub mostAtoms : ℕ
-mostAtoms = 64
-
+-- the most bonds of an atom, and the most bytes that the bonds take: two bytes a bond, which is one of the bonds of two atoms
 abbrev pub limit : ℕ
 limit = 6
 

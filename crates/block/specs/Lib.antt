@@ -4,6 +4,7 @@
 -- | `graphOf n xs`                                               | the graph that an atom count and bond bytes say     | `molecule`: of a block that is not refused                   |
 -- | `blockReply`                                                 | refusals 1 to 7, in order                           | `passed`: the tests that a fine block passed; `place-within` |
 -- | `rowReply`, `rowsOf`, `farOf`                                | the distances from one atom, from all; the largest  | `row-at`, `distance-at`, `farthest-at`                       |
+-- | `tableOf`                                                    | half of the distances from all                      | `table-is-rows`, `table-distance`, `table-row`               |
 -- | `indicesReply`, `vertexReply`, `distanceReply`, `pairsReply` | the six numbers, one atom's sums, a distance, n(k)  | `indices-are`, `vertex-is`, `counts-are`                     |
 -- | `indicesBy`, `vertexBy`                                      | the same sums over any table of numbers             | `unique-sums`, `unique-around-row`                           |
 -- | `limit`, `mostAtoms`, `mostBytes`                            | the limits of a block                               | `few-bonds`, `few-atoms`                                     |
@@ -21,6 +22,7 @@ pub mod Faults
 pub mod Tables
 pub mod Told
 pub mod Drawn
+pub mod Halved
 pub mod Measures
 pub mod Unique
 pub mod Examples

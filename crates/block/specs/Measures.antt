@@ -1,28 +1,29 @@
--- Laws. The sums over the rows of a block that is not refused are its indices, its vertex sums and its counts of pairs. Assumes nothing.
+-- Laws. The sums over half of the distances of a block that is not refused, and over a row, are its indices, its vertex sums and its counts of pairs. Assumes nothing.
 use Prim.Native.Nat.{ℕ, _-_, min}
 use mathlib.Core.List.{List}
 use mathlib.Core.Path.{_≡_, sym, ap, fun-ext, _∙_}
 use native.Mathlib.Omega.{arith}
 use Rattle.graph.specs.Graph.{Graph, sum, sumPairs, total, vertex, itself, evenOf, oddOf, evenOne, oddOne, isAt}
 use Rattle.graph.specs.Farthest.{most, farthest, largest}
-use Rattle.graph.specs.Distance.{distance-sym}
 use Rattle.graph.specs.Sums.{sum-cong, sumPairs-cong}
 use Rattle.graph.specs.Largest.{most-cong, largest-is}
 use Rattle.reply.specs.Read.{read}
+use Rattle.half.specs.Half.{halfAt}
 use Rattle.block.specs.Block.{mostAtoms, graphOf, blockReply}
-use Rattle.block.specs.Rows.{table, rowOf, rowsOf, farOf}
+use Rattle.block.specs.Rows.{table, rowOf, tableOf, farOf}
 use Rattle.block.specs.Index.{indicesOf, vertexOf, pairsOf}
-use Rattle.block.specs.Sums.{entry, pairEntry, indicesBy, countsBy, vertexBy}
-use Rattle.block.specs.Told.{few-atoms, molecule, entry-at, distance-at, farthest-at}
+use Rattle.block.specs.Sums.{entry, indicesBy, countsBy, vertexBy}
+use Rattle.block.specs.Told.{few-atoms, molecule, entry-at, farthest-at}
+use Rattle.block.specs.Halved.{table-distance}
 
 module _ (n : ℕ) (xs : List ℕ) (fine : blockReply n xs ≡ read tt) where
   abbrev g : Graph
   g = graphOf n xs
 
-  -- what is counted over the entries of rows is counted over the distances
-  pairs-same : (f : ℕ → ℕ) → sumPairs n (λ i j. f (pairEntry (rowsOf n xs) i j)) ≡ total g f
+  -- what is counted over the entries is counted over the distances
+  pairs-same : (f : ℕ → ℕ) → sumPairs n (λ i j. f (halfAt (tableOf n xs) i j)) ≡ total g f
   unfolding total
-  pairs-same f = sumPairs-cong n (λ i j w v. ap f (distance-at n xs fine v w ∙ distance-sym (molecule n xs fine) v w))
+  pairs-same f = sumPairs-cong n (λ i j w v. ap f (table-distance n xs fine w v))
 
   row-same : (a : ℕ) (f : ℕ → ℕ) → sum n (λ j. f (entry (rowOf g a) j)) ≡ vertex g a f
   unfolding vertex
@@ -31,11 +32,11 @@ module _ (n : ℕ) (xs : List ℕ) (fine : blockReply n xs ≡ read tt) where
   largest-same : most n (entry (farOf n xs)) ≡ largest g
   largest-same = most-cong n (λ i w. farthest-at n xs fine w) ∙ sym (largest-is (molecule n xs fine))
 
-  pub indices-are : indicesBy n (pairEntry (rowsOf n xs)) (entry (farOf n xs)) ≡ indicesOf g
+  pub indices-are : indicesBy n (halfAt (tableOf n xs)) (entry (farOf n xs)) ≡ indicesOf g
   unfolding indicesBy indicesOf
   indices-are = rw (pairs-same itself, pairs-same evenOf, pairs-same oddOf, pairs-same (isAt 3), largest-same)
 
-  pub counts-are : countsBy n (pairEntry (rowsOf n xs)) ≡ pairsOf g
+  pub counts-are : countsBy n (halfAt (tableOf n xs)) ≡ pairsOf g
   unfolding countsBy pairsOf
   counts-are = ap (table mostAtoms) (fun-ext (λ k. pairs-same (isAt k)))
 

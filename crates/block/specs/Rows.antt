@@ -1,20 +1,17 @@
--- Definitions. The distances of a block: 64 rows of 64, and the largest of each row; 0 beyond its atoms and where it is refused.
-use Prim.Native.Nat.{ℕ, zero, suc, _-_}
+-- Definitions. The distances of a block: 64 rows of 64, half of them, and the largest of each row; 0 beyond its atoms and where it is refused.
+use Prim.Native.Nat.{ℕ, suc, _-_}
 use mathlib.Core.Bool.{_||_, cond}
-use mathlib.Core.List.{List, [], _∷_}
+use mathlib.Core.List.{List, []}
 use lib.Dec.{ltb}
 use lib.ListN.{getD, replicate}
 use Rattle.graph.specs.Graph.{Graph, distance}
 use Rattle.graph.specs.Farthest.{farthest}
+unfoldable pub use Rattle.half.specs.Half.{table}
+use Rattle.half.specs.Half.{halfOf}
 use Rattle.reply.specs.Read.{Read, refused, read, _then_, refuseIf, isOutside}
 use Rattle.block.specs.Block.{mostAtoms, graphOf, blockReply}
 use Rattle.block.specs.declared.OneRow.{OneRow}
 use Rattle.reply.specs.declared.Reply.the-variants.{Fine, Refused}
-
--- f 0 to f (n - 1)
-unfoldable pub table : {A : Type 0} → ℕ → (ℕ → A) → List A
-table zero f = []
-table (suc n) f = f zero ∷ table n (λ k. f (suc k))
 
 -- the distances from atom i, that of atom j at place j - 1
 unfoldable pub rowOf : Graph → ℕ → List ℕ
@@ -45,9 +42,10 @@ rowsOf n xs = table mostAtoms (λ i. saidRow (rowReply n xs (suc i)) .row)
 unfoldable pub farOf : ℕ → List ℕ → List ℕ
 farOf n xs = table mostAtoms (λ i. saidRow (rowReply n xs (suc i)) .largest)
 
--- what a matrix has for atom i, and for atoms i and j; 0 for none
-unfoldable pub rowAt : List (List ℕ) → ℕ → List ℕ
-rowAt rows i = cond (isOutside mostAtoms i) noRow (getD rows (i - 1) [])
-
+-- what rows have for atoms i and j; 0 for none
 unfoldable pub distanceAt : List (List ℕ) → ℕ → ℕ → ℕ
 distanceAt rows i j = cond (isOutside mostAtoms i || isOutside mostAtoms j) 0 (getD (getD rows (i - 1) []) (j - 1) 0)
+
+-- half of the rows
+unfoldable pub tableOf : ℕ → List ℕ → List ℕ
+tableOf n xs = halfOf (distanceAt (rowsOf n xs))

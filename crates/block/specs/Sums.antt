@@ -1,6 +1,6 @@
--- Definitions. Sums over distances d, whatever says them: a graph, a row, or rows; and what is farthest from each atom, as it is handed in.
+-- Definitions. Sums over distances d, whatever says them: a graph, a row, or half a table; and what is farthest from each atom, as it is handed in.
 use Prim.Native.Nat.{ℕ, _-_}
-use mathlib.Core.List.{List, []}
+use mathlib.Core.List.{List}
 use lib.ListN.{getD}
 use Rattle.graph.specs.Graph.{sum, sumPairs, evenOf, oddOf, evenOne, oddOne, isAt}
 use Rattle.graph.specs.Farthest.{most}
@@ -9,12 +9,9 @@ use Rattle.block.specs.Rows.{table}
 use Rattle.block.specs.declared.Indices.{Indices}
 use Rattle.block.specs.declared.Vertex.{Vertex}
 
--- what a row says of atom j, and what rows say of the pair i < j: the entry of i in the row of j
+-- what a row says of atom j
 abbrev pub entry : List ℕ → ℕ → ℕ
 entry row j = getD row (j - 1) 0
-
-abbrev pub pairEntry : List (List ℕ) → ℕ → ℕ → ℕ
-pairEntry rows i j = entry (getD rows (j - 1) []) i
 
 -- over the pairs i < j of n atoms; far says how far the farthest is from each
 unfoldable pub indicesBy : ℕ → (ℕ → ℕ → ℕ) → (ℕ → ℕ) → Indices

@@ -1,5 +1,5 @@
--- Work. How the sums over a row, and the counts of pairs, are worked.
-use Prim.Native.Nat.{ℕ, _+_, _*_, _≤_, _<_}
+-- Work. How the sums over a row and over half a table, and the counts of pairs, are worked.
+use Prim.Native.Nat.{ℕ, _+_, _-_, _*_, _≤_, _<_}
 use mathlib.Core.List.{List}
 use mathlib.Core.Path.{_≡_}
 use lib.ListN.{length, getD}
@@ -7,6 +7,7 @@ use Rattle.graph.specs.Graph.{sum, evenOf, oddOf, evenOne, oddOne, isAt}
 use Rattle.block.specs.Block.{mostAtoms}
 use Rattle.block.specs.Sums.{entry}
 use Rattle.block.specs.declared.Tally.{Tally}
+use Rattle.block.specs.declared.Run.{Run}
 
 -- the tally of the distances d 1 to d k
 unfoldable pub tallyBy : ℕ → (ℕ → ℕ) → Tally
@@ -17,7 +18,6 @@ tallyBy k d = record {
   odds = sum k (λ j. oddOne (d j));
   ones = sum k (λ j. isAt 1 (d j));
   twos = sum k (λ j. isAt 2 (d j));
-  threes = sum k (λ j. isAt 3 (d j));
 }
 
 -- no number of the tally is above b
@@ -28,19 +28,29 @@ pub record Below (b : ℕ) (t : Tally) : Type 0 where
   pub odds-low : t .odds ≤ b
   pub ones-low : t .ones ≤ b
   pub twos-low : t .twos ≤ b
-  pub threes-low : t .threes ≤ b
 
 -- the tally of the first k entries of a row of bytes
 pub record Tallied (row : List ℕ) (k : ℕ) (t : Tally) : Type 0 where
   pub equal : t ≡ tallyBy k (entry row)
   pub low : Below (255 * k) t
 
+-- what stands in a half at the places behind `from`, the first for j = 1
+abbrev pub runAt : List ℕ → ℕ → ℕ → ℕ
+runAt h from j = getD h (from + (j - 1)) 0
+
+-- what k bytes of a half add up to
+pub record Ran (h : List ℕ) (from k : ℕ) (r : Run) : Type 0 where
+  pub all-is : r .all ≡ sum k (λ j. runAt h from j)
+  pub odd-is : r .odd ≡ sum k (λ j. oddOf (runAt h from j))
+  pub threes-is : r .threes ≡ sum k (λ j. isAt 3 (runAt h from j))
+  pub low : (r .all ≤ 255 * k) × (r .odd ≤ r .all) × (r .threes ≤ k)
+
 -- counts, one for each number below 64, none above b
 pub record Counts (b : ℕ) (at : List ℕ) : Type 0 where
   pub size : length at ≡ mostAtoms
   pub most : (d : ℕ) → getD at d 0 ≤ b
 
--- how often each number stands among the first k entries of a row, added to counts
-pub record Counted (at row : List ℕ) (k : ℕ) (r : List ℕ) : Type 0 where
+-- how often each number is among d 1 to d k, added to counts
+pub record Counted (at : List ℕ) (d : ℕ → ℕ) (k : ℕ) (r : List ℕ) : Type 0 where
   pub size : length r ≡ mostAtoms
-  pub equal : (d : ℕ) → d < mostAtoms → getD r d 0 ≡ getD at d 0 + sum k (λ j. isAt d (entry row j))
+  pub equal : (x : ℕ) → x < mostAtoms → getD r x 0 ≡ getD at x 0 + sum k (λ j. isAt x (d j))

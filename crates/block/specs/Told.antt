@@ -17,20 +17,16 @@ use Rattle.graph.specs.Distance.{not-true}
 use Rattle.reply.specs.Read.{Read, refused, read, _then_, refuseIf, refuseFor, refusal, isOutside}
 use Rattle.reply.specs.Chain.{not-read, then-read, if-read, for-read}
 use Rattle.block.specs.Block.{mostAtoms, mostBytes, limit, bondsOf, graphOf, bondFault, bondsReply, blockReply}
-use Rattle.block.specs.Rows.{rowOf, rowReply, saidRow, rowsOf, farOf, rowAt, distanceAt}
+use Rattle.block.specs.Rows.{rowOf, rowReply, saidRow, rowsOf, farOf, distanceAt}
 use Rattle.block.specs.Faults.{inside, Faultless, faultless}
 use Rattle.block.specs.Tables.{getD-table}
 use Rattle.reply.specs.declared.Refusal.{Refusal}
 
 -- one of the atoms 1 to n
-within-inside : (n a : ℕ) → Within n a → isOutside n a ≡ false
+pub within-inside : (n a : ℕ) → Within n a → isOutside n a ≡ false
 within-inside n a w = rw (ne-eqb a 0 (omega arith), le-ltb n a (w .high))
 
--- what a matrix has
-pub row-found : (rows : List (List ℕ)) (a : ℕ) → Within mostAtoms a → rowAt rows a ≡ getD rows (a - 1) []
-unfolding rowAt
-row-found rows a w = rw (within-inside mostAtoms a w)
-
+-- what rows have
 pub distance-found : (rows : List (List ℕ)) (a b : ℕ) → Within mostAtoms a → Within mostAtoms b → distanceAt rows a b ≡ getD (getD rows (a - 1) []) (b - 1) 0
 unfolding distanceAt
 distance-found rows a b v w = rw (within-inside mostAtoms a v, within-inside mostAtoms b w)

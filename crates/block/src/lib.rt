@@ -1,11 +1,12 @@
 // One block: its refusals 1 to 7, its distances, indices and vertex sums.
 ghost use mathlib.Core.Path.{_≡_};
-ghost use Prim.Native.Nat.{min};
+ghost use Prim.Native.Nat.{suc, min};
 ghost use Rattle.reply.specs.Read.{refusal, saidReply};
 ghost use Rattle.block.specs.Block.{mostAtoms, blockReply};
-ghost use Rattle.block.specs.Rows.{rowsOf, farOf, rowReply, saidRow, rowAt, distanceAt};
+ghost use Rattle.half.specs.Half.{table, halfAt, halfRow};
+ghost use Rattle.block.specs.Rows.{rowsOf, farOf, tableOf, rowReply, saidRow};
 ghost use Rattle.block.specs.Index.{indicesReply, saidIndices, vertexReply, saidVertex, distanceReply, saidDistance, pairsReply, saidPairs};
-ghost use Rattle.block.specs.Sums.{entry, pairEntry, indicesBy, vertexBy};
+ghost use Rattle.block.specs.Sums.{entry, indicesBy, vertexBy};
 ghost use Rattle.block.specs.Opened.{openedReply, saidOpened};
 ghost use Rattle.block.specs.Near.{Admitting};
 
@@ -13,19 +14,21 @@ mod bonding;
 mod search;
 mod totals;
 
+use half::Half;
+use half::PAIRS;
 use reply::Refusal;
 use reply::Reply;
 use reply::is_outside;
 use reply::wide;
 
 // The most atoms of a block, the most bonds of an atom, and the most bytes that a block's bonds take.
-pub const ATOMS: usize = 64;
+pub const ATOMS: usize = half::ATOMS;
 
 pub const LIMIT: usize = 6;
 
 pub const BYTES: usize = ATOMS * LIMIT;
 
-// The distances from one atom, and those from all, the distance matrix: that of atoms i and j stands in row i - 1 at j - 1.
+// The distances from one atom, and those from all, the distance matrix: that of atoms i and j stands in row i - 1 at j - 1. Inside, half of it is kept.
 pub type DistanceRow = [u8; ATOMS];
 
 pub type DistanceMatrix = [DistanceRow; ATOMS];
@@ -92,7 +95,7 @@ pub struct Opened {
     pub near: Neighbours,
 }
 
-// What some distances add up to: the even ones and the odd ones, how many there are of each, and how many are 1, 2 and 3.
+// What some distances add up to: the even ones and the odd ones, how many there are of each, and how many are 1 and 2.
 struct Tally {
     pub even: u64,
     pub odd: u64,
@@ -100,7 +103,13 @@ struct Tally {
     pub odds: u64,
     pub ones: u64,
     pub twos: u64,
-    pub threes: u64,
+}
+
+// What distances that stand in a row add up to: all of them and the odd ones; and how many are 3.
+struct Run {
+    pub all: u16,
+    pub odd: u16,
+    pub threes: u16,
 }
 
 // A refusal at place 0.
@@ -161,65 +170,49 @@ pub fn check(n: usize, bonds: &[u8]) -> Reply
     admitted.reply
 }
 
-// The distances of a block: those from atom i are row i - 1, and that to atom j stands there at j - 1; and in what is lent the largest of
-// each row. All is 0 beyond the atoms, and where the block is refused.
-pub fn rows(n: usize, bonds: &[u8], far: &mut Farthest) -> DistanceMatrix
-    ensures rows { λ r. ⌜ r ≡ rowsOf n (now (bonds .entry)) ⌝ }
-    ensures far { λ _. ⌜ now (far .exit) ≡ farOf n (now (bonds .entry)) ⌝ }
+// The rows that a half says.
+fn square(half: &Half) -> DistanceMatrix
+    ensures { λ r. ⌜ r ≡ table mostAtoms (λ i. halfRow (now (half .entry)) (suc i)) ⌝ }
 {
-    let admitted = admit(n, bonds);
-    let reply = admitted.reply;
-    let Reply::Fine = reply else {
-        *far = [0u8; ATOMS];
-        return [[0u8; ATOMS]; ATOMS];
-    };
-    search::from_all(&admitted.near, n, far)
+    let mut rows = [[0u8; ATOMS]; ATOMS];
+    let mut i = 0;
+    while i < ATOMS {
+        rows[i] = half::row(half, i + 1);
+        i += 1;
+    }
+    rows
 }
 
-// The reply to a block and its neighbours, and its distances, as rows gives them, in what is lent: the block is read once for all of them.
-pub fn table(n: usize, bonds: &[u8], rows: &mut DistanceMatrix, far: &mut Farthest) -> Opened
+// The distances of a block: those from atom i are row i - 1, and that to atom j stands there at j - 1. All is 0 beyond the atoms, and
+// where the block is refused.
+pub fn rows(n: usize, bonds: &[u8]) -> DistanceMatrix
+    ensures { λ r. ⌜ r ≡ rowsOf n (now (bonds .entry)) ⌝ }
+{
+    let mut half = [0u8; PAIRS];
+    let mut far = [0u8; ATOMS];
+    table(n, bonds, &mut half, &mut far);
+    square(&half)
+}
+
+// The reply to a block and its neighbours; and in what is lent half of its distances, and how far the farthest is from each atom. All is 0
+// beyond the atoms, and where the block is refused.
+pub fn table(n: usize, bonds: &[u8], half: &mut Half, far: &mut Farthest) -> Opened
     ensures reply { λ r. ⌜ r ≡ saidOpened (openedReply n (now (bonds .entry))) ⌝ }
-    ensures rows { λ _. ⌜ now (rows .exit) ≡ rowsOf n (now (bonds .entry)) ⌝ }
+    ensures half { λ _. ⌜ now (half .exit) ≡ tableOf n (now (bonds .entry)) ⌝ }
     ensures far { λ _. ⌜ now (far .exit) ≡ farOf n (now (bonds .entry)) ⌝ }
 {
     let admitted = admit(n, bonds);
     let reply = admitted.reply;
     let Reply::Fine = reply else {
-        *rows = [[0u8; ATOMS]; ATOMS];
+        *half = [0u8; PAIRS];
         *far = [0u8; ATOMS];
         return Opened {
             reply,
             near: [0u64; ATOMS],
         };
     };
-    *rows = search::from_all(&admitted.near, n, far);
+    *half = search::from_all(&admitted.near, n, far);
     admitted
-}
-
-// The row of the distances from atom i in a matrix; all 0 where it has none.
-pub fn row_at(rows: &DistanceMatrix, i: usize) -> DistanceRow
-    ensures { λ r. ⌜ r ≡ rowAt (now (rows .entry)) i ⌝ }
-{
-    if is_outside(ATOMS, i) {
-        return [0u8; ATOMS];
-    }
-    let k = i - 1;
-    rows[k]
-}
-
-// The distance of atoms i and j in a matrix; 0 where it has none.
-pub fn distance_at(rows: &DistanceMatrix, i: usize, j: usize) -> u64
-    ensures { λ r. ⌜ r ≡ distanceAt (now (rows .entry)) i j ⌝ }
-{
-    if is_outside(ATOMS, i) {
-        return 0;
-    }
-    if is_outside(ATOMS, j) {
-        return 0;
-    }
-    let k = i - 1;
-    let l = j - 1;
-    wide(rows[k][l])
 }
 
 // The distances from atom i of a block and the largest of them, or its refusal; 18 at place 0 where there is no such atom.
@@ -254,28 +247,30 @@ pub fn row(n: usize, bonds: &[u8], i: usize) -> OneRow
     }
 }
 
-// The indices of the first n atoms, at most ATOMS, by rows of their distances and the largest of each: the pair i < j is read in the row of j.
-pub fn sums(rows: &DistanceMatrix, far: &Farthest, n: usize) -> Indices
-    ensures { λ r. ⌜ r ≡ indicesBy (min n mostAtoms) (pairEntry (now (rows .entry))) (entry (now (far .entry))) ⌝ }
+// The indices of the first n atoms, at most ATOMS, by half of their distances and how far the farthest is from each. The half is read row by row.
+pub fn sums(half: &Half, far: &Farthest, n: usize) -> Indices
+    ensures { λ r. ⌜ r ≡ indicesBy (min n mostAtoms) (halfAt (now (half .entry))) (entry (now (far .entry))) ⌝ }
 {
     let m = totals::within(n);
-    let mut even: u64 = 0;
+    let mut w: u64 = 0;
     let mut odd: u64 = 0;
     let mut threes: u64 = 0;
     let mut largest: u64 = 0;
-    let mut j = 0;
-    while j < m {
-        let t = totals::along(&rows[j], j);
-        even += t.even;
-        odd += t.odd;
-        threes += t.threes;
-        largest = totals::larger(largest, wide(far[j]));
-        j += 1;
+    let mut from = 0;
+    let mut i = 0;
+    while i < m {
+        let run = totals::run(half, from, m - 1 - i);
+        w += run.all as u64;
+        odd += run.odd as u64;
+        threes += run.threes as u64;
+        largest = totals::larger(largest, wide(far[i]));
+        from = from + (ATOMS - 1 - i);
+        i += 1;
     }
     Indices {
         atoms: m as u64,
-        w: even + odd,
-        even,
+        w,
+        even: w - odd,
         odd,
         polarity: threes,
         largest,
@@ -310,8 +305,8 @@ pub fn measure(n: usize, bonds: &[u8]) -> Measured
         Reply::Refused(refusal) => Measured::Refused(refusal),
         Reply::Fine => {
             let mut far = [0u8; ATOMS];
-            let rows = search::from_all(&admitted.near, n, &mut far);
-            let indices = sums(&rows, &far, n);
+            let half = search::from_all(&admitted.near, n, &mut far);
+            let indices = sums(&half, &far, n);
             Measured::Of(indices)
         }
     }
@@ -368,7 +363,7 @@ pub fn pair_counts(n: usize, bonds: &[u8]) -> Pairs
         };
     };
     let mut far = [0u8; ATOMS];
-    let rows = search::from_all(&admitted.near, n, &mut far);
-    let at = totals::count_pairs(&rows, n);
+    let half = search::from_all(&admitted.near, n, &mut far);
+    let at = totals::count_pairs(&half, n);
     Pairs { reply, at }
 }

@@ -1,15 +1,17 @@
 // Distances by search, level by level: a set of atoms is one number.
 use super::ATOMS;
-use super::DistanceMatrix;
 use super::Farthest;
 use super::Neighbours;
+use half::Half;
+use half::PAIRS;
+use half::put_row;
 ghost use mathlib.Core.Path.{_≡_};
 ghost use mathlib.Core.List.{List};
 ghost use Prim.Native.Nat.{ℕ};
 ghost use Rattle.graph.specs.Graph.{Graph, Within, connected as isConnected};
 ghost use Rattle.graph.specs.Sets.{firsts};
 ghost use Rattle.block.specs.Block.{mostAtoms, graphOf};
-ghost use Rattle.block.specs.Rows.{emptyRow, rowsOf, farOf};
+ghost use Rattle.block.specs.Rows.{emptyRow, tableOf, farOf};
 ghost use Rattle.block.specs.Near.{Ready};
 ghost use Rattle.block.specs.Found.{Task, Searched};
 
@@ -62,17 +64,19 @@ pub(crate) fn connected(near: &Neighbours, n: usize) -> bool
     ended.rest == 0
 }
 
-// The rows of a block of n atoms, filled one by one, and in what is lent the largest distance of each.
-pub(crate) fn from_all(near: &Neighbours, n: usize, far: &mut Farthest) -> DistanceMatrix
+// Half of the distances of a block of n atoms, filled row by row, and in what is lent the largest of each row.
+pub(crate) fn from_all(near: &Neighbours, n: usize, far: &mut Farthest) -> Half
     requires { ⌜ ((xs : List ℕ) × Ready n xs (now near)) ⌝ }
-    ensures rows { λ r. ⌜ ((xs : List ℕ) → Ready n xs (now (near .entry)) → r ≡ rowsOf n xs) ⌝ }
+    ensures half { λ r. ⌜ ((xs : List ℕ) → Ready n xs (now (near .entry)) → r ≡ tableOf n xs) ⌝ }
     ensures far { λ _. ⌜ ((xs : List ℕ) → Ready n xs (now (near .entry)) → now (far .exit) ≡ farOf n xs) ⌝ }
 {
-    let mut all = [[0u8; ATOMS]; ATOMS];
+    let mut all = [0u8; PAIRS];
     let mut deep = [0u8; ATOMS];
     let mut i = 0;
     while i < n {
-        let ended = from_atom(near, n, i + 1, &mut all[i]);
+        let mut row = [0u8; ATOMS];
+        let ended = from_atom(near, n, i + 1, &mut row);
+        put_row(&mut all, i + 1, &row);
         deep[i] = ended.last;
         i += 1;
     }

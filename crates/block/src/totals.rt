@@ -1,14 +1,16 @@
 // Sums over rows of distances, whatever the rows hold.
 use super::ATOMS;
-use super::DistanceMatrix;
 use super::DistanceRow;
+use super::Run;
 use super::Tally;
+use half::Half;
 use reply::wide;
 ghost use mathlib.Core.Path.{_≡_};
-ghost use Prim.Native.Nat.{min, max, _*_, _≤_};
+ghost use Prim.Native.Nat.{min, max, _+_, _*_, _≤_};
+ghost use Rattle.half.specs.Half.{allPairs, halfAt};
 ghost use Rattle.block.specs.Block.{mostAtoms};
-ghost use Rattle.block.specs.Sums.{pairEntry, countsBy};
-ghost use Rattle.block.specs.Tally.{Tallied, Counts, Counted};
+ghost use Rattle.block.specs.Sums.{countsBy};
+ghost use Rattle.block.specs.Tally.{Tallied, runAt, Ran, Counts, Counted};
 
 // The first k entries of a row.
 pub(crate) fn along(row: &DistanceRow, k: usize) -> Tally
@@ -21,13 +23,11 @@ pub(crate) fn along(row: &DistanceRow, k: usize) -> Tally
     let mut odds: u64 = 0;
     let mut ones: u64 = 0;
     let mut twos: u64 = 0;
-    let mut threes: u64 = 0;
     let mut j = 0;
     while j < k {
         let d = wide(row[j]);
         ones += (d == 1) as u64;
         twos += (d == 2) as u64;
-        threes += (d == 3) as u64;
         j += 1;
         if d % 2 == 0 {
             even += d;
@@ -44,7 +44,6 @@ pub(crate) fn along(row: &DistanceRow, k: usize) -> Tally
         odds,
         ones,
         twos,
-        threes,
     }
 }
 
@@ -62,15 +61,41 @@ pub(crate) fn larger(a: u64, b: u64) -> u64
     if a < b { b } else { a }
 }
 
-// How often each number stands among the first k entries of a row, added to counts.
-fn count_row(at: [u16; ATOMS], row: &DistanceRow, k: usize) -> [u16; ATOMS]
-    requires { ⌜ (k ≤ mostAtoms) × Counts (mostAtoms * mostAtoms) at ⌝ }
-    ensures { λ r. ⌜ Counted at (now (row .entry)) k r ⌝ }
+// A byte as a number of 16 bits, with its bound.
+fn word(x: u8) -> u16
+    ensures { λ r. ⌜ (r ≡ x) × (r ≤ 255) ⌝ }
+{
+    x as u16
+}
+
+// k bytes of a half, from a place on: no branch, so that several go at once.
+pub(crate) fn run(half: &Half, from: usize, k: usize) -> Run
+    requires { ⌜ (k ≤ mostAtoms) × (from + k ≤ allPairs) ⌝ }
+    ensures { λ r. ⌜ Ran (now (half .entry)) from k r ⌝ }
+{
+    let mut all: u16 = 0;
+    let mut odd: u16 = 0;
+    let mut threes: u16 = 0;
+    let mut j = 0;
+    while j < k {
+        let d = word(half[from + j]);
+        all += d;
+        odd += d * (d % 2);
+        threes += (d == 3) as u16;
+        j += 1;
+    }
+    Run { all, odd, threes }
+}
+
+// How often each number stands among k bytes of a half, from a place on, added to counts.
+fn count_run(at: [u16; ATOMS], half: &Half, from: usize, k: usize) -> [u16; ATOMS]
+    requires { ⌜ (k ≤ mostAtoms) × (from + k ≤ allPairs) × Counts (mostAtoms * mostAtoms) at ⌝ }
+    ensures { λ r. ⌜ Counted at (runAt (now (half .entry)) from) k r ⌝ }
 {
     let mut counts = at;
     let mut j = 0;
     while j < k {
-        let d = wide(row[j]) as usize;
+        let d = wide(half[from + j]) as usize;
         j += 1;
         if d < ATOMS {
             counts[d] = counts[d] + 1;
@@ -80,16 +105,18 @@ fn count_row(at: [u16; ATOMS], row: &DistanceRow, k: usize) -> [u16; ATOMS]
 }
 
 // How many pairs of the first n atoms, at most ATOMS, lie at each distance.
-pub(crate) fn count_pairs(rows: &DistanceMatrix, n: usize) -> [u16; ATOMS]
-    ensures { λ r. ⌜ r ≡ countsBy (min n mostAtoms) (pairEntry (now (rows .entry))) ⌝ }
+pub(crate) fn count_pairs(half: &Half, n: usize) -> [u16; ATOMS]
+    ensures { λ r. ⌜ r ≡ countsBy (min n mostAtoms) (halfAt (now (half .entry))) ⌝ }
 {
     let m = within(n);
     let mut at = [0u16; ATOMS];
-    let mut j = 0;
-    while j < m {
-        let next = count_row(at, &rows[j], j);
+    let mut from = 0;
+    let mut i = 0;
+    while i < m {
+        let next = count_run(at, half, from, m - 1 - i);
         at = next;
-        j += 1;
+        from = from + (ATOMS - 1 - i);
+        i += 1;
     }
     at
 }

@@ -36,7 +36,7 @@ unfolding placeOf
 place-is i j = refl
 
 -- a row is as long as there are atoms behind its own
-next : (m : ℕ) → m ≤ 62 → startOf (suc (suc m)) ≡ startOf (suc m) + (63 - m)
+next : (m : ℕ) → m ≤ 63 → startOf (suc (suc m)) ≡ startOf (suc m) + (63 - m)
 unfolding startOf
 next m h =
     let x = 126 - m in
@@ -52,10 +52,10 @@ next m h =
     out′ : (m x : ℕ) → m * (x + 1) ≡ m * x + m
     out′ m x = omega arith
 
-    by : (m x : ℕ) → m ≤ 62 → x ≡ 126 - m → suc m * x / 2 ≡ m * suc x / 2 + (63 - m)
+    by : (m x : ℕ) → m ≤ 63 → x ≡ 126 - m → suc m * x / 2 ≡ m * suc x / 2 + (63 - m)
     by m x l e = rw (← add-one m, ← add-one x, out m x, out′ m x) (omega arith)
 
-pub start-next : (i : ℕ) → 1 ≤ i → i < mostAtoms → startOf (suc i) ≡ startOf i + (mostAtoms - i)
+pub start-next : (i : ℕ) → 1 ≤ i → i ≤ mostAtoms → startOf (suc i) ≡ startOf i + (mostAtoms - i)
 start-next zero h l = absurd (omega arith)
 start-next (suc m) h l = omega (arith, next m (omega arith))
 

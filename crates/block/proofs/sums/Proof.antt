@@ -1,54 +1,73 @@
-use Prim.Native.Nat.{ℕ, _≤_, _-_}
-use mathlib.Core.Path.{_≡_, ap, _∙_}
+use Prim.Native.Nat.{ℕ, suc, _≤_, _-_}
+use mathlib.Core.Path.{_≡_, sym, ap, _∙_}
 use native.Mathlib.Omega.{arith}
-use borrow.Author.Needs.{needs}
+use Rattle.half.specs.Half.{startOf, halfAt}
+use Rattle.half.specs.Places.{start-first}
 use Rattle.block.specs.Block.{mostAtoms}
-use Rattle.block.specs.Sums.{entry, pairEntry, indicesBy}
-use Rattle.block.proofs.Summing.{Summed, sums-none, sums-more, sums-end}
+use Rattle.block.specs.Sums.{entry, indicesBy}
+use Rattle.block.proofs.Summing.{Summed, run-fits, from-next, sums-none, sums-more, sums-end}
 use Rattle.block.proofs.sums.Statement.{statement}
 use Rattle.block.proofs.sums.Tie as tie
 
 abbrev Inv-loop : tie.InvT-loop
-Inv-loop rows far n m even₀ odd₀ threes₀ largest₀ j₀ even odd threes largest j = (j ≤ m) × (m ≤ mostAtoms) × Summed rows far j even odd threes largest
+Inv-loop half far n m w₀ odd₀ threes₀ largest₀ from₀ i₀ w odd threes largest from i = (i ≤ m) × (m ≤ mostAtoms) × (from ≡ startOf (suc i)) × Summed half far m i w odd threes largest
 
 abbrev μ-loop : tie.MeasureT-loop
-μ-loop rows far n m even₀ odd₀ threes₀ largest₀ j₀ even odd threes largest j = m - j
+μ-loop half far n m w₀ odd₀ threes₀ largest₀ from₀ i₀ w odd threes largest from i = m - i
 
 within-requires : tie.Need-within-requires Inv-loop μ-loop
-within-requires c κs = search needs
+within-requires c κs = tt
 
 loop-holds : tie.Need-loop-holds Inv-loop μ-loop
-loop-holds c = (omega arith, omega arith, sums-none _ _)
+loop-holds c = (omega arith, omega arith, sym start-first, sums-none _ _ _)
 
-mul-along : tie.Need-mul-along Inv-loop μ-loop
-mul-along c = omega arith
+sub-run : tie.Need-sub-run Inv-loop μ-loop
+sub-run c = omega arith
 
-index-1-along : tie.Need-index-1-along Inv-loop μ-loop
-index-1-along c = omega arith
+sub-run-2 : tie.Need-sub-run-2 Inv-loop μ-loop
+sub-run-2 c = omega arith
 
-along-requires : tie.Need-along-requires Inv-loop μ-loop
-along-requires c κs = omega arith
+run-requires : tie.Need-run-requires Inv-loop μ-loop
+run-requires c κs = let v = c .before .loop .inv in run-fits (c .before .before .before .args .half .now) _ _ _ (c .loop-test .taken) (v .1) (v .2)
 
-add-even : tie.Need-add-even Inv-loop μ-loop
-add-even c = omega arith
+cast-w : tie.Need-cast-w Inv-loop μ-loop
+cast-w c = let B = c .before .run .ensures .low in omega arith
+
+add-w : tie.Need-add-w Inv-loop μ-loop
+add-w c = let B = c .before .run .ensures .low in let S = c .before .before .before .loop .inv .3 .low in omega arith
+
+cast-odd : tie.Need-cast-odd Inv-loop μ-loop
+cast-odd c = let B = c .before .before .run .ensures .low in omega arith
 
 add-odd : tie.Need-add-odd Inv-loop μ-loop
-add-odd c = omega arith
+add-odd c = let B = c .before .before .run .ensures .low in let S = c .before .before .before .before .loop .inv .3 .low in omega arith
+
+cast-threes : tie.Need-cast-threes Inv-loop μ-loop
+cast-threes c = let B = c .before .before .before .run .ensures .low in omega arith
 
 add-threes : tie.Need-add-threes Inv-loop μ-loop
-add-threes c = omega arith
+add-threes c = let B = c .before .before .before .run .ensures .low in let S = c .before .before .before .before .before .loop .inv .3 .low in omega arith
 
 element-copy-out-wide : tie.Need-element-copy-out-wide Inv-loop μ-loop
 element-copy-out-wide c = omega arith
 
 wide-requires : tie.Need-wide-requires Inv-loop μ-loop
-wide-requires c κs = search needs
+wide-requires c κs = tt
 
 larger-requires : tie.Need-larger-requires Inv-loop μ-loop
-larger-requires c κs = search needs
+larger-requires c κs = tt
 
-add-j : tie.Need-add-j Inv-loop μ-loop
-add-j c = omega arith
+sub-from : tie.Need-sub-from Inv-loop μ-loop
+sub-from c = omega arith
+
+sub-from-2 : tie.Need-sub-from-2 Inv-loop μ-loop
+sub-from-2 c = omega arith
+
+add-from : tie.Need-add-from Inv-loop μ-loop
+add-from c = let v = c .before .before .before .before .before .before .before .before .loop .inv in omega (arith, from-next _ _ (omega arith) (v .2) .1)
+
+add-i : tie.Need-add-i Inv-loop μ-loop
+add-i c = omega arith
 
 loop-less : tie.Need-loop-less Inv-loop μ-loop
 loop-less c = omega arith
@@ -56,19 +75,25 @@ loop-less c = omega arith
 loop-again : tie.Need-loop-again Inv-loop μ-loop
 loop-again c =
     let d = c .before .before .before .before .before .before in
-    let l = d .before .before .before .loop in
-    (omega arith, l .inv .1, rw (c .larger .ensures) (sums-more _ _ (l .j) _ _ _ _ (l .inv .2) _ (d .along .ensures) (omega arith) _ (c .before .wide .ensures .0)))
+    let l = d .before .before .loop in
+    let t = d .before .loop-test .taken in
+    let v = l .inv in (
+      omega arith,
+      v .1,
+      from-next (l .i) _ (omega arith) (v .2) .0,
+      rw (c .larger .ensures) (sums-more _ _ _ (l .i) _ _ _ _ _ (v .3) t (v .1) (v .2) _ (d .run .ensures) _ (c .before .wide .ensures .0)),
+    )
 
-add-t21 : tie.Need-add-t21 Inv-loop μ-loop
-add-t21 c = omega arith
+sub-t20 : tie.Need-sub-t20 Inv-loop μ-loop
+sub-t20 c = c .before .loop .inv .3 .low .1
 
 returns : tie.Need-returns Inv-loop μ-loop
 returns c =
     let l = c .before .loop in
     let w = c .before .before .within in
-    let e : l .j ≡ w .result = omega arith in
+    let e : l .i ≡ w .result = omega arith in
     let s = c .before .before .before .args in
-    sums-end _ _ _ _ _ _ _ (rw e at (l .inv .2)) ∙ ap (λ (m : ℕ). indicesBy m (pairEntry (s .rows .now)) (entry (s .far .now))) (w .ensures)
+    sums-end _ _ _ _ _ _ _ (rw e at (l .inv .3)) ∙ ap (λ (m : ℕ). indicesBy m (halfAt (s .half .now)) (entry (s .far .now))) (w .ensures)
 
 pub sums-spec : {M : Type 1} → statement M
 sums-spec =
@@ -78,17 +103,23 @@ sums-spec =
     μ-loop
     within-requires
     loop-holds
-    mul-along
-    index-1-along
-    along-requires
-    add-even
+    sub-run
+    sub-run-2
+    run-requires
+    cast-w
+    add-w
+    cast-odd
     add-odd
+    cast-threes
     add-threes
     element-copy-out-wide
     wide-requires
     larger-requires
-    add-j
+    sub-from
+    sub-from-2
+    add-from
+    add-i
     loop-less
     loop-again
-    add-t21
+    sub-t20
     returns)

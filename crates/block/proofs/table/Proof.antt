@@ -1,6 +1,7 @@
 use mathlib.Core.Path.{refl, sym, _∙_}
 use borrow.Author.Needs.{needs}
-use Rattle.block.proofs.Filling.{refused-rows, refused-far, opened-refused, opened-fine}
+use Rattle.block.proofs.Filling.{refused-far, opened-refused, opened-fine}
+use Rattle.block.specs.Halved.{table-refused}
 use Rattle.block.proofs.Replies.{said-refused}
 use Rattle.block.proofs.table.Statement.{statement}
 use Rattle.block.proofs.table.Tie as tie
@@ -18,7 +19,7 @@ returns : tie.Need-returns
 returns c =
     let e = c .before .before .enum-told2 .given .1 in
     let b = said-refused _ _ (sym e ∙ c .before .before .before .before .admit .ensures .replied) in
-    (opened-refused _ _ _ _ b e refl, (refused-rows _ _ _ b, refused-far _ _ _ b))
+    (opened-refused _ _ _ _ b e refl, (table-refused _ _ _ b, refused-far _ _ _ b))
 
 from-all-requires : tie.Need-from-all-requires
 from-all-requires c κs = (_, c .before .before .before .before .before .admit .ensures .ready (c .before .before .before .enum-told .given .1))

@@ -1,8 +1,9 @@
 use Prim.Native.Nat.{ℕ, _≤_, _-_}
 use mathlib.Core.List.{List}
-use mathlib.Core.Path.{_≡_, refl}
+use mathlib.Core.Path.{_≡_, refl, sym}
 use native.Mathlib.Numerals.{add-one}
 use native.Mathlib.Omega.{arith}
+use borrow.Author.Needs.{needs}
 use Rattle.block.specs.Block.{graphOf, mostAtoms}
 use Rattle.block.specs.Near.{Ready}
 use Rattle.block.specs.Told.{passed}
@@ -22,18 +23,26 @@ loop-holds c = (omega arith, c .pre .1 .shown .small, λ xs R. rows-start _ xs)
 add-from-atom : tie.Need-add-from-atom Inv-loop μ-loop
 add-from-atom c = omega arith
 
-mul-from-atom : tie.Need-mul-from-atom Inv-loop μ-loop
-mul-from-atom c = omega arith
-
-index-1-from-atom : tie.Need-index-1-from-atom Inv-loop μ-loop
-index-1-from-atom c = omega arith
+slice-aggregate-from-atom : tie.Need-slice-aggregate-from-atom Inv-loop μ-loop
+slice-aggregate-from-atom c = search needs
 
 from-atom-requires : tie.Need-from-atom-requires Inv-loop μ-loop
 from-atom-requires c κs =
     let s = c .before .before .before in
-    let l = c .before .before .loop in
     let (xs, R) = s .pre in
-    ((graphOf (s .args .n) xs, record { shown = R .shown; size = refl; start = omega arith }), l .inv .2 xs R .rows .rest (l .i) (omega arith) (omega arith))
+    ((graphOf (s .args .n) xs, record { shown = R .shown; size = refl; start = omega arith }), refl)
+
+slice-aggregate-put-row : tie.Need-slice-aggregate-put-row Inv-loop μ-loop
+slice-aggregate-put-row c =
+    let l = c .before .before .before .before .before .loop in
+    let (xs, R) = c .before .before .before .before .before .before .pre in
+    sym (l .inv .2 xs R .size)
+
+add-put-row : tie.Need-add-put-row Inv-loop μ-loop
+add-put-row c = omega arith
+
+put-row-requires : tie.Need-put-row-requires Inv-loop μ-loop
+put-row-requires c κs = tt
 
 array-write-deep : tie.Need-array-write-deep Inv-loop μ-loop
 array-write-deep c = omega arith
@@ -46,13 +55,14 @@ loop-less c = omega arith
 
 loop-again : tie.Need-loop-again Inv-loop μ-loop
 loop-again c =
-    let l = c .before .before .before .loop in (
+    let f = c .before .before .before .before in
+    let l = f .before .before .before .before .loop in (
       omega arith,
       l .inv .1,
       λ xs R.
-          let S = c .from-atom .ensures _ (record { shown = R .shown; size = refl; start = omega arith }) in
+          let S = f .before .from-atom .ensures _ (record { shown = R .shown; size = refl; start = omega arith }) in
           let w = passed _ xs (R .fine) .whole in
-          rw (add-one (l .i)) (rows-next _ xs _ _ (l .i) _ _ (omega arith) (l .inv .2 xs R) (rw (add-one (l .i)) at (S .far w)) (rw (add-one (l .i)) at (S .deep w))),
+          rw (c .before .put-row .ensures, add-one (l .i)) (rows-next _ xs _ _ (l .i) _ _ (omega arith) (l .inv .2 xs R) (rw (add-one (l .i)) at (S .far w)) (rw (add-one (l .i)) at (S .deep w))),
     )
 
 returns : tie.Need-returns Inv-loop μ-loop
@@ -68,9 +78,11 @@ from-all-spec =
     μ-loop
     loop-holds
     add-from-atom
-    mul-from-atom
-    index-1-from-atom
+    slice-aggregate-from-atom
     from-atom-requires
+    slice-aggregate-put-row
+    add-put-row
+    put-row-requires
     array-write-deep
     add-i
     loop-less

@@ -9,11 +9,11 @@ use Rattle.block.proofs.totals.along.Statement.{statement}
 use Rattle.block.proofs.totals.along.Tie as tie
 
 abbrev Inv-loop : tie.InvT-loop
-Inv-loop row k even₀ odd₀ evens₀ odds₀ ones₀ twos₀ threes₀ j₀ even odd evens odds ones twos threes j =
-    (j ≤ k) × Tallied row j (record { even = even; odd = odd; evens = evens; odds = odds; ones = ones; twos = twos; threes = threes })
+Inv-loop row k even₀ odd₀ evens₀ odds₀ ones₀ twos₀ j₀ even odd evens odds ones twos j =
+    (j ≤ k) × Tallied row j (record { even = even; odd = odd; evens = evens; odds = odds; ones = ones; twos = twos })
 
 abbrev μ-loop : tie.MeasureT-loop
-μ-loop row k even₀ odd₀ evens₀ odds₀ ones₀ twos₀ threes₀ j₀ even odd evens odds ones twos threes j = k - j
+μ-loop row k even₀ odd₀ evens₀ odds₀ ones₀ twos₀ j₀ even odd evens odds ones twos j = k - j
 
 loop-holds : tie.Need-loop-holds Inv-loop μ-loop
 loop-holds c = (omega arith, tally-none _)
@@ -35,12 +35,6 @@ cast-twos c = omega arith
 
 add-twos : tie.Need-add-twos Inv-loop μ-loop
 add-twos c = let B = c .before .before .before .loop .inv .1 .low in omega (arith, bit-low (eqb (c .wide .result) 2))
-
-cast-threes : tie.Need-cast-threes Inv-loop μ-loop
-cast-threes c = omega arith
-
-add-threes : tie.Need-add-threes Inv-loop μ-loop
-add-threes c = let B = c .before .before .before .loop .inv .1 .low in omega (arith, bit-low (eqb (c .wide .result) 3))
 
 add-j : tie.Need-add-j Inv-loop μ-loop
 add-j c = omega arith
@@ -91,8 +85,6 @@ along-spec =
     add-ones
     cast-twos
     add-twos
-    cast-threes
-    add-threes
     add-j
     add-even
     add-evens

@@ -1,51 +1,67 @@
-use Prim.Native.Nat.{ℕ, _≤_, _-_}
-use mathlib.Core.Path.{_≡_, ap, _∙_}
+use Prim.Native.Nat.{ℕ, suc, _≤_, _-_}
+use mathlib.Core.Path.{_≡_, sym, ap, _∙_}
 use native.Mathlib.Omega.{arith}
-use borrow.Author.Needs.{needs}
+use Rattle.half.specs.Half.{startOf, halfAt}
+use Rattle.half.specs.Places.{start-first}
 use Rattle.block.specs.Block.{mostAtoms}
-use Rattle.block.specs.Sums.{pairEntry, countsBy}
+use Rattle.block.specs.Sums.{countsBy}
+use Rattle.block.proofs.Summing.{run-fits, from-next}
 use Rattle.block.proofs.Counting.{PairsCounted, pairs-none, pairs-counts, pairs-more, pairs-end}
 use Rattle.block.proofs.totals.count_pairs.Statement.{statement}
 use Rattle.block.proofs.totals.count_pairs.Tie as tie
 
 abbrev Inv-loop : tie.InvT-loop
-Inv-loop rows n m at₀ j₀ at j = (j ≤ m) × (m ≤ mostAtoms) × PairsCounted rows j at
+Inv-loop half n m at₀ from₀ i₀ at from i = (i ≤ m) × (m ≤ mostAtoms) × (from ≡ startOf (suc i)) × PairsCounted half m i at
 
 abbrev μ-loop : tie.MeasureT-loop
-μ-loop rows n m at₀ j₀ at j = m - j
+μ-loop half n m at₀ from₀ i₀ at from i = m - i
 
 within-requires : tie.Need-within-requires Inv-loop μ-loop
-within-requires c κs = search needs
+within-requires c κs = tt
 
 loop-holds : tie.Need-loop-holds Inv-loop μ-loop
-loop-holds c = (omega arith, omega arith, pairs-none _)
+loop-holds c = (omega arith, omega arith, sym start-first, pairs-none _ _)
 
-mul-count-row : tie.Need-mul-count-row Inv-loop μ-loop
-mul-count-row c = omega arith
+sub-count-run : tie.Need-sub-count-run Inv-loop μ-loop
+sub-count-run c = omega arith
 
-index-1-count-row : tie.Need-index-1-count-row Inv-loop μ-loop
-index-1-count-row c = omega arith
+sub-count-run-2 : tie.Need-sub-count-run-2 Inv-loop μ-loop
+sub-count-run-2 c = omega arith
 
-count-row-requires : tie.Need-count-row-requires Inv-loop μ-loop
-count-row-requires c κs = (omega arith, pairs-counts _ _ _ (c .before .before .loop .inv .2) (omega arith))
+count-run-requires : tie.Need-count-run-requires Inv-loop μ-loop
+count-run-requires c κs =
+    let v = c .before .loop .inv in
+    let t = c .loop-test .taken in
+    let (a, b) = run-fits (c .before .before .before .args .half .now) _ _ _ t (v .1) (v .2) in
+    (a, b, pairs-counts _ _ _ _ (v .3) t (v .1))
 
-add-j : tie.Need-add-j Inv-loop μ-loop
-add-j c = omega arith
+sub-from : tie.Need-sub-from Inv-loop μ-loop
+sub-from c = omega arith
+
+sub-from-2 : tie.Need-sub-from-2 Inv-loop μ-loop
+sub-from-2 c = omega arith
+
+add-from : tie.Need-add-from Inv-loop μ-loop
+add-from c = let v = c .before .before .loop .inv in omega (arith, from-next _ _ (omega arith) (v .2) .1)
+
+add-i : tie.Need-add-i Inv-loop μ-loop
+add-i c = omega arith
 
 loop-less : tie.Need-loop-less Inv-loop μ-loop
 loop-less c = omega arith
 
 loop-again : tie.Need-loop-again Inv-loop μ-loop
 loop-again c =
-    let l = c .before .before .before .loop in
-    (omega arith, l .inv .1, pairs-more _ (l .j) _ (l .inv .2) (omega arith) _ (c .count-row .ensures))
+    let l = c .before .before .loop in
+    let v = l .inv in
+    (omega arith, v .1, from-next (l .i) _ (omega arith) (v .2) .0, pairs-more _ _ (l .i) _ (v .3) (c .before .loop-test .taken) (v .1) _ (v .2) _ (c .count-run .ensures))
 
 returns : tie.Need-returns Inv-loop μ-loop
 returns c =
     let l = c .before .loop in
     let w = c .before .before .within in
-    let e : l .j ≡ w .result = omega arith in
-    pairs-end _ _ _ (rw e at (l .inv .2)) ∙ ap (λ (m : ℕ). countsBy m (pairEntry (c .before .before .before .args .rows .now))) (w .ensures)
+    let e : l .i ≡ w .result = omega arith in
+    pairs-end _ _ _ (rw e at (l .inv .3)) ∙ ap (λ (m : ℕ). countsBy m (halfAt (c .before .before .before .args .half .now))) (w .ensures)
 
 pub count-pairs-spec : {M : Type 1} → statement M
 count-pairs-spec =
@@ -55,10 +71,13 @@ count-pairs-spec =
     μ-loop
     within-requires
     loop-holds
-    mul-count-row
-    index-1-count-row
-    count-row-requires
-    add-j
+    sub-count-run
+    sub-count-run-2
+    count-run-requires
+    sub-from
+    sub-from-2
+    add-from
+    add-i
     loop-less
     loop-again
     returns)
