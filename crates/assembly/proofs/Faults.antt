@@ -5,15 +5,15 @@ use mathlib.Core.List.{List}
 use mathlib.Core.Path.{_≡_, refl, sym, _∙_}
 use native.Mathlib.Omega.{arith}
 use borrow.Author.Tests.{eq-eqb, ne-eqb}
-use Rattle.graph.specs.Graph.{Graph}
 use Rattle.graph.specs.Assembly.{Join}
 use Rattle.reply.specs.Read.{refused, read, refusal, refuseFor, isOutside}
 use Rattle.reply.specs.Chain.{not-read}
 use Rattle.block.specs.Faults.{inside}
 use Rattle.reply.specs.declared.Refusal.{Refusal}
 use Rattle.assembly.specs.Book.{Book}
-use Rattle.assembly.specs.Placements.{mostPlacements, placementCount, placementAt, isFull, firstFault, parentFault, joinFault, joinOn, graphOn, laterFault, fault, placedReply, assemblyReply}
+use Rattle.assembly.specs.Placements.{mostPlacements, placementCount, placementAt, siteAt, Shelf, shelfOf, isFull, firstFault, parentFault, joinFault, joinOn, sitesOn, laterFault, fault, placedReply, assemblyReply}
 use Rattle.assembly.specs.declared.Placement.{Placement}
+use Rattle.assembly.specs.declared.Site.{Site}
 
 module _ (q : Placement) where
   pub first-parent : (q .parent ≡ 0 → ⊥) → firstFault q ≡ 17
@@ -34,7 +34,7 @@ module _ (q : Placement) where
       unfolding firstFault
       first-fine o = rw (eq-eqb (q .parent) 0 p, eq-eqb (q .site) 0 s, eq-eqb (q .own) 0 o)
 
-module _ (g h : Graph) (joins : ℕ → Join) (k : ℕ) where
+module _ (g h : Site) (joins : ℕ → Join) (k : ℕ) where
   pub no-site : isOutside (g .atoms) (joins k .site) ≡ true → joinFault g h joins k ≡ 18
   unfolding joinFault
   no-site s = rw s
@@ -45,55 +45,55 @@ module _ (g h : Graph) (joins : ℕ → Join) (k : ℕ) where
     no-own o = rw (s, o)
 
     module _ (o : isOutside (h .atoms) (joins k .own) ≡ false) where
-      pub full-site : isFull g joins k (joins k .parent) (joins k .site) ≡ true → joinFault g h joins k ≡ 19
+      pub full-site : isFull (g .ends) joins k (joins k .parent) (joins k .site) ≡ true → joinFault g h joins k ≡ 19
       unfolding joinFault
       full-site f = rw (s, o, f)
 
-      module _ (f : isFull g joins k (joins k .parent) (joins k .site) ≡ false) where
-        pub full-own : isFull h joins k (suc k) (joins k .own) ≡ true → joinFault g h joins k ≡ 19
+      module _ (f : isFull (g .ends) joins k (joins k .parent) (joins k .site) ≡ false) where
+        pub full-own : isFull (h .ends) joins k (suc k) (joins k .own) ≡ true → joinFault g h joins k ≡ 19
         unfolding joinFault
         full-own e = rw (s, o, f, e)
 
-        pub joins-well : isFull h joins k (suc k) (joins k .own) ≡ false → joinFault g h joins k ≡ 0
+        pub joins-well : isFull (h .ends) joins k (suc k) (joins k .own) ≡ false → joinFault g h joins k ≡ 0
         unfolding joinFault
         joins-well e = rw (s, o, f, e)
 
-module _ (book : Book) (placed : ℕ → Placement) (k : ℕ) where
-  pub no-parent : isOutside k (placed k .parent) ≡ true → laterFault book placed k ≡ parentFault (placed k .parent)
+module _ (shelf : Shelf) (placed : ℕ → Placement) (k : ℕ) where
+  pub no-parent : isOutside k (placed k .parent) ≡ true → laterFault shelf placed k ≡ parentFault (placed k .parent)
   unfolding laterFault
   no-parent e = rw e
 
   pub has-parent : isOutside k (placed k .parent) ≡ false
-      → laterFault book placed k ≡ joinFault (graphOn book placed (placed k .parent - 1)) (graphOn book placed k) (joinOn placed) k
+      → laterFault shelf placed k ≡ joinFault (siteAt (sitesOn shelf placed (placed k .parent - 1)) (placed k .site)) (siteAt (sitesOn shelf placed k) (placed k .own)) (joinOn placed) k
   unfolding laterFault
   has-parent e = rw e
 
-  pub no-block : book .has (placed k .block) ≡ false → fault book placed k ≡ 16
+  pub no-block : shelf .has (placed k .block) ≡ false → fault shelf placed k ≡ 16
   unfolding fault
   no-block e = rw e
 
-  module _ (e : book .has (placed k .block) ≡ true) where
-    pub is-first : k ≡ 0 → fault book placed k ≡ firstFault (placed k)
+  module _ (e : shelf .has (placed k .block) ≡ true) where
+    pub is-first : k ≡ 0 → fault shelf placed k ≡ firstFault (placed k)
     unfolding fault
     is-first z = rw (e, eq-eqb k 0 z)
 
-    pub is-later : (k ≡ 0 → ⊥) → fault book placed k ≡ laterFault book placed k
+    pub is-later : (k ≡ 0 → ⊥) → fault shelf placed k ≡ laterFault shelf placed k
     unfolding fault
     is-later z = rw (e, ne-eqb k 0 z)
 
-  pub faulty : (left : ℕ) → (fault book placed k ≡ 0 → ⊥) → placedReply book placed k (suc left) ≡ refused (refusal (fault book placed k) (suc k))
+  pub faulty : (left : ℕ) → (fault shelf placed k ≡ 0 → ⊥) → placedReply shelf placed k (suc left) ≡ refused (refusal (fault shelf placed k) (suc k))
   unfolding placedReply
-  faulty left e = rw (refuses (fault book placed k) e)
+  faulty left e = rw (refuses (fault shelf placed k) e)
     where
       refuses : (n : ℕ) → (n ≡ 0 → ⊥) → refuseFor n (suc k) ≡ refused (refusal n (suc k))
       refuses zero e = absurd (e refl)
       refuses (suc n) e = refl
 
-  pub faultless : (left : ℕ) → fault book placed k ≡ 0 → placedReply book placed k (suc left) ≡ placedReply book placed (suc k) left
+  pub faultless : (left : ℕ) → fault shelf placed k ≡ 0 → placedReply shelf placed k (suc left) ≡ placedReply shelf placed (suc k) left
   unfolding placedReply
   faultless left e = rw e
 
-  pub none-left : placedReply book placed k 0 ≡ read tt
+  pub none-left : placedReply shelf placed k 0 ≡ read tt
   unfolding placedReply
   none-left = refl
 
@@ -102,7 +102,7 @@ module _ (book : Book) (xs : List ℕ) where
   unfolding assemblyReply
   count-outside e = rw e
 
-  pub count-within : isOutside mostPlacements (placementCount xs) ≡ false → assemblyReply book xs ≡ placedReply book (placementAt xs) 0 (placementCount xs)
+  pub count-within : isOutside mostPlacements (placementCount xs) ≡ false → assemblyReply book xs ≡ placedReply (shelfOf book) (placementAt xs) 0 (placementCount xs)
   unfolding assemblyReply
   count-within e = rw e
 
@@ -110,15 +110,15 @@ module _ (book : Book) (xs : List ℕ) where
   pub place-few : (r : Refusal) → assemblyReply book xs ≡ refused r → r .place ≤ mostPlacements
   place-few r e = go (isOutside mostPlacements (placementCount xs)) refl
     where
-      from : (left k : ℕ) → placedReply book (placementAt xs) k left ≡ refused r → r .place ≤ k + left
-      from zero k e = absurd (not-read (sym e ∙ none-left book (placementAt xs) k))
-      from (suc left) k e = at (fault book (placementAt xs) k) refl (from left (suc k))
+      from : (left k : ℕ) → placedReply (shelfOf book) (placementAt xs) k left ≡ refused r → r .place ≤ k + left
+      from zero k e = absurd (not-read (sym e ∙ none-left (shelfOf book) (placementAt xs) k))
+      from (suc left) k e = at (fault (shelfOf book) (placementAt xs) k) refl (from left (suc k))
         where
-          at : (n : ℕ) → fault book (placementAt xs) k ≡ n → (placedReply book (placementAt xs) (suc k) left ≡ refused r → r .place ≤ suc k + left) → r .place ≤ k + suc left
-          at zero f more = omega (arith, more (sym (faultless book (placementAt xs) k left f) ∙ e))
+          at : (n : ℕ) → fault (shelfOf book) (placementAt xs) k ≡ n → (placedReply (shelfOf book) (placementAt xs) (suc k) left ≡ refused r → r .place ≤ suc k + left) → r .place ≤ k + suc left
+          at zero f more = omega (arith, more (sym (faultless (shelfOf book) (placementAt xs) k left f) ∙ e))
           at (suc n) f more =
-              let g : refused (refusal (fault book (placementAt xs) k) (suc k)) ≡ refused r = sym (faulty book (placementAt xs) k left (omega arith)) ∙ e in
-              let h : refusal (fault book (placementAt xs) k) (suc k) ≡ r = cc in
+              let g : refused (refusal (fault (shelfOf book) (placementAt xs) k) (suc k)) ≡ refused r = sym (faulty (shelfOf book) (placementAt xs) k left (omega arith)) ∙ e in
+              let h : refusal (fault (shelfOf book) (placementAt xs) k) (suc k) ≡ r = cc in
               rw (← h) (omega arith)
 
       go : (t : Bool) → isOutside mostPlacements (placementCount xs) ≡ t → r .place ≤ mostPlacements

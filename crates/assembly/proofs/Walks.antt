@@ -1,12 +1,14 @@
 -- Steps of the loops over blocks, bonds and joins: what is left to do gives the answer. Assumes nothing.
-use Prim.Native.Nat.{ℕ, suc, _+_, _-_, _<_, _≤_}
-use mathlib.Core.Bool.{cond}
+use Prim.Native.Nat.{ℕ, zero, suc, _+_, _-_, _<_, _≤_, min}
+use mathlib.Core.Bool.{Bool, true, false, cond}
+use mathlib.Core.Logic.{⊎-elim}
 use mathlib.Core.List.{List, [], _∷_}
 use mathlib.Core.Path.{_≡_, refl}
+use native.Mathlib.Nat.{le-suc-iff}
 use native.Mathlib.Numerals.{add-one, add-two}
 use native.Mathlib.Omega.{arith}
-use borrow.Author.Tests.{eq-eqb, ne-eqb}
-use lib.Dec.{eqb}
+use borrow.Author.Tests.{eq-eqb, ne-eqb, le-leb, lt-leb, leb-true, leb-false}
+use lib.Dec.{eqb, leb}
 use lib.ListN.{length, take, drop, getD, drop-of-length-le, length-take, length-drop}
 use lib.Seq.{drop-cons, getD-take}
 use Rattle.graph.specs.Graph.{degree, sum}
@@ -65,3 +67,17 @@ joins-none joins p a = refl
 pub joins-next : (joins : ℕ → Join) (k p a : ℕ) → joinsOn joins (k + 1) p a ≡ joinsOn joins k p a + joinEnds (joins (k + 1)) (k + 1 + 1) p a
 unfolding joinsOn sum
 joins-next joins k p a = rw (add-one k, add-one (suc k))
+
+-- joins more are no fewer ends
+pub joins-most : (joins : ℕ → Join) (p a n m : ℕ) → n ≤ m → joinsOn joins n p a ≤ joinsOn joins m p a
+unfolding joinsOn sum
+joins-most joins p a n zero h = let e : n ≡ 0 = omega arith in rw e (omega arith)
+joins-most joins p a n (suc m) h = ⊎-elim (λ q. omega (arith, joins-most joins p a n m q)) (λ q. rw q (omega arith)) (le-suc-iff .0 h)
+
+-- as far as the limit they can be counted
+pub full-min : (limit ends x : ℕ) → leb limit (ends + min x limit) ≡ leb limit (ends + x)
+full-min limit ends x = go (leb limit (ends + x)) refl
+  where
+    go : (t : Bool) → leb limit (ends + x) ≡ t → leb limit (ends + min x limit) ≡ t
+    go true e = le-leb limit (ends + min x limit) (omega (arith, leb-true limit (ends + x) e))
+    go false e = lt-leb limit (ends + min x limit) (omega (arith, leb-false limit (ends + x) e))

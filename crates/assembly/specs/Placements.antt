@@ -1,4 +1,5 @@
--- Definitions. An assembly over a book of blocks, wherever those stand: refusals 15 to 19, 23 and 24. A place is the placement's number from 1, or 0.
+-- Definitions. An assembly over a shelf, which says of each block just what is asked of it, wherever it stands: refusals 15 to 19, 23 and 24. A place is the
+-- placement's number from 1, or 0.
 use Prim.Native.Nat.{ℕ, zero, suc, _+_, _*_, _-_}
 use mathlib.Core.Bool.{Bool, _&&_, _||_, not, cond}
 use mathlib.Core.List.{List}
@@ -11,9 +12,29 @@ use Rattle.records.specs.Bytes.{byteAt, le16}
 use Rattle.records.specs.Records.{assemblyKind}
 use Rattle.assembly.specs.Book.{Book}
 use Rattle.assembly.specs.declared.Placement.{Placement}
+use Rattle.assembly.specs.declared.Site.{Site}
 
 abbrev pub mostPlacements : ℕ
 mostPlacements = 32
+
+-- What is asked of a block: its atom count, and how many bonds are at each atom; of one of its atoms, a `Site`.
+pub record Sites : Type 0 where
+  pub atoms : ℕ
+  pub ends : ℕ → ℕ
+
+abbrev pub siteAt : Sites → ℕ → Site
+siteAt s a = record { atoms = s .atoms; ends = s .ends a }
+
+pub record Shelf : Type 0 where
+  pub has : ℕ → Bool
+  pub sites : ℕ → Sites
+
+-- what graphs say
+abbrev pub sitesOf : Graph → Sites
+sitesOf g = record { atoms = g .atoms; ends = degree (g .bonds) }
+
+abbrev pub shelfOf : Book → Shelf
+shelfOf book = record { has = book .has; sites = λ x. sitesOf (book .graph x) }
 
 -- An assembly's payload: placement count p (2), then p placements.
 abbrev pub placementCount : List ℕ → ℕ
@@ -40,9 +61,9 @@ joinsOn joins last p a = sum last (λ k. joinEnds (joins k) (suc k) p a)
 unfoldable pub bondsOn : Graph → (ℕ → Join) → ℕ → ℕ → ℕ → ℕ
 bondsOn g joins last p a = degree (g .bonds) a + joinsOn joins last p a
 
--- whether the atom has as many bonds as it may, before the placement at index k is joined
-abbrev pub isFull : Graph → (ℕ → Join) → ℕ → ℕ → ℕ → Bool
-isFull g joins k p a = leb limit (bondsOn g joins (k - 1) p a)
+-- whether an atom with some bonds in its block has as many as it may, before the placement at index k is joined
+abbrev pub isFull : ℕ → (ℕ → Join) → ℕ → ℕ → ℕ → Bool
+isFull ends joins k p a = leb limit (ends + joinsOn joins (k - 1) p a)
 
 -- what is wrong with the first placement's join fields: 17 where one is not 0
 unfoldable pub firstFault : Placement → ℕ
@@ -52,36 +73,42 @@ firstFault q = cond (eqb (q .parent) 0 && eqb (q .site) 0 && eqb (q .own) 0) 0 1
 unfoldable pub parentFault : ℕ → ℕ
 parentFault parent = cond (eqb parent 0) 23 24
 
--- what is wrong with the join at index k, from a placement of block h to one of block g: 18, 19, or 0 for nothing
-unfoldable pub joinFault : Graph → Graph → (ℕ → Join) → ℕ → ℕ
-joinFault g h joins k =
+-- what is wrong with the join at index k, from an atom of a placement to one of an earlier one: 18, 19, or 0 for nothing
+unfoldable pub joinFault : Site → Site → (ℕ → Join) → ℕ → ℕ
+joinFault there here joins k =
     let j = joins k in
-    cond (isOutside (g .atoms) (j .site) || isOutside (h .atoms) (j .own)) 18
-    (cond (isFull g joins k (j .parent) (j .site) || isFull h joins k (suc k) (j .own)) 19 0)
+    cond (isOutside (there .atoms) (j .site) || isOutside (here .atoms) (j .own)) 18
+    (cond (isFull (there .ends) joins k (j .parent) (j .site) || isFull (here .ends) joins k (suc k) (j .own)) 19 0)
 
 abbrev pub joinOn : (ℕ → Placement) → ℕ → Join
 joinOn placed k = joinOf (placed k)
 
-module _ (book : Book) (placed : ℕ → Placement) where
-  abbrev pub graphOn : ℕ → Graph
-  graphOn k = book .graph (placed k .block)
+abbrev pub graphOn : Book → (ℕ → Placement) → ℕ → Graph
+graphOn book placed k = book .graph (placed k .block)
+
+module _ (shelf : Shelf) (placed : ℕ → Placement) where
+  abbrev pub sitesOn : ℕ → Sites
+  sitesOn k = shelf .sites (placed k .block)
 
   -- what is wrong with the placement at an index that is not 0: 23, 24, 18, 19, or 0
   unfoldable pub laterFault : ℕ → ℕ
   laterFault k =
-      let parent = placed k .parent in
-      cond (isOutside k parent) (parentFault parent) (joinFault (graphOn (parent - 1)) (graphOn k) (joinOn placed) k)
+      let q = placed k in
+      cond (isOutside k (q .parent)) (parentFault (q .parent)) (joinFault (siteAt (sitesOn (q .parent - 1)) (q .site)) (siteAt (sitesOn k) (q .own)) (joinOn placed) k)
 
   -- what is wrong with the placement at an index: 16, or for the first and for later ones what follows
   unfoldable pub fault : ℕ → ℕ
-  fault k = cond (not (book .has (placed k .block))) 16 (cond (eqb k 0) (firstFault (placed k)) (laterFault k))
+  fault k = cond (not (shelf .has (placed k .block))) 16 (cond (eqb k 0) (firstFault (placed k)) (laterFault k))
 
   -- `left` placements from index k on, one by one
   unfoldable pub placedReply : ℕ → ℕ → Read (Unit {0})
   placedReply k zero = read tt
   placedReply k (suc left) = refuseFor (fault k) (suc k) then λ _. placedReply (suc k) left
 
-unfoldable pub assemblyReply : Book → List ℕ → Read (Unit {0})
-assemblyReply book xs =
+abbrev pub shelfReply : Shelf → List ℕ → Read (Unit {0})
+shelfReply shelf xs =
     refuseIf (isOutside mostPlacements (placementCount xs)) 15 0 then λ _.
-    placedReply book (placementAt xs) 0 (placementCount xs)
+    placedReply shelf (placementAt xs) 0 (placementCount xs)
+
+unfoldable pub assemblyReply : Book → List ℕ → Read (Unit {0})
+assemblyReply book xs = shelfReply (shelfOf book) xs

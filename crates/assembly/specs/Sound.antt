@@ -17,15 +17,17 @@ use Rattle.reply.specs.Chain.{then-read, if-read, for-read, neither}
 use Rattle.block.specs.Block.{limit}
 use Rattle.block.specs.Faults.{inside}
 use Rattle.assembly.specs.Book.{Book}
-use Rattle.assembly.specs.Placements.{mostPlacements, placementCount, placementAt, joinOf, joinOn, joinEnds, bondsOn, isFull, parentFault, joinFault, graphOn, laterFault, fault, placedReply, assemblyReply}
+use Rattle.assembly.specs.Placements.{mostPlacements, placementCount, placementAt, Sites, siteAt, Shelf, sitesOf, shelfOf, joinOf, joinOn, joinEnds, joinsOn, bondsOn, isFull, parentFault, joinFault, graphOn, sitesOn, laterFault, fault, placedReply, assemblyReply}
 use Rattle.assembly.specs.Degrees.{joins-zero, joins-suc, joins-none, degree-is}
 use Rattle.assembly.specs.declared.Placement.{Placement}
 
 -- the join at an index is to an earlier placement, at atoms that exist and have room for a bond
-pub record Joined (blocks : ℕ → Graph) (joins : ℕ → Join) (k : ℕ) : Type 0 where
-  pub stands : Stands blocks joins k
-  pub room : bondsOn (blocks (joins k .parent - 1)) joins (k - 1) (joins k .parent) (joins k .site) < limit
-  pub own-room : bondsOn (blocks k) joins (k - 1) (suc k) (joins k .own) < limit
+pub record Joined (sites : ℕ → Sites) (joins : ℕ → Join) (k : ℕ) : Type 0 where
+  pub parent : Within k (joins k .parent)
+  pub site : Within (sites (joins k .parent - 1) .atoms) (joins k .site)
+  pub own : Within (sites k .atoms) (joins k .own)
+  pub room : sites (joins k .parent - 1) .ends (joins k .site) + joinsOn joins (k - 1) (joins k .parent) (joins k .site) < limit
+  pub own-room : sites k .ends (joins k .own) + joinsOn joins (k - 1) (suc k) (joins k .own) < limit
 
 -- where a test names a number that is not 0, and nothing is named, the test fails, and so on
 past : (t : Bool) (x y : ℕ) → (x ≡ 0 → ⊥) → cond t x y ≡ 0 → (t ≡ false) × (y ≡ 0)
@@ -41,30 +43,32 @@ parent-faulty p = go (eqb p 0)
     go true e = omega arith
     go false e = omega arith
 
-module _ (book : Book) (placed : ℕ → Placement) where
-  abbrev blocks : ℕ → Graph
-  blocks = graphOn book placed
+module _ (shelf : Shelf) (placed : ℕ → Placement) where
+  abbrev sites : ℕ → Sites
+  sites = sitesOn shelf placed
 
   abbrev joins : ℕ → Join
   joins = joinOn placed
 
-  join-right : (k : ℕ) → Within k (joins k .parent) → joinFault (blocks (joins k .parent - 1)) (blocks k) joins k ≡ 0 → Joined blocks joins k
+  join-right : (k : ℕ) → Within k (joins k .parent) → joinFault (siteAt (sites (joins k .parent - 1)) (joins k .site)) (siteAt (sites k) (joins k .own)) joins k ≡ 0 → Joined sites joins k
   unfolding joinFault
   join-right k w e =
       let j = joins k in
-      let g = blocks (j .parent - 1) in
-      let h = blocks k in
+      let g = sites (j .parent - 1) in
+      let h = sites k in
       let (a, f) = past (isOutside (g .atoms) (j .site) || isOutside (h .atoms) (j .own)) 18 _ (omega arith) e in
-      let (b, z) = past (isFull g joins k (j .parent) (j .site) || isFull h joins k (suc k) (j .own)) 19 0 (omega arith) f in
+      let (b, z) = past (isFull (g .ends (j .site)) joins k (j .parent) (j .site) || isFull (h .ends (j .own)) joins k (suc k) (j .own)) 19 0 (omega arith) f in
       let (s, o) = neither (isOutside (g .atoms) (j .site)) (isOutside (h .atoms) (j .own)) a in
-      let (r, q) = neither (isFull g joins k (j .parent) (j .site)) (isFull h joins k (suc k) (j .own)) b in
+      let (r, q) = neither (isFull (g .ends (j .site)) joins k (j .parent) (j .site)) (isFull (h .ends (j .own)) joins k (suc k) (j .own)) b in
       record {
-        stands = record { parent = w; site = inside (g .atoms) (j .site) s; own = inside (h .atoms) (j .own) o };
+        parent = w;
+        site = inside (g .atoms) (j .site) s;
+        own = inside (h .atoms) (j .own) o;
         room = leb-false limit _ r;
         own-room = leb-false limit _ q;
       }
 
-  later-right : (k : ℕ) → laterFault book placed k ≡ 0 → Joined blocks joins k
+  later-right : (k : ℕ) → laterFault shelf placed k ≡ 0 → Joined sites joins k
   unfolding laterFault joinOf
   later-right k e =
       let p = placed k .parent in
@@ -73,26 +77,26 @@ module _ (book : Book) (placed : ℕ → Placement) where
 
   -- the placements that are read
   pub record Right (count : ℕ) : Type 0 where
-    pub has : (k : ℕ) → k < count → book .has (placed k .block) ≡ true
-    pub joined : (k : ℕ) → 1 ≤ k → k < count → Joined blocks joins k
+    pub has : (k : ℕ) → k < count → shelf .has (placed k .block) ≡ true
+    pub joined : (k : ℕ) → 1 ≤ k → k < count → Joined sites joins k
 
-  fault-none : (left k : ℕ) → placedReply book placed k left ≡ read tt → (i : ℕ) → k ≤ i → i < k + left → fault book placed i ≡ 0
+  fault-none : (left k : ℕ) → placedReply shelf placed k left ≡ read tt → (i : ℕ) → k ≤ i → i < k + left → fault shelf placed i ≡ 0
   unfolding placedReply
   fault-none zero k e i l h = absurd (omega arith)
   fault-none (suc left) k e i l h =
-      let (u, p, f) = then-read (refuseFor (fault book placed k) (suc k)) _ e in
-      at (ℕ-discrete k i) (for-read (fault book placed k) (suc k) p) (λ m. fault-none left (suc k) f i m (omega arith))
+      let (u, p, f) = then-read (refuseFor (fault shelf placed k) (suc k)) _ e in
+      at (ℕ-discrete k i) (for-read (fault shelf placed k) (suc k) p) (λ m. fault-none left (suc k) f i m (omega arith))
     where
-      at : Dec (k ≡ i) → fault book placed k ≡ 0 → (suc k ≤ i → fault book placed i ≡ 0) → fault book placed i ≡ 0
+      at : Dec (k ≡ i) → fault shelf placed k ≡ 0 → (suc k ≤ i → fault shelf placed i ≡ 0) → fault shelf placed i ≡ 0
       at (yes q) z more = rw (← q) z
       at (no q) z more = more (omega arith)
 
-  right : (count : ℕ) → placedReply book placed 0 count ≡ read tt → Right count
+  pub right : (count : ℕ) → placedReply shelf placed 0 count ≡ read tt → Right count
   unfolding fault
   right count e = record {
-    has = λ k h. not-false _ (past (not (book .has (placed k .block))) 16 _ (omega arith) (fault-none count 0 e k (omega arith) (omega arith)) .0);
+    has = λ k h. not-false _ (past (not (shelf .has (placed k .block))) 16 _ (omega arith) (fault-none count 0 e k (omega arith) (omega arith)) .0);
     joined = λ k l h.
-        let (b, f) = past (not (book .has (placed k .block))) 16 _ (omega arith) (fault-none count 0 e k (omega arith) (omega arith)) in
+        let (b, f) = past (not (shelf .has (placed k .block))) 16 _ (omega arith) (fault-none count 0 e k (omega arith) (omega arith)) in
         let f = rw (ne-eqb k 0 (omega arith)) at f in
         later-right k f;
   }
@@ -100,27 +104,27 @@ module _ (book : Book) (placed : ℕ → Placement) where
 -- the whole assembly
 pub record Whole (book : Book) (xs : List ℕ) : Type 0 where
   pub count : Within mostPlacements (placementCount xs)
-  pub right : Right book (placementAt xs) (placementCount xs)
+  pub right : Right (shelfOf book) (placementAt xs) (placementCount xs)
 
 pub whole : (book : Book) (xs : List ℕ) → assemblyReply book xs ≡ read tt → Whole book xs
 unfolding assemblyReply
 whole book xs e =
     let (u, p, f) = then-read (refuseIf (isOutside mostPlacements (placementCount xs)) 15 0) _ e in
-    record { count = inside mostPlacements (placementCount xs) (if-read _ 15 0 p); right = right book (placementAt xs) (placementCount xs) f }
+    record { count = inside mostPlacements (placementCount xs) (if-read _ 15 0 p); right = right (shelfOf book) (placementAt xs) (placementCount xs) f }
 
 -- over a book of molecules it is an assembly
 pub assembled : (book : Book) (xs : List ℕ) → ((x : ℕ) → book .has x ≡ true → Molecule (book .graph x)) → Whole book xs
     → Assembled (graphOn book (placementAt xs)) (joinOn (placementAt xs)) (placementCount xs - 1)
 assembled book xs m w = record {
   molecules = λ k h. m (placementAt xs k .block) (w .right .has k (omega (arith, w .count)));
-  stands = λ k l h. w .right .joined k l (omega (arith, w .count)) .stands;
+  stands = λ k l h. let j = w .right .joined k l (omega (arith, w .count)) in record { parent = j .parent; site = j .site; own = j .own };
 }
 
 -- no atom of an assembly has more bonds than the limit
 module _ (blocks : ℕ → Graph) (joins : ℕ → Join) where
   -- one join more adds a bond to an atom that has room, or none
-  grows-old : (k p a : ℕ) → Joined blocks joins (suc k) → p ≤ suc k → bondsOn (blocks (p - 1)) joins k p a ≤ limit → bondsOn (blocks (p - 1)) joins k p a + joinEnds (joins (suc k)) (suc (suc k)) p a ≤ limit
-  unfolding joinEnds
+  grows-old : (k p a : ℕ) → Joined (λ i. sitesOf (blocks i)) joins (suc k) → p ≤ suc k → bondsOn (blocks (p - 1)) joins k p a ≤ limit → bondsOn (blocks (p - 1)) joins k p a + joinEnds (joins (suc k)) (suc (suc k)) p a ≤ limit
+  unfolding joinEnds bondsOn
   grows-old k p a j l h = go (ℕ-discrete (joins (suc k) .parent) p) (ℕ-discrete (joins (suc k) .site) a)
     where
       here : suc k - 1 ≡ k
@@ -132,9 +136,9 @@ module _ (blocks : ℕ → Graph) (joins : ℕ → Join) where
       go (yes q) (no r) = rw (eq-eqb (joins (suc k) .parent) p q, ne-eqb (joins (suc k) .site) a r, ne-eqb (suc (suc k)) p (omega arith)) (omega arith)
       go (no q) r = rw (ne-eqb (joins (suc k) .parent) p q, ne-eqb (suc (suc k)) p (omega arith)) (omega arith)
 
-  grows-new : (k a : ℕ) → Joined blocks joins (suc k) → bondsOn (blocks (suc k)) joins k (suc (suc k)) a ≤ limit
+  grows-new : (k a : ℕ) → Joined (λ i. sitesOf (blocks i)) joins (suc k) → bondsOn (blocks (suc k)) joins k (suc (suc k)) a ≤ limit
       → bondsOn (blocks (suc k)) joins k (suc (suc k)) a + joinEnds (joins (suc k)) (suc (suc k)) (suc (suc k)) a ≤ limit
-  unfolding joinEnds
+  unfolding joinEnds bondsOn
   grows-new k a j h = go (ℕ-discrete (joins (suc k) .own) a)
     where
       here : suc k - 1 ≡ k
@@ -143,17 +147,17 @@ module _ (blocks : ℕ → Graph) (joins : ℕ → Join) where
       go : Dec (joins (suc k) .own ≡ a)
           → bondsOn (blocks (suc k)) joins k (suc (suc k)) a + (cond (eqb (joins (suc k) .parent) (suc (suc k)) && eqb (joins (suc k) .site) a) 1 0 + cond (eqb (suc (suc k)) (suc (suc k)) && eqb (joins (suc k) .own) a) 1 0) ≤ limit
       go (yes q) =
-          rw (ne-eqb (joins (suc k) .parent) (suc (suc k)) (omega (arith, j .stands .parent)), eq-eqb (suc (suc k)) (suc (suc k)) refl, eq-eqb (joins (suc k) .own) a q)
+          rw (ne-eqb (joins (suc k) .parent) (suc (suc k)) (omega (arith, j .parent)), eq-eqb (suc (suc k)) (suc (suc k)) refl, eq-eqb (joins (suc k) .own) a q)
           (omega (arith, rw (here, q) at (j .own-room)))
       go (no q) =
-          rw (ne-eqb (joins (suc k) .parent) (suc (suc k)) (omega (arith, j .stands .parent)), eq-eqb (suc (suc k)) (suc (suc k)) refl, ne-eqb (joins (suc k) .own) a q)
+          rw (ne-eqb (joins (suc k) .parent) (suc (suc k)) (omega (arith, j .parent)), eq-eqb (suc (suc k)) (suc (suc k)) refl, ne-eqb (joins (suc k) .own) a q)
           (omega arith)
 
   more : (g : Graph) (k p a : ℕ) → bondsOn g joins (suc k) p a ≡ bondsOn g joins k p a + joinEnds (joins (suc k)) (suc (suc k)) p a
   unfolding bondsOn
   more g k p a = omega (arith, joins-suc blocks joins k p a)
 
-  few : (last p a : ℕ) → Assembled blocks joins last → ((k v : ℕ) → k ≤ last → degree (blocks k .bonds) v ≤ limit) → ((k : ℕ) → 1 ≤ k → k ≤ last → Joined blocks joins k)
+  few : (last p a : ℕ) → Assembled blocks joins last → ((k v : ℕ) → k ≤ last → degree (blocks k .bonds) v ≤ limit) → ((k : ℕ) → 1 ≤ k → k ≤ last → Joined (λ i. sitesOf (blocks i)) joins k)
       → Within (suc last) p → bondsOn (blocks (p - 1)) joins last p a ≤ limit
   unfolding bondsOn
   few zero p a h b j w = omega (arith, b (p - 1) a (omega arith), joins-zero blocks joins p a)
@@ -166,6 +170,6 @@ module _ (blocks : ℕ → Graph) (joins : ℕ → Join) where
       rw (e, l) (omega (arith, more (blocks (suc k)) k (suc (suc k)) a, grows-new k a (j (suc k) (omega arith) (omega arith)) (omega (arith, b (suc k) a (omega arith), none)))))
       (le-suc-iff .0 (w .high))
 
-  pub few-bonds : (last : ℕ) {p a : ℕ} → Assembled blocks joins last → ((k v : ℕ) → k ≤ last → degree (blocks k .bonds) v ≤ limit) → ((k : ℕ) → 1 ≤ k → k ≤ last → Joined blocks joins k)
+  pub few-bonds : (last : ℕ) {p a : ℕ} → Assembled blocks joins last → ((k v : ℕ) → k ≤ last → degree (blocks k .bonds) v ≤ limit) → ((k : ℕ) → 1 ≤ k → k ≤ last → Joined (λ i. sitesOf (blocks i)) joins k)
       → Placed blocks last p a → degree (written blocks joins last .bonds) (atomOf blocks p a) ≤ limit
   few-bonds last {p} {a} h b j q = rw (degree-is blocks joins last h q) (few last p a h b j (q .number))

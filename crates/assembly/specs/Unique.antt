@@ -12,9 +12,10 @@ use Rattle.records.specs.Bytes.{PartOf}
 use Rattle.records.specs.Records.{blockKind}
 use Rattle.records.specs.Unique.{unique-part}
 use Rattle.assembly.specs.Book.{find, isNumbered, bookOf}
-use Rattle.assembly.specs.Placements.{placementAt, assemblyReply}
+use Rattle.assembly.specs.Placements.{placementAt, joinOn, firstFault, parentFault, joinFault, assemblyReply}
 use Rattle.assembly.specs.declared.BlockAt.{BlockAt}
 use Rattle.assembly.specs.declared.Placement.{Placement}
+use Rattle.assembly.specs.declared.Site.{Site}
 
 pub unique-find-block : (blocks : List BlockAt) (count number : ℕ) (r s : BlockAt) → r ≡ find (take count blocks) number → s ≡ find (take count blocks) number → r ≡ s
 unique-find-block blocks count number r s = unique
@@ -27,6 +28,15 @@ unique-bonds-part s b q r = unique-part
 
 pub unique-placement-at : (xs : List ℕ) (k : ℕ) (r s : Placement) → r ≡ placementAt xs k → s ≡ placementAt xs k → r ≡ s
 unique-placement-at xs k r s = unique
+
+pub unique-first-fault : (q : Placement) (r s : ℕ) → r ≡ firstFault q → s ≡ firstFault q → r ≡ s
+unique-first-fault q r s = unique
+
+pub unique-parent-fault : (parent r s : ℕ) → r ≡ parentFault parent → s ≡ parentFault parent → r ≡ s
+unique-parent-fault parent r s = unique
+
+pub unique-join-fault : (there here : Site) (xs : List ℕ) (k r s : ℕ) → r ≡ joinFault there here (joinOn (placementAt xs)) k → s ≡ joinFault there here (joinOn (placementAt xs)) k → r ≡ s
+unique-join-fault there here xs k r s = unique
 
 pub unique-check : (d : List ℕ) (blocks : List BlockAt) (count : ℕ) (xs : List ℕ) (r s : Reply) → r ≡ saidReply (assemblyReply (bookOf d (take count blocks)) xs) → s ≡ saidReply (assemblyReply (bookOf d (take count blocks)) xs) → r ≡ s
 unique-check d blocks count xs r s = unique

@@ -1,15 +1,15 @@
 // An assembly: placements over any book of blocks, and refusals 15 to 19, 23 and 24.
 ghost use mathlib.Core.Path.{_≡_};
 ghost use mathlib.Core.Bool.{_&&_, cond};
-ghost use Prim.Native.Nat.{_+_, _*_, _-_, _<_, _≤_};
+ghost use Prim.Native.Nat.{_+_, _*_, _-_, _^_, _<_, _≤_, min};
 ghost use lib.ListN.{length, take};
 ghost use Rattle.graph.specs.Graph.{degree};
 ghost use Rattle.reply.specs.Read.{saidReply};
-ghost use Rattle.block.specs.Block.{bondsOf};
+ghost use Rattle.block.specs.Block.{limit, bondsOf};
 ghost use Rattle.records.specs.Bytes.{PartOf};
 ghost use Rattle.records.specs.Records.{blockKind};
 ghost use Rattle.assembly.specs.Book.{find, isNumbered, blockGraph, bookOf};
-ghost use Rattle.assembly.specs.Placements.{placementAt, joinsOn, joinOn, isFull, mostPlacements, firstFault, parentFault, joinFault, laterFault, fault, assemblyReply};
+ghost use Rattle.assembly.specs.Placements.{placementAt, sitesOf, siteAt, shelfOf, joinsOn, joinOn, isFull, firstFault, parentFault, joinFault, laterFault, fault, assemblyReply};
 use block::LIMIT;
 use records::ASSEMBLY;
 use records::BLOCK;
@@ -59,6 +59,12 @@ pub struct Placement {
     pub parent: u16,
     pub site: u8,
     pub own: u8,
+}
+
+// What an assembly asks of a block at one of its atoms: how many atoms the block has, and how many of its bonds are at this one.
+pub struct Site {
+    pub atoms: usize,
+    pub ends: usize,
 }
 
 // Which of the first `count` blocks has a number; one of no atoms where none has.
@@ -147,10 +153,10 @@ fn degree_of(bonds: &[u8], a: u8) -> usize
     total
 }
 
-// How many ends the joins at the indices 1 to `last` have at atom a of placement number p.
+// How many ends the joins at the indices 1 to `last` have at atom a of placement number p, counted up to the limit.
 fn joins_on(xs: &[u8], last: usize, p: usize, a: u8) -> usize
-    requires { ⌜ last ≤ mostPlacements ⌝ }
-    ensures { λ r. ⌜ (r ≡ joinsOn (joinOn (placementAt (now (xs .entry)))) last p a) × (r ≤ 2 * last) ⌝ }
+    requires { ⌜ last < 2 ^ 64 - 1 ⌝ }
+    ensures { λ r. ⌜ r ≡ min (joinsOn (joinOn (placementAt (now (xs .entry)))) last p a) limit ⌝ }
 {
     let mut total = 0;
     let mut k = 0;
@@ -159,21 +165,28 @@ fn joins_on(xs: &[u8], last: usize, p: usize, a: u8) -> usize
         let q = placement_at(xs, k);
         total = total
             + (one_if((q.parent as usize) == p, q.site == a) + one_if(k + 1 == p, q.own == a));
+        if LIMIT <= total {
+            return LIMIT;
+        }
     }
     total
 }
 
-// Whether atom a of placement number p, which is of block b, has as many bonds as it may, before the placement at index k is joined.
-fn is_full(d: &[u8], b: BlockAt, xs: &[u8], k: usize, p: usize, a: u8) -> bool
-    requires { ⌜ (1 ≤ k) × (k < mostPlacements) ⌝ }
-    ensures { λ r. ⌜ r ≡ isFull (blockGraph (now (d .entry)) b) (joinOn (placementAt (now (xs .entry)))) k p a ⌝ }
+// Whether atom a of placement number p, which has some bonds in its block, has as many as it may, before the placement at index k is joined.
+fn is_full(ends: usize, xs: &[u8], k: usize, p: usize, a: u8) -> bool
+    ensures { λ r. ⌜ r ≡ isFull ends (joinOn (placementAt (now (xs .entry)))) k p a ⌝ }
 {
-    let bonds = bonds_part(d, b);
-    LIMIT <= degree_of(bonds, a) + joins_on(xs, k - 1, p, a)
+    if LIMIT <= ends {
+        return true;
+    }
+    if k == 0 {
+        return false;
+    }
+    LIMIT <= ends + joins_on(xs, k - 1, p, a)
 }
 
 // What is wrong with the first placement's join fields: 17, or 0.
-fn first_fault(q: Placement) -> usize
+pub fn first_fault(q: Placement) -> usize
     ensures { λ r. ⌜ r ≡ firstFault q ⌝ }
 {
     if q.parent != 0 {
@@ -189,7 +202,7 @@ fn first_fault(q: Placement) -> usize
 }
 
 // What is wrong with a later placement's parent that is none of the earlier placements: 23 where it is 0, else 24.
-fn parent_fault(parent: usize) -> usize
+pub fn parent_fault(parent: usize) -> usize
     ensures { λ r. ⌜ r ≡ parentFault parent ⌝ }
 {
     if parent == 0 {
@@ -198,31 +211,42 @@ fn parent_fault(parent: usize) -> usize
     24
 }
 
-// What is wrong with the join at index k, from a placement of block `here` to one of block `there`: 18, 19, or 0.
-fn join_fault(d: &[u8], there: BlockAt, here: BlockAt, xs: &[u8], k: usize) -> usize
-    requires { ⌜ (1 ≤ k) × (k < mostPlacements) ⌝ }
-    ensures { λ r. ⌜ r ≡ joinFault (blockGraph (now (d .entry)) there) (blockGraph (now (d .entry)) here) (joinOn (placementAt (now (xs .entry)))) k ⌝ }
+// What is wrong with the join at index k, from `here` to `there`: 18, 19, or 0. A placement past the end has no atom.
+pub fn join_fault(there: Site, here: Site, xs: &[u8], k: usize) -> usize
+    ensures { λ r. ⌜ r ≡ joinFault there here (joinOn (placementAt (now (xs .entry)))) k ⌝ }
 {
+    if xs.len() < k {
+        return 18;
+    }
     let q = placement_at(xs, k);
-    if is_outside(there.atoms as usize, q.site as usize) {
+    if is_outside(there.atoms, q.site as usize) {
         return 18;
     }
-    if is_outside(here.atoms as usize, q.own as usize) {
+    if is_outside(here.atoms, q.own as usize) {
         return 18;
     }
-    if is_full(d, there, xs, k, q.parent as usize, q.site) {
+    if is_full(there.ends, xs, k, q.parent as usize, q.site) {
         return 19;
     }
-    if is_full(d, here, xs, k, k + 1, q.own) {
+    if is_full(here.ends, xs, k, k + 1, q.own) {
         return 19;
     }
     0
 }
 
+// What is asked of a block at its atom a.
+fn site_of(d: &[u8], b: BlockAt, a: u8) -> Site
+    ensures { λ r. ⌜ r ≡ siteAt (sitesOf (blockGraph (now (d .entry)) b)) a ⌝ }
+{
+    Site {
+        atoms: b.atoms as usize,
+        ends: degree_of(bonds_part(d, b), a),
+    }
+}
+
 // What is wrong with a later placement, at index k: 23, 24, 18, 19, or 0.
 fn later_fault(d: &[u8], blocks: BlockTable, count: usize, xs: &[u8], k: usize) -> usize
-    requires { ⌜ (1 ≤ k) × (k < mostPlacements) ⌝ }
-    ensures { λ r. ⌜ r ≡ laterFault (bookOf (now (d .entry)) (take count blocks)) (placementAt (now (xs .entry))) k ⌝ }
+    ensures { λ r. ⌜ r ≡ laterFault (shelfOf (bookOf (now (d .entry)) (take count blocks))) (placementAt (now (xs .entry))) k ⌝ }
 {
     let q = placement_at(xs, k);
     let parent = q.parent as usize;
@@ -232,13 +256,12 @@ fn later_fault(d: &[u8], blocks: BlockTable, count: usize, xs: &[u8], k: usize) 
     let onto = placement_at(xs, parent - 1);
     let there = find_block(blocks, count, onto.block as usize);
     let here = find_block(blocks, count, q.block as usize);
-    join_fault(d, there, here, xs, k)
+    join_fault(site_of(d, there, q.site), site_of(d, here, q.own), xs, k)
 }
 
 // What is wrong with the placement at index k: 16, what first_fault or later_fault says, or 0.
 fn fault_of(d: &[u8], blocks: BlockTable, count: usize, xs: &[u8], k: usize) -> usize
-    requires { ⌜ k < mostPlacements ⌝ }
-    ensures { λ r. ⌜ r ≡ fault (bookOf (now (d .entry)) (take count blocks)) (placementAt (now (xs .entry))) k ⌝ }
+    ensures { λ r. ⌜ r ≡ fault (shelfOf (bookOf (now (d .entry)) (take count blocks))) (placementAt (now (xs .entry))) k ⌝ }
 {
     let q = placement_at(xs, k);
     let number = q.block as usize;

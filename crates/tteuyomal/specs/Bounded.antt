@@ -7,7 +7,7 @@ use native.Mathlib.Omega.{arith}
 use borrow.Author.Tests.{ltb-false}
 use lib.Dec.{eqb, leb, ltb}
 use lib.ListN.{length}
-use Rattle.graph.specs.Graph.{Graph, Bond, connected, degree, anyJoins}
+use Rattle.graph.specs.Graph.{Bond, connected, degree, anyJoins}
 use Rattle.graph.specs.Assembly.{Join}
 use Rattle.reply.specs.Read.{Read, refused, read, _then_, refuseIf, refuseFor, refusal, isOutside}
 use Rattle.reply.specs.Chain.{if-read, neither}
@@ -17,8 +17,9 @@ use Rattle.records.specs.Records.{blockKind, assemblyKind, lengthAt, kindAt, en
 use Rattle.records.specs.Taken.{taken}
 use Rattle.records.specs.declared.Kind.{Kind}
 use Rattle.assembly.specs.Book.{Book, used, bondBytes, bookOf}
-use Rattle.assembly.specs.Placements.{mostPlacements, placementCount, placementAt, isFull, firstFault, parentFault, joinFault, laterFault, fault, placedReply, assemblyReply}
+use Rattle.assembly.specs.Placements.{mostPlacements, placementCount, placementAt, Shelf, shelfOf, isFull, firstFault, parentFault, joinFault, laterFault, fault, placedReply, assemblyReply}
 use Rattle.assembly.specs.declared.Placement.{Placement}
+use Rattle.assembly.specs.declared.Site.{Site}
 use Rattle.assembly.specs.declared.BlockAt.{BlockAt}
 use Rattle.deck.specs.Deck.{longestDeck, mostBlocks, kindsAfter, sheetKinds, Deck, blockAt, moved, bondPlace, blockPlace, placementPlace, blockReplyAt, deckAt, ifElse, blocksFrom, blocksReply, assemblyReplyAt, endReply, sheetReply, deckReply}
 use Rattle.deck.specs.Kept.{kept}
@@ -129,26 +130,26 @@ parent-number : (p : ℕ) → parentFault p ≤ mostNumber
 unfolding parentFault
 parent-number p = either (eqb p 0) 23 24 (omega arith) (omega arith)
 
-join-number : (g h : Graph) (joins : ℕ → Join) (k : ℕ) → joinFault g h joins k ≤ mostNumber
+join-number : (g h : Site) (joins : ℕ → Join) (k : ℕ) → joinFault g h joins k ≤ mostNumber
 unfolding joinFault
 join-number g h joins k =
     let j = joins k in
     either (isOutside (g .atoms) (j .site) || isOutside (h .atoms) (j .own)) 18 _ (omega arith)
-    (either (isFull g joins k (j .parent) (j .site) || isFull h joins k (suc k) (j .own)) 19 0 (omega arith) (omega arith))
+    (either (isFull (g .ends) joins k (j .parent) (j .site) || isFull (h .ends) joins k (suc k) (j .own)) 19 0 (omega arith) (omega arith))
 
-module _ (book : Book) (placed : ℕ → Placement) where
-  fault-number : (k : ℕ) → fault book placed k ≤ mostNumber
+module _ (shelf : Shelf) (placed : ℕ → Placement) where
+  fault-number : (k : ℕ) → fault shelf placed k ≤ mostNumber
   unfolding fault laterFault
   fault-number k =
-      either (not (book .has (placed k .block))) 16 _ (omega arith)
+      either (not (shelf .has (placed k .block))) 16 _ (omega arith)
       (either (eqb k 0) (firstFault (placed k)) _ (first-number (placed k))
       (either (isOutside k (placed k .parent)) (parentFault (placed k .parent)) _ (parent-number (placed k .parent)) (join-number _ _ _ k)))
 
-  placed-bounded : (c k left : ℕ) → k + left < c → Bounded c (placedReply book placed k left)
+  placed-bounded : (c k left : ℕ) → k + left < c → Bounded c (placedReply shelf placed k left)
   unfolding placedReply
   placed-bounded c k zero h = tt
   placed-bounded c k (suc left) h =
-      then-bounded c (refuseFor (fault book placed k) (suc k)) _ (for-bounded c (fault book placed k) (suc k) (fault-number k) (omega arith))
+      then-bounded c (refuseFor (fault shelf placed k) (suc k)) _ (for-bounded c (fault shelf placed k) (suc k) (fault-number k) (omega arith))
       (λ u e. placed-bounded c (suc k) left (omega arith))
 
 pub assembly-bounded : (book : Book) (xs : List ℕ) → Bounded (suc mostPlacements) (assemblyReply book xs)
@@ -157,7 +158,7 @@ assembly-bounded book xs =
     let c = suc mostPlacements in
     let n = placementCount xs in
     then-bounded c (refuseIf (isOutside mostPlacements n) 15 0) _ (if-bounded c (isOutside mostPlacements n) 15 0 (omega arith)) (λ u e.
-    placed-bounded book (placementAt xs) c 0 n (omega (arith, ltb-false mostPlacements n (neither (eqb n 0) (ltb mostPlacements n) (if-read _ 15 0 e) .1))))
+    placed-bounded (shelfOf book) (placementAt xs) c 0 n (omega (arith, ltb-false mostPlacements n (neither (eqb n 0) (ltb mostPlacements n) (if-read _ 15 0 e) .1))))
 
 -- A deck: no place is more than the deck's length and what a record's own places add.
 first-or-bond : (at c : ℕ) (t : Bool) (j : ℕ) → at < c → bondPlace at j < c → cond t at (bondPlace at j) < c

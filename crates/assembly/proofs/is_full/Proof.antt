@@ -1,20 +1,25 @@
 -- `assembly::is_full` meets its contract. Assumes nothing.
-use Prim.Native.Nat.{ℕ, _+_}
-use mathlib.Core.List.{List}
-use mathlib.Core.Path.{ap, ap₂, _∙_}
+use Prim.Native.Nat.{ℕ, _+_, _-_}
+use mathlib.Core.Path.{_≡_, sym, ap, _∙_}
+use native.Mathlib.Omega.{arith}
+use borrow.Author.Tests.{le-leb, lt-leb}
 use lib.Dec.{leb}
+use Rattle.block.specs.Block.{limit}
+use Rattle.assembly.specs.Placements.{placementAt, joinOn, joinsOn}
+use Rattle.assembly.proofs.Walks.{joins-none, full-min}
 use borrow.Author.Needs.{needs}
-use Rattle.graph.specs.Graph.{degree}
-use Rattle.block.specs.Block.{limit, bondsOf}
-use Rattle.assembly.specs.Placements.{bondsOn}
 use Rattle.assembly.proofs.is_full.Statement.{statement}
 use Rattle.assembly.proofs.is_full.Tie as tie
 
-bonds-part-requires : tie.Need-bonds-part-requires
-bonds-part-requires c κs = search needs
+returns : tie.Need-returns
+returns c = let a = c .before .before .args in sym (le-leb limit (a .ends + joinsOn (joinOn (placementAt (a .xs .now))) (a .k - 1) (a .p) (a .a)) (omega arith))
 
-degree-of-requires : tie.Need-degree-of-requires
-degree-of-requires c κs = search needs
+returns-2 : tie.Need-returns-2
+returns-2 c =
+    let a = c .before .before .before .args in
+    let joins = joinOn (placementAt (a .xs .now)) in
+    let e : a .k - 1 ≡ 0 = omega arith in
+    sym (lt-leb limit (a .ends + joinsOn joins (a .k - 1) (a .p) (a .a)) (omega (arith, ap (λ (n : ℕ). joinsOn joins n (a .p) (a .a)) e, joins-none joins (a .p) (a .a))))
 
 sub-joins-on : tie.Need-sub-joins-on
 sub-joins-on c = search needs
@@ -25,18 +30,11 @@ joins-on-requires c κs = search needs
 add-result : tie.Need-add-result
 add-result c = search needs
 
-returns : tie.Need-returns
-unfolding bondsOn
-returns c = let a = c .before .before .before .before .before .args in
-    ap (leb limit) (ap₂ _+_ (c .before .degree-of .ensures .0 ∙ ap (λ (bs : List ℕ). degree (bondsOf bs) (a .a)) (c .before .before .bonds-part .ensures .bytes)) (c .joins-on .ensures .0))
+returns-3 : tie.Need-returns-3
+returns-3 c =
+    let a = c .before .before .before .before .args in
+    ap (λ (n : ℕ). leb limit (a .ends + n)) (c .joins-on .ensures) ∙ full-min limit (a .ends) (joinsOn (joinOn (placementAt (a .xs .now))) (a .k - 1) (a .p) (a .a))
 
 pub is-full-spec : {M : Type 1} → statement M
 is-full-spec =
-    tie.close
-    (tie.spec
-    bonds-part-requires
-    degree-of-requires
-    sub-joins-on
-    joins-on-requires
-    add-result
-    returns)
+    tie.close (tie.spec returns returns-2 sub-joins-on joins-on-requires add-result returns-3)

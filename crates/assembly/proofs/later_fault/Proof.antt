@@ -3,14 +3,15 @@ use Prim.Native.Nat.{ℕ, _-_}
 use mathlib.Core.List.{List}
 use mathlib.Core.Path.{_≡_, sym, ap, ap₂, _∙_}
 use lib.ListN.{take}
-use borrow.Author.Needs.{needs}
 use Rattle.reply.specs.Read.{isOutside}
 use Rattle.assembly.specs.Book.{find, blockGraph, bookOf}
-use Rattle.assembly.specs.Placements.{placementAt, joinOn, parentFault, joinFault}
+use Rattle.assembly.specs.Placements.{placementAt, sitesOf, siteAt, shelfOf, joinOn, parentFault, joinFault}
 use Rattle.block.specs.Faults.{inside}
 use Rattle.assembly.specs.declared.BlockAt.{BlockAt}
 use Rattle.assembly.specs.declared.Placement.{Placement}
+use Rattle.assembly.specs.declared.Site.{Site}
 use Rattle.assembly.proofs.Faults.{no-parent, has-parent}
+use borrow.Author.Needs.{needs}
 use Rattle.assembly.proofs.later_fault.Statement.{statement}
 use Rattle.assembly.proofs.later_fault.Tie as tie
 
@@ -32,6 +33,19 @@ there-is c = let s = c .before .before .before .before .before .before .before .
 here-is : (c : tie.After-find-block2) → let s = c .before .before .before .before .before .before .before .before .before .before .before in c .find-block2 .result ≡ find (blocks s) (placed s (s .args .k) .block)
 here-is c = let s = c .before .before .before .before .before .before .before .before .before .before .before in c .find-block2 .ensures ∙ ap (λ (q : Placement). find (blocks s) (q .block)) (c .before .before .before .before .before .before .before .before .placement-at .ensures)
 
+-- what is asked of both blocks
+there-site : (c : tie.After-site-of) → let s = c .before .before .before .before .before .before .before .before .before .before .before .before in let q = placed s (s .args .k) in
+    c .site-of .result ≡ siteAt (sitesOf (blockGraph (s .args .d .now) (find (blocks s) (placed s (q .parent - 1) .block)))) (q .site)
+there-site c = let s = c .before .before .before .before .before .before .before .before .before .before .before .before in
+    c .site-of .ensures
+    ∙ ap₂ (λ (b : BlockAt) (q : Placement). siteAt (sitesOf (blockGraph (s .args .d .now) b)) (q .site)) (there-is (c .before .before .before)) (c .before .before .before .before .before .before .before .before .before .placement-at .ensures)
+
+here-site : (c : tie.After-site-of2) → let s = c .before .before .before .before .before .before .before .before .before .before .before .before .before in let q = placed s (s .args .k) in
+    c .site-of2 .result ≡ siteAt (sitesOf (blockGraph (s .args .d .now) (find (blocks s) (q .block)))) (q .own)
+here-site c = let s = c .before .before .before .before .before .before .before .before .before .before .before .before .before in
+    c .site-of2 .ensures
+    ∙ ap₂ (λ (b : BlockAt) (q : Placement). siteAt (sitesOf (blockGraph (s .args .d .now) b)) (q .own)) (here-is (c .before .before)) (c .before .before .before .before .before .before .before .before .before .before .placement-at .ensures)
+
 placement-at-requires : tie.Need-placement-at-requires
 placement-at-requires c κs = search needs
 
@@ -48,7 +62,7 @@ returns : tie.Need-returns
 returns c = let s = c .before .before .before .before .before .before .before in
     c .parent-fault .ensures
     ∙ ap (λ (q : Placement). parentFault (q .parent)) (c .before .before .before .before .placement-at .ensures)
-    ∙ sym (no-parent (bookOf (s .args .d .now) (blocks s)) (placed s) (s .args .k) (sym (outside-is (c .before .before)) ∙ c .before .if1 .taken))
+    ∙ sym (no-parent (shelfOf (bookOf (s .args .d .now) (blocks s))) (placed s) (s .args .k) (sym (outside-is (c .before .before)) ∙ c .before .if1 .taken))
 
 sub-placement-at : tie.Need-sub-placement-at
 sub-placement-at c = inside (c .before .before .before .before .before .before .args .k) (c .before .before .before .placement-at .result .parent) (sym (c .before .is-outside .ensures) ∙ c .if1 .left) .low
@@ -68,16 +82,21 @@ cast-find-block-2 c = search needs
 find-block-requires-2 : tie.Need-find-block-requires-2
 find-block-requires-2 c κs = search needs
 
+site-of-requires : tie.Need-site-of-requires
+site-of-requires c κs = search needs
+
+site-of-requires-2 : tie.Need-site-of-requires-2
+site-of-requires-2 c κs = search needs
+
 join-fault-requires : tie.Need-join-fault-requires
 join-fault-requires c κs = search needs
 
 returns-2 : tie.Need-returns-2
 unfolding bookOf
-returns-2 c = let s = c .before .before .before .before .before .before .before .before .before .before .before .before in
-    let d = s .args .d .now in
+returns-2 c = let s = c .before .before .before .before .before .before .before .before .before .before .before .before .before .before in
     c .join-fault .ensures
-    ∙ ap₂ (λ (g h : BlockAt). joinFault (blockGraph d g) (blockGraph d h) (joinOn (placed s)) (s .args .k)) (there-is (c .before .before .before)) (here-is (c .before))
-    ∙ sym (has-parent (bookOf d (blocks s)) (placed s) (s .args .k) (sym (outside-is (c .before .before .before .before .before .before .before)) ∙ c .before .before .before .before .before .before .if1 .left))
+    ∙ ap₂ (λ (t h : Site). joinFault t h (joinOn (placed s)) (s .args .k)) (there-site (c .before .before)) (here-site (c .before))
+    ∙ sym (has-parent (shelfOf (bookOf (s .args .d .now) (blocks s))) (placed s) (s .args .k) (sym (outside-is (c .before .before .before .before .before .before .before .before .before)) ∙ c .before .before .before .before .before .before .before .before .if1 .left))
 
 pub later-fault-spec : {M : Type 1} → statement M
 later-fault-spec =
@@ -94,5 +113,7 @@ later-fault-spec =
     find-block-requires
     cast-find-block-2
     find-block-requires-2
+    site-of-requires
+    site-of-requires-2
     join-fault-requires
     returns-2)

@@ -1,0 +1,34 @@
+-- `shelf::site_of` meets its contract. Assumes nothing.
+use Prim.Native.Nat.{ℕ}
+use mathlib.Core.List.{List}
+use mathlib.Core.Path.{_≡_, refl, ap, _∙_}
+use Rattle.assembly.specs.Placements.{siteAt}
+use Rattle.assembly.specs.declared.Site.{Site}
+use Rattle.summary.specs.Layout.{atomsOf, endsAt}
+use Rattle.shelf.specs.Shelf.{sitesIn, summaryAt}
+use borrow.Author.Needs.{needs}
+use Rattle.shelf.proofs.site_of.Statement.{statement}
+use Rattle.shelf.proofs.site_of.Tie as tie
+
+place-of-requires : tie.Need-place-of-requires
+place-of-requires c κs = search needs
+
+summary-at-requires : tie.Need-summary-at-requires
+summary-at-requires c κs = search needs
+
+atoms-requires : tie.Need-atoms-requires
+atoms-requires c κs = search needs
+
+ends-requires : tie.Need-ends-requires
+ends-requires c κs = search needs
+
+returns : tie.Need-returns
+returns c =
+    let a = c .before .before .before .before .before .args in
+    let r = c .before .before .summary-at .result in
+    let both : _≡_ {A = Site} (record { atoms = c .before .atoms .result; ends = c .ends .result }) (siteAt (sitesIn (r .now)) (a .a)) = rw (c .before .atoms .ensures, c .ends .ensures) refl in
+    both ∙ ap (λ (l : List ℕ). siteAt (sitesIn l) (a .a)) (c .before .before .summary-at .ensures .bytes ∙ ap (summaryAt (a .book .now)) (c .before .before .before .place-of .ensures))
+
+pub site-of-spec : {M : Type 1} → statement M
+site-of-spec =
+    tie.close (tie.spec place-of-requires summary-at-requires atoms-requires ends-requires returns)

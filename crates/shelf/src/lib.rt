@@ -1,0 +1,118 @@
+// A book of summaries, one behind the other: the place of a block's number, and what is refused of an assembly over them.
+use assembly::PLACEMENTS;
+use assembly::Site;
+use assembly::first_fault;
+use assembly::join_fault;
+use assembly::parent_fault;
+use assembly::placement_at;
+use records::le16_at;
+use records::part;
+use reply::Refusal;
+use reply::Reply;
+use reply::is_outside;
+use summary::SUMMARY;
+use summary::atoms;
+use summary::ends;
+ghost use mathlib.Core.Path.{_≡_};
+ghost use Prim.Native.Nat.{_*_};
+ghost use Rattle.reply.specs.Read.{saidReply};
+ghost use Rattle.records.specs.Bytes.{PartOf};
+ghost use Rattle.assembly.specs.Placements.{placementAt, siteAt, laterFault, fault, shelfReply};
+ghost use Rattle.summary.specs.Layout.{summaryBytes};
+ghost use Rattle.shelf.specs.Shelf.{placeOf, shelfIn};
+
+// The summary at a place.
+pub fn summary_at(book: &[u8], i: usize) -> &[u8]
+    ensures { λ r. ⌜ PartOf (book .entry) (summaryBytes * i) summaryBytes r ⌝ }
+{
+    if book.len() / SUMMARY < i {
+        return part(book, book.len(), 0);
+    }
+    part(book, SUMMARY * i, SUMMARY)
+}
+
+// The first place that has a number; the one behind the last where none has. 0 is no block's number.
+pub fn place_of(book: &[u8], number: usize) -> usize
+    ensures { λ r. ⌜ r ≡ placeOf (now (book .entry)) number ⌝ }
+{
+    let n = book.len() / SUMMARY;
+    if number == 0 {
+        return n;
+    }
+    let mut i = 0;
+    while i < n {
+        if (le16_at(book, SUMMARY * i) as usize) == number {
+            return i;
+        }
+        i += 1;
+    }
+    n
+}
+
+// What is asked of the block with a number at its atom a.
+fn site_of(book: &[u8], number: u16, a: u8) -> Site
+    ensures { λ r. ⌜ r ≡ siteAt (shelfIn (now (book .entry)) .sites number) a ⌝ }
+{
+    let s = summary_at(book, place_of(book, number as usize));
+    Site {
+        atoms: atoms(s),
+        ends: ends(s, a as usize),
+    }
+}
+
+// What is wrong with a later placement, at index k: 23, 24, 18, 19, or 0.
+fn later_fault(book: &[u8], xs: &[u8], k: usize) -> usize
+    ensures { λ r. ⌜ r ≡ laterFault (shelfIn (now (book .entry))) (placementAt (now (xs .entry))) k ⌝ }
+{
+    let q = placement_at(xs, k);
+    let parent = q.parent as usize;
+    if is_outside(k, parent) {
+        return parent_fault(parent);
+    }
+    let onto = placement_at(xs, parent - 1);
+    join_fault(
+        site_of(book, onto.block, q.site),
+        site_of(book, q.block, q.own),
+        xs,
+        k,
+    )
+}
+
+// What is wrong with the placement at index k: 16, what first_fault or later_fault says, or 0.
+fn fault_of(book: &[u8], xs: &[u8], k: usize) -> usize
+    ensures { λ r. ⌜ r ≡ fault (shelfIn (now (book .entry))) (placementAt (now (xs .entry))) k ⌝ }
+{
+    let q = placement_at(xs, k);
+    if book.len() / SUMMARY <= place_of(book, q.block as usize) {
+        return 16;
+    }
+    if k == 0 {
+        return first_fault(q);
+    }
+    later_fault(book, xs, k)
+}
+
+// Refusals 15 to 19, 23 and 24 of an assembly's payload over a book.
+pub fn check(book: &[u8], xs: &[u8]) -> Reply
+    ensures { λ r. ⌜ r ≡ saidReply (shelfReply (shelfIn (now (book .entry))) (now (xs .entry))) ⌝ }
+{
+    let p = le16_at(xs, 0) as usize;
+    if is_outside(PLACEMENTS, p) {
+        return Reply::Refused(Refusal {
+            number: 15,
+            place: 0,
+        });
+    }
+    let mut k = 0;
+    while k < p {
+        let f = fault_of(book, xs, k);
+        k += 1;
+        if f != 0 {
+            return Reply::Refused(Refusal {
+                number: f,
+                place: k,
+            });
+        }
+    }
+    Reply::Fine
+}

@@ -1,0 +1,200 @@
+-- The joins of placed summaries: where their atoms are, how far those are apart, what is counted from them, and how small all of it is. Assumes nothing.
+use Prim.Native.Nat.{ℕ, zero, suc, _+_, _*_, _-_, _^_, _≤_, _<_, min}
+use mir.Syntax.{w64}
+use mir.Val.{Fits as Fit}
+use borrow.Author.Needs.{scaled-fits}
+use lib.Dec.{lit<}
+use mathlib.Core.Bool.{Bool, true, false, cond}
+use mathlib.Core.List.{List, []}
+use mathlib.Core.Logic.{⊎-elim}
+use native.Mathlib.Nat.{eq-or-lt-of-le}
+use native.Mathlib.Decide.{decLt}
+use lib.ListN.{length, getD, set, take, drop, length-take, List·getD-eq-default}
+use lib.Seq.{getD-set-same, getD-set-other, getD-take, getD-drop}
+use mathlib.Core.Path.{_≡_, refl, sym, _∙_, ap}
+use native.Mathlib.Omega.{arith}
+use Rattle.graph.specs.Graph.{Within}
+use Rattle.half.specs.Half.{mostAtoms, noPair, pairPlace}
+use Rattle.records.specs.Bytes.{byteAt, little, le16, part}
+use Rattle.assembly.specs.Placements.{mostPlacements}
+use Rattle.block.specs.declared.Indices.{Indices}
+use Rattle.block.specs.declared.Vertex.{Vertex}
+use Rattle.tables.specs.Parts.{farIn, sightIn, sixIn, grow, joinSix}
+use Rattle.tables.specs.Table.{Fits}
+use Rattle.tables.specs.Climb.{far-same, far-later, far-earlier, sight-here, sight-there, six-here}
+use Rattle.tables.specs.Bounds.{Held, Bytes, SixHeld, SixBytes, Kept, far-most, sight-held, six-held, held-bytes}
+use Rattle.joining.specs.Small.{Small, Room}
+use Rattle.summary.specs.Layout.{atomsOf, fieldsOf, seat, vertexAt, farAt, keptOf}
+use Rattle.shelf.specs.Shelf.{summaryAt}
+use Rattle.summaries.specs.Ready.{placeIn, keptIn, joinsIn, Lent, Ready, between, sightFrom, sightOfRow, coreAt, Known}
+
+-- the offset of a row of four numbers
+pub row-at : {k : ℕ} → k < mostPlacements → Fit w64 (k * 32)
+row-at {k} l = scaled-fits k mostPlacements 32 l (lit< tt)
+
+-- a part of bytes is of bytes
+pub lent-part : {b : List ℕ} (from n : ℕ) → Lent b → Lent (part b from n)
+lent-part {b} from n l = record {
+  byte = λ i. elim (decLt i n) [
+    | yes h ↦ omega (arith, getD-take n (drop from b) i 0 h, getD-drop from b i 0, l .byte (from + i))
+    | no h ↦ omega (arith, List·getD-eq-default (take n (drop from b)) 0 {n = i} (omega (arith, length-take n (drop from b))))
+  ];
+}
+
+-- what a summary says is small
+module _ {s : List ℕ} (lent : Lent s) where
+  two : (at : ℕ) → le16 s at < 2 ^ 16
+  unfolding little
+  two at = omega (arith, lent .byte at, lent .byte (at + 1))
+
+  four : (at : ℕ) → little 4 s at < 2 ^ 32
+  unfolding little
+  four at = omega (arith, lent .byte at, lent .byte (at + 1), lent .byte (at + 1 + 1), lent .byte (at + 1 + 1 + 1))
+
+  far-byte : (i j : ℕ) → farAt s i j < 2 ^ 8
+  unfolding farAt
+  far-byte i j = go (noPair i j)
+    where
+      go : (t : Bool) → cond t 0 (byteAt s (656 + pairPlace i j)) < 2 ^ 8
+      go true = omega arith
+      go false = lent .byte (656 + pairPlace i j)
+
+  vertex-bytes : (i : ℕ) → Bytes (vertexAt s i)
+  unfolding vertexAt
+  vertex-bytes i = record {
+    sum = omega (arith, two (seat i), two (seat i + 2));
+    even = two (seat i);
+    odd = two (seat i + 2);
+    evens = lent .byte (seat i + 4);
+    odds = lent .byte (seat i + 5);
+    ones = lent .byte (seat i + 6);
+    twos = lent .byte (seat i + 7);
+    farthest = lent .byte (seat i + 8);
+  }
+
+  fields-bytes : SixBytes (fieldsOf s)
+  unfolding fieldsOf
+  fields-bytes = record { atoms = omega arith; w = omega (arith, four 4, four 8); even = four 4; odd = four 8; polarity = four 12; largest = lent .byte 3 }
+
+  kept : Kept (keptOf s)
+  kept = record { six = fields-bytes; sight = vertex-bytes; far = far-byte }
+
+small-held : {n : ℕ} {v : Vertex} → n ≤ 32 → Held n v → Small v
+small-held h p = record {
+  sum = omega (arith, p .sum);
+  even = omega (arith, p .even);
+  odd = omega (arith, p .odd);
+  evens = omega (arith, p .evens);
+  odds = omega (arith, p .odds);
+  ones = omega (arith, p .ones);
+  twos = omega (arith, p .twos);
+  farthest = omega (arith, p .farthest);
+}
+
+room-held : {n : ℕ} {x : Indices} → n ≤ 32 → SixHeld n x → Room x
+room-held h p = record {
+  atoms = omega (arith, p .atoms);
+  w = omega (arith, p .w);
+  even = omega (arith, p .even);
+  odd = omega (arith, p .odd);
+  polarity = omega (arith, p .polarity);
+  largest = omega (arith, p .largest);
+}
+
+room-bytes : {x : Indices} → SixBytes x → Room x
+room-bytes p = record {
+  atoms = omega (arith, p .atoms);
+  w = omega (arith, p .w);
+  even = omega (arith, p .even);
+  odd = omega (arith, p .odd);
+  polarity = omega (arith, p .polarity);
+  largest = omega (arith, p .largest);
+}
+
+module _ {b : List ℕ} {ls : List (List ℕ)} {count : ℕ} (r : Ready b ls count) where
+  all : (k : ℕ) → Kept (keptIn b ls k)
+  all k = kept (lent-part (2672 * placeIn ls k) 2672 (r .lent))
+
+  pub own-small : (p i : ℕ) → Small (vertexAt (summaryAt b p) i)
+  own-small p i = small-held (omega arith) (held-bytes (kept (lent-part (2672 * p) 2672 (r .lent)) .sight i))
+
+  pub block-room : (p : ℕ) → Room (fieldsOf (summaryAt b p))
+  block-room p = room-bytes (kept (lent-part (2672 * p) 2672 (r .lent)) .six)
+
+  pub far-small : (p i j : ℕ) → farAt (summaryAt b p) i j < 2 ^ 8
+  far-small p i j = kept (lent-part (2672 * p) 2672 (r .lent)) .far i j
+
+  pub from-small : (m k : ℕ) → m ≤ mostPlacements → Small (sightFrom b ls m k)
+  from-small m k h = small-held (omega arith) (sight-held (joinsIn ls) all (m - 1) (joinsIn ls k .parent - 1) (joinsIn ls k .site) (omega arith))
+
+  pub six-room : (k : ℕ) → k < mostPlacements → Room (sixIn (keptIn b ls) (joinsIn ls) k)
+  six-room k h = room-held (omega arith) (six-held (joinsIn ls) all k (omega arith))
+
+  pub between-small : (x y : ℕ) → between b ls x y < 2 ^ 14
+  between-small x y = far-most (joinsIn ls) all 31 (joinsIn ls x .parent - 1) (joinsIn ls x .site) (joinsIn ls y .parent - 1) (joinsIn ls y .site)
+
+  module _ {x : ℕ} (w : Within (count - 1) x) where
+    fit : Fits (λ k. atomsOf (summaryAt b (placeIn ls k))) (joinsIn ls) x
+    fit = r .fits x (w .low) (omega (arith, w .high))
+
+    pub small : x < mostPlacements
+    small = omega (arith, w .high, r .few)
+
+    pub earlier : Within x (joinsIn ls x .parent)
+    earlier = fit .parent
+
+    pub parent-small : joinsIn ls x .parent - 1 < mostPlacements
+    parent-small = omega (arith, earlier, small)
+
+    -- a parent that is not the first is joined itself
+    pub above : 1 < joinsIn ls x .parent → Within (count - 1) (joinsIn ls x .parent - 1)
+    above h = omega (arith, earlier, w .high)
+
+  module _ {x y : ℕ} (w : Within (count - 1) x) (v : Within (count - 1) y) where
+    pub between-same : joinsIn ls x .parent ≡ joinsIn ls y .parent → between b ls x y ≡ farAt (summaryAt b (placeIn ls (joinsIn ls x .parent - 1))) (joinsIn ls x .site) (joinsIn ls y .site)
+    between-same e =
+        let p : joinsIn ls y .parent - 1 ≡ joinsIn ls x .parent - 1 = omega arith in
+        rw p (far-same (keptIn b ls) (joinsIn ls) 31 (joinsIn ls x .parent - 1) (joinsIn ls x .site) (joinsIn ls y .site) (omega (arith, parent-small w)))
+
+    pub between-first : joinsIn ls y .parent < joinsIn ls x .parent
+        → between b ls x y ≡ farAt (summaryAt b (placeIn ls (joinsIn ls x .parent - 1))) (joinsIn ls (joinsIn ls x .parent - 1) .own) (joinsIn ls x .site) + 1 + between b ls (joinsIn ls x .parent - 1) y
+    between-first h =
+        let u = above w (omega (arith, earlier v)) in
+        far-later (keptIn b ls) (joinsIn ls) 31 (joinsIn ls x .parent - 1) (joinsIn ls x .site) (joinsIn ls y .parent - 1) (joinsIn ls y .site) (omega (arith, parent-small w)) (omega (arith, earlier v)) (earlier u)
+
+    pub between-second : joinsIn ls x .parent < joinsIn ls y .parent
+        → between b ls x y ≡ between b ls (joinsIn ls y .parent - 1) x + 1 + farAt (summaryAt b (placeIn ls (joinsIn ls y .parent - 1))) (joinsIn ls (joinsIn ls y .parent - 1) .own) (joinsIn ls y .site)
+    between-second h =
+        let u = above v (omega (arith, earlier w)) in
+        far-earlier (keptIn b ls) (joinsIn ls) 31 (joinsIn ls x .parent - 1) (joinsIn ls x .site) (joinsIn ls y .parent - 1) (joinsIn ls y .site) (omega (arith, parent-small v)) (omega (arith, earlier w)) (earlier u)
+
+  module _ {k : ℕ} (w : Within (count - 1) k) where
+    -- as far as the parent: the first placement, or one that is joined itself
+    pub begun-first : joinsIn ls k .parent - 1 ≡ 0 → vertexAt (summaryAt b (placeIn ls (joinsIn ls k .parent - 1))) (joinsIn ls k .site) ≡ sightFrom b ls (joinsIn ls k .parent) k
+    unfolding sightIn
+    begun-first e = rw e
+
+    pub begun-later : (1 ≤ joinsIn ls k .parent - 1) → let a = joinsIn ls k .parent - 1 in let s = summaryAt b (placeIn ls a) in
+        grow (vertexAt s (joinsIn ls k .site)) (farAt s (joinsIn ls a .own) (joinsIn ls k .site)) (sightFrom b ls a a) ≡ sightFrom b ls (joinsIn ls k .parent) k
+    begun-later h = sym (sight-here (keptIn b ls) (joinsIn ls) (joinsIn ls k .parent - 1) (joinsIn ls k .site) h)
+
+    -- a placement more
+    pub from-next : (m : ℕ) → joinsIn ls k .parent ≤ m → m < k → grow (sightFrom b ls m k) (between b ls m k) (vertexAt (summaryAt b (placeIn ls m)) (joinsIn ls m .own)) ≡ sightFrom b ls (m + 1) k
+    from-next m h l =
+        let e : m + 1 - 1 ≡ m = omega arith in
+        let u : Within (count - 1) m = omega (arith, earlier w, w .high) in
+        sym (rw e (sight-there (keptIn b ls) (joinsIn ls) 31 m (joinsIn ls k .parent - 1) (joinsIn ls k .site) (omega (arith, earlier w)) (omega (arith, small w)) (omega (arith, earlier w)) (earlier u)))
+
+    pub six-next : let s = summaryAt b (placeIn ls k) in
+        joinSix (sixIn (keptIn b ls) (joinsIn ls) (k - 1)) (fieldsOf s) (sightFrom b ls k k) (vertexAt s (joinsIn ls k .own)) ≡ sixIn (keptIn b ls) (joinsIn ls) k
+    six-next = sym (six-here (keptIn b ls) (joinsIn ls) k (w .low))
+
+-- what is kept of one join more
+pub known-more : {b : List ℕ} {ls cs : List (List ℕ)} (k : ℕ) (row : List ℕ) → k < length cs → sightOfRow row ≡ sightFrom b ls k k → Known b ls cs k → Known b ls (set cs k row) (k + 1)
+known-more {b} {ls} {cs} k row n here h = record { known = λ m p l. ⊎-elim (λ e. now m e) (λ q. before m p q) (eq-or-lt-of-le {n = m} {m = k} (omega arith)) }
+  where
+    now : (m : ℕ) → m ≡ k → coreAt (set cs k row) m ≡ sightFrom b ls m m
+    now m e = rw e (rw (getD-set-same cs k row [] n) here)
+
+    before : (m : ℕ) → 1 ≤ m → m < k → coreAt (set cs k row) m ≡ sightFrom b ls m m
+    before m p q = rw (getD-set-other cs k m row [] (λ e. omega arith)) (h .known m p q)

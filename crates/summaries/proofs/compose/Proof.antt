@@ -1,0 +1,81 @@
+-- `summaries::compose` meets its contract. Assumes nothing.
+use Prim.Native.Nat.{ℕ, _+_, _-_, _≤_, _<_}
+use mathlib.Core.List.{List}
+use mathlib.Core.Path.{_≡_, sym, _∙_, ap, subst}
+use native.Mathlib.Omega.{arith}
+use borrow.Author.Needs.{needs}
+use Rattle.graph.specs.Graph.{Within}
+use Rattle.reply.specs.Read.{read}
+use Rattle.block.specs.Index.{saidIndices}
+use Rattle.block.specs.declared.Measured.the-variants as measured
+use Rattle.block.proofs.Replies.{said-fine, said-refused}
+use Rattle.assembly.specs.Placements.{mostPlacements, placementCount, placementAt, shelfReply}
+use Rattle.assembly.specs.Sound.{Right}
+use Rattle.shelf.specs.Shelf.{shelfIn}
+use Rattle.summaries.specs.Ready.{Lent}
+use Rattle.summaries.proofs.Links.{six-linked, ready, reply-refused, reply-read, fine-count, fine-right}
+use Rattle.summaries.proofs.compose.Statement.{statement}
+use Rattle.summaries.proofs.compose.Tie as tie
+
+lent : (c : tie.After-shared-slice-known) → Lent (c .before .args .book .now)
+lent c = record { byte = λ i. omega (arith, c .shared-slice-known .given i) }
+
+-- nothing is refused
+fine : (c : tie.After-enum-told) → let s = c .before .before .before .before .before in shelfReply (shelfIn (s .args .book .now)) (s .args .xs .now) ≡ read tt
+fine c = let s = c .before .before .before .before .before in
+    said-fine (shelfReply (shelfIn (s .args .book .now)) (s .args .xs .now)) (sym (c .enum-told .given .1) ∙ c .before .before .check .ensures)
+
+few : (c : tie.After-le16-at) → Within mostPlacements (c .le16-at .result)
+few c = let s = c .before .before .before .before .before .before in
+    subst (Within mostPlacements) (sym (c .le16-at .ensures)) (fine-count (s .args .book .now) (s .args .xs .now) (fine (c .before)))
+
+check-requires : tie.Need-check-requires
+check-requires c κs = search needs
+
+enum-known-reply : tie.Need-enum-known-reply
+enum-known-reply c = search needs
+
+enum-told : tie.Need-enum-told
+enum-told c = search needs
+
+le16-at-requires : tie.Need-le16-at-requires
+le16-at-requires c κs = search needs
+
+cast-count : tie.Need-cast-count
+cast-count c = search needs
+
+links-of-requires : tie.Need-links-of-requires
+links-of-requires c κs = few c .high
+
+composed-requires : tie.Need-composed-requires
+composed-requires c κs =
+    let l = c .before .before in
+    let s = l .before .before .before .before .before .before in
+    ready (c .before .links-of .ensures) (lent (l .before .before .before .before .before)) (few l)
+    (subst (Right (shelfIn (s .args .book .now)) (placementAt (s .args .xs .now))) (sym (l .le16-at .ensures)) (fine-right (s .args .book .now) (s .args .xs .now) (fine (l .before))))
+
+returns : tie.Need-returns
+returns c =
+    let a = c .before .before .before .before .before .before .args in
+    ap saidIndices (sym (reply-refused (a .book .now) (a .xs .now) (said-refused (shelfReply (shelfIn (a .book .now)) (a .xs .now)) _ (sym (c .before .reply .given .1) ∙ c .before .before .before .check .ensures))))
+
+returns-2 : tie.Need-returns-2
+returns-2 c =
+    let l = c .before .before .before in
+    let a = l .before .before .before .before .before .before .args in
+    ap measured.Of (c .composed .ensures ∙ six-linked (c .before .before .links-of .ensures) (few l .low) (l .le16-at .ensures))
+    ∙ ap saidIndices (sym (reply-read (a .book .now) (a .xs .now) (fine (l .before))))
+
+pub compose-spec : {M : Type 1} → statement M
+compose-spec =
+    tie.close
+    (tie.spec
+    check-requires
+    enum-known-reply
+    enum-told
+    le16-at-requires
+    cast-count
+    links-of-requires
+    composed-requires
+    returns
+    returns-2)

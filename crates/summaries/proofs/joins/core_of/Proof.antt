@@ -1,0 +1,110 @@
+-- `summaries::joins::core_of` meets its contract. The loop's invariant: v is counted from the parent's atom in the first m placements.
+-- Assumes nothing.
+use Prim.Native.Nat.{ℕ, _+_, _-_, _≤_, _<_}
+use mathlib.Core.Path.{_≡_, sym, _∙_, ap}
+use native.Mathlib.Omega.{arith}
+use lib.Dec.{lit<}
+use borrow.Author.Needs.{needs}
+use Rattle.joining.specs.Small.{grown-small}
+use Rattle.graph.specs.Graph.{Within}
+use Rattle.summaries.specs.Ready.{placeIn, joinsIn, sightFrom}
+use Rattle.summaries.proofs.Ports.{row-at, small, earlier, own-small, from-small, between-small, from-next}
+use Rattle.summaries.proofs.joins.core_of.Statement.{statement}
+use Rattle.summaries.proofs.joins.core_of.Tie as tie
+
+abbrev Inv-loop : tie.InvT-loop
+Inv-loop book links count cores k v₀ m₀ v m = (joinsIn links k .parent ≤ m) × (m ≤ k) × (v ≡ sightFrom book links m k)
+
+abbrev μ-loop : tie.MeasureT-loop
+μ-loop book links count cores k v₀ m₀ v m = k - m
+
+begun-requires : tie.Need-begun-requires Inv-loop μ-loop
+begun-requires c κs = c .before .pre
+
+mul-m : tie.Need-mul-m Inv-loop μ-loop
+mul-m c = row-at (small (c .before .before .pre .0) (c .before .before .pre .1))
+
+index-1-m : tie.Need-index-1-m Inv-loop μ-loop
+index-1-m c = small (c .before .before .pre .0) (c .before .before .pre .1)
+
+index-2-m : tie.Need-index-2-m Inv-loop μ-loop
+index-2-m c = lit< tt
+
+loop-holds : tie.Need-loop-holds Inv-loop μ-loop
+loop-holds c = (omega arith, earlier (c .before .before .before .pre .0) (c .before .before .before .pre .1) .high, c .before .begun .ensures)
+
+-- the placement at index m has joined before
+joined : (c : tie.In-loop Inv-loop μ-loop) → Within (c .before .before .before .before .before .args .count - 1) (c .before .loop .m)
+joined c = let p = c .before .before .before .before .before .pre in omega (arith, earlier (p .0) (p .1), p .1, c .before .loop .inv .0, c .loop-test .taken)
+
+mul-q : tie.Need-mul-q Inv-loop μ-loop
+mul-q c = row-at (small (c .before .before .before .before .before .pre .0) (joined c))
+
+element-copy-out-q : tie.Need-element-copy-out-q Inv-loop μ-loop
+element-copy-out-q c = small (c .before .before .before .before .before .pre .0) (joined c)
+
+apart-requires : tie.Need-apart-requires Inv-loop μ-loop
+apart-requires c κs = (c .before .before .before .before .before .before .pre .0, joined (c .before), c .before .before .before .before .before .before .pre .1)
+
+array-read-vertex-at : tie.Need-array-read-vertex-at Inv-loop μ-loop
+array-read-vertex-at c = lit< tt
+
+array-read-vertex-at-2 : tie.Need-array-read-vertex-at-2 Inv-loop μ-loop
+array-read-vertex-at-2 c = lit< tt
+
+vertex-at-requires : tie.Need-vertex-at-requires Inv-loop μ-loop
+vertex-at-requires c κs = search needs
+
+grown-requires : tie.Need-grown-requires Inv-loop μ-loop
+grown-requires c κs = search needs
+
+add-m : tie.Need-add-m Inv-loop μ-loop
+add-m c = omega arith
+
+loop-less : tie.Need-loop-less Inv-loop μ-loop
+loop-less c = omega arith
+
+loop-again : tie.Need-loop-again Inv-loop μ-loop
+loop-again c =
+    let s = c .before .before .before .before .before .before .before .before .before in
+    let p = s .pre in
+    let l = s .args .links .now in
+    let i = c .before .before .before .before .before .loop .inv in
+    let m = c .before .before .before .before .before .loop .m in
+    let k = s .args .k in (
+      omega arith,
+      omega arith,
+      c .grown .ensures
+          ∙ rw (i .2, c .before .before .apart .ensures, c .before .vertex-at .ensures)
+          (grown-small (from-small (p .0) m k (omega (arith, i .1, small (p .0) (p .1)))) (omega (arith, between-small (p .0) m k)) (own-small (p .0) (placeIn l m) (joinsIn l m .own))
+          ∙ from-next (p .0) (p .1) m (i .0) (c .before .before .before .before .loop-test .taken)),
+    )
+
+returns : tie.Need-returns Inv-loop μ-loop
+returns c =
+    let a = c .before .before .before .before .before .args in
+    let e : c .before .loop .m ≡ a .k = omega arith in
+    c .before .loop .inv .2 ∙ ap (λ (m : ℕ). sightFrom (a .book .now) (a .links .now) m (a .k)) e
+
+pub core-of-spec : {M : Type 1} → statement M
+core-of-spec =
+    tie.close
+    (tie.spec
+    Inv-loop
+    μ-loop
+    begun-requires
+    mul-m
+    index-1-m
+    index-2-m
+    loop-holds
+    mul-q
+    element-copy-out-q
+    apart-requires
+    array-read-vertex-at
+    array-read-vertex-at-2
+    vertex-at-requires
+    grown-requires
+    add-m
+    loop-less
+    loop-again
+    returns)

@@ -1,0 +1,66 @@
+-- Work. What composing works on: a book of bytes, and for each placement the place of its summary, its parent, the parent's atom and its own.
+use Prim.Native.Nat.{ℕ, _-_, _≤_, _<_}
+use mathlib.Core.List.{List, [], _∷_}
+use mathlib.Core.Path.{_≡_}
+use lib.ListN.{length, getD}
+use Rattle.graph.specs.Graph.{Within}
+use Rattle.graph.specs.Assembly.{Join}
+use Rattle.assembly.specs.Placements.{mostPlacements, placementAt}
+use Rattle.assembly.specs.declared.Placement.{Placement}
+use Rattle.block.specs.declared.Vertex.{Vertex}
+use Rattle.tables.specs.Parts.{Part, farIn, sightIn}
+use Rattle.tables.specs.Table.{Fits}
+use Rattle.summary.specs.Layout.{atomsOf, keptOf}
+use Rattle.shelf.specs.Shelf.{summaryAt, placeOf}
+
+abbrev pub linkOf : List ℕ → Placement → List ℕ
+linkOf b q = placeOf b (q .block) ∷ q .parent ∷ q .site ∷ q .own ∷ []
+
+-- the links of the first k placements
+pub record Linked (b xs : List ℕ) (ls : List (List ℕ)) (k : ℕ) : Type 0 where
+  pub size : length ls ≡ mostPlacements
+  pub rows : (m : ℕ) → m < k → getD ls m [] ≡ linkOf b (placementAt xs m)
+
+abbrev pub placeIn : List (List ℕ) → ℕ → ℕ
+placeIn ls k = getD (getD ls k []) 0 0
+
+abbrev pub keptIn : List ℕ → List (List ℕ) → ℕ → Part
+keptIn b ls k = keptOf (summaryAt b (placeIn ls k))
+
+abbrev pub joinsIn : List (List ℕ) → ℕ → Join
+joinsIn ls k = record { parent = getD (getD ls k []) 1 0; site = getD (getD ls k []) 2 0; own = getD (getD ls k []) 3 0 }
+
+-- a byte is below 256
+pub record Lent (b : List ℕ) : Type 0 where
+  pub byte : (i : ℕ) → getD b i 0 < 256
+
+pub record Ready (b : List ℕ) (ls : List (List ℕ)) (count : ℕ) : Type 0 where
+  pub lent : Lent b
+  pub few : Within mostPlacements count
+  pub fits : (k : ℕ) → 1 ≤ k → k < count → Fits (λ k. atomsOf (summaryAt b (placeIn ls k))) (joinsIn ls) k
+
+-- the numbers of the atoms that the placements at x and y are joined to, and what is counted from the one that k is joined to, in the first m
+abbrev pub between : List ℕ → List (List ℕ) → ℕ → ℕ → ℕ
+between b ls x y = farIn (keptIn b ls) (joinsIn ls) 31 (joinsIn ls x .parent - 1) (joinsIn ls x .site) (joinsIn ls y .parent - 1) (joinsIn ls y .site)
+
+abbrev pub sightFrom : List ℕ → List (List ℕ) → ℕ → ℕ → Vertex
+sightFrom b ls m k = sightIn (keptIn b ls) (joinsIn ls) (m - 1) (joinsIn ls k .parent - 1) (joinsIn ls k .site)
+
+-- what is kept of the joins before k
+abbrev pub sightOfRow : List ℕ → Vertex
+sightOfRow l = record {
+  sum = getD l 0 0;
+  even = getD l 1 0;
+  odd = getD l 2 0;
+  evens = getD l 3 0;
+  odds = getD l 4 0;
+  ones = getD l 5 0;
+  twos = getD l 6 0;
+  farthest = getD l 7 0;
+}
+
+abbrev pub coreAt : List (List ℕ) → ℕ → Vertex
+coreAt cs k = sightOfRow (getD cs k [])
+
+pub record Known (b : List ℕ) (ls cs : List (List ℕ)) (k : ℕ) : Type 0 where
+  pub known : (m : ℕ) → 1 ≤ m → m < k → coreAt cs m ≡ sightFrom b ls m m

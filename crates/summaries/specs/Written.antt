@@ -1,0 +1,138 @@
+-- Laws. Where the summaries are those of the molecules of a book, composing over them replies what the book's assembly does, and its fields are those of the one
+-- molecule with every atom and bond written out. Assumes nothing.
+use Prim.Native.Nat.{ℕ, zero, suc, _+_, _-_, _≤_, _<_}
+use mathlib.Core.Bool.{Bool, true, false, _||_, not, cond}
+use mathlib.Core.List.{List}
+use mathlib.Core.Logic.{⊎-elim}
+use mathlib.Core.Path.{_≡_, refl, sym, _∙_, ap}
+use native.Mathlib.Nat.{eq-or-lt-of-le}
+use native.Mathlib.Omega.{arith}
+use lib.Dec.{eqb, leb}
+use Rattle.graph.specs.Graph.{Graph, Within, Molecule, degree}
+use Rattle.graph.specs.Assembly.{written}
+use Rattle.reply.specs.Read.{Read, refused, read, _then_, refuseFor, isOutside}
+use Rattle.block.specs.Block.{limit, graphOf, blockReply}
+use Rattle.block.specs.Faults.{inside}
+use Rattle.block.specs.Index.{indicesOf}
+use Rattle.block.specs.Told.{molecule}
+use Rattle.block.specs.declared.Indices.{Indices}
+use Rattle.assembly.specs.Book.{Book}
+use Rattle.assembly.specs.Placements.{placementCount, placementAt, Sites, siteAt, Shelf, shelfOf, sitesOf, graphOn, joinOf, joinOn, joinsOn, firstFault, parentFault, joinFault, sitesOn, laterFault, fault, placedReply, shelfReply, assemblyReply}
+use Rattle.assembly.specs.Sound.{Whole, whole, assembled}
+use Rattle.assembly.specs.declared.Placement.{Placement}
+use Rattle.tables.specs.Parts.{sixIn}
+use Rattle.tables.specs.Table.{tableOf, sixOf, Told}
+use Rattle.tables.specs.Written.{fields-written}
+use Rattle.summary.specs.Layout.{fieldsOf, endsAt, keptOf}
+use Rattle.summary.specs.Summary.{summaryOf}
+use Rattle.summary.specs.Back.{summary-told, ends-told}
+use Rattle.shelf.specs.Shelf.{summaryAt, placeOf, sitesIn, shelfIn}
+use Rattle.summaries.specs.Composing.{keptOn, composedReply}
+
+-- two that say the same of a block, at the atoms that it has
+pub record Alike (p q : Sites) : Type 0 where
+  pub atoms : p .atoms ≡ q .atoms
+  pub ends : (a : ℕ) → Within (q .atoms) a → p .ends a ≡ q .ends a
+
+-- and two shelves, of each block that they have
+pub record Same (s t : Shelf) : Type 0 where
+  pub has : (x : ℕ) → s .has x ≡ t .has x
+  pub sites : (x : ℕ) → t .has x ≡ true → Alike (s .sites x) (t .sites x)
+
+-- the same is wrong with a join
+join-same : {p q g h : Sites} (placed : ℕ → Placement) (k : ℕ) → Alike p g → Alike q h
+    → joinFault (siteAt p (placed k .site)) (siteAt q (placed k .own)) (joinOn placed) k ≡ joinFault (siteAt g (placed k .site)) (siteAt h (placed k .own)) (joinOn placed) k
+unfolding joinFault joinOf
+join-same {p} {q} {g} {h} placed k u v =
+    rw (u .atoms, v .atoms) (go (isOutside (g .atoms) (placed k .site)) refl (isOutside (h .atoms) (placed k .own)) refl)
+  where
+    go : (s : Bool) → isOutside (g .atoms) (placed k .site) ≡ s → (o : Bool) → isOutside (h .atoms) (placed k .own) ≡ o
+        → cond {A = ℕ} (isOutside (g .atoms) (placed k .site) || isOutside (h .atoms) (placed k .own)) 18
+        (cond (leb limit (p .ends (placed k .site) + joinsOn (joinOn placed) (k - 1) (placed k .parent) (placed k .site)) || leb limit (q .ends (placed k .own) + joinsOn (joinOn placed) (k - 1) (suc k) (placed k .own))) 19 0)
+        ≡ cond {A = ℕ} (isOutside (g .atoms) (placed k .site) || isOutside (h .atoms) (placed k .own)) 18
+        (cond (leb limit (g .ends (placed k .site) + joinsOn (joinOn placed) (k - 1) (placed k .parent) (placed k .site)) || leb limit (h .ends (placed k .own) + joinsOn (joinOn placed) (k - 1) (suc k) (placed k .own))) 19 0)
+    go true e o f = rw e
+    go false e true f = rw (e, f)
+    go false e false f = rw (u .ends (placed k .site) (inside (g .atoms) (placed k .site) e), v .ends (placed k .own) (inside (h .atoms) (placed k .own) f))
+
+module _ {s t : Shelf} (same : Same s t) (placed : ℕ → Placement) where
+  fault-same : (k : ℕ) → ((m : ℕ) → m < k → t .has (placed m .block) ≡ true) → fault s placed k ≡ fault t placed k
+  unfolding fault laterFault
+  fault-same k before = rw (same .has (placed k .block)) (go (t .has (placed k .block)) refl (eqb k 0) refl (isOutside k (placed k .parent)) refl)
+    where
+      go : (h : Bool) → t .has (placed k .block) ≡ h → (z : Bool) → eqb k 0 ≡ z → (o : Bool) → isOutside k (placed k .parent) ≡ o
+          → cond {A = ℕ} (not (t .has (placed k .block))) 16 (cond (eqb k 0) (firstFault (placed k)) (cond (isOutside k (placed k .parent)) (parentFault (placed k .parent)) (joinFault (siteAt (sitesOn s placed (placed k .parent - 1)) (placed k .site)) (siteAt (sitesOn s placed k) (placed k .own)) (joinOn placed) k)))
+          ≡ cond {A = ℕ} (not (t .has (placed k .block))) 16 (cond (eqb k 0) (firstFault (placed k)) (cond (isOutside k (placed k .parent)) (parentFault (placed k .parent)) (joinFault (siteAt (sitesOn t placed (placed k .parent - 1)) (placed k .site)) (siteAt (sitesOn t placed k) (placed k .own)) (joinOn placed) k)))
+      go false h z e o f = rw h
+      go true h true e o f = rw (h, e)
+      go true h false e true f = rw (h, e, f)
+      go true h false e false f =
+          let w = inside k (placed k .parent) f in
+          rw (h, e, f) (join-same placed k (same .sites (placed (placed k .parent - 1) .block) (before (placed k .parent - 1) (omega arith))) (same .sites (placed k .block) h))
+
+  has-block : (k : ℕ) → fault t placed k ≡ 0 → t .has (placed k .block) ≡ true
+  unfolding fault
+  has-block k e = go (t .has (placed k .block)) refl
+    where
+      go : (h : Bool) → t .has (placed k .block) ≡ h → t .has (placed k .block) ≡ true
+      go true h = h
+      go false h = let z : _≡_ {A = ℕ} 16 0 = rw h at e in absurd (omega arith)
+
+  placed-same : (left k : ℕ) → ((m : ℕ) → m < k → t .has (placed m .block) ≡ true) → placedReply s placed k left ≡ placedReply t placed k left
+  unfolding placedReply
+  placed-same zero k before = refl
+  placed-same (suc left) k before = rw (fault-same k before) (go (fault t placed k) refl (placed-same left (suc k)))
+    where
+      go : (f : ℕ) → fault t placed k ≡ f → (((m : ℕ) → m < suc k → t .has (placed m .block) ≡ true) → placedReply s placed (suc k) left ≡ placedReply t placed (suc k) left)
+          → (refuseFor (fault t placed k) (suc k) then λ _. placedReply s placed (suc k) left) ≡ (refuseFor (fault t placed k) (suc k) then λ _. placedReply t placed (suc k) left)
+      go zero e more = rw e (more (λ m h. ⊎-elim (λ q. rw q (has-block k e)) (λ q. before m q) (eq-or-lt-of-le {n = m} {m = k} (omega arith))))
+      go (suc f) e more = rw e
+
+-- the same is refused over shelves that say the same
+pub shelf-same : {s t : Shelf} → Same s t → (xs : List ℕ) → shelfReply s xs ≡ shelfReply t xs
+shelf-same same xs = rw (placed-same same (placementAt xs) (placementCount xs) 0 (λ m h. absurd (omega arith)))
+
+-- the summaries of a book of molecules
+pub record Honest (b : List ℕ) (book : Book) : Type 0 where
+  pub has : (x : ℕ) → shelfIn b .has x ≡ book .has x
+  pub molecules : (x : ℕ) → book .has x ≡ true → Molecule (book .graph x)
+  pub told : (x : ℕ) → book .has x ≡ true → Told (keptOf (summaryAt b (placeOf b x))) (tableOf (book .graph x))
+  pub ends : (x a : ℕ) → book .has x ≡ true → Within (book .graph x .atoms) a → endsAt (summaryAt b (placeOf b x)) a ≡ degree (book .graph x .bonds) a
+
+-- what a book's assembly describes: its refusal, or the six fields of the molecule written out
+unfoldable pub writtenReply : Book → List ℕ → Read Indices
+writtenReply book xs = assemblyReply book xs then λ _. read (indicesOf (written (graphOn book (placementAt xs)) (joinOn (placementAt xs)) (placementCount xs - 1)))
+
+module _ {b : List ℕ} {book : Book} (h : Honest b book) where
+  same : Same (shelfIn b) (shelfOf book)
+  unfolding fieldsOf sixOf
+  same = record {
+    has = h .has;
+    sites = λ x e. record { atoms = ap (λ (s : Indices). s .atoms) (h .told x e .six); ends = λ a w. h .ends x a e w };
+  }
+
+  written-fields : (xs : List ℕ) → Whole book xs
+      → sixIn (keptOn b xs) (joinOn (placementAt xs)) (placementCount xs - 1) ≡ indicesOf (written (graphOn book (placementAt xs)) (joinOn (placementAt xs)) (placementCount xs - 1))
+  written-fields xs w =
+      fields-written (placementCount xs - 1) (assembled book xs (h .molecules) w) (λ k q. h .told (placementAt xs k .block) (w .right .has k (omega (arith, w .count))))
+
+-- COMPOSING OVER SUMMARIES FILLED FROM BLOCKS gives the fields of the molecule written out, or the assembly's refusal
+pub composed-written : (b : List ℕ) (book : Book) (xs : List ℕ) → Honest b book → composedReply b xs ≡ writtenReply book xs
+unfolding composedReply writtenReply assemblyReply
+composed-written b book xs h = rw (shelf-same (same h) xs) (go (assemblyReply book xs) refl)
+  where
+    go : (r : Read (Unit {0})) → assemblyReply book xs ≡ r
+        → (r then λ _. read (sixIn (keptOn b xs) (joinOn (placementAt xs)) (placementCount xs - 1)))
+        ≡ (r then λ _. read (indicesOf (written (graphOn book (placementAt xs)) (joinOn (placementAt xs)) (placementCount xs - 1))))
+    go (refused r) e = refl
+    go (read u) e = ap read (written-fields h xs (whole book xs e))
+
+-- A BOOK WHOSE PLACES HOLD BLOCKS' SUMMARIES is honest
+pub honest : (b : List ℕ) (sizes : ℕ → ℕ) (bonds : ℕ → List ℕ) → ((x : ℕ) → shelfIn b .has x ≡ true → (blockReply (sizes x) (bonds x) ≡ read tt) × (summaryAt b (placeOf b x) ≡ summaryOf x (graphOf (sizes x) (bonds x))))
+    → Honest b (record { has = shelfIn b .has; graph = λ x. graphOf (sizes x) (bonds x) })
+honest b sizes bonds k = record {
+  has = λ x. refl;
+  molecules = λ x e. molecule (sizes x) (bonds x) (k x e .0);
+  told = λ x e. rw (k x e .1) (summary-told x (sizes x) (bonds x) (k x e .0));
+  ends = λ x a e w. rw (k x e .1) (ends-told x (sizes x) (bonds x) (k x e .0) a w);
+}
