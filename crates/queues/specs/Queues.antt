@@ -6,6 +6,7 @@ use Rattle.block.specs.Block.{graphOf, blockReply}
 use Rattle.block.specs.declared.Indices.{Indices}
 use Rattle.summary.specs.Layout.{summaryBytes, fieldsOf}
 use Rattle.summary.specs.Summary.{summaryOf}
+use Rattle.summaries.specs.Composing.{composedReply}
 use Rattle.storage.specs.Shelf.{addReply, added, lookReply, dropReply, dropped}
 use Rattle.storage.specs.Table.{shelf, onTable, tableAfter}
 use Rattle.storage.specs.declared.Queue.{Queue}
@@ -36,3 +37,7 @@ module _ (t : List ℕ) (q : Queue) where
 
   abbrev pub tableDropped : ℕ → List ℕ
   tableDropped x = tableAfter summaryBytes q t (dropped summaryBytes own x)
+
+  -- composing from an assembly's payload over the queue's places
+  abbrev pub composeTold : List ℕ → Read Indices
+  composeTold xs = onTable summaryBytes t (composedReply own xs)

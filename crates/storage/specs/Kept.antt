@@ -20,10 +20,8 @@ use Rattle.storage.specs.Storage.{Storable, Stores, stores-empty, stores
 use Rattle.storage.specs.Room.{room-by}
 use Rattle.storage.specs.Keeps.{Proper, AllProper, stored, Keeps, Honest}
 
-module _ {G F O S T : Type 0} {trade : Trade G F O S T} {m : Meaning G F O T} (h : Honest trade m) where
-  abbrev pub Kept : List ℕ → List (Entry G) → Type 0
-  Kept s q = Keeps trade m (h .wide) s q
-
+-- what stands under a number
+module _ {G F O S T : Type 0} (trade : Trade G F O S T) (m : Meaning G F O T) (wide : 2 ≤ trade .width) (size : (x : ℕ) (g : G) → length (trade .stored x g) ≡ trade .width) where
   -- what is looked up is proper
   pub lookup-proper : (q : List (Entry G)) (x : ℕ) → AllProper trade m q → 1 ≤ x → lookup (m .nothing) q x .number ≡ x → Proper trade m (lookup (m .nothing) q x)
   unfolding lookup
@@ -34,21 +32,25 @@ module _ {G F O S T : Type 0} {trade : Trade G F O S T} {m : Meaning G F O T} (h
       go true n more = k .0
       go false n more = more n
 
+  module _ {s : List ℕ} {q : List (Entry G)} (k : Keeps trade m wide s q) (x : ℕ) (e : has (m .nothing) q x ≡ true) where
+    pub proper-at : Proper trade m (lookup (m .nothing) q x)
+    proper-at = lookup-proper q x (k .proper) (has-positive (m .nothing) q x e) (has-number (m .nothing) q x e)
+
+    -- under a number that is held stands what was stored
+    pub stands : placeAt (trade .width) s (placeOf (trade .width) s x) ≡ trade .stored x (lookup (m .nothing) q x .goods)
+    stands =
+        ap (part s (trade .width * placeOf (trade .width) s x)) (sym (size (lookup (m .nothing) q x .number) (lookup (m .nothing) q x .goods)))
+        ∙ k .stores .bytes x e
+        ∙ ap (λ (y : ℕ). trade .stored y (lookup (m .nothing) q x .goods)) (has-number (m .nothing) q x e)
+
+module _ {G F O S T : Type 0} {trade : Trade G F O S T} {m : Meaning G F O T} (h : Honest trade m) where
+  abbrev pub Kept : List ℕ → List (Entry G) → Type 0
+  Kept s q = Keeps trade m (h .wide) s q
+
   module _ {s : List ℕ} {q : List (Entry G)} (k : Kept s q) where
     -- there is no room exactly where eight are held
     pub same-room : not (ltb (placeOf (trade .width) s 0) places) ≡ leb places (length q)
     same-room = room-by (trade .width) s ∙ ap (leb places) (k .stores .count)
-
-    pub proper-at : (x : ℕ) → has (m .nothing) q x ≡ true → Proper trade m (lookup (m .nothing) q x)
-    proper-at x e = lookup-proper q x (k .proper) (has-positive (m .nothing) q x e) (has-number (m .nothing) q x e)
-
-    -- under a number that is held stands what was stored
-    pub stands : (x : ℕ) → has (m .nothing) q x ≡ true → placeAt (trade .width) s (placeOf (trade .width) s x) ≡ trade .stored x (lookup (m .nothing) q x .goods)
-    stands x e =
-        let n = has-number (m .nothing) q x e in
-        ap (part s (trade .width * placeOf (trade .width) s x)) (sym (h .size (lookup (m .nothing) q x .number) (lookup (m .nothing) q x .goods)))
-        ∙ k .stores .bytes x e
-        ∙ ap (λ (y : ℕ). trade .stored y (lookup (m .nothing) q x .goods)) n
 
     pub same-add : (x : ℕ) (g : G) → addReply (trade .width) s x (trade .check g) ≡ toldAdd m q x g
     unfolding addReply roomReply toldAdd
@@ -64,7 +66,7 @@ module _ {G F O S T : Type 0} {trade : Trade G F O S T} {m : Meaning G F O T} (h
       where
         go : (t : Bool) → has (m .nothing) q x ≡ t
             → (refuseIf (not t) 30 0 then λ _. read (trade .fieldsOf (placeAt (trade .width) s (placeOf (trade .width) s x)))) ≡ (refuseIf (not t) 30 0 then λ _. read (m .fieldsOf (lookup (m .nothing) q x .goods)))
-        go true e = ap read (ap (trade .fieldsOf) (stands x e) ∙ h .fields x (lookup (m .nothing) q x .goods) (proper-at x e .fine))
+        go true e = ap read (ap (trade .fieldsOf) (stands trade m (h .wide) (h .size) k x e) ∙ h .fields x (lookup (m .nothing) q x .goods) (proper-at trade m (h .wide) (h .size) k x e .fine))
         go false e = refl
 
     -- never more than eight

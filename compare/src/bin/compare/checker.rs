@@ -39,14 +39,14 @@ pub struct Checker {
 }
 
 /// The one number that a C function replies.
-pub fn code<T>(answer: &Result<T, Refusal>) -> u64 {
+fn code<T>(answer: &Result<T, Refusal>) -> u64 {
     match answer {
         Ok(_) => 0,
         Err(refusal) => refusal.number + 256 * refusal.place,
     }
 }
 
-pub fn words(code: u64) -> String {
+fn words(code: u64) -> String {
     match (code % 256, code / 256) {
         (0, 0) => String::from("fine"),
         (255, field) => format!("differs {field}"),
@@ -100,7 +100,7 @@ impl Checker {
         }
     }
 
-    pub fn agree(&mut self, call: impl Fn() -> String, right: u64, reply: u64, fault: Option<String>) {
+    fn agree(&mut self, call: impl Fn() -> String, right: u64, reply: u64, fault: Option<String>) {
         self.count(right);
         if reply != right {
             self.faults.push(format!("{}: {}, right is {}", call(), words(reply), words(right)));

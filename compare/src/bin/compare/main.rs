@@ -13,7 +13,6 @@ mod lent;
 mod molfiles;
 mod neighbours;
 mod programs;
-mod queues;
 mod random;
 
 use checker::Checker;
@@ -57,7 +56,6 @@ fn main() -> ExitCode {
     random::run(checker, options.seed, options.first, options.cases);
     molfiles::run(checker, options.seed, options.first, options.cases);
     neighbours::run(checker, options.seed, options.first, options.cases);
-    queues::run(checker, options.seed, options.first, options.cases);
     if let Some(folder) = &options.programs {
         programs::run(checker, folder, options.seed);
     }
@@ -78,7 +76,7 @@ fn report(checker: &mut Checker, options: &Options) {
         let seen = checker.differed[field] > 0;
         checker.case(format!("differs {field}"), |checker| checker.holds(seen, "never met"));
     }
-    for number in (1..=30).chain([34]) {
+    for number in (1..=27).chain([34]) {
         println!("refused {number}: {} times", checker.refused.0[number]);
         let seen = checker.refused.0[number] > 0;
         checker.case(format!("refusal {number}"), |checker| checker.holds(seen, "never met"));

@@ -45,11 +45,10 @@ returns-3 c =
     let t = i .before .before .before in
     let a = t .before .before .before .before .before .args in
     let fine = opened-fine (a .n) (a .bonds .now) _ (t .table .ensures .0) (i .before .enum-told .given .1) in
-    let e = reply-fine (a .n) (a .bonds .now) fine (length (a .out .now)) (i .if1 .left) in
-    (
+    let e = reply-fine (a .n) (a .bonds .now) fine (length (a .out .now)) (i .if1 .left) in (
       sym (ap saidReply e),
       bytes-put (a .n) (a .bonds .now) (a .number) (a .out .now) e
-      (all-put (a .n) (a .bonds .now) fine (a .out .now) (a .number) _ _ (t .table .ensures .1 .0) (t .table .ensures .1 .1) (c .before .before .put-all .ensures) (i .if1 .left)),
+          (all-put (a .n) (a .bonds .now) fine (a .out .now) (a .number) _ _ (t .table .ensures .1 .0) (t .table .ensures .1 .1) (c .before .before .put-all .ensures) (i .if1 .left)),
     )
 
 pub fill-spec : {M : Type 1} → statement M

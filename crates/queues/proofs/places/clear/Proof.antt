@@ -9,8 +9,8 @@ use Rattle.queues.proofs.Steps.{clear-start, clear-one, clear-none}
 use Rattle.storage.specs.Table.{tableBytes, zeroed}
 use Rattle.summary.specs.Layout.{summaryBytes}
 use borrow.Author.Needs.{needs}
-use Rattle.queues.proofs.shelf.clear.Statement.{statement}
-use Rattle.queues.proofs.shelf.clear.Tie as tie
+use Rattle.queues.proofs.places.clear.Statement.{statement}
+use Rattle.queues.proofs.places.clear.Tie as tie
 
 abbrev Inv-loop : tie.InvT-loop
 Inv-loop t₀ k₀ t k = (length t ≡ length t₀) × (tableBytes summaryBytes ≤ length t₀) × (sets t₀ 0 (replicate (tableBytes summaryBytes) 0) ≡ sets t k (replicate (tableBytes summaryBytes - k) 0))

@@ -1,7 +1,7 @@
 -- `is_held` meets its contract.
 use borrow.Author.Tests.{eq-eqb, ne-eqb}
-use Rattle.queues.proofs.shelf.is_held.Statement.{statement}
-use Rattle.queues.proofs.shelf.is_held.Tie as tie
+use Rattle.queues.proofs.places.is_held.Statement.{statement}
+use Rattle.queues.proofs.places.is_held.Tie as tie
 
 returns : tie.Need-returns
 returns c = simp (ne-eqb _ _ (c .if1 .taken))

@@ -3,8 +3,8 @@ use native.Mathlib.Numerals.{add-one}
 use native.Mathlib.Omega.{arith}
 use lib.ListN.{length-set}
 use borrow.Author.Needs.{needs}
-use Rattle.queues.proofs.shelf.free.Statement.{statement}
-use Rattle.queues.proofs.shelf.free.Tie as tie
+use Rattle.queues.proofs.places.free.Statement.{statement}
+use Rattle.queues.proofs.places.free.Tie as tie
 
 slice-write-s : tie.Need-slice-write-s
 slice-write-s c = search needs

@@ -1,6 +1,7 @@
 // A shelf: one queue's eight places, a summary each. A place is empty where its number is 0.
 use super::TABLE;
 use block::Measured;
+use filling::fill;
 use records::le16_at;
 use reply::Refusal;
 use reply::Reply;
@@ -12,8 +13,11 @@ ghost use lib.Seq.{sets};
 ghost use Rattle.reply.specs.Read.{refusal, saidReply};
 ghost use Rattle.block.specs.Index.{saidIndices};
 ghost use Rattle.summary.specs.Layout.{summaryBytes, fieldsOf};
-ghost use Rattle.storage.specs.Shelf.{places, isHeld, placeOf, noNumber, roomReply, lookReply, dropReply, dropped};
+ghost use Rattle.block.specs.Block.{blockReply};
+ghost use Rattle.storage.specs.Shelf.{places, isHeld, placeOf, noNumber, roomReply, addReply, added, lookReply, dropReply, dropped};
 ghost use Rattle.storage.specs.Table.{shelfBytes, tableBytes, zeroed};
+ghost use Rattle.queues.specs.Queues.{stored};
+ghost use Rattle.queues.specs.Work.{firstOf, filledIn};
 
 pub(crate) const PLACES: usize = 8;
 
@@ -61,6 +65,41 @@ pub(crate) fn room_reply(s: &[u8], number: u16) -> Reply
         return Reply::Fine;
     }
     refused(28)
+}
+
+// The reply to a block whose number is refused: its own refusal comes first.
+fn not_added(n: usize, bonds: &[u8], room: Refusal) -> Reply
+    ensures { λ r. ⌜ r ≡ saidReply (firstOf (blockReply n (now (bonds .entry))) room) ⌝ }
+{
+    let reply = block::check(n, bonds);
+    match reply {
+        Reply::Refused(refusal) => Reply::Refused(refusal),
+        Reply::Fine => Reply::Refused(room),
+    }
+}
+
+// Fills the first empty place.
+fn fill_in(s: &mut [u8], number: u16, n: usize, bonds: &[u8]) -> Reply
+    requires { ⌜ (length (now s) ≡ shelfBytes summaryBytes) × (placeOf summaryBytes (now s) 0 < places) ⌝ }
+    ensures reply { λ r. ⌜ r ≡ saidReply (blockReply n (now (bonds .entry))) ⌝ }
+    ensures bytes { λ _. ⌜ now (s .exit) ≡ filledIn (now (s .entry)) number n (now (bonds .entry)) ⌝ }
+{
+    let start = SUMMARY * place_of(s, 0);
+    let end = start + SUMMARY;
+    fill(number, n, bonds, &mut s[start..end])
+}
+
+// Adds a block under a number.
+pub(crate) fn add_to(s: &mut [u8], number: u16, n: usize, bonds: &[u8]) -> Reply
+    requires { ⌜ length (now s) ≡ shelfBytes summaryBytes ⌝ }
+    ensures reply { λ r. ⌜ r ≡ saidReply (addReply summaryBytes (now (s .entry)) number (blockReply n (now (bonds .entry)))) ⌝ }
+    ensures bytes { λ _. ⌜ now (s .exit) ≡ added summaryBytes (now (s .entry)) number (blockReply n (now (bonds .entry))) (stored number n (now (bonds .entry))) ⌝ }
+{
+    let room = room_reply(s, number);
+    match room {
+        Reply::Refused(refusal) => not_added(n, bonds, refusal),
+        Reply::Fine => fill_in(s, number, n, bonds),
+    }
 }
 
 // The fields of the block that has a number.

@@ -6,8 +6,8 @@ use Rattle.storage.specs.Shelf.{places, numberIn, placeOf, seek}
 use Rattle.summary.specs.Layout.{summaryBytes}
 use Rattle.queues.proofs.Steps.{seek-here, seek-on, seek-over}
 use borrow.Author.Needs.{needs}
-use Rattle.queues.proofs.shelf.place_of.Statement.{statement}
-use Rattle.queues.proofs.shelf.place_of.Tie as tie
+use Rattle.queues.proofs.places.place_of.Statement.{statement}
+use Rattle.queues.proofs.places.place_of.Tie as tie
 
 abbrev Inv-loop : tie.InvT-loop
 Inv-loop s number k₀ k = (k ≤ places) × (placeOf summaryBytes s number ≡ seek (numberIn summaryBytes s) number k (places - k))

@@ -10,8 +10,8 @@ use Rattle.summary.specs.Layout.{summaryBytes}
 use Rattle.queues.proofs.Answers.{held-is, drop-none, drop-held, dropped-none, dropped-held}
 use borrow.Author.Needs.{needs}
 use borrow.Author.Tests.{not-true, not-false}
-use Rattle.queues.proofs.shelf.drop_from.Statement.{statement}
-use Rattle.queues.proofs.shelf.drop_from.Tie as tie
+use Rattle.queues.proofs.places.drop_from.Statement.{statement}
+use Rattle.queues.proofs.places.drop_from.Tie as tie
 
 place-of-requires : tie.Need-place-of-requires
 place-of-requires c κs = search needs

@@ -9,8 +9,8 @@ use Rattle.summary.specs.Layout.{summaryBytes, fieldsOf}
 use Rattle.queues.proofs.Answers.{held-is, look-none, look-held}
 use borrow.Author.Needs.{needs}
 use borrow.Author.Tests.{not-true, not-false}
-use Rattle.queues.proofs.shelf.look_in.Statement.{statement}
-use Rattle.queues.proofs.shelf.look_in.Tie as tie
+use Rattle.queues.proofs.places.look_in.Statement.{statement}
+use Rattle.queues.proofs.places.look_in.Tie as tie
 
 place-of-requires : tie.Need-place-of-requires
 place-of-requires c κs = search needs

@@ -4,8 +4,8 @@ use native.Mathlib.Omega.{arith}
 use Rattle.reply.specs.Read.{saidReply}
 use Rattle.queues.proofs.Answers.{held-is, room-zero, room-held, room-fine, room-none}
 use borrow.Author.Needs.{needs}
-use Rattle.queues.proofs.shelf.room_reply.Statement.{statement}
-use Rattle.queues.proofs.shelf.room_reply.Tie as tie
+use Rattle.queues.proofs.places.room_reply.Statement.{statement}
+use Rattle.queues.proofs.places.room_reply.Tie as tie
 
 refused-requires : tie.Need-refused-requires
 refused-requires c κs = search needs
