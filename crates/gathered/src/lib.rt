@@ -1,1 +1,0 @@
-// Blocks under numbers, gathered into a deck: definitions and laws. No code.
