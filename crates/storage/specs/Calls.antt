@@ -1,4 +1,4 @@
--- Definitions. The calls of both queues at a table, by its bytes; for anything that is added, looked up and composed.
+-- Work. The calls of both queues at a table, by its bytes; for anything that is added, looked up and composed.
 use Prim.Native.Nat.{ℕ, _<_}
 use mathlib.Core.Bool.{Bool, true, false}
 use mathlib.Core.List.{List, [], _∷_}
