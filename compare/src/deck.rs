@@ -46,10 +46,10 @@ pub struct Deck {
     pub sheet: Option<Vec<u64>>,
 }
 
-struct Record<'a> {
+pub(crate) struct Record<'a> {
     first: usize,
     kind: usize,
-    payload: &'a [u8],
+    pub(crate) payload: &'a [u8],
 }
 
 /// A number of `width` bytes, little-endian.
@@ -66,7 +66,7 @@ fn pair(bytes: &[u8], at: usize) -> usize {
 }
 
 /// The record at this byte: whole (11) and of a kind that may stand here (12).
-fn record<'a>(bytes: &'a [u8], first: usize, kinds: &[usize]) -> Result<Record<'a>, Refusal> {
+pub(crate) fn record<'a>(bytes: &'a [u8], first: usize, kinds: &[usize]) -> Result<Record<'a>, Refusal> {
     if bytes.len() - first < HEAD {
         return refuse(11, first);
     }
@@ -130,7 +130,7 @@ fn read_block_record(record: &Record, earlier: &[usize]) -> Result<(usize, Graph
 }
 
 /// The assembly: 13 and 15 at the record's first byte, 16 to 19, 23 and 24 at the placement's.
-fn read_assembly(record: &Record, numbers: &[usize], blocks: &[Graph]) -> Result<Vec<Placement>, Refusal> {
+pub(crate) fn read_assembly(record: &Record, numbers: &[usize], blocks: &[Graph]) -> Result<Vec<Placement>, Refusal> {
     let payload = record.payload;
     if payload.len() < 2 || payload.len() != 2 + 6 * pair(payload, 0) {
         return refuse(13, record.first);

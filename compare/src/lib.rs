@@ -17,6 +17,7 @@ pub mod molecule;
 pub mod molfile;
 pub mod neighbours;
 pub mod polynomial;
+pub mod queues;
 pub mod refusal;
 pub mod shares;
 pub mod szeged;

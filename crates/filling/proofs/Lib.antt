@@ -1,0 +1,3 @@
+-- What the functions are proved by.
+pub mod Laws
+pub mod Told

@@ -1,0 +1,57 @@
+// The parts of a summary: what it opens with, and what it keeps of each atom.
+use super::store::put_first;
+use super::store::put_seat;
+use super::store::put_totals;
+use block::ATOMS;
+use block::Farthest;
+use half::Half;
+ghost use mathlib.Core.Path.{_≡_};
+ghost use Prim.Native.Nat.{_^_, _<_};
+ghost use lib.Seq.{sets};
+ghost use Rattle.half.specs.Half.{mostAtoms};
+ghost use Rattle.filling.specs.Work.{oneSeat, seatsBy, headBy};
+
+// The ten bytes of atom i + 1, from which the farthest is `far`; 0 where there is none.
+fn seat(out: &mut [u8], at: usize, half: &Half, far: u8, n: usize, i: usize)
+    requires { ⌜ (at < 2 ^ 32) × (i < mostAtoms) ⌝ }
+    ensures { λ _. ⌜ now (out .exit) ≡ sets (now (out .entry)) at (oneSeat (now (half .entry)) far n i) ⌝ }
+{
+    if i < n {
+        let row = half::row(half, i + 1);
+        let v = block::around_row(&row, n, far);
+        put_seat(
+            out,
+            at,
+            v.even,
+            v.odd,
+            v.evens,
+            v.odds,
+            v.ones,
+            v.twos,
+            v.farthest,
+            v.ones,
+        );
+        return;
+    }
+    put_seat(out, at, 0, 0, 0, 0, 0, 0, 0, 0);
+}
+
+// Those of all atoms.
+pub(crate) fn seats(out: &mut [u8], half: &Half, far: &Farthest, n: usize)
+    ensures { λ _. ⌜ now (out .exit) ≡ sets (now (out .entry)) 16 (seatsBy (now (half .entry)) (now (far .entry)) n 0 mostAtoms) ⌝ }
+{
+    let mut i = 0;
+    while i < ATOMS {
+        seat(out, 16 + 10 * i, half, far[i], n, i);
+        i += 1;
+    }
+}
+
+// The sixteen bytes that it opens with.
+pub(crate) fn head(out: &mut [u8], number: u16, half: &Half, far: &Farthest, n: usize)
+    ensures { λ _. ⌜ now (out .exit) ≡ sets (now (out .entry)) 0 (headBy number (now (half .entry)) (now (far .entry)) n) ⌝ }
+{
+    let s = block::sums(half, far, n);
+    put_first(out, number as u64, s.atoms, s.largest);
+    put_totals(out, s.even, s.odd, s.polarity);
+}

@@ -1,0 +1,7 @@
+// Two queues at one table: what any such table promises, and its laws. No code.
+
+// Whose call it is.
+pub enum Queue {
+    Day,
+    Night,
+}
