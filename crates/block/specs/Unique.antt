@@ -35,6 +35,9 @@ module _ (n : ℕ) (xs : List ℕ) where
       → (s ≡ saidOpened (openedReply n xs)) × (q ≡ tableOf n xs) × (v ≡ farOf n xs) → (r ≡ s) × (p ≡ q) × (u ≡ v)
   unique-table r s p q u v x y = (unique (x .0) (y .0), unique (x .1) (y .1), unique (x .2) (y .2))
 
+  pub unique-distances : (p q u v : List ℕ) → (p ≡ tableOf n xs) × (u ≡ farOf n xs) → (q ≡ tableOf n xs) × (v ≡ farOf n xs) → (p ≡ q) × (u ≡ v)
+  unique-distances p q u v x y = (unique (x .0) (y .0), unique (x .1) (y .1))
+
   pub unique-row : (i : ℕ) (r s : OneRow) → r ≡ saidRow (rowReply n xs i) → s ≡ saidRow (rowReply n xs i) → r ≡ s
   unique-row i r s = unique
 

@@ -183,14 +183,28 @@ fn square(half: &Half) -> DistanceMatrix
     rows
 }
 
+// Half of the distances of a block, and in what is lent how far the farthest is from each atom. All is 0 beyond the atoms, and where the block
+// is refused.
+pub fn distances(n: usize, bonds: &[u8], far: &mut Farthest) -> Half
+    ensures half { λ r. ⌜ r ≡ tableOf n (now (bonds .entry)) ⌝ }
+    ensures far { λ _. ⌜ now (far .exit) ≡ farOf n (now (bonds .entry)) ⌝ }
+{
+    let admitted = admit(n, bonds);
+    let reply = admitted.reply;
+    let Reply::Fine = reply else {
+        *far = [0u8; ATOMS];
+        return [0u8; PAIRS];
+    };
+    search::from_all(&admitted.near, n, far)
+}
+
 // The distances of a block: those from atom i are row i - 1, and that to atom j stands there at j - 1. All is 0 beyond the atoms, and
 // where the block is refused.
 pub fn rows(n: usize, bonds: &[u8]) -> DistanceMatrix
     ensures { λ r. ⌜ r ≡ rowsOf n (now (bonds .entry)) ⌝ }
 {
-    let mut half = [0u8; PAIRS];
     let mut far = [0u8; ATOMS];
-    table(n, bonds, &mut half, &mut far);
+    let half = distances(n, bonds, &mut far);
     square(&half)
 }
 

@@ -12,13 +12,12 @@ use assembly::find_block;
 use assembly::placement_at;
 use block::ATOMS;
 use block::Indices;
+use block::distances;
 use block::sums;
-use block::table;
 use deck::Form;
 use deck::Layout;
 use deck::read_deck;
 use ends::copy_ends;
-use half::PAIRS;
 use joints::composed;
 use kept::CountRow;
 use kept::NumberRow;
@@ -82,9 +81,8 @@ fn take_block(
     ensures counts { λ _. ⌜ Copied (now (links .entry)) placements f (countsFrom (b .atoms) (bondBytes (now (d .entry)) b)) (now (counts .entry)) (now (counts .exit)) ⌝ }
 {
     let n = b.atoms as usize;
-    let mut half = [0u8; PAIRS];
     let mut far = [0u8; ATOMS];
-    table(n, bonds_part(d, b), &mut half, &mut far);
+    let half = distances(n, bonds_part(d, b), &mut far);
     copy_ends(&half, &far, n, links, placements, f, out, counts);
     number_row(sums(&half, &far, n))
 }

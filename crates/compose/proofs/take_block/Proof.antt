@@ -11,8 +11,8 @@ cast-n c = search needs
 bonds-part-requires : tie.Need-bonds-part-requires
 bonds-part-requires c κs = search needs
 
-table-requires : tie.Need-table-requires
-table-requires c κs = search needs
+distances-requires : tie.Need-distances-requires
+distances-requires c κs = search needs
 
 copy-ends-requires : tie.Need-copy-ends-requires
 copy-ends-requires c κs = search needs
@@ -36,10 +36,10 @@ returns c =
     let t = o .before .before .before .before .before in
     let a = t .before .before .before .before .before .before .args in
     let e = t .before .before .before .bonds-part .ensures .bytes in
-    let half = t .table .ensures .1 .0 ∙ ap (tableOf (a .b .atoms)) e in
-    let far = t .table .ensures .1 .1 ∙ ap (farOf (a .b .atoms)) e in
+    let half = t .distances .ensures .0 ∙ ap (tableOf (a .b .atoms)) e in
+    let far = t .distances .ensures .1 ∙ ap (farOf (a .b .atoms)) e in
     (c .number-row .ensures ∙ c .before .sums .ensures ∙ rw (half, far), (rw half at (o .copy-ends .ensures .0), rw (half, far) at (o .copy-ends .ensures .1)))
 
 pub take-block-spec : {M : Type 1} → statement M
 take-block-spec =
-    tie.close (tie.spec cast-n bonds-part-requires table-requires copy-ends-requires sums-requires number-row-requires same-length same-length-2 returns)
+    tie.close (tie.spec cast-n bonds-part-requires distances-requires copy-ends-requires sums-requires number-row-requires same-length same-length-2 returns)
