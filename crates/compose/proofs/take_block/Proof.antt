@@ -34,8 +34,8 @@ returns : tie.Need-returns
 returns c =
     let o = c .before .before .before .before .before .before in
     let t = o .before .before .before .before .before in
-    let a = t .before .before .before .before .before .before .args in
-    let e = t .before .before .before .bonds-part .ensures .bytes in
+    let a = t .before .before .before .before .before .args in
+    let e = t .before .before .bonds-part .ensures .bytes in
     let half = t .distances .ensures .0 ∙ ap (tableOf (a .b .atoms)) e in
     let far = t .distances .ensures .1 ∙ ap (farOf (a .b .atoms)) e in
     (c .number-row .ensures ∙ c .before .sums .ensures ∙ rw (half, far), (rw half at (o .copy-ends .ensures .0), rw (half, far) at (o .copy-ends .ensures .1)))
