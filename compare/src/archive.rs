@@ -18,6 +18,27 @@ mod c {
             distance: *mut u64,
             distance_len: usize,
         ) -> u64;
+        pub fn tteuyomal_library_count(deck: *const u8, deck_len: usize, count: *mut u64, count_len: usize) -> u64;
+        pub fn tteuyomal_library_step(
+            deck: *const u8,
+            deck_len: usize,
+            kind: usize,
+            position: usize,
+            out: *mut u8,
+            out_len: usize,
+            next: *mut u64,
+            next_len: usize,
+        ) -> u64;
+        pub fn tteuyomal_library_run(
+            deck: *const u8,
+            deck_len: usize,
+            kind: usize,
+            position: usize,
+            out: *mut u8,
+            out_len: usize,
+            next: *mut u64,
+            next_len: usize,
+        ) -> u64;
         pub fn tteuyomal_check_block(atoms: usize, bonds: *const u8, bonds_len: usize) -> u64;
         pub fn tteuyomal_indices(
             atoms: usize,
@@ -142,6 +163,22 @@ pub fn compose(deck: &[u8], fields: &mut [u64]) -> u64 {
 pub fn placed_distance(deck: &[u8], [k, i, l, j]: [usize; 4], distance: &mut [u64]) -> u64 {
     let (out, room) = (distance.as_mut_ptr(), distance.len());
     unsafe { c::tteuyomal_placed_distance(deck.as_ptr(), deck.len(), k, i, l, j, out, room) }
+}
+
+pub fn library_count(deck: &[u8], count: &mut [u64]) -> u64 {
+    unsafe { c::tteuyomal_library_count(deck.as_ptr(), deck.len(), count.as_mut_ptr(), count.len()) }
+}
+
+pub fn library_step(deck: &[u8], kind: usize, position: usize, out: &mut [u8], next: &mut [u64]) -> u64 {
+    let (sheets, room) = (out.as_mut_ptr(), out.len());
+    let (told, entries) = (next.as_mut_ptr(), next.len());
+    unsafe { c::tteuyomal_library_step(deck.as_ptr(), deck.len(), kind, position, sheets, room, told, entries) }
+}
+
+pub fn library_run(deck: &[u8], kind: usize, position: usize, out: &mut [u8], next: &mut [u64]) -> u64 {
+    let (sheets, room) = (out.as_mut_ptr(), out.len());
+    let (told, entries) = (next.as_mut_ptr(), next.len());
+    unsafe { c::tteuyomal_library_run(deck.as_ptr(), deck.len(), kind, position, sheets, room, told, entries) }
 }
 
 pub fn check_block(atoms: usize, bonds: &[u8]) -> u64 {

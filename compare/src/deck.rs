@@ -13,6 +13,7 @@ pub const BLOCK: usize = 1;
 pub const ASSEMBLY: usize = 2;
 pub const SHEET: usize = 3;
 pub const SHEET_OF_SIX: usize = 4;
+pub const LIBRARY: usize = 5;
 
 /// The bytes of each field of a sheet of this kind: atom count, W, even part, odd part, polarity; largest distance.
 fn widths(kind: usize) -> &'static [usize] {
@@ -47,7 +48,7 @@ pub struct Deck {
 }
 
 pub(crate) struct Record<'a> {
-    first: usize,
+    pub(crate) first: usize,
     kind: usize,
     pub(crate) payload: &'a [u8],
 }
@@ -61,7 +62,7 @@ fn number(bytes: &[u8], at: usize, width: usize) -> u64 {
     value
 }
 
-fn pair(bytes: &[u8], at: usize) -> usize {
+pub(crate) fn pair(bytes: &[u8], at: usize) -> usize {
     number(bytes, at, 2) as usize
 }
 
@@ -81,35 +82,61 @@ pub(crate) fn record<'a>(bytes: &'a [u8], first: usize, kinds: &[usize]) -> Resu
     Ok(Record { first, kind, payload: &bytes[first + HEAD..first + HEAD + length] })
 }
 
-/// Reads a whole deck of this form.
-pub fn read_deck(bytes: &[u8], form: Form) -> Result<Deck, Refusal> {
+/// The blocks of a deck with their numbers, and the record behind them.
+pub(crate) struct Opened<'a> {
+    pub(crate) numbers: Vec<usize>,
+    pub(crate) blocks: Vec<Graph>,
+    pub(crate) last: Record<'a>,
+}
+
+impl Record<'_> {
+    /// Where the record ends in its deck.
+    pub(crate) fn end(&self) -> usize {
+        self.first + HEAD + self.payload.len()
+    }
+}
+
+/// Reads blocks, at least one, up to a record of this kind, which is whole but not read yet.
+pub(crate) fn open_deck(bytes: &[u8], kind: usize) -> Result<Opened<'_>, Refusal> {
     if bytes.len() > MOST_BYTES {
         return refuse(20, 0);
     }
-    let mut numbers = Vec::new();
-    let mut deck = Deck { blocks: Vec::new(), placements: Vec::new(), sheet: None };
+    let (mut numbers, mut blocks) = (Vec::new(), Vec::new());
     let mut at = 0;
     loop {
-        let kinds: &[usize] = if deck.blocks.is_empty() { &[BLOCK] } else { &[BLOCK, ASSEMBLY] };
+        let kinds: &[usize] = if blocks.is_empty() { &[BLOCK] } else { &[BLOCK, kind] };
         let next = record(bytes, at, kinds)?;
-        at += HEAD + next.payload.len();
-        if next.kind == ASSEMBLY {
-            deck.placements = read_assembly(&next, &numbers, &deck.blocks)?;
-            break;
+        if next.kind == kind {
+            return Ok(Opened { numbers, blocks, last: next });
         }
+        at = next.end();
         let (number, block) = read_block_record(&next, &numbers)?;
         numbers.push(number);
-        deck.blocks.push(block);
+        blocks.push(block);
     }
+}
+
+/// Reads a whole deck of this form.
+pub fn read_deck(bytes: &[u8], form: Form) -> Result<Deck, Refusal> {
+    let Opened { numbers, blocks, last } = open_deck(bytes, ASSEMBLY)?;
+    let placements = read_assembly(&last, &numbers, &blocks)?;
+    let mut deck = Deck { blocks, placements, sheet: None };
+    let mut at = last.end();
     if form == Form::Judged {
         let next = record(bytes, at, &[SHEET, SHEET_OF_SIX])?;
-        at += HEAD + next.payload.len();
+        at = next.end();
         deck.sheet = Some(read_sheet(&next)?);
     }
-    if at < bytes.len() {
-        return refuse(11, at);
-    }
+    nothing_behind(bytes, at)?;
     Ok(deck)
+}
+
+/// 11 where bytes follow the last record.
+pub(crate) fn nothing_behind(bytes: &[u8], end: usize) -> Result<(), Refusal> {
+    if end < bytes.len() {
+        return refuse(11, end);
+    }
+    Ok(())
 }
 
 /// A block's record: 13, 14, then the block's own refusals: 3 to 6 at the bond's first byte, the others at the record's.

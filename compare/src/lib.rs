@@ -11,6 +11,7 @@ pub mod deck;
 pub mod documents;
 pub mod fraction;
 pub mod graph;
+pub mod library;
 pub mod line;
 pub mod make;
 pub mod molecule;
@@ -21,6 +22,7 @@ pub mod queues;
 pub mod refusal;
 pub mod shares;
 pub mod szeged;
+pub mod walk;
 
 #[cfg(test)]
 mod tests;

@@ -14,8 +14,8 @@ pub fn damage_plan(random: &mut Random, deck: &mut DeckPlan) {
         return;
     }
     match random.below(10) {
-        0 => block_number_wrong(random, deck),
-        1 => too_many_blocks(random, deck),
+        0 => block_number_wrong(random, &mut deck.blocks),
+        1 => too_many_blocks(random, &mut deck.blocks),
         2 => deck.placements.clear(),
         3 => too_many_placements(random, deck),
         4 => block_not_there(random, deck),
@@ -106,21 +106,21 @@ fn drop_bonds(random: &mut Random, block: &mut BlockPlan) {
     }
 }
 
-fn block_number_wrong(random: &mut Random, deck: &mut DeckPlan) {
-    let other = random.pick(&deck.blocks).number;
-    let damaged = random.below(deck.blocks.len());
-    deck.blocks[damaged].number = if random.once_in(2) { 0 } else { other };
+pub(super) fn block_number_wrong(random: &mut Random, blocks: &mut [BlockPlan]) {
+    let other = random.pick(blocks).number;
+    let damaged = random.below(blocks.len());
+    blocks[damaged].number = if random.once_in(2) { 0 } else { other };
 }
 
 /// A 17th block, and now and then more.
-fn too_many_blocks(random: &mut Random, deck: &mut DeckPlan) {
+pub(super) fn too_many_blocks(random: &mut Random, blocks: &mut Vec<BlockPlan>) {
     let wanted = random.between(17, 18);
     for number in 1.. {
-        if deck.blocks.len() >= wanted {
+        if blocks.len() >= wanted {
             break;
         }
-        if deck.blocks.iter().all(|block| block.number != number) {
-            deck.blocks.push(BlockPlan { number, atoms: 1, bonds: Vec::new() });
+        if blocks.iter().all(|block| block.number != number) {
+            blocks.push(BlockPlan { number, atoms: 1, bonds: Vec::new() });
         }
     }
 }

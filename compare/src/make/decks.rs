@@ -63,7 +63,7 @@ pub fn bonds_at(deck: &DeckPlan, placed: usize, atom: u8) -> usize {
 }
 
 /// Gives each block a number of its own; small numbers come often, also those that need two bytes.
-fn number_blocks(random: &mut Random, mut blocks: Vec<BlockPlan>) -> Vec<BlockPlan> {
+pub(super) fn number_blocks(random: &mut Random, mut blocks: Vec<BlockPlan>) -> Vec<BlockPlan> {
     let mut taken = Vec::new();
     for block in &mut blocks {
         loop {

@@ -3,7 +3,10 @@
 pub mod blocks;
 pub mod damage;
 pub mod damage_bytes;
+pub mod damage_library;
 pub mod decks;
+pub mod libraries;
+pub mod library_specimens;
 pub mod molfiles;
 pub mod neighbours;
 pub mod plan;

@@ -39,7 +39,7 @@ impl BlockPlan {
         self.bonds.iter().flat_map(|&(u, v)| [u, v]).collect()
     }
 
-    fn payload(&self) -> Vec<u8> {
+    pub(super) fn payload(&self) -> Vec<u8> {
         let mut payload = Vec::new();
         for count in [self.number, self.atoms, self.bonds.len() as u16] {
             payload.extend_from_slice(&count.to_le_bytes());

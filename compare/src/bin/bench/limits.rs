@@ -1,6 +1,6 @@
 //! The stack that each function takes on the largest inputs, and whether the archive asks for heap memory.
 
-use crate::{archive, opened, stack};
+use crate::{archive, libraries, opened, stack};
 use opinion::block::MOST_BONDS;
 use opinion::make::plan::DeckPlan;
 use opinion::make::shapes;
@@ -12,6 +12,7 @@ const MOST_STACK: usize = 256 << 10;
 pub fn stack(decks: &[&DeckPlan]) {
     let judged: Vec<Vec<u8>> = decks.iter().map(|deck| opened(deck).1).collect();
     let decks: Vec<Vec<u8>> = decks.iter().map(|deck| deck.bytes()).collect();
+    let libraries = [libraries::largest().bytes()];
     let blocks = [shapes::path(64), shapes::double_ring(64), shapes::cube(6), shapes::doubling(32)];
     let blocks = blocks.map(|block| block.bond_bytes());
     let rows = [
@@ -20,6 +21,9 @@ pub fn stack(decks: &[&DeckPlan]) {
         ("write_six", most(&decks, |deck| archive::write_six(deck, &mut [0; 44]))),
         ("compose", most(&decks, |deck| archive::compose(deck, &mut [0; 5]))),
         ("placed_distance", most(&decks, |deck| archive::placed_distance(deck, [1, 1, 32, 64], &mut [0]))),
+        ("library_count", most(&libraries, |deck| archive::library_count(deck, &mut [0]))),
+        ("library_step", most(&libraries, |deck| archive::library_step(deck, 4, 0, &mut [0; 44], &mut [0]))),
+        ("library_run", most(&libraries, |deck| archive::library_run(deck, 4, 0, &mut [0; 440], &mut [0]))),
         ("check_block", most(&blocks, |bonds| archive::check_block(64, bonds))),
         ("indices", most(&blocks, |bonds| archive::indices(64, bonds, &mut [0; 5]))),
         ("vertex", most(&blocks, |bonds| archive::vertex(64, bonds, 64, &mut [0; 7]))),

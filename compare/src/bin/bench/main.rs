@@ -2,6 +2,7 @@
 
 #[path = "../../archive.rs"]
 mod archive;
+mod libraries;
 mod limits;
 mod molfiles;
 mod neighbours;
@@ -48,10 +49,13 @@ fn main() {
     }
     time_balaban("64 atoms, 128 bonds", &shapes::double_ring(64), 1.0 / 1.5);
     time_sets("path of 64", &shapes::path(64), 1.0 / 1.5);
+    let products = libraries::times();
     let growth = molfiles::times();
     neighbours::times();
     println!();
     println!("{growth}");
+    println!();
+    println!("{products}");
     println!();
     let (decks_judged, atoms) = decks_a_second();
     println!("Judged in a second: {decks_judged:.0} random decks of {atoms:.0} atoms on average.");

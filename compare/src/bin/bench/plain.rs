@@ -61,6 +61,13 @@ impl Plain {
         self.add_block(atoms, bonds);
     }
 
+    /// Another block, its atom `own` bonded to the molecule's atom `at`.
+    pub fn join_block(&mut self, atoms: usize, bonds: &[u8], at: usize, own: usize) {
+        let before = self.atoms;
+        self.add_block(atoms, bonds);
+        self.add_bond(at, before + own);
+    }
+
     /// Writes the molecule of a good deck out.
     pub fn read_deck(&mut self, deck: &[u8]) {
         self.clear();

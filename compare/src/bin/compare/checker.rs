@@ -15,6 +15,9 @@ use std::fmt::Display;
 /// Failures told in full; the others are only counted.
 const MOST_TOLD: usize = 20;
 
+/// The reply where a library has no product at a position.
+pub const DONE: u64 = 254;
+
 /// How often each number was met.
 pub struct Refusals(pub [usize; 256]);
 
@@ -34,12 +37,14 @@ pub struct Checker {
     pub accepted: usize,
     /// How often each field was the first wrong one.
     pub differed: [usize; 7],
-    measurer: Measurer,
+    /// How often the products of a library were done.
+    pub done: usize,
+    pub measurer: Measurer,
     faults: Vec<String>,
 }
 
 /// The one number that a C function replies.
-fn code<T>(answer: &Result<T, Refusal>) -> u64 {
+pub fn code<T>(answer: &Result<T, Refusal>) -> u64 {
     match answer {
         Ok(_) => 0,
         Err(refusal) => refusal.number + 256 * refusal.place,
@@ -49,20 +54,21 @@ fn code<T>(answer: &Result<T, Refusal>) -> u64 {
 fn words(code: u64) -> String {
     match (code % 256, code / 256) {
         (0, 0) => String::from("fine"),
+        (DONE, 0) => String::from("done"),
         (255, field) => format!("differs {field}"),
         (number, place) => format!("refused {number} at {place}"),
     }
 }
 
 /// The bytes of an input, as far as a line holds them.
-fn hex(bytes: &[u8]) -> String {
+pub fn hex(bytes: &[u8]) -> String {
     let shown: Vec<String> = bytes.iter().take(300).map(|byte| format!("{byte:02x}")).collect();
     let rest = if bytes.len() > 300 { ".." } else { "" };
     format!("{} bytes {}{rest}", bytes.len(), shown.join(" "))
 }
 
 /// What was written, for an output: nothing where the answer is a refusal.
-fn written<T, E: Clone>(answer: &Result<T, Refusal>, entries: impl Fn(&T) -> Vec<E>) -> Vec<E> {
+pub fn written<T, E: Clone>(answer: &Result<T, Refusal>, entries: impl Fn(&T) -> Vec<E>) -> Vec<E> {
     answer.as_ref().map_or(Vec::new(), entries)
 }
 
@@ -95,12 +101,13 @@ impl Checker {
         self.calls += 1;
         match (right % 256, right / 256) {
             (0, _) => {}
+            (DONE, _) => self.done += 1,
             (255, field) => self.differed[field as usize] += 1,
             (number, _) => self.refused.0[number as usize] += 1,
         }
     }
 
-    fn agree(&mut self, call: impl Fn() -> String, right: u64, reply: u64, fault: Option<String>) {
+    pub fn agree(&mut self, call: impl Fn() -> String, right: u64, reply: u64, fault: Option<String>) {
         self.count(right);
         if reply != right {
             self.faults.push(format!("{}: {}, right is {}", call(), words(reply), words(right)));

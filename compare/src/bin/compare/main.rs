@@ -10,10 +10,13 @@ mod archive;
 mod checker;
 mod fixed;
 mod lent;
+mod libraries;
+mod library_calls;
 mod molfiles;
 mod neighbours;
 mod programs;
 mod random;
+mod random_libraries;
 mod relisted;
 
 use checker::Checker;
@@ -58,6 +61,7 @@ fn main() -> ExitCode {
     molfiles::run(checker, options.seed, options.first, options.cases);
     neighbours::run(checker, options.seed, options.first, options.cases);
     relisted::run(checker, options.seed, options.first, options.cases);
+    libraries::run(checker, options.seed, options.first, options.cases);
     if let Some(folder) = &options.programs {
         programs::run(checker, folder, options.seed);
     }
@@ -78,7 +82,10 @@ fn report(checker: &mut Checker, options: &Options) {
         let seen = checker.differed[field] > 0;
         checker.case(format!("differs {field}"), |checker| checker.holds(seen, "never met"));
     }
-    for number in (1..=27).chain([34]) {
+    println!("done {} times", checker.done);
+    let seen = checker.done > 0;
+    checker.case("done", |checker| checker.holds(seen, "never met"));
+    for number in (1..=27).chain(31..=34) {
         println!("refused {number}: {} times", checker.refused.0[number]);
         let seen = checker.refused.0[number] > 0;
         checker.case(format!("refusal {number}"), |checker| checker.holds(seen, "never met"));

@@ -5,6 +5,7 @@ use opinion::documents::FORTY;
 use opinion::line::{judge_line, measure_line, neighbours_line, sheet_line};
 use opinion::make::damage_bytes::damage_bytes;
 use opinion::make::decks::random_deck;
+use opinion::make::library_specimens::TWO_PRODUCTS;
 use opinion::make::molfiles::{damage_molfile, random_molfile};
 use opinion::make::neighbours::{damage_text, random_text};
 use opinion::make::random::Random;
@@ -90,9 +91,9 @@ fn texts(seed: u64) -> Vec<Vec<u8>> {
     texts
 }
 
-/// The specimens, and random decks with and without sheets, some damaged.
+/// The specimens, a library, which neither program takes, and random decks with and without sheets, some damaged.
 fn decks(seed: u64) -> Vec<Vec<u8>> {
-    let mut decks = vec![FORTY.to_vec()];
+    let mut decks = vec![FORTY.to_vec(), TWO_PRODUCTS.to_vec()];
     decks.extend(specimens::decks().into_iter().map(|specimen| specimen.deck));
     for case in 0..RANDOM_DECKS {
         let random = &mut Random::for_case(seed, case);
