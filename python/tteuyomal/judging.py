@@ -46,7 +46,7 @@ class Judged(NamedTuple):
     def note(self) -> str:
         """What helps who meant something else by the file; mostly nothing."""
         if self.word == REFUSED and (self.number, kind_at(self.data, self.place)) == (12, decks.LIBRARY):
-            return "a library deck has no sheet to judge; `tteuyomal library` lists its products"
+            return "a library deck has no sheet to judge; the command tteuyomal library lists its products"
         return ""
 
     def verdict(self) -> str:
