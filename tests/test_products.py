@@ -12,7 +12,7 @@ from common import FORTY, LIBRARY, RIGHT
 from test_command import Room
 from test_libraries import some_deck
 
-from tteuyomal import Block, Library, Refused, Site, command, decktext, library
+from tteuyomal import Block, Library, Refused, Site, command, decktext, explain, judging, library
 from tteuyomal.libraries import Piece, pieces
 
 LINES = "0: 2@1 2@1 atoms 8 W 62 even 28 odd 34 polarity 7\n1: 1@1 2@1 atoms 13 W 252 even 124 odd 128 polarity 16\n"
@@ -164,6 +164,20 @@ class Words(Room):
         said = self.run_command("explain", self.put("a", LIBRARY[:38] + b"\x05" + LIBRARY[39:]))[1]
         self.assertIn("as a library it is refused 31 at 32", said)
         self.assertNotIn("library deck", self.run_command("explain", self.put("a", FORTY[:24] + b"\x09" + FORTY[25:]))[1])
+
+    def test_any_bytes(self):
+        chance = random.Random(4)
+        for _ in range(300):
+            data = bytearray(some_deck(chance)[2])
+            for _ in range(chance.randrange(1, 4)):
+                data[chance.randrange(len(data))] = chance.randrange(256)
+            data = bytes(data[: len(data) - chance.choice([0, 0, 1, 3])])
+            judged = judging.judge_bytes("deck", data, "")
+            said = "\n".join(explain.explained(judged))
+            self.assertIn(judged.verdict(), said)
+            self.assertEqual("This is a library deck" in said, judged.note != "")
+            status, _ = self.run_command("library", self.put("a", data))
+            self.assertEqual(status, 0 if self.fault == "" else 2)
 
     def test_on_the_board(self):
         self.put("a", LIBRARY)
