@@ -231,7 +231,7 @@ def _products(options: argparse.Namespace, deck: libraries.Library) -> Iterator[
     for batch in deck.batches(options.first, count, options.six):
         yield from batch
         progress.add(len(batch))
-    progress.end(f"{progress.done} products")
+    progress.end(f"{progress.done} {'product' if progress.done == 1 else 'products'}")
 
 
 def _ranked(options: argparse.Namespace, products: Iterator[libraries.Product]) -> Iterable[libraries.Product]:
