@@ -16,7 +16,7 @@ import sys
 import tempfile
 import unittest
 
-from common import FORTY, PYTHON, RIGHT, ROOT, sheet
+from common import FORTY, LIBRARY, PYTHON, RIGHT, RIGHT_SIX, ROOT, sheet, sheet_of_six
 from tteuyomal import drawing
 
 PICTURES = os.path.join(ROOT, "target", "board")
@@ -105,6 +105,9 @@ DECKS = {
     "atoms-wrong.deck": FORTY + sheet(2**32 - 1, 2**64 - 1, 96, 102, 14),
     "bond-to-itself.deck": FORTY[:13] + b"\x02" + FORTY[14:] + RIGHT,
     "no-sheet.deck": FORTY,
+    "six-fields.deck": FORTY + RIGHT_SIX,
+    "largest-distance-wrong.deck": FORTY + sheet_of_six(12, 198, 96, 102, 14, 6),
+    "library.deck": LIBRARY,
     "<script>hit=1</script>": FORTY + RIGHT,
     "<img src=x onerror=hit=1>": FORTY[:30],
     '" onmouseover="hit=1" x="': FORTY + sheet(1, 2, 3, 4, 5),
@@ -146,18 +149,23 @@ class Board(unittest.TestCase):
         self.fits(page)
         page.picture("wide-day")
         self.assertEqual(self.status, 2)
-        self.assertEqual(self.shown(page), ["refused"] * 3 + ["differs"] * 3 + ["accepted"] * 4)
+        self.assertEqual(self.shown(page), ["refused"] * 4 + ["differs"] * 4 + ["accepted"] * 5)
         words = page.value("[...document.querySelectorAll('article')].map(a => a.querySelector('.word').textContent)")
         self.assertEqual(words, self.shown(page), "each light has its word")
         shapes = page.value("[...new Set([...document.querySelectorAll('article')].map(a => a.className + a.querySelector('.shape').outerHTML))]")
         self.assertEqual(len(shapes), 3, "each verdict has one shape of its own")
         colours = page.value("[...new Set([...document.querySelectorAll('article .light')].map(a => getComputedStyle(a).color))]")
         self.assertEqual(len(colours), 3, "each verdict has one colour of its own")
-        self.assertIn("6 of 10 decks not accepted", page.value("document.querySelector('h1').textContent"))
+        self.assertIn("8 of 13 decks not accepted", page.value("document.querySelector('h1').textContent"))
         wrong = page.value("[...document.querySelectorAll('article.differs')].map(a => a.querySelectorAll('td.wrong').length)")
-        self.assertEqual(sorted(wrong), [2, 2, 5])
+        self.assertEqual(sorted(wrong), [1, 2, 2, 5])
+        rows = page.value("[...document.querySelectorAll('article')].map(a => a.querySelectorAll('table tr').length)")
+        self.assertEqual(sorted(rows), [0] * 4 + [6] * 7 + [7] * 2, "five or six fields, as the sheet has")
+        last = "[...document.querySelectorAll('td.wrong')].map(t => t.parentNode.textContent).filter(t => t.startsWith('largest'))"
+        self.assertEqual(page.value(last), ["largest distance67"])
+        self.assertIn("tteuyomal library", page.value("document.querySelector('main').textContent"))
         if drawing.Chem is not None:
-            self.assertEqual(page.value("document.querySelectorAll('figure svg').length"), 7)
+            self.assertEqual(page.value("document.querySelectorAll('figure svg').length"), 9)
 
     def test_names_are_words(self):
         page = self.page(self.board)
@@ -174,10 +182,10 @@ class Board(unittest.TestCase):
         page = self.page(self.board)
         press = "document.querySelector('.controls button[data-word=%s]').click()"
         page.value(press % "accepted")
-        self.assertEqual(self.shown(page), ["refused"] * 3 + ["differs"] * 3)
+        self.assertEqual(self.shown(page), ["refused"] * 4 + ["differs"] * 4)
         page.value(press % "refused")
-        self.assertEqual(self.shown(page), ["differs"] * 3)
-        self.assertEqual(page.value("document.querySelector('output').textContent"), "3 of 10 shown")
+        self.assertEqual(self.shown(page), ["differs"] * 4)
+        self.assertEqual(page.value("document.querySelector('output').textContent"), "4 of 13 shown")
         page.value(press % "accepted")
         page.value(press % "refused")
         search = "const i = document.querySelector('input'); i.value = %s; i.dispatchEvent(new Event('input')); 1"
@@ -187,7 +195,7 @@ class Board(unittest.TestCase):
         self.assertEqual(self.shown(page), [])
         self.assertTrue(page.value("document.querySelector('.none').offsetParent !== null"))
         page.value("{" + search % "''" + "}")
-        self.assertEqual(len(self.shown(page)), 10)
+        self.assertEqual(len(self.shown(page)), 13)
 
     def fits(self, page):
         wide = page.value("[document.documentElement.scrollWidth, innerWidth]")

@@ -36,6 +36,12 @@ RIGHT = sheet(12, 198, 96, 102, 14)
 RIGHT_SIX = sheet_of_six(12, 198, 96, 102, 14, 7)
 RING = [(1, 2), (2, 3), (3, 4), (4, 5), (5, 6), (6, 1)]
 
+# a ring of 6 and one atom: the atom or another ring at atom 1, the atom at atom 4; two products
+LIBRARY = bytes.fromhex(
+    "12 00 01 00 01 00 06 00 06 00 01 02 02 03 03 04 04 05 05 06 06 01 06 00 01 00 02 00 01 00 00 00"
+    "11 00 05 00 01 00 02 00 01 02 02 00 01 01 00 01 04 01 02 00 01"
+)
+
 # a deck to be judged, and the line that says the verdict
 JUDGED = [
     (FORTY + RIGHT, "accepted"),

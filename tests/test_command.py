@@ -14,7 +14,7 @@ import time
 import unittest
 from unittest import mock
 
-from common import FORTY, JUDGED, PYTHON, RIGHT, RIGHT_SIX, ROOT, sheet
+from common import FORTY, JUDGED, PYTHON, RIGHT, RIGHT_SIX, ROOT, sheet, sheet_of_six
 
 from tteuyomal import command, decktext, files, judging, library
 from tteuyomal.decks import Block, Deck, Placement, Sheet
@@ -414,6 +414,27 @@ class Boards(Room):
         self.assertNotIn("http://", text.replace("http://www.w3.org/", ""))
         self.assertNotIn("https://", text)
         self.assertEqual(text.count('class="wrong"'), 2)
+
+    def test_sheets_of_both_kinds(self):
+        """Five fields or six, as the sheet has: on the board, in words, as objects and in the notice."""
+        wrong = FORTY + sheet_of_six(12, 198, 96, 102, 14, 6)
+        self.put("a", GOOD)
+        self.put("b", FORTY + RIGHT_SIX)
+        self.assertIn("All 2 decks are accepted", self.board(0))
+        deck = self.put("c", wrong)
+        text = self.board(1)
+        self.assertEqual([text.count(f"<tr><th>{name}</th>") for name in ("polarity", "largest distance")], [3, 2])
+        self.assertIn('<tr><th>largest distance</th><td class="wrong">6</td><td>7</td></tr>', text)
+        self.assertIn("differs</span>: largest distance", text)
+        status, said = self.run_command("explain", deck)
+        self.assertEqual((status, said.splitlines()[-1]), (1, "differs 6: the first wrong field is largest distance."))
+        self.assertIn("wrong", next(line for line in said.splitlines() if line.startswith("largest distance")))
+        said = json.loads(self.run_command("judge", "--json", deck)[1])
+        self.assertEqual((said["field"], said["claimed"]["largest"], said["worked_out"]["largest"]), (6, 6, 7))
+        output = os.path.join(self.room, "notice.txt")
+        self.assertEqual(self.run_command("notice", self.decks, "-o", output)[0], 1)
+        self.assertIn(f"{hashlib.sha256(wrong).hexdigest()}  differs 6  c\n", self.read(output).decode())
+        self.assertIn("largest distance  ", self.run_command("explain", self.put("d", FORTY))[1])
 
     def test_an_empty_folder_is_no_green_board(self):
         text = self.board(2)

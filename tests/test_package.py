@@ -32,6 +32,8 @@ class Values(unittest.TestCase):
         self.assertEqual(Sheet(12, 198, 96, 102, 14).record(), RIGHT)
         six = Sheet(12, 198, 96, 102, 14, 7).record()
         self.assertEqual((len(six), six[:4], six[-4:]), (44, bytes([40, 0, 4, 0]), bytes([7, 0, 0, 0])))
+        self.assertEqual(TWO_RINGS.compose(six=True), Sheet(12, 198, 96, 102, 14, 7))
+        self.assertEqual(bytes(TWO_RINGS.with_sheet(six=True)), FORTY + six)
         self.assertEqual(str(TWO_RINGS.compose()), "atoms 12 W 198 even 96 odd 102 polarity 14")
         for wrong in (Sheet(2**32, 0, 0, 0, 0), Sheet(1, 2**64, 0, 0, 0), Sheet(1, -1, 0, 0, 0)):
             self.assertRaises(ValueError, wrong.record)

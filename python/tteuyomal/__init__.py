@@ -23,6 +23,7 @@ from .decks import (
     measure,
     values,
 )
+from .libraries import Candidate, Library, Product, Site
 from .library import NotThere, Refused
 from .library import version as library_version
 
@@ -30,11 +31,15 @@ __version__ = "2.0.0"
 
 __all__ = [
     "Block",
+    "Candidate",
     "Deck",
+    "Library",
     "NotThere",
     "Placement",
+    "Product",
     "Refused",
     "Sheet",
+    "Site",
     "Verdict",
     "compose",
     "contributions",

@@ -71,7 +71,7 @@ def _what(judged: Judged) -> str:
     if judged.word == DIFFERS:
         return ": " + ", ".join(FIELD_NAMES[k] for k in judged.wrong())
     if judged.word == REFUSED:
-        return f" {judged.number} at {judged.place}: {judged.words}"
+        return f" {judged.number} at {judged.place}: {judged.words}" + (f" ({judged.note})" if judged.note else "")
     return f": {judged.fault}" if judged.fault else ""
 
 

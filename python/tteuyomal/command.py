@@ -7,6 +7,8 @@ import argparse
 import contextlib
 import datetime
 import functools
+import heapq
+import itertools
 import json
 import os
 import shutil
@@ -17,7 +19,7 @@ import traceback
 from collections.abc import Callable, Iterable, Iterator
 from typing import IO, Any, NoReturn
 
-from . import __version__, board, decks, decktext, drawing, explain, files, judging, library, measuring, notice, work
+from . import __version__, board, decks, decktext, drawing, explain, files, judging, libraries, library, measuring, notice, work
 from .files import Found
 from .judging import Tally
 from .library import NotThere, Refused
@@ -181,6 +183,68 @@ def show(options: argparse.Namespace, out: Output) -> int:
         raise Stop(f"{files.shown(options.deck)}: {Refused(20, 0)}")
     out.write(decktext.shown(data))
     return 0
+
+
+def list_library(options: argparse.Namespace, out: Output) -> int:
+    """The products of a library deck."""
+    if options.sort == "largest" and not options.six:
+        raise Stop("--sort largest needs --six: the largest distance is the sixth field")
+    if options.reverse and options.sort is None:
+        raise Stop("--reverse needs --sort: without it products stand by position")
+    if options.output is not None:
+        files.apart(options.output, [options.deck])
+    try:
+        data = files.read(Found(options.deck)).data
+        count = library.library_count(data)
+    except files.Unread as fault:
+        raise Stop(f"{files.shown(options.deck)}: cannot be read: {fault}") from None
+    except Refused as refusal:
+        raise Stop(f"{files.shown(options.deck)}: {refusal}{_no_library(data, refusal)}") from None
+    if options.first >= count:
+        raise Stop(f"{files.shown(options.deck)}: no product from position {options.first} on: there are {count}, from 0 on")
+    deck = libraries.Library.from_bytes(data)
+    lines = (one.row() if options.csv else one.line() for one in _ranked(options, _products(options, deck)))
+    head = [libraries.columns(len(deck.sites), options.six)] if options.csv else []
+    with contextlib.ExitStack() as parts:
+        file = parts.enter_context(files.written(options.output)) if options.output is not None else None
+        for some in work.batches(itertools.chain(head, lines)):
+            text = "".join(f"{line}\n" for line in some)
+            if file is None:
+                out.write(text)
+            else:
+                _put(file, [text])
+    return 0
+
+
+def _no_library(data: bytes, refusal: Refused) -> str:
+    """What helps who gave another deck than a library's."""
+    if (refusal.number, judging.kind_at(data, refusal.place)) == (12, decks.ASSEMBLY):
+        return "; it is the assembly of one molecule: `tteuyomal sheet` and `tteuyomal judge` take such a deck"
+    return ""
+
+
+def _products(options: argparse.Namespace, deck: libraries.Library) -> Iterator[libraries.Product]:
+    """The products that were asked for, with the progress shown."""
+    progress = work.Progress("products")
+    limits = (options.count, options.top if options.sort is None else None)
+    count = min((one for one in limits if one is not None), default=None)
+    for batch in deck.batches(options.first, count, options.six):
+        yield from batch
+        progress.add(len(batch))
+    progress.end(f"{progress.done} {'product' if progress.done == 1 else 'products'}")
+
+
+def _ranked(options: argparse.Namespace, products: Iterator[libraries.Product]) -> Iterable[libraries.Product]:
+    """The products in the order that was asked for; equal ones stand by position. With --top no more than so many are held."""
+    if options.sort is None:
+        return products
+    field = decks.SHORT_NAMES.index(options.sort)
+    sign = -1 if options.reverse else 1
+
+    def rank(one: libraries.Product) -> tuple[int, int]:
+        return sign * one.fields[field], one.position
+
+    return sorted(products, key=rank) if options.top is None else heapq.nsmallest(options.top, products, key=rank)
 
 
 def write_board(options: argparse.Namespace, out: Output) -> int:
@@ -349,6 +413,18 @@ def _parser() -> argparse.ArgumentParser:
     one = command("show", show, "print the text that a deck is made from")
     one.add_argument("deck", metavar="DECK")
 
+    one = command("library", list_library, "list the products of a library deck with their fields, in order or ranked")
+    one.add_argument("deck", metavar="DECK", help="- is standard input")
+    one.add_argument("--six", action="store_true", help="with the largest distance, the sixth field")
+    fields = ", ".join(decks.SHORT_NAMES)
+    one.add_argument("--sort", type=_field, choices=decks.SHORT_NAMES, metavar="FIELD", help=f"smallest first: {fields}")
+    one.add_argument("--reverse", action="store_true", help="with --sort: greatest first")
+    one.add_argument("--top", type=_positive, metavar="N", help="only the first so many of the list")
+    one.add_argument("--csv", action="store_true", help="rows with commas under a row of names")
+    one.add_argument("--from", dest="first", type=_position, default=0, metavar="POSITION", help="begin here; the first is 0")
+    one.add_argument("--count", type=_positive, metavar="N", help="look at so many products")
+    one.add_argument("-o", dest="output", metavar="FILE", help="write to this file")
+
     for name, function, words in (
         ("board", write_board, "write the board of a folder's decks: one file of HTML"),
         ("notice", write_notice, "write the notice of a folder's decks: a text for the clerk"),
@@ -364,6 +440,25 @@ def _count(word: str) -> int:
     number = int(word)
     if not 1 <= number <= 1024:
         raise argparse.ArgumentTypeError("from 1 to 1024")
+    return number
+
+
+def _field(word: str) -> str:
+    """A field's name, in letters of either case."""
+    return {name.lower(): name for name in decks.SHORT_NAMES}.get(word.lower(), word)
+
+
+def _positive(word: str) -> int:
+    number = int(word)
+    if number < 1:
+        raise argparse.ArgumentTypeError("from 1 on")
+    return number
+
+
+def _position(word: str) -> int:
+    number = int(word)
+    if number < 0:
+        raise argparse.ArgumentTypeError("from 0 on")
     return number
 
 

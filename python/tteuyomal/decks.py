@@ -10,8 +10,9 @@ from typing import Any, NamedTuple
 from . import library
 from .library import Contributions, Fields, Refused, Sets, Szeged, Values, Vertex
 
-BLOCK, ASSEMBLY, SHEET, SIX = 1, 2, 3, 4  # kinds of records
+BLOCK, ASSEMBLY, SHEET, SIX, LIBRARY = 1, 2, 3, 4, 5  # kinds of records
 FIELD_NAMES = library.SHEET_NAMES
+SHORT_NAMES = ("atoms", "W", "even", "odd", "polarity", "largest")  # the same, as they stand in lines and texts
 
 
 @dataclass(frozen=True)
@@ -133,8 +134,7 @@ class Sheet:
         return library.sheet_record(self.fields())
 
     def __str__(self) -> str:
-        words = ("atoms", "W", "even", "odd", "polarity", "largest")
-        return " ".join(f"{word} {number}" for word, number in zip(words, self.fields()))
+        return " ".join(f"{word} {number}" for word, number in zip(SHORT_NAMES, self.fields()))
 
 
 class Verdict(NamedTuple):
@@ -192,17 +192,17 @@ class Deck:
         """The same blocks and placements."""
         return Deck(self.blocks, self.placements)
 
-    def with_sheet(self, sheet: Sheet | None = None) -> Deck:
-        """The same with a sheet: the one that is given, or the one that the library works out."""
-        return Deck(self.blocks, self.placements, self.compose() if sheet is None else sheet)
+    def with_sheet(self, sheet: Sheet | None = None, six: bool = False) -> Deck:
+        """The same with a sheet: the one that is given, or the one that the library works out, of six fields if `six`."""
+        return Deck(self.blocks, self.placements, self.compose(six) if sheet is None else sheet)
 
     def judge(self) -> Verdict:
         """The library's verdict on the sheet."""
         return judge(bytes(self))
 
-    def compose(self) -> Sheet:
-        """The fields of the whole molecule, whatever sheet the deck has."""
-        return compose(bytes(self.without_sheet()))
+    def compose(self, six: bool = False) -> Sheet:
+        """The fields of the whole molecule, whatever sheet the deck has; with its largest distance if `six`."""
+        return compose(bytes(self.without_sheet()), six)
 
     def distance(self, k: int, i: int, l: int, j: int) -> int:
         """The distance of atom i of placement k and atom j of placement l in the whole molecule."""
@@ -233,9 +233,9 @@ def verdict_of(reply: int) -> Verdict:
     return Verdict(where) if what == 255 else Verdict(refusal=Refused(what, where))
 
 
-def compose(deck: Deck | library.Bytes) -> Sheet:
-    """The five fields of the molecule of a deck without a sheet; raises `Refused`."""
-    return Sheet(*library.compose(_deck_bytes(deck)))
+def compose(deck: Deck | library.Bytes, six: bool = False) -> Sheet:
+    """The five fields of the molecule of a deck without a sheet, or six of them; raises `Refused`."""
+    return Sheet(*(library.compose_six if six else library.compose)(_deck_bytes(deck)))
 
 
 def measure(block: Block) -> Sheet:
@@ -331,6 +331,7 @@ def _left_out(atom: Any) -> bool:
 
 
 __all__ = [
-    "Block", "Contributions", "Deck", "FIELD_NAMES", "Fields", "Placement", "Refused", "Sets", "Sheet", "Szeged", "Values",
-    "Verdict", "Vertex", "claimed", "compose", "contributions", "judge", "judge_many", "measure", "records", "values", "verdict_of",
+    "Block", "Contributions", "Deck", "FIELD_NAMES", "Fields", "Placement", "Refused", "SHORT_NAMES", "Sets", "Sheet", "Szeged",
+    "Values", "Verdict", "Vertex", "claimed", "compose", "contributions", "judge", "judge_many", "measure", "records", "values",
+    "verdict_of",
 ]  # fmt: skip

@@ -25,20 +25,30 @@
     odd = 128
     polarity = 16
 
-A sheet with `largest` is one of kind 4. Bytes that are no deck in this form are told as `bytes = "0C00.."`, so that every file
-has a text, and `made(shown(data))` is `data` for all bytes.
+A sheet with `largest` is one of kind 4. A library deck has, in place of placements and a sheet, its core and its sites, each with
+an atom of the core and candidates, block@atom:
+
+    [library]
+    core = 1
+
+    [[site]]
+    atom = 1
+    candidates = ["2@1", "1@1"]
+
+Bytes that are no deck in this form are told as `bytes = "0C00.."`, so that every file has a text, and `made(shown(data))` is `data`
+for all bytes.
 """
 
 from __future__ import annotations
 
 import os
 import tomllib
-from collections.abc import Callable, Iterator
+from collections.abc import Callable, Iterable, Iterator
 from typing import Any
 
-from .decks import Block, Deck, Placement, Sheet
+from .decks import SHORT_NAMES, Block, Deck, Placement, Sheet
+from .libraries import Library
 
-_SHEET_KEYS = ("atoms", "W", "even", "odd", "polarity", "largest")
 _BLOCK_KEYS = {"number", "atoms", "bonds", "molfile", "neighbours"}
 _PLACEMENT_KEYS = {"block", "parent", "parent_atom", "atom"}
 
@@ -49,26 +59,39 @@ class BadText(ValueError):
 
 def shown(data: bytes) -> str:
     """The text of a deck."""
-    try:
-        text = "\n".join(_tables(Deck.from_bytes(data)))
-        if made(text) == data:
-            return text
-    except ValueError:
-        pass
-    return f'# no deck of blocks, one assembly and at most one sheet: all its bytes\nbytes = "{data.hex()}"\n'
+    for told in (lambda: _tables(Deck.from_bytes(data)), lambda: _library_tables(Library.from_bytes(data))):
+        try:
+            text = "\n".join(told())
+            if made(text) == data:
+                return text
+        except ValueError:
+            pass
+    return f'# no deck of blocks, one assembly and at most one sheet, and no library: all its bytes\nbytes = "{data.hex()}"\n'
+
+
+def _block_tables(blocks: Iterable[tuple[int, Block]]) -> Iterator[str]:
+    for number, block in blocks:
+        bonds = ", ".join(f'"{first}-{second}"' for first, second in block.bonds)
+        yield f"[[block]]\nnumber = {number}\natoms = {block.atoms}\nbonds = [{bonds}]\n"
+
+
+def _library_tables(deck: Library) -> Iterator[str]:
+    yield from _block_tables(deck.blocks)
+    yield f"[library]\ncore = {deck.core}\n"
+    for site in deck.sites:
+        candidates = ", ".join(f'"{one}"' for one in site.candidates)
+        yield f"[[site]]\natom = {site.atom}\ncandidates = [{candidates}]\n"
 
 
 def _tables(deck: Deck) -> Iterator[str]:
-    for number, block in deck.blocks:
-        bonds = ", ".join(f'"{first}-{second}"' for first, second in block.bonds)
-        yield f"[[block]]\nnumber = {number}\natoms = {block.atoms}\nbonds = [{bonds}]\n"
+    yield from _block_tables(deck.blocks)
     for placement in deck.placements:
         lines = [f"block = {placement.block}"]
         if placement.numbers()[1:] != (0, 0, 0):
             lines += [f"parent = {placement.parent}", f"parent_atom = {placement.parent_atom}", f"atom = {placement.atom}"]
         yield "\n".join(["[[placement]]", *lines, ""])
     if deck.sheet is not None:
-        yield "\n".join(["[sheet]", *(f"{key} = {n}" for key, n in zip(_SHEET_KEYS, deck.sheet.fields())), ""])
+        yield "\n".join(["[sheet]", *(f"{key} = {n}" for key, n in zip(SHORT_NAMES, deck.sheet.fields())), ""])
 
 
 def made(text: str, folder: str = ".", reader: Callable[[str], bytes] | None = None) -> bytes:
@@ -80,9 +103,12 @@ def made(text: str, folder: str = ".", reader: Callable[[str], bytes] | None = N
         raise BadText(str(fault)) from None
     if "bytes" in tables:
         return _raw(tables)
-    _known(tables, {"block", "placement", "sheet"}, "the text")
+    of_library = "library" in tables or "site" in tables
+    _known(tables, {"block", "library", "site"} if of_library else {"block", "placement", "sheet"}, "the text")
     read = reader or (lambda name: _file(os.path.join(folder, name)))
     blocks = [_block(table, place, read) for place, table in enumerate(_list(tables, "block"), 1)]
+    if of_library:
+        return _library(tables, blocks)
     placements = [_placement(table, place) for place, table in enumerate(_list(tables, "placement"), 1)]
     try:
         return bytes(Deck(blocks, placements, _sheet(tables)))
@@ -170,12 +196,41 @@ def _placement(table: dict[str, Any], place: int) -> Placement:
     return Placement(_number(table, "block", what), *(_number(table, key, what, 0) for key in ("parent", "parent_atom", "atom")))
 
 
+def _library(tables: dict[str, Any], blocks: list[tuple[int, Block]]) -> bytes:
+    table = tables.get("library")
+    if not isinstance(table, dict):
+        raise BadText("the text has sites and no library: write [library] and the core's block number")
+    _known(table, {"core"}, "the library")
+    sites = [_site(one, place) for place, one in enumerate(_list(tables, "site"), 1)]
+    try:
+        return bytes(Library(blocks, _number(table, "core", "the library"), sites))
+    except (TypeError, ValueError) as fault:
+        raise BadText(str(fault)) from None
+
+
+def _site(table: dict[str, Any], place: int) -> tuple[int, list[tuple[int, int]]]:
+    what = f"site {place} of the text"
+    _known(table, {"atom", "candidates"}, what)
+    candidates = table.get("candidates")
+    if not isinstance(candidates, list):
+        raise BadText(f'{what}: `candidates` is no list, as ["2@1", "1@1"]')
+    return _number(table, "atom", what), [_candidate(one, f"{what}, candidate {k}") for k, one in enumerate(candidates, 1)]
+
+
+def _candidate(one: Any, what: str) -> tuple[int, int]:
+    try:
+        block, atom = (int(number) for number in one.split("@"))
+    except (AttributeError, ValueError):
+        raise BadText(f'{what} is no block and atom, as "2@1": {one!r}') from None
+    return block, atom
+
+
 def _sheet(tables: dict[str, Any]) -> Sheet | None:
     if "sheet" not in tables:
         return None
     table = tables["sheet"]
     if not isinstance(table, dict):
         raise BadText("`sheet` is no table: write [sheet]")
-    _known(table, set(_SHEET_KEYS), "the sheet")
-    five = [_number(table, key, "the sheet") for key in _SHEET_KEYS[:5]]
+    _known(table, set(SHORT_NAMES), "the sheet")
+    five = [_number(table, key, "the sheet") for key in SHORT_NAMES[:5]]
     return Sheet(*five, _number(table, "largest", "the sheet") if "largest" in table else None)

@@ -2,6 +2,7 @@
 
 from __future__ import annotations
 
+import re
 from typing import Any
 
 from .decks import Deck
@@ -62,5 +63,5 @@ def _drawn(atoms: int, bonds: list[tuple[int, int]]) -> str:
     drawer.DrawMolecule(mol)
     drawer.FinishDrawing()
     text: str = drawer.GetDrawingText()
-    return text[text.index("<svg") :]
+    return re.sub(r"\s+xmlns(:\w+)?='[^']*'", "", text[text.index("<svg") :])  # in a page of HTML an SVG needs no names of spaces
 

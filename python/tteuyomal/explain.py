@@ -5,12 +5,12 @@ from __future__ import annotations
 import struct
 from collections.abc import Iterator
 
-from . import files, judging
-from .decks import ASSEMBLY, BLOCK, FIELD_NAMES, SHEET, SIX, Placement
+from . import files, judging, libraries, library
+from .decks import ASSEMBLY, BLOCK, FIELD_NAMES, LIBRARY, SHEET, SIX, Placement
 from .judging import ACCEPTED, REFUSED, Judged
 from .library import Refused
 
-KIND_NAMES = {BLOCK: "a block", ASSEMBLY: "the assembly", SHEET: "a sheet", SIX: "a sheet of six fields", 5: "a library"}
+KIND_NAMES = {BLOCK: "a block", ASSEMBLY: "the assembly", SHEET: "a sheet", SIX: "a sheet of six fields", LIBRARY: "a library"}
 
 
 def explained(judged: Judged) -> Iterator[str]:
@@ -68,6 +68,19 @@ def _contents(kind: int, payload: bytes) -> Iterator[str]:
         whole = payload[2 : 2 + (len(payload) - 2) // 6 * 6]
         for place, numbers in enumerate(struct.iter_unpack("<HHBB", whole), 1):
             yield _placement(place, Placement(*numbers))
+    elif kind == LIBRARY:
+        yield from _sites(payload)
+
+
+def _sites(payload: bytes) -> Iterator[str]:
+    try:
+        core, sites = libraries.sites_of(0, payload)
+    except ValueError:
+        return
+    yield f"the core is block {core}"
+    for place, site in enumerate(sites, 1):
+        those = ", ".join(f"block {one.block} by its atom {one.atom}" for one in site.candidates)
+        yield f"site {place}, atom {site.atom} of the core: {those}"
 
 
 def _placement(place: int, one: Placement) -> str:
@@ -82,12 +95,27 @@ def _refusal(judged: Judged) -> Iterator[str]:
     yield from where(judged.data, judged.number, judged.place)
     if judged.number == 11 and judged.place == judged.size:
         yield from _unclaimed(judged.data)
+    if judged.note:
+        yield from _library(judged.data)
+
+
+def _library(data: bytes) -> Iterator[str]:
+    """What a library deck is, for who judges it."""
+    yield ""
+    try:
+        count = library.library_count(data)
+    except Refused as refusal:
+        yield f"This is a library deck, which has no sheet to judge; as a library it is {refusal}."
+        return
+    sheets = "1 product" if count == 1 else f"{count} products"
+    yield f"This is a library deck: a core with candidates for its sites, and no sheet to judge. It has {sheets};"
+    yield "`tteuyomal library` lists them with their fields."
 
 
 def _unclaimed(data: bytes) -> Iterator[str]:
     """What the library works out for a deck that is whole but for its sheet."""
     try:
-        worked = judging.worked_out(data)
+        worked = judging.worked_out(data, 6)
     except Refused:
         return
     yield ""

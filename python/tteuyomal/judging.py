@@ -42,6 +42,13 @@ class Judged(NamedTuple):
         """What the refusal's number says."""
         return Refused(self.number, self.place).words if self.word == REFUSED else ""
 
+    @property
+    def note(self) -> str:
+        """What helps who meant something else by the file; mostly nothing."""
+        if self.word == REFUSED and (self.number, kind_at(self.data, self.place)) == (12, decks.LIBRARY):
+            return "a library deck has no sheet to judge; the command tteuyomal library lists its products"
+        return ""
+
     def verdict(self) -> str:
         """The verdict as it stands in a line."""
         if self.word == DIFFERS:
@@ -81,6 +88,11 @@ JSON_NAMES = ("atoms", "w", "even", "odd", "polarity", "largest")
 def named(fields: tuple[int, ...]) -> dict[str, int]:
     """The fields under their names."""
     return dict(zip(JSON_NAMES, fields))
+
+
+def kind_at(data: bytes, place: int) -> int:
+    """The kind of the record that begins at a place."""
+    return int.from_bytes(data[place + 2 : place + 4], "little")
 
 
 def judge_file(found: Found, fields: bool = True) -> Judged:

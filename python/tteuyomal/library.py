@@ -321,6 +321,24 @@ def assembly_record(placements: Iterable[Iterable[int]]) -> bytes:
     return _record(2, struct.pack("<H", _exactly(len(rows), "the placement count", 65535)) + b"".join(rows))
 
 
+def library_record(core: int, sites: Iterable[tuple[int, Iterable[tuple[int, int]]]]) -> bytes:
+    """A library's record: the core's block number, and for each site the core's atom and its candidates, each (block number,
+    joining atom)."""
+    rows = [_site(place, atom, candidates) for place, (atom, candidates) in enumerate(sites, 1)]
+    head = (core, "the core's block number"), (len(rows), "the site count")
+    return _record(5, struct.pack("<HH", *(_exactly(n, what, 65535) for n, what in head)) + b"".join(rows))
+
+
+def _site(place: int, atom: int, candidates: Iterable[tuple[int, int]]) -> bytes:
+    those = []
+    for one in candidates:
+        number, own = one
+        joined = _exactly(own, f"a joining atom of site {place}", 255)
+        those.append(struct.pack("<HB", _exactly(number, f"a block number of site {place}", 65535), joined))
+    head = (atom, f"the atom of site {place}"), (len(those), f"the candidate count of site {place}")
+    return bytes(_exactly(n, what, 255) for n, what in head) + b"".join(those)
+
+
 SHEET_NAMES = ("atoms", "W", "even part", "odd part", "polarity", "largest distance")
 
 

@@ -7,7 +7,7 @@ from collections.abc import Callable
 from typing import Any
 
 from . import files, library
-from .decks import Block
+from .decks import Block, Deck, Placement
 from .files import Found, Unread
 from .library import NotThere, Refused
 
@@ -17,7 +17,7 @@ TREES_ONLY = 34
 
 # what is measured besides the five fields: its name, and how a block answers it
 INDICES: list[tuple[str, str, Callable[[Block], Any]]] = [
-    ("largest", "farthest", lambda block: max(block.farthest(atom) for atom in range(1, block.atoms + 1))),
+    ("largest", "compose_six", lambda block: Deck({1: block}, [Placement(1)]).compose(six=True).largest),
     ("J", "balaban", lambda block: f"{block.balaban() // 10**9}.{block.balaban() % 10**9:09d}"),
     ("Szeged", "szeged", lambda block: block.szeged().index),
     ("Hosoya", "count_sets", lambda block: block.sets().bonds),
