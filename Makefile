@@ -6,6 +6,8 @@ VERSION := 2.0.0
 PREFIX ?= /usr/local
 DESTDIR ?=
 
+SONAME := libtteuyomal.so.$(firstword $(subst ., ,$(VERSION)))
+
 STATIC := target/staticlib/libtteuyomal.a
 SHARED := target/staticlib/libtteuyomal.so
 PACKED := python/tteuyomal/libtteuyomal.so
@@ -22,7 +24,7 @@ $(STATIC): $(PROVED)
 
 # the whole archive as one shared object
 $(SHARED): $(STATIC)
-	$(CC) -shared -o $@ -Wl,-soname,libtteuyomal.so.1 -Wl,--whole-archive $< -Wl,--no-whole-archive
+	$(CC) -shared -o $@ -Wl,-soname,$(SONAME) -Wl,--whole-archive $< -Wl,--no-whole-archive
 
 $(PACKED): $(SHARED)
 	cp $< $@
@@ -31,8 +33,8 @@ install: $(SHARED)
 	install -d $(DESTDIR)$(PREFIX)/include $(DESTDIR)$(PREFIX)/lib/pkgconfig
 	install -m 644 include/tteuyomal.h $(DESTDIR)$(PREFIX)/include/
 	install -m 644 $(STATIC) $(DESTDIR)$(PREFIX)/lib/
-	install -m 755 $(SHARED) $(DESTDIR)$(PREFIX)/lib/libtteuyomal.so.1
-	ln -sf libtteuyomal.so.1 $(DESTDIR)$(PREFIX)/lib/libtteuyomal.so
+	install -m 755 $(SHARED) $(DESTDIR)$(PREFIX)/lib/$(SONAME)
+	ln -sf $(SONAME) $(DESTDIR)$(PREFIX)/lib/libtteuyomal.so
 	printf '%s\n' 'prefix=$(PREFIX)' 'libdir=$${prefix}/lib' 'includedir=$${prefix}/include' '' 'Name: tteuyomal' \
 	    'Description: distance numbers of molecules, and a judge of the sheets that give them' 'Version: $(VERSION)' \
 	    'Cflags: -I$${includedir}' 'Libs: -L$${libdir} -ltteuyomal' > $(DESTDIR)$(PREFIX)/lib/pkgconfig/tteuyomal.pc
