@@ -13,44 +13,44 @@ use Rattle.reply.specs.Read.{Read, refused, read, _then_, refuseIf, refuseFor, 
 use Rattle.reply.specs.Chain.{not-read}
 use Rattle.block.specs.Block.{mostAtoms, mostBytes, bondsOf, graphOf, bondFault, bondsReply}
 use Rattle.reply.specs.declared.Refusal.{Refusal}
-use Rattle.adjacency.specs.Neighbours.{Number, number, numbers, faultAt, shapeFrom, steps, neighboursReply, Step, described, bonded, bondsIn, stepsReply, bondsLength, bondBytes, molecule, blockOf, bytesAfter}
-use Rattle.adjacency.specs.Work.{until, anyHigh, putAt, Fit, Sized, keptReply, labelRefused, highReply}
+use Rattle.adjacency.specs.Neighbours.{TextNumber, number, numbers, faultAt, shapeFrom, steps, neighboursReply, Step, described, bonded, bondsIn, stepsReply, bondsLength, bondListBytes, molecule, blockOf, bytesAfter}
+use Rattle.adjacency.specs.Work.{until, anyHigh, putAt, FewBonds, Sized, keptReply, labelRefused, highReply}
 use Rattle.adjacency.specs.Judging.{sized}
 
 -- bytes and bonds
-pub bytes-length : (bs : List Bond) → length (bondBytes bs) ≡ 2 * length bs
-unfolding bondBytes
+pub bytes-length : (bs : List Bond) → length (bondListBytes bs) ≡ 2 * length bs
+unfolding bondListBytes
 bytes-length [] = refl
 bytes-length (b ∷ bs) = omega (arith, bytes-length bs)
 
-pub bytes-bonds : (bs : List Bond) → bondsOf (bondBytes bs) ≡ bs
-unfolding bondBytes bondsOf
+pub bytes-bonds : (bs : List Bond) → bondsOf (bondListBytes bs) ≡ bs
+unfolding bondListBytes bondsOf
 bytes-bonds [] = refl
 bytes-bonds (b ∷ bs) = ap (λ (l : List Bond). b ∷ l) (bytes-bonds bs)
 
 -- bytes that come in pairs are those of their bonds
-bonds-bytes : (xs : List ℕ) → length xs % 2 ≡ 0 → bondBytes (bondsOf xs) ≡ xs
-unfolding bondBytes bondsOf
+bonds-bytes : (xs : List ℕ) → length xs % 2 ≡ 0 → bondListBytes (bondsOf xs) ≡ xs
+unfolding bondListBytes bondsOf
 bonds-bytes [] h = refl
 bonds-bytes (a ∷ []) h = absurd (omega arith)
 bonds-bytes (a ∷ b ∷ xs) h = ap (λ (l : List ℕ). a ∷ b ∷ l) (bonds-bytes xs (omega arith))
 
-puts : (out : List ℕ) (p : ℕ) (bs : List Bond) → putAt out p bs ≡ sets out p (bondBytes bs)
-unfolding putAt bondBytes
+puts : (out : List ℕ) (p : ℕ) (bs : List Bond) → putAt out p bs ≡ sets out p (bondListBytes bs)
+unfolding putAt bondListBytes
 puts out p [] = refl
 puts out p (b ∷ bs) =
     let one : p + 1 ≡ suc p = omega arith in
     let two : p + 2 ≡ suc (suc p) = omega arith in
     rw (one, two) (puts (set (set out p (b .one)) (suc p) (b .two)) (suc (suc p)) bs)
 
-pub put-all : (out : List ℕ) (bs : List Bond) → bondsLength bs ≤ length out → putAt out 0 bs ≡ bondBytes bs ++ drop (bondsLength bs) out
+pub put-all : (out : List ℕ) (bs : List Bond) → bondsLength bs ≤ length out → putAt out 0 bs ≡ bondListBytes bs ++ drop (bondsLength bs) out
 put-all out bs h =
     let l = bytes-length bs in
     let z : 0 + 2 * length bs ≡ 2 * length bs = omega arith in
-    puts out 0 bs ∙ sets-eq (bondBytes bs) out 0 (omega arith) ∙ rw (l, z)
+    puts out 0 bs ∙ sets-eq (bondListBytes bs) out 0 (omega arith) ∙ rw (l, z)
 
-pub front : (out : List ℕ) (bs : List Bond) (n : ℕ) → bondsLength bs ≤ length out → n ≡ bondsLength bs → take n (putAt out 0 bs) ≡ bondBytes bs
-front out bs n h e = rw (put-all out bs h) (take-at (bondBytes bs) (drop (bondsLength bs) out) n (bytes-length bs ∙ sym e))
+pub front : (out : List ℕ) (bs : List Bond) (n : ℕ) → bondsLength bs ≤ length out → n ≡ bondsLength bs → take n (putAt out 0 bs) ≡ bondListBytes bs
+front out bs n h e = rw (put-all out bs h) (take-at (bondListBytes bs) (drop (bondsLength bs) out) n (bytes-length bs ∙ sym e))
 
 -- the bonds up to a label above n
 pub until-few : (n : ℕ) (ss : List Step) → length (until n ss) ≤ length (bondsIn ss)
@@ -123,22 +123,22 @@ module _ (n : ℕ) (ss : List Step) (room : ℕ) where
   unfolding blockOf
   too-long low high h = rw (ne-eqb n 0 low, le-ltb mostAtoms n high, lt-ltb mostBytes (bondsLength (bondsIn ss)) h)
 
-  module _ (f : Fit n ss) where
+  module _ (f : FewBonds n ss) where
     inside : isOutside mostAtoms n ≡ false
     inside = rw (ne-eqb n 0 (f .low), le-ltb mostAtoms n (f .high))
 
     pub fits : bondsLength (until n ss) ≤ mostBytes
     fits = omega (arith, f .short, until-few n ss)
 
-    pub in-size : Sized n (bondBytes (until n ss))
+    pub in-size : Sized n (bondListBytes (until n ss))
     in-size =
         let l = bytes-length (until n ss) in
-        let m : length (bondBytes (until n ss)) % 2 ≡ 0 = omega arith in
-        record { atoms = inside; bytes = rw (eq-eqb (length (bondBytes (until n ss)) % 2) 0 m, le-ltb mostBytes (length (bondBytes (until n ss))) (omega (arith, fits))) }
+        let m : length (bondListBytes (until n ss)) % 2 ≡ 0 = omega arith in
+        record { atoms = inside; bytes = rw (eq-eqb (length (bondListBytes (until n ss)) % 2) 0 m, le-ltb mostBytes (length (bondListBytes (until n ss))) (omega (arith, fits))) }
 
     -- the refusals of the bonds up to a label above n, then 9
     judged-first : blockOf n ss room
-        ≡ (highReply n (bondBytes (until n ss)) (anyHigh n ss) then λ _. refuseIf (ltb room (bondsLength (bondsIn ss))) 9 0 then λ _. read (molecule n ss))
+        ≡ (highReply n (bondListBytes (until n ss)) (anyHigh n ss) then λ _. refuseIf (ltb room (bondsLength (bondsIn ss))) 9 0 then λ _. read (molecule n ss))
     unfolding blockOf
     judged-first =
         rw (inside, le-ltb mostBytes (bondsLength (bondsIn ss)) (f .short))
@@ -146,24 +146,24 @@ module _ (n : ℕ) (ss : List Step) (room : ℕ) where
       where
         go : (t : Bool) → anyHigh n ss ≡ t
             → ((bondsReply n [] (until n ss) then λ _. refuseIf t 3 (suc (0 + length (until n ss)))) then λ _. refuseIf (not (connected (molecule n ss))) 7 0 then λ _. refuseIf (ltb room (bondsLength (bondsIn ss))) 9 0 then λ _. read (molecule n ss))
-            ≡ (highReply n (bondBytes (until n ss)) t then λ _. refuseIf (ltb room (bondsLength (bondsIn ss))) 9 0 then λ _. read (molecule n ss))
+            ≡ (highReply n (bondListBytes (until n ss)) t then λ _. refuseIf (ltb room (bondsLength (bondsIn ss))) 9 0 then λ _. read (molecule n ss))
         go true e =
             let l = bytes-length (until n ss) in
-            let place : length (bondBytes (until n ss)) / 2 + 1 ≡ suc (0 + length (until n ss)) = omega arith in
+            let place : length (bondListBytes (until n ss)) / 2 + 1 ≡ suc (0 + length (until n ss)) = omega arith in
             rw (bytes-bonds (until n ss), place) (stopped (bondsReply n [] (until n ss)) (refusal 3 (suc (0 + length (until n ss)))) _ _)
         go false e =
             let u = until-all n ss e in
-            rw (u, sized n (bondBytes (bondsIn ss)) (rw u at in-size), bytes-bonds (bondsIn ss)) (regrouped (bondsReply n [] (bondsIn ss)) (refuseIf (not (connected (molecule n ss))) 7 0) _)
+            rw (u, sized n (bondListBytes (bondsIn ss)) (rw u at in-size), bytes-bonds (bondsIn ss)) (regrouped (bondsReply n [] (bondsIn ss)) (refuseIf (not (connected (molecule n ss))) 7 0) _)
 
-    module _ (e : highReply n (bondBytes (until n ss)) (anyHigh n ss) ≡ read tt) where
+    module _ (e : highReply n (bondListBytes (until n ss)) (anyHigh n ss) ≡ read tt) where
       no-high : until n ss ≡ bondsIn ss
       no-high = until-all n ss (go (anyHigh n ss) e)
         where
-          go : (t : Bool) → highReply n (bondBytes (until n ss)) t ≡ read tt → t ≡ false
+          go : (t : Bool) → highReply n (bondListBytes (until n ss)) t ≡ read tt → t ≡ false
           go false q = refl
-          go true q = deny (bondsReply n [] (bondsOf (bondBytes (until n ss)))) q
+          go true q = deny (bondsReply n [] (bondsOf (bondListBytes (until n ss)))) q
             where
-              deny : (m : Read (Unit {0})) → (m then λ _. labelRefused (bondBytes (until n ss))) ≡ read tt → true ≡ false
+              deny : (m : Read (Unit {0})) → (m then λ _. labelRefused (bondListBytes (until n ss))) ≡ read tt → true ≡ false
               deny (refused r) q = absurd (not-read q)
               deny (read u) q = absurd (not-read q)
 
@@ -174,11 +174,11 @@ module _ (n : ℕ) (ss : List Step) (room : ℕ) where
       all-read h = judged-first ∙ rw (e, le-ltb room (bondsLength (bondsIn ss)) (rw no-high at h))
 
     -- so what is kept of the text, up to a label above n, gives the reply
-    pub kept-is : keptReply n (bondBytes (until n ss)) (anyHigh n ss) room ≡ blockOf n ss room
-    kept-is = go (highReply n (bondBytes (until n ss)) (anyHigh n ss)) refl
+    pub kept-is : keptReply n (bondListBytes (until n ss)) (anyHigh n ss) room ≡ blockOf n ss room
+    kept-is = go (highReply n (bondListBytes (until n ss)) (anyHigh n ss)) refl
       where
-        go : (m : Read (Unit {0})) → highReply n (bondBytes (until n ss)) (anyHigh n ss) ≡ m
-            → (m then λ _. refuseIf (ltb room (length (bondBytes (until n ss)))) 9 0 then λ _. read (graphOf n (bondBytes (until n ss)))) ≡ blockOf n ss room
+        go : (m : Read (Unit {0})) → highReply n (bondListBytes (until n ss)) (anyHigh n ss) ≡ m
+            → (m then λ _. refuseIf (ltb room (length (bondListBytes (until n ss)))) 9 0 then λ _. read (graphOf n (bondListBytes (until n ss)))) ≡ blockOf n ss room
         go (refused r) e = sym (judged-first ∙ rw e)
         go (read u) e = rw (bytes-length (until n ss), bytes-bonds (until n ss), no-high e) (sym (judged-first ∙ rw e))
 
@@ -222,7 +222,7 @@ module _ (text : List ℕ) (room : ℕ) where
     unfolding neighboursReply
     reply-none e = rw (le-ltb (faultAt text) (length text) fine, e)
 
-    module _ (n p : ℕ) (xs : List Number) (e : numbers text ≡ number n p ∷ xs) where
+    module _ (n p : ℕ) (xs : List TextNumber) (e : numbers text ≡ number n p ∷ xs) where
       pub reply-shape : (r : Refusal) → shapeFrom (length text) 0 xs ≡ refused r → neighboursReply text room ≡ refused r
       unfolding neighboursReply
       reply-shape r f = rw (le-ltb (faultAt text) (length text) fine, e, f)

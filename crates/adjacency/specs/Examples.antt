@@ -7,11 +7,11 @@ use Rattle.graph.specs.Graph.{Graph, Bond, bond, joins, anyJoins, bonded, anyAt
 use Rattle.reply.specs.Read.{Read, refused, read, refusal}
 use Rattle.block.specs.Block.{bondsOf, bondFault, bondsReply, blockReply}
 use Rattle.text.specs.Text.{ascii, decimalIn, decimal}
-use Rattle.adjacency.specs.Neighbours.{numbersFrom, goodBytes, largeAt, faultAt, shapeFrom, asked, stepsFrom, bondsIn, stepsReply, blockOf, neighboursReply}
-use Rattle.adjacency.specs.Written.{upTo, greater, listed, line, lines, textBy, writeReply}
+use Rattle.adjacency.specs.Neighbours.{numbersFrom, goodBytes, largeAt, faultAt, shapeFrom, asked, askedFrom, bondsIn, stepsReply, blockOf, neighboursReply}
+use Rattle.adjacency.specs.Written.{upTo, greater, listed, line, lines, textBy, neighboursWriteReply}
 
 unfoldable told : String → ℕ → Read Graph
-unfolding joins anyJoins bonded anyAtom reaches firstFrom distance allAtoms connected degree bondFault numbersFrom goodBytes largeAt faultAt shapeFrom asked stepsFrom bondsIn stepsReply blockOf neighboursReply
+unfolding joins anyJoins bonded anyAtom reaches firstFrom distance allAtoms connected degree bondFault numbersFrom goodBytes largeAt faultAt shapeFrom asked askedFrom bondsIn stepsReply blockOf neighboursReply
 told text room = neighboursReply (ascii text) room
 
 abbrev no : ℕ → ℕ → Read Graph
@@ -125,8 +125,8 @@ one-atom = refl
 
 -- the writer
 unfoldable writtenBy : ℕ → List ℕ → ℕ → Read (List ℕ)
-unfolding joins anyJoins bonded anyAtom reaches firstFrom distance allAtoms connected degree bondsOf bondFault bondsReply blockReply decimalIn decimal upTo greater listed line lines textBy writeReply
-writtenBy n xs room = writeReply n xs room
+unfolding joins anyJoins bonded anyAtom reaches firstFrom distance allAtoms connected degree bondsOf bondFault bondsReply blockReply decimalIn decimal upTo greater listed line lines textBy neighboursWriteReply
+writtenBy n xs room = neighboursWriteReply n xs room
 
 write-naphthalene : writtenBy 10 (10 ∷ 9 ∷ 9 ∷ 8 ∷ 8 ∷ 7 ∷ 7 ∷ 6 ∷ 6 ∷ 5 ∷ 5 ∷ 4 ∷ 4 ∷ 3 ∷ 3 ∷ 2 ∷ 2 ∷ 1 ∷ 1 ∷ 10 ∷ 8 ∷ 3 ∷ []) 65 ≡ read (ascii "10\n1 2 10 0\n2 3 0\n3 4 8 0\n4 5 0\n5 6 0\n6 7 0\n7 8 0\n8 9 0\n9 10 0\n0\n")
 unfolding writtenBy

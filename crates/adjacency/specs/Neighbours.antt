@@ -5,24 +5,24 @@ use mathlib.Core.List.{List, [], _∷_, _++_}
 use lib.Dec.{eqb, leb, ltb}
 use lib.ListN.{length, drop}
 use Rattle.graph.specs.Graph.{Graph, Bond, bond, connected}
-use Rattle.reply.specs.Read.{Read, refused, read, _then_, refuseIf, refuseFor, refusal, isOutside}
+use Rattle.reply.specs.Read.{Read, refused, read, _then_, refuseIf, refuseFor, refusal, isOutside, ifElse}
 use Rattle.block.specs.Block.{mostAtoms, mostBytes, bondFault}
-use Rattle.text.specs.Text.{isDigit, digit, ifElse}
+use Rattle.text.specs.Text.{isDigit, digit}
 
 -- THE NUMBERS OF A TEXT. One is a longest run of digits: what it says, and the place of its first digit.
-pub record Number : Type 0 where
+pub record TextNumber : Type 0 where
   pub value : ℕ
   pub place : ℕ
 
-abbrev pub number : ℕ → ℕ → Number
+abbrev pub number : ℕ → ℕ → TextNumber
 number v p = record { value = v; place = p }
 
 -- the most that a number may say; what is above it says `tooMuch`
-abbrev pub most : ℕ
-most = 999
+abbrev pub mostValue : ℕ
+mostValue = 999
 
 abbrev pub tooMuch : ℕ
-tooMuch = suc most
+tooMuch = suc mostValue
 
 -- what digits say: those before say v
 abbrev pub grown : ℕ → ℕ → ℕ
@@ -31,7 +31,7 @@ grown v b = min (10 * v + digit b) tooMuch
 -- the run of digits right before a place, as a number, if there is one
 pub data Run : Type 0 where
   none : Run
-  run : Number → Run
+  run : TextNumber → Run
 
 -- a run that the digit b at a place makes longer
 abbrev pub longer : Run → ℕ → ℕ → Run
@@ -39,19 +39,19 @@ longer none at b = run (number (grown 0 b) at)
 longer (run x) at b = run (number (grown (x .value) b) (x .place))
 
 -- a run that ends, and the numbers after it
-abbrev pub ended : Run → List Number → List Number
+abbrev pub ended : Run → List TextNumber → List TextNumber
 ended none xs = xs
 ended (run x) xs = x ∷ xs
 
 -- the numbers of bytes that begin at a place
-unfoldable pub numbersFrom : Run → ℕ → List ℕ → List Number
+unfoldable pub numbersFrom : Run → ℕ → List ℕ → List TextNumber
 numbersFrom r at [] = ended r []
 numbersFrom r at (b ∷ bs) =
     ifElse (isDigit b)
     (λ _. numbersFrom (longer r at b) (at + 1) bs)
     (λ _. ended r (numbersFrom none (at + 1) bs))
 
-abbrev pub numbers : List ℕ → List Number
+abbrev pub numbers : List ℕ → List TextNumber
 numbers text = numbersFrom none 0 text
 
 -- 21: A BYTE THAT IS NO DIGIT, BLANK, TAB, CR OR LF, OR A NUMBER ABOVE 999, whichever stands first in the whole text.
@@ -67,9 +67,9 @@ goodBytes [] = 0
 goodBytes (b ∷ bs) = ifElse (isGood b) (λ _. suc (goodBytes bs)) (λ _. 0)
 
 -- the place of the first number that is too large; `end` where there is none
-unfoldable pub largeAt : ℕ → List Number → ℕ
+unfoldable pub largeAt : ℕ → List TextNumber → ℕ
 largeAt end [] = end
-largeAt end (x ∷ xs) = ifElse (ltb most (x .value)) (λ _. x .place) (λ _. largeAt end xs)
+largeAt end (x ∷ xs) = ifElse (ltb mostValue (x .value)) (λ _. x .place) (λ _. largeAt end xs)
 
 unfoldable pub faultAt : List ℕ → ℕ
 faultAt text = min (goodBytes text) (largeAt (length text) (numbers text))
@@ -86,12 +86,12 @@ abbrev pub isLast : ℕ → ℕ → Bool
 isLast label x = eqb label 0 && eqb x 0
 
 -- nothing stands after the last 0
-abbrev pub lastReply : List Number → Read (Unit {0})
+abbrev pub lastReply : List TextNumber → Read (Unit {0})
 lastReply [] = read tt
 lastReply (x ∷ xs) = refused (refusal 22 (x .place))
 
 -- descriptions up to the last 0, in a text that ends at `end`
-unfoldable pub shapeFrom : ℕ → ℕ → List Number → Read (Unit {0})
+unfoldable pub shapeFrom : ℕ → ℕ → List TextNumber → Read (Unit {0})
 shapeFrom end label [] = refused (refusal 22 end)
 shapeFrom end label (x ∷ xs) =
     ifElse (isLast label (x .value))
@@ -99,13 +99,13 @@ shapeFrom end label (x ∷ xs) =
     (λ _. shapeFrom end (labelAfter label (x .value)) xs)
 
 -- the atom count comes first; what is read is the count, and the numbers after it
-pub record Counted : Type 0 where
+pub record CountRead : Type 0 where
   pub count : ℕ
-  pub rest : List Number
+  pub rest : List TextNumber
 
-abbrev pub countReply : ℕ → List Number → Read Counted
-countReply end [] = refused (refusal 22 end)
-countReply end (x ∷ xs) = shapeFrom end 0 xs then λ _. read (record { count = x .value; rest = xs })
+abbrev pub atomCountReply : ℕ → List TextNumber → Read CountRead
+atomCountReply end [] = refused (refusal 22 end)
+atomCountReply end (x ∷ xs) = shapeFrom end 0 xs then λ _. read (record { count = x .value; rest = xs })
 
 -- WHAT THE NUMBERS ASK FOR, in the order of the text: an atom that is described, or a bond.
 pub data Step : Type 0 where
@@ -123,12 +123,12 @@ asked label x =
     (described x ∷ [])
     (cond (leb label x) (bonded (bond (end label) (end x)) ∷ []) [])
 
-unfoldable pub stepsFrom : ℕ → List Number → List Step
-stepsFrom label [] = []
-stepsFrom label (x ∷ xs) = asked label (x .value) ++ stepsFrom (labelAfter label (x .value)) xs
+unfoldable pub askedFrom : ℕ → List TextNumber → List Step
+askedFrom label [] = []
+askedFrom label (x ∷ xs) = asked label (x .value) ++ askedFrom (labelAfter label (x .value)) xs
 
-abbrev pub steps : List Number → List Step
-steps xs = stepsFrom 0 xs
+abbrev pub steps : List TextNumber → List Step
+steps xs = askedFrom 0 xs
 
 unfoldable pub bondsIn : List Step → List Bond
 bondsIn [] = []
@@ -145,9 +145,9 @@ stepsReply n before (bonded b ∷ ss) = refuseFor (bondFault n before b) (suc (l
 abbrev pub bondsLength : List Bond → ℕ
 bondsLength bs = 2 * length bs
 
-unfoldable pub bondBytes : List Bond → List ℕ
-bondBytes [] = []
-bondBytes (b ∷ bs) = b .one ∷ b .two ∷ bondBytes bs
+unfoldable pub bondListBytes : List Bond → List ℕ
+bondListBytes [] = []
+bondListBytes (b ∷ bs) = b .one ∷ b .two ∷ bondListBytes bs
 
 abbrev pub molecule : ℕ → List Step → Graph
 molecule n ss = record { atoms = n; bonds = bondsIn ss }
@@ -166,10 +166,10 @@ blockOf n ss room =
 unfoldable pub neighboursReply : List ℕ → ℕ → Read Graph
 neighboursReply text room =
     bytesReply text then λ _.
-    countReply (length text) (numbers text) then λ c.
+    atomCountReply (length text) (numbers text) then λ c.
     blockOf (c .count) (steps (c .rest)) room
 
 -- the lent bytes afterwards: the bonds at their front, or as they were
 abbrev pub bytesAfter : Read Graph → List ℕ → List ℕ
 bytesAfter (refused r) out = out
-bytesAfter (read g) out = bondBytes (g .bonds) ++ drop (bondsLength (g .bonds)) out
+bytesAfter (read g) out = bondListBytes (g .bonds) ++ drop (bondsLength (g .bonds)) out

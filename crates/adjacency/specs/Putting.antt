@@ -29,26 +29,26 @@ decimal-short v h = go (ltb v 10) refl
     go false e = rw (two-digits v (ltb-false v 10 e) h) (omega arith)
 
 -- each number of a list is below 100
-unfoldable pub Below : List ℕ → Type 0
-Below [] = Unit {0}
-Below (x ∷ xs) = (x < 100) × Below xs
+unfoldable pub BelowHundred : List ℕ → Type 0
+BelowHundred [] = Unit {0}
+BelowHundred (x ∷ xs) = (x < 100) × BelowHundred xs
 
-pub below-append : (xs ys : List ℕ) → Below xs → Below ys → Below (xs ++ ys)
-unfolding Below
+pub below-append : (xs ys : List ℕ) → BelowHundred xs → BelowHundred ys → BelowHundred (xs ++ ys)
+unfolding BelowHundred
 below-append [] ys p q = q
 below-append (x ∷ xs) ys p q = (p .0, below-append xs ys (p .1) q)
 
 -- the atoms that pass are at most n, so below 100
-up-below : (n m : ℕ) (p : ℕ → Bool) → n ≤ 64 → m ≤ n → Below (upTo m p)
-unfolding upTo Below
+up-below : (n m : ℕ) (p : ℕ → Bool) → n ≤ 64 → m ≤ n → BelowHundred (upTo m p)
+unfolding upTo BelowHundred
 up-below n zero p h l = tt
 up-below n (suc m) p h l = below-append (upTo m p) (cond (p (suc m)) (suc m ∷ []) []) (up-below n m p h (omega arith)) (one (p (suc m)))
   where
-    one : (t : Bool) → Below (cond t (suc m ∷ []) [])
+    one : (t : Bool) → BelowHundred (cond t (suc m ∷ []) [])
     one true = (omega arith, tt)
     one false = tt
 
-pub greater-below : (joined : ℕ → ℕ → Bool) (n : ℕ) → n ≤ 64 → (i : ℕ) → Below (greater joined n i)
+pub greater-below : (joined : ℕ → ℕ → Bool) (n : ℕ) → n ≤ 64 → (i : ℕ) → BelowHundred (greater joined n i)
 unfolding greater
 greater-below joined n h i = up-below n n (isGreater joined i) h (omega arith)
 
@@ -106,12 +106,12 @@ line-some i [] e = absurd (e refl)
 line-some i (j ∷ js) e = refl
 
 -- how long a text is
-listed-short : (xs : List ℕ) → Below xs → length (listed xs) ≤ 3 * length xs
-unfolding listed Below
+listed-short : (xs : List ℕ) → BelowHundred xs → length (listed xs) ≤ 3 * length xs
+unfolding listed BelowHundred
 listed-short [] b = omega arith
 listed-short (x ∷ xs) b = omega (arith, listed-short xs (b .1), decimal-short x (b .0), length-append (decimal x) (listed xs))
 
-line-short : (i : ℕ) (js : List ℕ) → i < 100 → Below js → length (line i js) ≤ 5 + 3 * length js
+line-short : (i : ℕ) (js : List ℕ) → i < 100 → BelowHundred js → length (line i js) ≤ 5 + 3 * length js
 unfolding line
 line-short i [] h b = omega arith
 line-short i (j ∷ js) h b =

@@ -18,10 +18,10 @@ use Rattle.reply.specs.Chain.{not-read}
 use Rattle.block.specs.Faults.{faultless}
 use Rattle.block.specs.Block.{mostBytes, limit, bondsOf, graphOf, bondFault, bondsReply, blockReply}
 use Rattle.block.specs.Told.{passed, few-atoms, sound, molecule}
-use Rattle.adjacency.specs.Neighbours.{steps, bondsLength, bondBytes, neighboursReply}
-use Rattle.adjacency.specs.Written.{writtenText, writeReply}
+use Rattle.adjacency.specs.Neighbours.{steps, bondsLength, bondListBytes, neighboursReply}
+use Rattle.adjacency.specs.Written.{writtenText, neighboursWriteReply}
 use Rattle.adjacency.specs.Canonical.{bondsUpTo, canonical}
-use Rattle.adjacency.specs.Work.{longest, until, anyHigh, Fit, highReply}
+use Rattle.adjacency.specs.Work.{longest, until, anyHigh, FewBonds, highReply}
 use Rattle.adjacency.specs.Blocks.{bytes-length, bytes-bonds, until-all, no-room, all-read}
 use Rattle.adjacency.specs.Writing.{text-same}
 use Rattle.adjacency.specs.Putting.{text-short}
@@ -130,12 +130,12 @@ module _ (n : ℕ) (xs : List ℕ) (fine : blockReply n xs ≡ read tt) where
       let a = few-atoms n xs fine in
       omega (arith, ends-counted n [] cs bonds-pass, sum-le n {f = λ v. degree cs v} {c = limit} (λ v w. canonical-few n xs fine v w))
 
-  pub fine-again : blockReply n (bondBytes (canonical n bs)) ≡ read tt
+  pub fine-again : blockReply n (bondListBytes (canonical n bs)) ≡ read tt
   unfolding blockReply canonical
   fine-again =
       let l = bytes-length cs in
-      let m : length (bondBytes cs) % 2 ≡ 0 = omega arith in
-      rw (passed n xs fine .size, eq-eqb (length (bondBytes cs) % 2) 0 m, le-ltb mostBytes (length (bondBytes cs)) (omega (arith, short-still)), bytes-bonds cs, bonds-pass, connected-still)
+      let m : length (bondListBytes cs) % 2 ≡ 0 = omega arith in
+      rw (passed n xs fine .size, eq-eqb (length (bondListBytes cs) % 2) 0 m, le-ltb mostBytes (length (bondListBytes cs)) (omega (arith, short-still)), bytes-bonds cs, bonds-pass, connected-still)
 
   -- it is short enough for what the writer keeps of it
   pub text-fits : length (writtenText n bs) ≤ longest
@@ -144,10 +144,10 @@ module _ (n : ℕ) (xs : List ℕ) (fine : blockReply n xs ≡ read tt) where
   until-is : {room : ℕ} (r : Reread (anyJoins bs) n (few-atoms n xs fine .high) room) → until n (steps (r .rest)) ≡ cs
   until-is r = until-all n (steps (r .rest)) (r .low) ∙ r .bonds
 
-  fit : {room : ℕ} (r : Reread (anyJoins bs) n (few-atoms n xs fine .high) room) → Fit n (steps (r .rest))
+  fit : {room : ℕ} (r : Reread (anyJoins bs) n (few-atoms n xs fine .high) room) → FewBonds n (steps (r .rest))
   fit r = let a = few-atoms n xs fine in record { low = λ z. omega arith; high = a .high; short = rw (r .bonds) short-still }
 
-  all-judged : {room : ℕ} (r : Reread (anyJoins bs) n (few-atoms n xs fine .high) room) → highReply n (bondBytes (until n (steps (r .rest)))) (anyHigh n (steps (r .rest))) ≡ read tt
+  all-judged : {room : ℕ} (r : Reread (anyJoins bs) n (few-atoms n xs fine .high) room) → highReply n (bondListBytes (until n (steps (r .rest)))) (anyHigh n (steps (r .rest))) ≡ read tt
   unfolding canonical
   all-judged r = rw (until-is r, r .low) fine-again
 
@@ -172,6 +172,6 @@ module _ (n : ℕ) (xs : List ℕ) (fine : blockReply n xs ≡ read tt) where
   pub writes-same : writtenText n (canonical n bs) ≡ writtenText n bs
   writes-same = text-same n (anyJoins (canonical n bs)) (anyJoins bs) (λ i j v w l. same-joins i j)
 
-  pub writes-again : (room : ℕ) → writeReply n (bondBytes (canonical n bs)) room ≡ writeReply n xs room
-  unfolding writeReply
+  pub writes-again : (room : ℕ) → neighboursWriteReply n (bondListBytes (canonical n bs)) room ≡ neighboursWriteReply n xs room
+  unfolding neighboursWriteReply
   writes-again room = rw (fine, fine-again, bytes-bonds (canonical n bs), writes-same)

@@ -9,8 +9,9 @@ use borrow.Author.Tests.{le-ltb}
 use lib.Dec.{ltb}
 use lib.ListN.{length, getD, drop, drop-of-length-le, length-drop}
 use lib.Seq.{drop-cons}
-use Rattle.text.specs.Text.{isDigit, ifElse}
-use Rattle.adjacency.specs.Neighbours.{Number, number, most, tooMuch, grown, Run, none, run, longer, ended, numbersFrom, isApart, isGood, goodBytes, largeAt, faultAt}
+use Rattle.reply.specs.Read.{ifElse}
+use Rattle.text.specs.Text.{isDigit}
+use Rattle.adjacency.specs.Neighbours.{TextNumber, number, mostValue, tooMuch, grown, Run, none, run, longer, ended, numbersFrom, isApart, isGood, goodBytes, largeAt, faultAt}
 use Rattle.adjacency.specs.Work.{numbersAt, valueAfter, startAfter, Looking}
 
 module _ (t : List ℕ) (i : ℕ) where
@@ -19,7 +20,7 @@ module _ (t : List ℕ) (i : ℕ) where
     unfolding numbersFrom
     numbers-past = rw (drop-of-length-le t h)
 
-    pub run-past : (x : Number) → numbersFrom (run x) i (drop i t) ≡ x ∷ numbersAt t i
+    pub run-past : (x : TextNumber) → numbersFrom (run x) i (drop i t) ≡ x ∷ numbersAt t i
     unfolding numbersFrom
     run-past x = rw (drop-of-length-le t h)
 
@@ -36,11 +37,11 @@ module _ (t : List ℕ) (i : ℕ) where
     unfolding numbersFrom
     numbers-first e = rw (drop-cons t i 0 h, e, add-one i)
 
-    pub run-more : (x : Number) → isDigit (getD t i 0) ≡ true → numbersFrom (run x) i (drop i t) ≡ numbersFrom (run (number (grown (x .value) (getD t i 0)) (x .place))) (i + 1) (drop (i + 1) t)
+    pub run-more : (x : TextNumber) → isDigit (getD t i 0) ≡ true → numbersFrom (run x) i (drop i t) ≡ numbersFrom (run (number (grown (x .value) (getD t i 0)) (x .place))) (i + 1) (drop (i + 1) t)
     unfolding numbersFrom
     run-more x e = rw (drop-cons t i 0 h, e, add-one i)
 
-    pub run-stop : (x : Number) → isDigit (getD t i 0) ≡ false → numbersFrom (run x) i (drop i t) ≡ x ∷ numbersAt t i
+    pub run-stop : (x : TextNumber) → isDigit (getD t i 0) ≡ false → numbersFrom (run x) i (drop i t) ≡ x ∷ numbersAt t i
     unfolding numbersFrom
     run-stop x e = rw (drop-cons t i 0 h, e)
 
@@ -80,9 +81,9 @@ abbrev begins : Run → ℕ → ℕ
 begins none at = at
 begins (run x) at = x .place
 
-passed : (x : Number) (last : ℕ) (xs : List Number) → x .place ≤ largeAt last xs → x .place ≤ largeAt last (x ∷ xs)
+passed : (x : TextNumber) (last : ℕ) (xs : List TextNumber) → x .place ≤ largeAt last xs → x .place ≤ largeAt last (x ∷ xs)
 unfolding largeAt
-passed x last xs h = go (ltb most (x .value))
+passed x last xs h = go (ltb mostValue (x .value))
   where
     go : (t : Bool) → x .place ≤ ifElse t (λ _. x .place) (λ _. largeAt last xs)
     go true = omega arith
@@ -105,9 +106,9 @@ later (run x) last at (b ∷ bs) p h = go (isDigit b) (later (longer (run x) at 
     go true q r = q
     go false q r = passed x last (numbersFrom none (at + 1) bs) (omega arith)
 
-small-passed : (last v p : ℕ) (xs : List Number) → v ≤ most → largeAt last (number v p ∷ xs) ≡ largeAt last xs
+small-passed : (last v p : ℕ) (xs : List TextNumber) → v ≤ mostValue → largeAt last (number v p ∷ xs) ≡ largeAt last xs
 unfolding largeAt
-small-passed last v p xs h = rw (le-ltb most v h)
+small-passed last v p xs h = rw (le-ltb mostValue v h)
 
 none-large : (last : ℕ) → largeAt last [] ≡ last
 unfolding largeAt
@@ -120,10 +121,10 @@ looking-start t = record { same = let e : 0 + goodBytes t ≡ goodBytes t = omeg
 
 module _ {t : List ℕ} {value start i : ℕ} (l : Looking t value start i) where
   -- a number that goes on here, or ends here
-  abbrev here : Number
+  abbrev here : TextNumber
   here = number value start
 
-  stopped : (xs : List Number) → numbersFrom (run here) i (drop i t) ≡ here ∷ xs → largeAt (length t) (numbersFrom (run here) i (drop i t)) ≡ largeAt (length t) xs
+  stopped : (xs : List TextNumber) → numbersFrom (run here) i (drop i t) ≡ here ∷ xs → largeAt (length t) (numbersFrom (run here) i (drop i t)) ≡ largeAt (length t) xs
   stopped xs e = ap (largeAt (length t)) e ∙ small-passed (length t) value start xs (l .small)
 
   pub looking-end : length t ≤ i → i ≡ faultAt t
@@ -145,10 +146,10 @@ module _ {t : List ℕ} {value start i : ℕ} (l : Looking t value start i) wher
         no-digit true q f = f
         no-digit false q f = refl
 
-    pub looking-large : most < valueAfter value (getD t i 0) → start ≡ faultAt t
+    pub looking-large : mostValue < valueAfter value (getD t i 0) → start ≡ faultAt t
     looking-large = go (isDigit (getD t i 0)) refl
       where
-        go : (p : Bool) → isDigit (getD t i 0) ≡ p → most < cond p (grown value (getD t i 0)) 0 → start ≡ faultAt t
+        go : (p : Bool) → isDigit (getD t i 0) ≡ p → mostValue < cond p (grown value (getD t i 0)) 0 → start ≡ faultAt t
         go true e q =
             let g : grown value (getD t i 0) ≡ tooMuch = omega arith in
             omega (
@@ -159,13 +160,13 @@ module _ {t : List ℕ} {value start i : ℕ} (l : Looking t value start i) wher
             )
         go false e q = absurd (omega arith)
 
-    pub looking-next : isGood (getD t i 0) ≡ true → valueAfter value (getD t i 0) ≤ most → Looking t (valueAfter value (getD t i 0)) (startAfter start (i + 1) (getD t i 0)) (i + 1)
+    pub looking-next : isGood (getD t i 0) ≡ true → valueAfter value (getD t i 0) ≤ mostValue → Looking t (valueAfter value (getD t i 0)) (startAfter start (i + 1) (getD t i 0)) (i + 1)
     looking-next f = go (isDigit (getD t i 0)) refl
       where
         good : i + goodBytes (drop i t) ≡ i + 1 + goodBytes (drop (i + 1) t)
         good = omega (arith, good-more t i h f)
 
-        go : (p : Bool) → isDigit (getD t i 0) ≡ p → cond p (grown value (getD t i 0)) 0 ≤ most → Looking t (cond p (grown value (getD t i 0)) 0) (cond p start (i + 1)) (i + 1)
+        go : (p : Bool) → isDigit (getD t i 0) ≡ p → cond p (grown value (getD t i 0)) 0 ≤ mostValue → Looking t (cond p (grown value (getD t i 0)) 0) (cond p start (i + 1)) (i + 1)
         go true e q = record { same = l .same ∙ rw (good, run-more t i h here e); small = q; first = omega (arith, l .first); within = omega arith }
         go false e q = record {
           same = l .same ∙ rw (good, stopped (numbersAt t i) (run-stop t i h here e), numbers-skip t i h e, run-of-none (length t) (i + 1) (drop (i + 1) t));

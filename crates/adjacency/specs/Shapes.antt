@@ -7,9 +7,8 @@ use native.Mathlib.Omega.{arith}
 use borrow.Author.Tests.{ltb-true, le-ltb, le-leb, lt-leb, ne-eqb}
 use lib.Dec.{ltb}
 use Rattle.graph.specs.Graph.{Bond, bond}
-use Rattle.reply.specs.Read.{read}
-use Rattle.text.specs.Text.{ifElse}
-use Rattle.adjacency.specs.Neighbours.{Number, labelAfter, isLast, lastReply, shapeFrom, Step, bonded, asked, stepsFrom, bondsIn}
+use Rattle.reply.specs.Read.{read, ifElse}
+use Rattle.adjacency.specs.Neighbours.{TextNumber, labelAfter, isLast, lastReply, shapeFrom, Step, bonded, asked, askedFrom, bondsIn}
 use Rattle.adjacency.specs.Written.{upTo, isGreater, greater}
 use Rattle.adjacency.specs.Canonical.{bondsUpTo}
 use Rattle.adjacency.specs.Work.{anyHigh}
@@ -20,8 +19,8 @@ unfoldable stepsBy : ℕ → List ℕ → List Step
 stepsBy label [] = []
 stepsBy label (v ∷ vs) = asked label v ++ stepsBy (labelAfter label v) vs
 
-steps-by : (label : ℕ) (xs : List Number) → stepsFrom label xs ≡ stepsBy label (valuesOf xs)
-unfolding stepsFrom stepsBy valuesOf
+steps-by : (label : ℕ) (xs : List TextNumber) → askedFrom label xs ≡ stepsBy label (valuesOf xs)
+unfolding askedFrom stepsBy valuesOf
 steps-by label [] = refl
 steps-by label (x ∷ xs) = ap (λ (l : List Step). asked label (x .value) ++ l) (steps-by (labelAfter label (x .value)) xs)
 
@@ -33,12 +32,12 @@ unfoldable shapeBy : ℕ → List ℕ → Bool
 shapeBy label [] = false
 shapeBy label (v ∷ vs) = ifElse (isLast label v) (λ _. isNone vs) (λ _. shapeBy (labelAfter label v) vs)
 
-shape-by : (last label : ℕ) (xs : List Number) → shapeBy label (valuesOf xs) ≡ true → shapeFrom last label xs ≡ read tt
+shape-by : (last label : ℕ) (xs : List TextNumber) → shapeBy label (valuesOf xs) ≡ true → shapeFrom last label xs ≡ read tt
 unfolding shapeFrom shapeBy valuesOf
 shape-by last label [] e = absurd (true≢false (sym e))
 shape-by last label (x ∷ xs) e = go (isLast label (x .value)) e (shape-by last (labelAfter label (x .value)) xs)
   where
-    ended : (ys : List Number) → isNone (valuesOf ys) ≡ true → lastReply ys ≡ read tt
+    ended : (ys : List TextNumber) → isNone (valuesOf ys) ≡ true → lastReply ys ≡ read tt
     ended [] q = refl
     ended (y ∷ ys) q = absurd (true≢false (sym q))
 
@@ -154,15 +153,15 @@ module _ (joined : ℕ → ℕ → Bool) (n : ℕ) (h : n ≤ 64) where
       ∙ line-high (suc m) (omega arith) (omega arith) vs n (greater joined n (suc m)) l (greater-above (suc m))
 
   -- numbers that say what the lines and the last 0 say
-  module _ (xs : List Number) (e : valuesOf xs ≡ linesValues joined n n ++ 0 ∷ []) where
+  module _ (xs : List TextNumber) (e : valuesOf xs ≡ linesValues joined n n ++ 0 ∷ []) where
     pub shape-fine : (last : ℕ) → shapeFrom last 0 xs ≡ read tt
     unfolding shapeBy
     shape-fine last = shape-by last 0 xs (ap (shapeBy 0) e ∙ lines-shape n (0 ∷ []) (omega arith))
 
-    pub bonds-are : bondsIn (stepsFrom 0 xs) ≡ bondsUpTo joined n n
+    pub bonds-are : bondsIn (askedFrom 0 xs) ≡ bondsUpTo joined n n
     unfolding stepsBy asked bondsIn
     bonds-are = ap bondsIn (steps-by 0 xs) ∙ ap (λ (x : List ℕ). bondsIn (stepsBy 0 x)) e ∙ lines-bonds n (0 ∷ []) (omega arith) ∙ append-nil (bondsUpTo joined n n)
 
-    pub none-high : anyHigh n (stepsFrom 0 xs) ≡ false
+    pub none-high : anyHigh n (askedFrom 0 xs) ≡ false
     unfolding stepsBy asked anyHigh
     none-high = ap (anyHigh n) (steps-by 0 xs) ∙ ap (λ (x : List ℕ). anyHigh n (stepsBy 0 x)) e ∙ lines-high n (0 ∷ []) (omega arith) ∙ rw (le-ltb n 0 (omega arith))

@@ -10,15 +10,15 @@ use Rattle.graph.specs.Graph.{bond}
 use Rattle.reply.specs.Read.{Read, refused, read, refusal, _then_}
 use Rattle.reply.specs.Chain.{not-read}
 use Rattle.reply.specs.declared.Refusal.{Refusal}
-use Rattle.adjacency.specs.Neighbours.{Number, number, labelAfter, isLast, lastReply, shapeFrom, end, Step, described, bonded, asked, stepsFrom, bondsIn}
+use Rattle.adjacency.specs.Neighbours.{TextNumber, number, labelAfter, isLast, lastReply, shapeFrom, end, Step, described, bonded, asked, askedFrom, bondsIn}
 use Rattle.adjacency.specs.Work.{isBond, isHigh, shapedFrom, until, anyHigh, putAt, putOne, putEnd}
 
-pub steps-none : (label : ℕ) {xs : List Number} → xs ≡ [] → stepsFrom label xs ≡ []
-unfolding stepsFrom
+pub steps-none : (label : ℕ) {xs : List TextNumber} → xs ≡ [] → askedFrom label xs ≡ []
+unfolding askedFrom
 steps-none label e = rw e
 
-pub steps-more : (label : ℕ) {v p : ℕ} {xs ys : List Number} → xs ≡ number v p ∷ ys → stepsFrom label xs ≡ asked label v ++ stepsFrom (labelAfter label v) ys
-unfolding stepsFrom
+pub steps-more : (label : ℕ) {v p : ℕ} {xs ys : List TextNumber} → xs ≡ number v p ∷ ys → askedFrom label xs ≡ asked label v ++ askedFrom (labelAfter label v) ys
+unfolding askedFrom
 steps-more label e = rw e
 
 module _ (label x : ℕ) (ss : List Step) where
@@ -84,40 +84,40 @@ one-at-most true = omega arith
 one-at-most false = omega arith
 
 -- 22 and the number of bonds, number by number
-module _ (last k label : ℕ) {xs : List Number} where
+module _ (last k label : ℕ) {xs : List TextNumber} where
   pub shaped-none : xs ≡ [] → shapedFrom last k label xs ≡ refused (refusal 22 last)
   unfolding shapeFrom
   shaped-none e = rw e
 
-  module _ {v p : ℕ} {ys : List Number} (e : xs ≡ number v p ∷ ys) where
-    count-more : k + length (bondsIn (stepsFrom label xs)) ≡ k + cond (isBond label v) 1 0 + length (bondsIn (stepsFrom (labelAfter label v) ys))
-    count-more = let c = counted label v (stepsFrom (labelAfter label v) ys) in rw (steps-more label e) (omega arith)
+  module _ {v p : ℕ} {ys : List TextNumber} (e : xs ≡ number v p ∷ ys) where
+    count-more : k + length (bondsIn (askedFrom label xs)) ≡ k + cond (isBond label v) 1 0 + length (bondsIn (askedFrom (labelAfter label v) ys))
+    count-more = let c = counted label v (askedFrom (labelAfter label v) ys) in rw (steps-more label e) (omega arith)
 
     pub shaped-more : isLast label v ≡ false → shapedFrom last k label xs ≡ shapedFrom last (k + cond (isBond label v) 1 0) (labelAfter label v) ys
     unfolding shapeFrom
     shaped-more f = rw count-more (rw (e, f))
 
     pub shaped-last : isLast label v ≡ true → shapedFrom last k label xs ≡ (lastReply ys then λ _. read k)
-    unfolding shapeFrom stepsFrom bondsIn
+    unfolding shapeFrom askedFrom bondsIn
     shaped-last f = rw count-more (rw (e, f) (go ys (eqb label 0) (eqb v 0) f))
       where
-        go : (zs : List Number) (t u : Bool) → (t && u) ≡ true
-            → (lastReply zs then λ _. read (k + cond (not t && leb label v) 1 0 + length (bondsIn (stepsFrom (cond u 0 (cond t v label)) zs)))) ≡ (lastReply zs then λ _. read k)
+        go : (zs : List TextNumber) (t u : Bool) → (t && u) ≡ true
+            → (lastReply zs then λ _. read (k + cond (not t && leb label v) 1 0 + length (bondsIn (askedFrom (cond u 0 (cond t v label)) zs)))) ≡ (lastReply zs then λ _. read k)
         go (z ∷ zs) t u g = refl
         go [] true u g = let z : k + 0 + 0 ≡ k = omega arith in rw z
         go [] false u g = absurd (true≢false (sym g))
 
 -- what the reply tells of the shape
-pub shaped-refused : (last k label : ℕ) (xs : List Number) (r : Refusal) → shapedFrom last k label xs ≡ refused r → shapeFrom last label xs ≡ refused r
+pub shaped-refused : (last k label : ℕ) (xs : List TextNumber) (r : Refusal) → shapedFrom last k label xs ≡ refused r → shapeFrom last label xs ≡ refused r
 shaped-refused last k label xs r e = go (shapeFrom last label xs) e
   where
-    go : (m : Read (Unit {0})) → (m then λ _. read (k + length (bondsIn (stepsFrom label xs)))) ≡ refused r → m ≡ refused r
+    go : (m : Read (Unit {0})) → (m then λ _. read (k + length (bondsIn (askedFrom label xs)))) ≡ refused r → m ≡ refused r
     go (refused q) f = cc
     go (read u) f = absurd (not-read (sym f))
 
-pub shaped-read : (last : ℕ) (xs : List Number) (n : ℕ) → shapedFrom last 0 0 xs ≡ read n → (shapeFrom last 0 xs ≡ read tt) × (n ≡ length (bondsIn (stepsFrom 0 xs)))
+pub shaped-read : (last : ℕ) (xs : List TextNumber) (n : ℕ) → shapedFrom last 0 0 xs ≡ read n → (shapeFrom last 0 xs ≡ read tt) × (n ≡ length (bondsIn (askedFrom 0 xs)))
 shaped-read last xs n e = go (shapeFrom last 0 xs) e
   where
-    go : (m : Read (Unit {0})) → (m then λ _. read (0 + length (bondsIn (stepsFrom 0 xs)))) ≡ read n → (m ≡ read tt) × (n ≡ length (bondsIn (stepsFrom 0 xs)))
+    go : (m : Read (Unit {0})) → (m then λ _. read (0 + length (bondsIn (askedFrom 0 xs)))) ≡ read n → (m ≡ read tt) × (n ≡ length (bondsIn (askedFrom 0 xs)))
     go (refused q) f = absurd (not-read f)
-    go (read u) f = let z : n ≡ 0 + length (bondsIn (stepsFrom 0 xs)) = cc in (refl, omega arith)
+    go (read u) f = let z : n ≡ 0 + length (bondsIn (askedFrom 0 xs)) = cc in (refl, omega arith)

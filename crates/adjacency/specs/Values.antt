@@ -6,13 +6,14 @@ use mathlib.Core.Path.{_≡_, refl, sym, _∙_, ap}
 use native.Mathlib.Omega.{arith}
 use borrow.Author.Tests.{ltb-true, ltb-false, le-leb}
 use lib.Dec.{ltb}
-use Rattle.text.specs.Text.{ascii, decimal, isDigit, ifElse}
-use Rattle.adjacency.specs.Neighbours.{Number, grown, Run, none, run, longer, numbersFrom}
+use Rattle.reply.specs.Read.{ifElse}
+use Rattle.text.specs.Text.{ascii, decimal, isDigit}
+use Rattle.adjacency.specs.Neighbours.{TextNumber, grown, Run, none, run, longer, numbersFrom}
 use Rattle.adjacency.specs.Written.{greater, listed, line, lines, textBy}
-use Rattle.adjacency.specs.Putting.{one-digit, two-digits, Below, greater-below}
+use Rattle.adjacency.specs.Putting.{one-digit, two-digits, BelowHundred, greater-below}
 
 -- the values alone, whatever the places
-unfoldable pub valuesOf : List Number → List ℕ
+unfoldable pub valuesOf : List TextNumber → List ℕ
 valuesOf [] = []
 valuesOf (x ∷ xs) = x .value ∷ valuesOf xs
 
@@ -102,8 +103,8 @@ module _ (s : ℕ) (rest : List ℕ) (a : isDigit s ≡ false) where
   then-list v [] h = number-then v s rest h a
   then-list v (j ∷ js) h = number-then v 32 _ h refl
 
-  list-says : (js : List ℕ) → Below js → values (listed js ++ s ∷ rest) ≡ js ++ values rest
-  unfolding Below listed
+  list-says : (js : List ℕ) → BelowHundred js → values (listed js ++ s ∷ rest) ≡ js ++ values rest
+  unfolding BelowHundred listed
   list-says [] b = passed-over s a rest
   list-says (j ∷ js) b =
       passed-over 32 refl (decimal j ++ listed js ++ s ∷ rest)
@@ -118,7 +119,7 @@ nothing-said = refl
 last-zero : (rest : List ℕ) → values (48 ∷ 10 ∷ rest) ≡ 0 ∷ values rest
 last-zero rest = ap (λ (l : List ℕ). values (l ++ 10 ∷ rest)) (sym (one-digit 0 (omega arith))) ∙ one-number 10 refl rest 0 (omega arith)
 
-pub line-says : (i : ℕ) (js rest : List ℕ) → i < 100 → Below js → values (line i js ++ rest) ≡ lineValues i js ++ values rest
+pub line-says : (i : ℕ) (js rest : List ℕ) → i < 100 → BelowHundred js → values (line i js ++ rest) ≡ lineValues i js ++ values rest
 unfolding line lineValues
 line-says i [] rest h b = refl
 line-says i (j ∷ js) rest h b =

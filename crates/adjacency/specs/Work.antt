@@ -11,7 +11,7 @@ use Rattle.reply.specs.Read.{Read, refused, read, _then_, refuseIf, refusal, is
 use Rattle.block.specs.Block.{blockReply, bondsReply, bondsOf, graphOf, mostAtoms, mostBytes}
 use Rattle.block.specs.Near.{around}
 use Rattle.text.specs.Text.{isDigit}
-use Rattle.adjacency.specs.Neighbours.{Number, number, most, grown, none, run, numbersFrom, goodBytes, largeAt, faultAt, shapeFrom, end, Step, described, bonded, stepsFrom, bondsIn, bondsLength}
+use Rattle.adjacency.specs.Neighbours.{TextNumber, number, mostValue, grown, none, run, numbersFrom, goodBytes, largeAt, faultAt, shapeFrom, end, Step, described, bonded, askedFrom, bondsIn, bondsLength}
 
 -- what digits say that a byte goes on with, and where they begin; 0 and the next place where it is no digit
 abbrev pub valueAfter : ℕ → ℕ → ℕ
@@ -23,16 +23,16 @@ startAfter start next b = cond (isDigit b) start next
 -- the bytes before i are good, and the digits right before it, from `start` on, say `value`
 pub record Looking (t : List ℕ) (value start i : ℕ) : Type 0 where
   pub same : faultAt t ≡ min (i + goodBytes (drop i t)) (largeAt (length t) (numbersFrom (run (number value start)) i (drop i t)))
-  pub small : value ≤ most
+  pub small : value ≤ mostValue
   pub first : start ≤ i
   pub within : i ≤ length t
 
 -- the numbers from a place on at which none goes on
-abbrev pub numbersAt : List ℕ → ℕ → List Number
+abbrev pub numbersAt : List ℕ → ℕ → List TextNumber
 numbersAt t at = numbersFrom none at (drop at t)
 
 abbrev pub stepsAt : ℕ → List ℕ → ℕ → List Step
-stepsAt label t at = stepsFrom label (numbersAt t at)
+stepsAt label t at = askedFrom label (numbersAt t at)
 
 -- r is the place of the first digit from a place on, or the length
 pub record Skipped (t : List ℕ) (at r : ℕ) : Type 0 where
@@ -60,8 +60,8 @@ abbrev pub isHigh : ℕ → ℕ → ℕ → Bool
 isHigh n label x = eqb label 0 && ltb n x
 
 -- 22, then the number of bonds; k of them stand before
-abbrev pub shapedFrom : ℕ → ℕ → ℕ → List Number → Read ℕ
-shapedFrom last k label xs = shapeFrom last label xs then λ _. read (k + length (bondsIn (stepsFrom label xs)))
+abbrev pub shapedFrom : ℕ → ℕ → ℕ → List TextNumber → Read ℕ
+shapedFrom last k label xs = shapeFrom last label xs then λ _. read (k + length (bondsIn (askedFrom label xs)))
 
 -- the bonds before the first label above n, and whether there is one
 unfoldable pub until : ℕ → List Step → List Bond
@@ -87,21 +87,21 @@ abbrev pub putEnd : ℕ → ℕ → ℕ → ℕ
 putEnd p label x = cond (isBond label x) (p + 2) p
 
 -- the bonds until the first label above n are put into bytes
-pub record Filled (n : ℕ) (ss : List Step) (out after : List ℕ) (count : ℕ) (high : Bool) : Type 0 where
+pub record BondsPut (n : ℕ) (ss : List Step) (out after : List ℕ) (count : ℕ) (high : Bool) : Type 0 where
   pub bytes : after ≡ putAt out 0 (until n ss)
   pub counted : count ≡ 2 * length (until n ss)
   pub stopped : high ≡ anyHigh n ss
   pub same : length after ≡ length out
 
 -- the same while it goes on: p bytes are put, and the numbers xs are left
-pub record Filling (n : ℕ) (ss : List Step) (first : List ℕ) (label : ℕ) (xs : List Number) (out : List ℕ) (p : ℕ) : Type 0 where
-  pub bytes : putAt first 0 (until n ss) ≡ putAt out p (until n (stepsFrom label xs))
-  pub count : 2 * length (until n ss) ≡ p + 2 * length (until n (stepsFrom label xs))
-  pub high : anyHigh n ss ≡ anyHigh n (stepsFrom label xs)
+pub record Filling (n : ℕ) (ss : List Step) (first : List ℕ) (label : ℕ) (xs : List TextNumber) (out : List ℕ) (p : ℕ) : Type 0 where
+  pub bytes : putAt first 0 (until n ss) ≡ putAt out p (until n (askedFrom label xs))
+  pub count : 2 * length (until n ss) ≡ p + 2 * length (until n (askedFrom label xs))
+  pub high : anyHigh n ss ≡ anyHigh n (askedFrom label xs)
   pub same : length out ≡ length first
 
 -- an atom count and bonds that 1 and 2 do not refuse
-pub record Fit (n : ℕ) (ss : List Step) : Type 0 where
+pub record FewBonds (n : ℕ) (ss : List Step) : Type 0 where
   pub low : n ≡ 0 → ⊥
   pub high : n ≤ mostAtoms
   pub short : bondsLength (bondsIn ss) ≤ mostBytes

@@ -19,7 +19,7 @@ use Rattle.block.specs.declared.Opened.{Opened}
 use Rattle.reply.specs.declared.Refusal.{Refusal}
 use Rattle.text.specs.Put.{Puts}
 use Rattle.text.proofs.Putting.{same-length, at-front}
-use Rattle.adjacency.specs.Written.{upTo, isGreater, greater, lines, textBy, writtenText, writeReply, textAfter}
+use Rattle.adjacency.specs.Written.{upTo, isGreater, greater, lines, textBy, writtenText, neighboursWriteReply, textAfter}
 use Rattle.adjacency.specs.Work.{givenReply, joinedIn}
 
 -- where two tests agree, the texts agree
@@ -72,12 +72,12 @@ module _ (n : ℕ) (xs : List ℕ) (fine : blockReply n xs ≡ read tt) where
       let a = few-atoms n xs fine in
       rw e (text-same n (joinedIn (neighboursOf (graphOf n xs))) (anyJoins (bondsOf xs)) (λ i j v w l. has-neighbour (graphOf n xs) i j (omega arith) w))
 
-  pub write-given : (room : ℕ) → writeReply n xs room ≡ givenReply (writtenText n (bondsOf xs)) room
-  unfolding writeReply
+  pub write-given : (room : ℕ) → neighboursWriteReply n xs room ≡ givenReply (writtenText n (bondsOf xs)) room
+  unfolding neighboursWriteReply
   write-given room = rw fine
 
-pub write-refused : (n : ℕ) (xs : List ℕ) (room : ℕ) (r : Refusal) → blockReply n xs ≡ refused r → writeReply n xs room ≡ refused r
-unfolding writeReply
+pub write-refused : (n : ℕ) (xs : List ℕ) (room : ℕ) (r : Refusal) → blockReply n xs ≡ refused r → neighboursWriteReply n xs room ≡ refused r
+unfolding neighboursWriteReply
 write-refused n xs room r e = rw e
 
 -- a text that is given out, and what that leaves in the lent bytes

@@ -44,8 +44,8 @@ abbrev pub writtenText : ℕ → List Bond → List ℕ
 writtenText n bs = textBy (anyJoins bs) n
 
 -- the block's refusals, then 9 for the bytes that are lent
-unfoldable pub writeReply : ℕ → List ℕ → ℕ → Read (List ℕ)
-writeReply n xs room =
+unfoldable pub neighboursWriteReply : ℕ → List ℕ → ℕ → Read (List ℕ)
+neighboursWriteReply n xs room =
     blockReply n xs then λ _.
     refuseIf (ltb room (length (writtenText n (bondsOf xs)))) 9 0 then λ _.
     read (writtenText n (bondsOf xs))

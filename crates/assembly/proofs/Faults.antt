@@ -11,9 +11,9 @@ use Rattle.reply.specs.Chain.{not-read}
 use Rattle.block.specs.Faults.{inside}
 use Rattle.reply.specs.declared.Refusal.{Refusal}
 use Rattle.assembly.specs.Book.{Book}
-use Rattle.assembly.specs.Placements.{mostPlacements, placementCount, placementAt, siteAt, Shelf, shelfOf, isFull, firstFault, parentFault, joinFault, joinOn, sitesOn, laterFault, fault, placedReply, assemblyReply}
+use Rattle.assembly.specs.Placements.{mostPlacements, placementCount, placementAt, atomSite, Shelf, shelfOf, isFull, firstFault, parentFault, joinFault, joinOn, sitesOn, laterFault, fault, placementsReply, assemblyReply}
 use Rattle.assembly.specs.declared.Placement.{Placement}
-use Rattle.assembly.specs.declared.Site.{Site}
+use Rattle.assembly.specs.declared.JoinSite.{JoinSite}
 
 module _ (q : Placement) where
   pub first-parent : (q .parent ≡ 0 → ⊥) → firstFault q ≡ 17
@@ -34,7 +34,7 @@ module _ (q : Placement) where
       unfolding firstFault
       first-fine o = rw (eq-eqb (q .parent) 0 p, eq-eqb (q .site) 0 s, eq-eqb (q .own) 0 o)
 
-module _ (g h : Site) (joins : ℕ → Join) (k : ℕ) where
+module _ (g h : JoinSite) (joins : ℕ → Join) (k : ℕ) where
   pub no-site : isOutside (g .atoms) (joins k .site) ≡ true → joinFault g h joins k ≡ 18
   unfolding joinFault
   no-site s = rw s
@@ -64,7 +64,7 @@ module _ (shelf : Shelf) (placed : ℕ → Placement) (k : ℕ) where
   no-parent e = rw e
 
   pub has-parent : isOutside k (placed k .parent) ≡ false
-      → laterFault shelf placed k ≡ joinFault (siteAt (sitesOn shelf placed (placed k .parent - 1)) (placed k .site)) (siteAt (sitesOn shelf placed k) (placed k .own)) (joinOn placed) k
+      → laterFault shelf placed k ≡ joinFault (atomSite (sitesOn shelf placed (placed k .parent - 1)) (placed k .site)) (atomSite (sitesOn shelf placed k) (placed k .own)) (joinOn placed) k
   unfolding laterFault
   has-parent e = rw e
 
@@ -81,20 +81,20 @@ module _ (shelf : Shelf) (placed : ℕ → Placement) (k : ℕ) where
     unfolding fault
     is-later z = rw (e, ne-eqb k 0 z)
 
-  pub faulty : (left : ℕ) → (fault shelf placed k ≡ 0 → ⊥) → placedReply shelf placed k (suc left) ≡ refused (refusal (fault shelf placed k) (suc k))
-  unfolding placedReply
+  pub faulty : (left : ℕ) → (fault shelf placed k ≡ 0 → ⊥) → placementsReply shelf placed k (suc left) ≡ refused (refusal (fault shelf placed k) (suc k))
+  unfolding placementsReply
   faulty left e = rw (refuses (fault shelf placed k) e)
     where
       refuses : (n : ℕ) → (n ≡ 0 → ⊥) → refuseFor n (suc k) ≡ refused (refusal n (suc k))
       refuses zero e = absurd (e refl)
       refuses (suc n) e = refl
 
-  pub faultless : (left : ℕ) → fault shelf placed k ≡ 0 → placedReply shelf placed k (suc left) ≡ placedReply shelf placed (suc k) left
-  unfolding placedReply
+  pub faultless : (left : ℕ) → fault shelf placed k ≡ 0 → placementsReply shelf placed k (suc left) ≡ placementsReply shelf placed (suc k) left
+  unfolding placementsReply
   faultless left e = rw e
 
-  pub none-left : placedReply shelf placed k 0 ≡ read tt
-  unfolding placedReply
+  pub none-left : placementsReply shelf placed k 0 ≡ read tt
+  unfolding placementsReply
   none-left = refl
 
 module _ (book : Book) (xs : List ℕ) where
@@ -102,7 +102,7 @@ module _ (book : Book) (xs : List ℕ) where
   unfolding assemblyReply
   count-outside e = rw e
 
-  pub count-within : isOutside mostPlacements (placementCount xs) ≡ false → assemblyReply book xs ≡ placedReply (shelfOf book) (placementAt xs) 0 (placementCount xs)
+  pub count-within : isOutside mostPlacements (placementCount xs) ≡ false → assemblyReply book xs ≡ placementsReply (shelfOf book) (placementAt xs) 0 (placementCount xs)
   unfolding assemblyReply
   count-within e = rw e
 
@@ -110,11 +110,11 @@ module _ (book : Book) (xs : List ℕ) where
   pub place-few : (r : Refusal) → assemblyReply book xs ≡ refused r → r .place ≤ mostPlacements
   place-few r e = go (isOutside mostPlacements (placementCount xs)) refl
     where
-      from : (left k : ℕ) → placedReply (shelfOf book) (placementAt xs) k left ≡ refused r → r .place ≤ k + left
+      from : (left k : ℕ) → placementsReply (shelfOf book) (placementAt xs) k left ≡ refused r → r .place ≤ k + left
       from zero k e = absurd (not-read (sym e ∙ none-left (shelfOf book) (placementAt xs) k))
       from (suc left) k e = at (fault (shelfOf book) (placementAt xs) k) refl (from left (suc k))
         where
-          at : (n : ℕ) → fault (shelfOf book) (placementAt xs) k ≡ n → (placedReply (shelfOf book) (placementAt xs) (suc k) left ≡ refused r → r .place ≤ suc k + left) → r .place ≤ k + suc left
+          at : (n : ℕ) → fault (shelfOf book) (placementAt xs) k ≡ n → (placementsReply (shelfOf book) (placementAt xs) (suc k) left ≡ refused r → r .place ≤ suc k + left) → r .place ≤ k + suc left
           at zero f more = omega (arith, more (sym (faultless (shelfOf book) (placementAt xs) k left f) ∙ e))
           at (suc n) f more =
               let g : refused (refusal (fault (shelfOf book) (placementAt xs) k) (suc k)) ≡ refused r = sym (faulty (shelfOf book) (placementAt xs) k left (omega arith)) ∙ e in

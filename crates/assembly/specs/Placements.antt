@@ -12,18 +12,18 @@ use Rattle.records.specs.Bytes.{byteAt, le16}
 use Rattle.records.specs.Records.{assemblyKind}
 use Rattle.assembly.specs.Book.{Book}
 use Rattle.assembly.specs.declared.Placement.{Placement}
-use Rattle.assembly.specs.declared.Site.{Site}
+use Rattle.assembly.specs.declared.JoinSite.{JoinSite}
 
 abbrev pub mostPlacements : ℕ
 mostPlacements = 32
 
--- What is asked of a block: its atom count, and how many bonds are at each atom; of one of its atoms, a `Site`.
+-- What is asked of a block: its atom count, and how many bonds are at each atom; of one of its atoms, a `JoinSite`.
 pub record Sites : Type 0 where
   pub atoms : ℕ
   pub ends : ℕ → ℕ
 
-abbrev pub siteAt : Sites → ℕ → Site
-siteAt s a = record { atoms = s .atoms; ends = s .ends a }
+abbrev pub atomSite : Sites → ℕ → JoinSite
+atomSite s a = record { atoms = s .atoms; ends = s .ends a }
 
 pub record Shelf : Type 0 where
   pub has : ℕ → Bool
@@ -74,7 +74,7 @@ unfoldable pub parentFault : ℕ → ℕ
 parentFault parent = cond (eqb parent 0) 23 24
 
 -- what is wrong with the join at index k, from an atom of a placement to one of an earlier one: 18, 19, or 0 for nothing
-unfoldable pub joinFault : Site → Site → (ℕ → Join) → ℕ → ℕ
+unfoldable pub joinFault : JoinSite → JoinSite → (ℕ → Join) → ℕ → ℕ
 joinFault there here joins k =
     let j = joins k in
     cond (isOutside (there .atoms) (j .site) || isOutside (here .atoms) (j .own)) 18
@@ -94,21 +94,21 @@ module _ (shelf : Shelf) (placed : ℕ → Placement) where
   unfoldable pub laterFault : ℕ → ℕ
   laterFault k =
       let q = placed k in
-      cond (isOutside k (q .parent)) (parentFault (q .parent)) (joinFault (siteAt (sitesOn (q .parent - 1)) (q .site)) (siteAt (sitesOn k) (q .own)) (joinOn placed) k)
+      cond (isOutside k (q .parent)) (parentFault (q .parent)) (joinFault (atomSite (sitesOn (q .parent - 1)) (q .site)) (atomSite (sitesOn k) (q .own)) (joinOn placed) k)
 
   -- what is wrong with the placement at an index: 16, or for the first and for later ones what follows
   unfoldable pub fault : ℕ → ℕ
   fault k = cond (not (shelf .has (placed k .block))) 16 (cond (eqb k 0) (firstFault (placed k)) (laterFault k))
 
   -- `left` placements from index k on, one by one
-  unfoldable pub placedReply : ℕ → ℕ → Read (Unit {0})
-  placedReply k zero = read tt
-  placedReply k (suc left) = refuseFor (fault k) (suc k) then λ _. placedReply (suc k) left
+  unfoldable pub placementsReply : ℕ → ℕ → Read (Unit {0})
+  placementsReply k zero = read tt
+  placementsReply k (suc left) = refuseFor (fault k) (suc k) then λ _. placementsReply (suc k) left
 
 abbrev pub shelfReply : Shelf → List ℕ → Read (Unit {0})
 shelfReply shelf xs =
     refuseIf (isOutside mostPlacements (placementCount xs)) 15 0 then λ _.
-    placedReply shelf (placementAt xs) 0 (placementCount xs)
+    placementsReply shelf (placementAt xs) 0 (placementCount xs)
 
 unfoldable pub assemblyReply : Book → List ℕ → Read (Unit {0})
 assemblyReply book xs = shelfReply (shelfOf book) xs

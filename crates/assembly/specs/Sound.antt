@@ -17,7 +17,7 @@ use Rattle.reply.specs.Chain.{then-read, if-read, for-read, neither}
 use Rattle.block.specs.Block.{limit}
 use Rattle.block.specs.Faults.{inside}
 use Rattle.assembly.specs.Book.{Book}
-use Rattle.assembly.specs.Placements.{mostPlacements, placementCount, placementAt, Sites, siteAt, Shelf, sitesOf, shelfOf, joinOf, joinOn, joinEnds, joinsOn, bondsOn, isFull, parentFault, joinFault, graphOn, sitesOn, laterFault, fault, placedReply, assemblyReply}
+use Rattle.assembly.specs.Placements.{mostPlacements, placementCount, placementAt, Sites, atomSite, Shelf, sitesOf, shelfOf, joinOf, joinOn, joinEnds, joinsOn, bondsOn, isFull, parentFault, joinFault, graphOn, sitesOn, laterFault, fault, placementsReply, assemblyReply}
 use Rattle.assembly.specs.Degrees.{joins-zero, joins-suc, joins-none, degree-is}
 use Rattle.assembly.specs.declared.Placement.{Placement}
 
@@ -50,7 +50,7 @@ module _ (shelf : Shelf) (placed : ℕ → Placement) where
   abbrev joins : ℕ → Join
   joins = joinOn placed
 
-  join-right : (k : ℕ) → Within k (joins k .parent) → joinFault (siteAt (sites (joins k .parent - 1)) (joins k .site)) (siteAt (sites k) (joins k .own)) joins k ≡ 0 → Joined sites joins k
+  join-right : (k : ℕ) → Within k (joins k .parent) → joinFault (atomSite (sites (joins k .parent - 1)) (joins k .site)) (atomSite (sites k) (joins k .own)) joins k ≡ 0 → Joined sites joins k
   unfolding joinFault
   join-right k w e =
       let j = joins k in
@@ -76,12 +76,12 @@ module _ (shelf : Shelf) (placed : ℕ → Placement) where
       join-right k (inside k p a) f
 
   -- the placements that are read
-  pub record Right (count : ℕ) : Type 0 where
+  pub record PlacedRight (count : ℕ) : Type 0 where
     pub has : (k : ℕ) → k < count → shelf .has (placed k .block) ≡ true
     pub joined : (k : ℕ) → 1 ≤ k → k < count → Joined sites joins k
 
-  fault-none : (left k : ℕ) → placedReply shelf placed k left ≡ read tt → (i : ℕ) → k ≤ i → i < k + left → fault shelf placed i ≡ 0
-  unfolding placedReply
+  fault-none : (left k : ℕ) → placementsReply shelf placed k left ≡ read tt → (i : ℕ) → k ≤ i → i < k + left → fault shelf placed i ≡ 0
+  unfolding placementsReply
   fault-none zero k e i l h = absurd (omega arith)
   fault-none (suc left) k e i l h =
       let (u, p, f) = then-read (refuseFor (fault shelf placed k) (suc k)) _ e in
@@ -91,7 +91,7 @@ module _ (shelf : Shelf) (placed : ℕ → Placement) where
       at (yes q) z more = rw (← q) z
       at (no q) z more = more (omega arith)
 
-  pub right : (count : ℕ) → placedReply shelf placed 0 count ≡ read tt → Right count
+  pub right : (count : ℕ) → placementsReply shelf placed 0 count ≡ read tt → PlacedRight count
   unfolding fault
   right count e = record {
     has = λ k h. not-false _ (past (not (shelf .has (placed k .block))) 16 _ (omega arith) (fault-none count 0 e k (omega arith) (omega arith)) .0);
@@ -102,18 +102,18 @@ module _ (shelf : Shelf) (placed : ℕ → Placement) where
   }
 
 -- the whole assembly
-pub record Whole (book : Book) (xs : List ℕ) : Type 0 where
+pub record WholeAssembly (book : Book) (xs : List ℕ) : Type 0 where
   pub count : Within mostPlacements (placementCount xs)
-  pub right : Right (shelfOf book) (placementAt xs) (placementCount xs)
+  pub right : PlacedRight (shelfOf book) (placementAt xs) (placementCount xs)
 
-pub whole : (book : Book) (xs : List ℕ) → assemblyReply book xs ≡ read tt → Whole book xs
+pub whole : (book : Book) (xs : List ℕ) → assemblyReply book xs ≡ read tt → WholeAssembly book xs
 unfolding assemblyReply
 whole book xs e =
     let (u, p, f) = then-read (refuseIf (isOutside mostPlacements (placementCount xs)) 15 0) _ e in
     record { count = inside mostPlacements (placementCount xs) (if-read _ 15 0 p); right = right (shelfOf book) (placementAt xs) (placementCount xs) f }
 
 -- over a book of molecules it is an assembly
-pub assembled : (book : Book) (xs : List ℕ) → ((x : ℕ) → book .has x ≡ true → Molecule (book .graph x)) → Whole book xs
+pub assembled : (book : Book) (xs : List ℕ) → ((x : ℕ) → book .has x ≡ true → Molecule (book .graph x)) → WholeAssembly book xs
     → Assembled (graphOn book (placementAt xs)) (joinOn (placementAt xs)) (placementCount xs - 1)
 assembled book xs m w = record {
   molecules = λ k h. m (placementAt xs k .block) (w .right .has k (omega (arith, w .count)));

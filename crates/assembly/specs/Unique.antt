@@ -17,7 +17,7 @@ use Rattle.assembly.specs.Book.{find, isNumbered, bookOf}
 use Rattle.assembly.specs.Placements.{placementAt, joinOn, firstFault, parentFault, joinFault, assemblyReply}
 use Rattle.assembly.specs.declared.BlockAt.{BlockAt}
 use Rattle.assembly.specs.declared.Placement.{Placement}
-use Rattle.assembly.specs.declared.Site.{Site}
+use Rattle.assembly.specs.declared.JoinSite.{JoinSite}
 
 pub unique-find-block : (blocks : List BlockAt) (count number : ℕ) (r s : BlockAt) → r ≡ find (take count blocks) number → s ≡ find (take count blocks) number → r ≡ s
 unique-find-block blocks count number r s = unique
@@ -40,7 +40,7 @@ unique-first-fault q r s = unique
 pub unique-parent-fault : (parent r s : ℕ) → r ≡ parentFault parent → s ≡ parentFault parent → r ≡ s
 unique-parent-fault parent r s = unique
 
-pub unique-join-fault : (there here : Site) (xs : List ℕ) (k r s : ℕ) → r ≡ joinFault there here (joinOn (placementAt xs)) k → s ≡ joinFault there here (joinOn (placementAt xs)) k → r ≡ s
+pub unique-join-fault : (there here : JoinSite) (xs : List ℕ) (k r s : ℕ) → r ≡ joinFault there here (joinOn (placementAt xs)) k → s ≡ joinFault there here (joinOn (placementAt xs)) k → r ≡ s
 unique-join-fault there here xs k r s = unique
 
 pub unique-check : (d : List ℕ) (blocks : List BlockAt) (count : ℕ) (xs : List ℕ) (r s : Reply) → r ≡ saidReply (assemblyReply (bookOf d (take count blocks)) xs) → s ≡ saidReply (assemblyReply (bookOf d (take count blocks)) xs) → r ≡ s

@@ -9,7 +9,7 @@ ghost use Rattle.block.specs.Block.{limit, bondsOf};
 ghost use Rattle.records.specs.Bytes.{PartOf};
 ghost use Rattle.records.specs.Records.{blockKind};
 ghost use Rattle.assembly.specs.Book.{find, isNumbered, blockGraph, bookOf};
-ghost use Rattle.assembly.specs.Placements.{placementAt, sitesOf, siteAt, shelfOf, joinsOn, joinOn, isFull, firstFault, parentFault, joinFault, laterFault, fault, assemblyReply};
+ghost use Rattle.assembly.specs.Placements.{placementAt, sitesOf, atomSite, shelfOf, joinsOn, joinOn, isFull, firstFault, parentFault, joinFault, laterFault, fault, assemblyReply};
 use block::LIMIT;
 use records::ASSEMBLY;
 use records::BLOCK;
@@ -62,7 +62,7 @@ pub struct Placement {
 }
 
 // What an assembly asks of a block at one of its atoms: how many atoms the block has, and how many of its bonds are at this one.
-pub struct Site {
+pub struct JoinSite {
     pub atoms: usize,
     pub ends: usize,
 }
@@ -212,7 +212,7 @@ pub fn parent_fault(parent: usize) -> usize
 }
 
 // What is wrong with the join at index k, from `here` to `there`: 18, 19, or 0. A placement past the end has no atom.
-pub fn join_fault(there: Site, here: Site, xs: &[u8], k: usize) -> usize
+pub fn join_fault(there: JoinSite, here: JoinSite, xs: &[u8], k: usize) -> usize
     ensures { λ r. ⌜ r ≡ joinFault there here (joinOn (placementAt (now (xs .entry)))) k ⌝ }
 {
     if xs.len() < k {
@@ -235,10 +235,10 @@ pub fn join_fault(there: Site, here: Site, xs: &[u8], k: usize) -> usize
 }
 
 // What is asked of a block at its atom a.
-fn site_of(d: &[u8], b: BlockAt, a: u8) -> Site
-    ensures { λ r. ⌜ r ≡ siteAt (sitesOf (blockGraph (now (d .entry)) b)) a ⌝ }
+fn site_of(d: &[u8], b: BlockAt, a: u8) -> JoinSite
+    ensures { λ r. ⌜ r ≡ atomSite (sitesOf (blockGraph (now (d .entry)) b)) a ⌝ }
 {
-    Site {
+    JoinSite {
         atoms: b.atoms as usize,
         ends: degree_of(bonds_part(d, b), a),
     }

@@ -10,18 +10,18 @@ use lib.Seq.{getD-set-same, getD-set-other}
 use Rattle.graph.specs.Graph.{Graph, Within, sum, sumBonds, vertex}
 use Rattle.graph.specs.Sums.{sum-cong}
 use Rattle.reply.specs.Read.{read}
-use Rattle.half.specs.Half.{startOf, placeOf, halfAt}
+use Rattle.half.specs.Half.{rowStart, abovePlace, halfAt}
 use Rattle.half.specs.Places.{Pair, place-is}
 use Rattle.half.specs.Reads.{up-reads, self-reads, reads-either}
 use Rattle.block.specs.Block.{mostAtoms, mostBytes, bondsOf, graphOf, blockReply}
-use Rattle.block.specs.Rows.{tableOf}
+use Rattle.block.specs.Rows.{halfTable}
 use Rattle.block.specs.Sums.{entry}
 use Rattle.block.specs.Told.{few-atoms}
 use Rattle.block.specs.Halved.{table-distance}
 use Rattle.block.specs.Numbered.{bondAt, rest, bonds-length, rest-sum, rest-over, few-bytes, least-bonds, bond-within}
 use Rattle.block.specs.Lent.{zeros}
 use Rattle.balaban.specs.Balaban.{bound, largestRoot, term, reckoned}
-use Rattle.balaban.specs.Work.{unit, mostSum, upTo, Sums, Within-row, Task}
+use Rattle.balaban.specs.Work.{unit, mostSum, upTo, Sums, Within-row, RootsTask}
 
 pub sums-none : (n : ℕ) (half : List ℕ) → Sums n half (replicate mostAtoms 0) 0
 unfolding sum
@@ -33,7 +33,7 @@ unfolding sum
 up-more half m v = rw (add-one m)
 
 -- the byte of the atom behind place j in the row of atom i + 1
-pub row-place : (i j n from : ℕ) → i < j → j < n → n ≤ mostAtoms → from ≡ startOf (suc i) → Pair (i + 1) (j + 1) × (from + (j - i - 1) ≡ placeOf (i + 1) (j + 1))
+pub row-place : (i j n from : ℕ) → i < j → j < n → n ≤ mostAtoms → from ≡ rowStart (suc i) → Pair (i + 1) (j + 1) × (from + (j - i - 1) ≡ abovePlace (i + 1) (j + 1))
 row-place i j n from h l m e = (record { low = omega arith; less = omega arith; high = omega arith }, omega (arith, place-is (i + 1) (j + 1), rw (← add-one i) at e))
 
 module _ {n : ℕ} {half : List ℕ} {i : ℕ} where
@@ -49,7 +49,7 @@ module _ {n : ℕ} {half : List ℕ} {i : ℕ} where
         own-is = (omega (arith, up-more half i (i + 1), self-reads half (i + 1)), omega arith);
       }
 
-  pub row-more : {sums : List ℕ} {own j from : ℕ} → Within-row n half i sums own j → i < j → j < n → n ≤ mostAtoms → from ≡ startOf (suc i)
+  pub row-more : {sums : List ℕ} {own j from : ℕ} → Within-row n half i sums own j → i < j → j < n → n ≤ mostAtoms → from ≡ rowStart (suc i)
       → (d : ℕ) → d ≡ getD half (from + (j - i - 1)) 0 → d ≤ 255 → Within-row n half i (set sums j (getD sums j 0 + d)) (own + d) (j + 1)
   row-more {sums} {own} {j} {from} W h l m e d q b =
       let (P, z) = row-place i j n from h l m e in
@@ -88,7 +88,7 @@ module _ (n : ℕ) (xs : List ℕ) (fine : blockReply n xs ≡ read tt) where
   few = few-atoms n xs fine .high
 
   -- the sums are the vertex sums
-  pub task : (half sums : List ℕ) → half ≡ tableOf n xs → Sums n half sums n → Task n xs sums
+  pub task : (half sums : List ℕ) → half ≡ halfTable n xs → Sums n half sums n → RootsTask n xs sums
   unfolding vertex
   task half sums e S = record {
     fine = fine;
@@ -107,7 +107,7 @@ pub record Adding (n : ℕ) (xs : List ℕ) (total k : ℕ) : Type 0 where
   pub left : total + sumBonds (rest xs k) (term 1 (graphOf n xs)) ≡ sumBonds (bondsOf xs) (term 1 (graphOf n xs))
   pub low : total ≤ unit * k
 
-module _ {n : ℕ} {xs sums : List ℕ} (T : Task n xs sums) where
+module _ {n : ℕ} {xs sums : List ℕ} (T : RootsTask n xs sums) where
   pub adding-none : Adding n xs 0 0
   adding-none = record { done = omega arith; left = omega arith; low = omega arith }
 

@@ -16,13 +16,13 @@ use Rattle.block.specs.Told.{molecule, each-bond}
 use Rattle.block.specs.Numbered.{ends-apart}
 use Rattle.reply.specs.declared.Refusal.{Refusal}
 use Rattle.balaban.specs.Balaban.{Largest, bound, term, bondCount, divisor, reckoned, balabanReply, saidBalaban, Fine}
-use Rattle.balaban.specs.declared.Balaban.{Balaban}
-use Rattle.balaban.specs.declared.Balaban.the-variants as answer
+use Rattle.balaban.specs.declared.BalabanReply.{BalabanReply}
+use Rattle.balaban.specs.declared.BalabanReply.the-variants as answer
 use Rattle.balaban.proofs.Squares.{largest-root}
 use Rattle.balaban.proofs.Fineness.{fine-molecule}
 
 -- two replies that satisfy the promise are equal
-pub one-reply : (n : ℕ) (xs : List ℕ) (r s : Balaban) → r ≡ saidBalaban (balabanReply n xs) → s ≡ saidBalaban (balabanReply n xs) → r ≡ s
+pub one-reply : (n : ℕ) (xs : List ℕ) (r s : BalabanReply) → r ≡ saidBalaban (balabanReply n xs) → s ≡ saidBalaban (balabanReply n xs) → r ≡ s
 one-reply n xs r s p q = p ∙ sym q
 
 module _ (n : ℕ) (xs : List ℕ) where

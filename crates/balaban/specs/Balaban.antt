@@ -8,8 +8,8 @@ use lib.ListN.{length}
 use Rattle.graph.specs.Graph.{Graph, Bond, sumBonds, vertexSum}
 use Rattle.reply.specs.Read.{Read, refused, read, _then_}
 use Rattle.block.specs.Block.{graphOf, blockReply}
-use Rattle.balaban.specs.declared.Balaban.{Balaban}
-use Rattle.balaban.specs.declared.Balaban.the-variants as answer
+use Rattle.balaban.specs.declared.BalabanReply.{BalabanReply}
+use Rattle.balaban.specs.declared.BalabanReply.the-variants as answer
 
 -- t is the largest whole number with t squared times p at most the bound
 pub record Largest (bound p t : ℕ) : Type 0 where
@@ -50,7 +50,7 @@ unfoldable pub balabanReply : ℕ → List ℕ → Read ℕ
 balabanReply n xs = blockReply n xs then λ _. read (reckoned 1 (graphOf n xs))
 
 -- how the code says it
-abbrev pub saidBalaban : Read ℕ → Balaban
+abbrev pub saidBalaban : Read ℕ → BalabanReply
 saidBalaban (refused r) = answer.Refused r
 saidBalaban (read j) = answer.Of j
 

@@ -44,7 +44,7 @@ pub record Within-row (n : ℕ) (half : List ℕ) (i : ℕ) (sums : List ℕ) (o
   pub own-is : (own ≡ upTo half j (i + 1)) × (own ≤ j * 255)
 
 -- a block that is not refused, and a list of its vertex sums
-pub record Task (n : ℕ) (xs sums : List ℕ) : Type 0 where
+pub record RootsTask (n : ℕ) (xs sums : List ℕ) : Type 0 where
   pub fine : blockReply n xs ≡ read tt
   pub is : (v : ℕ) → Within n v → entry sums v ≡ vertexSum (graphOf n xs) v
   pub low : (v : ℕ) → Within n v → entry sums v ≤ mostSum

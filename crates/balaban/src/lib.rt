@@ -1,14 +1,14 @@
-// Balaban's J of a block, in whole numbers.
+// BalabanReply's J of a block, in whole numbers.
 ghost use mathlib.Core.Path.{_≡_};
 ghost use Prim.Native.Nat.{suc, _+_, _-_, _*_, _/_, _≤_, _<_};
-ghost use Rattle.half.specs.Half.{startOf};
+ghost use Rattle.half.specs.Half.{rowStart};
 ghost use Rattle.graph.specs.Graph.{Within};
 ghost use Rattle.reply.specs.Read.{read};
 ghost use Rattle.block.specs.Block.{mostAtoms, mostBytes, graphOf, blockReply};
-ghost use Rattle.block.specs.Rows.{tableOf};
+ghost use Rattle.block.specs.Rows.{halfTable};
 ghost use Rattle.block.specs.Sums.{entry};
 ghost use Rattle.balaban.specs.Balaban.{bound, largestRoot, reckoned, balabanReply, saidBalaban};
-ghost use Rattle.balaban.specs.Work.{unit, mostSum, Sums, Task};
+ghost use Rattle.balaban.specs.Work.{unit, mostSum, Sums, RootsTask};
 use block::ATOMS;
 use half::Half;
 use half::PAIRS;
@@ -19,14 +19,14 @@ use reply::wide;
 mod roots;
 
 // J times 10^9, or a refusal.
-pub enum Balaban {
+pub enum BalabanReply {
     Refused(Refusal),
     Of(u64),
 }
 
 // Adds the row of atom i + 1 in the half, which begins at a place: to the sum of each later atom what it has with it, and to its own all of that.
 fn add_row(half: &Half, from: usize, i: usize, n: usize, sums: [u16; ATOMS]) -> [u16; ATOMS]
-    requires { ⌜ (i < n) × (n ≤ mostAtoms) × (from ≡ startOf (suc i)) × Sums n (now half) sums i ⌝ }
+    requires { ⌜ (i < n) × (n ≤ mostAtoms) × (from ≡ rowStart (suc i)) × Sums n (now half) sums i ⌝ }
     ensures { λ r. ⌜ Sums n (now (half .entry)) r (i + 1) ⌝ }
 {
     let mut next = sums;
@@ -89,7 +89,7 @@ fn divided(m: usize, total: u64, n: usize) -> u64
 
 // The reckoning by the vertex sums.
 fn reckon(n: usize, bonds: &[u8], sums: &[u16; ATOMS]) -> u64
-    requires { ⌜ Task n (now bonds) (now sums) ⌝ }
+    requires { ⌜ RootsTask n (now bonds) (now sums) ⌝ }
     ensures { λ r. ⌜ r ≡ reckoned 1 (graphOf n (now (bonds .entry))) ⌝ }
 {
     let m = bonds.len() / 2;
@@ -104,15 +104,15 @@ fn reckon(n: usize, bonds: &[u8], sums: &[u16; ATOMS]) -> u64
 
 // The answer for a block that is not refused, by half of its distances.
 fn answered(n: usize, bonds: &[u8], half: &Half) -> u64
-    requires { ⌜ (blockReply n (now bonds) ≡ read tt) × (now half ≡ tableOf n (now bonds)) ⌝ }
+    requires { ⌜ (blockReply n (now bonds) ≡ read tt) × (now half ≡ halfTable n (now bonds)) ⌝ }
     ensures { λ r. ⌜ r ≡ reckoned 1 (graphOf n (now (bonds .entry))) ⌝ }
 {
     let sums = vertex_sums(n, half);
     reckon(n, bonds, &sums)
 }
 
-// Balaban's J of a block, times 10^9 and in whole numbers, or the block's refusal.
-pub fn index(n: usize, bonds: &[u8]) -> Balaban
+// BalabanReply's J of a block, times 10^9 and in whole numbers, or the block's refusal.
+pub fn index(n: usize, bonds: &[u8]) -> BalabanReply
     ensures { λ r. ⌜ r ≡ saidBalaban (balabanReply n (now (bonds .entry))) ⌝ }
 {
     let mut half = [0u8; PAIRS];
@@ -120,10 +120,10 @@ pub fn index(n: usize, bonds: &[u8]) -> Balaban
     let opened = block::table(n, bonds, &mut half, &mut far);
     let reply = opened.reply;
     match reply {
-        Reply::Refused(refusal) => Balaban::Refused(refusal),
+        Reply::Refused(refusal) => BalabanReply::Refused(refusal),
         Reply::Fine => {
             let j = answered(n, bonds, &half);
-            Balaban::Of(j)
+            BalabanReply::Of(j)
         }
     }
 }

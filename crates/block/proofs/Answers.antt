@@ -9,7 +9,7 @@ use Rattle.reply.specs.Read.{Read, refused, read, _then_, refuseIf, refusal, is
 use Rattle.half.specs.Half.{halfAt}
 use Rattle.reply.specs.Chain.{not-read}
 use Rattle.block.specs.Block.{mostAtoms, graphOf, blockReply}
-use Rattle.block.specs.Rows.{rowOf, tableOf, farOf, emptyRow, rowReply, saidRow}
+use Rattle.block.specs.Rows.{rowOf, halfTable, farOf, emptyRow, rowReply, saidRow}
 use Rattle.block.specs.Index.{indicesReply, saidIndices, vertexOf, vertexReply, saidVertex, distanceReply, saidDistance, pairsOf, pairsReply, saidPairs}
 use Rattle.block.specs.Sums.{entry, indicesBy, countsBy, vertexBy}
 use Rattle.block.specs.Faults.{inside}
@@ -18,10 +18,10 @@ use Rattle.block.specs.Measures.{all-atoms, indices-are, counts-are, ver
 use Rattle.reply.specs.declared.Refusal.{Refusal}
 use Rattle.reply.specs.declared.Reply.the-variants as reply
 use Rattle.block.specs.declared.Indices.{Indices}
-use Rattle.block.specs.declared.Measured.the-variants as measured
+use Rattle.block.specs.declared.IndicesReply.the-variants as measured
 use Rattle.block.specs.declared.Vertex.{Vertex}
-use Rattle.block.specs.declared.Around.the-variants as around
-use Rattle.block.specs.declared.Apart.the-variants as apart
+use Rattle.block.specs.declared.VertexReply.the-variants as around
+use Rattle.block.specs.declared.DistanceReply.the-variants as apart
 use Rattle.block.specs.declared.Pairs.{Pairs}
 use Rattle.block.specs.declared.OneRow.{OneRow}
 use Rattle.block.proofs.Filling.{no-row}
@@ -54,7 +54,7 @@ module _ (n : ℕ) (xs : List ℕ) where
   unfolding indicesReply
   measure-refused r e = rw e
 
-  pub measure-fine : blockReply n xs ≡ read tt → (half : List ℕ) → half ≡ tableOf n xs → (far : List ℕ) → far ≡ farOf n xs
+  pub measure-fine : blockReply n xs ≡ read tt → (half : List ℕ) → half ≡ halfTable n xs → (far : List ℕ) → far ≡ farOf n xs
       → (x : Indices) → x ≡ indicesBy (min n mostAtoms) (halfAt half) (entry far) → measured.Of x ≡ saidIndices (indicesReply n xs)
   unfolding indicesReply
   measure-fine e half q far f x p = rw (e, p, q, f, all-atoms n xs e, indices-are n xs e)
@@ -63,7 +63,7 @@ module _ (n : ℕ) (xs : List ℕ) where
   unfolding pairsReply
   pairs-refused p r e q a = rw e (λ i. record { reply = q i; at = (a ∙ no-row) i })
 
-  pub pairs-fine : blockReply n xs ≡ read tt → (half : List ℕ) → half ≡ tableOf n xs → (p : Pairs) → p .reply ≡ reply.Fine → p .at ≡ countsBy (min n mostAtoms) (halfAt half) → p ≡ saidPairs (pairsReply n xs)
+  pub pairs-fine : blockReply n xs ≡ read tt → (half : List ℕ) → half ≡ halfTable n xs → (p : Pairs) → p .reply ≡ reply.Fine → p .at ≡ countsBy (min n mostAtoms) (halfAt half) → p ≡ saidPairs (pairsReply n xs)
   unfolding pairsReply
   pairs-fine e half q p f a =
       let b : p .at ≡ pairsOf (graphOf n xs) = rw (a, q, all-atoms n xs e) (counts-are n xs e) in

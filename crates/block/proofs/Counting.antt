@@ -9,12 +9,12 @@ use borrow.Author.Tests.{eq-eqb, ne-eqb}
 use lib.ListN.{length, getD, set, length-set, replicate}
 use lib.Seq.{getD-set-same, getD-set-other, ext-getD}
 use Rattle.graph.specs.Graph.{sum, sumPairs, isAt}
-use Rattle.half.specs.Half.{startOf, halfAt}
+use Rattle.half.specs.Half.{rowStart, halfAt}
 use Rattle.block.specs.Block.{mostAtoms}
 use Rattle.block.specs.Rows.{table}
 use Rattle.block.specs.Tables.{length-table, getD-table}
 use Rattle.block.specs.Sums.{countsBy}
-use Rattle.block.specs.Tally.{runAt, Counts, Counted}
+use Rattle.block.specs.Tally.{runAt, Counts, CountsAdded}
 use Rattle.block.specs.Lent.{zeros}
 use Rattle.block.proofs.Summing.{by-rows, run-row, rowsUpto}
 
@@ -35,11 +35,11 @@ sum-low zero d f = omega arith
 sum-low (suc n) d f = omega (arith, sum-low n d f, at-low d (f (suc n)))
 
 -- numbers, one by one
-pub count-none : (b : ℕ) (at : List ℕ) (d : ℕ → ℕ) → Counts b at → Counted at d 0 at
+pub count-none : (b : ℕ) (at : List ℕ) (d : ℕ → ℕ) → Counts b at → CountsAdded at d 0 at
 unfolding sum
 count-none b at d C = record { size = C .size; equal = λ x l. omega arith }
 
-module _ (at : List ℕ) (f : ℕ → ℕ) (j : ℕ) (r : List ℕ) (C : Counted at f j r) where
+module _ (at : List ℕ) (f : ℕ → ℕ) (j : ℕ) (r : List ℕ) (C : CountsAdded at f j r) where
   pub count-low : (b d : ℕ) → Counts b at → d < mostAtoms → getD r d 0 ≤ b + j
   count-low b d A l = omega (arith, C .equal d l, A .most d, sum-low j d f)
 
@@ -48,7 +48,7 @@ module _ (at : List ℕ) (f : ℕ → ℕ) (j : ℕ) (r : List ℕ) (C : Counted
     unfolding sum
     step x = rw (add-one j, e)
 
-    pub count-in : d < mostAtoms → Counted at f (j + 1) (set r d (getD r d 0 + 1))
+    pub count-in : d < mostAtoms → CountsAdded at f (j + 1) (set r d (getD r d 0 + 1))
     count-in l = record {
       size = length-set r d _ ∙ C .size;
       equal = λ x m. elim (ℕ-discrete x d) [
@@ -59,7 +59,7 @@ module _ (at : List ℕ) (f : ℕ → ℕ) (j : ℕ) (r : List ℕ) (C : Counted
       ];
     }
 
-    pub count-out : mostAtoms ≤ d → Counted at f (j + 1) r
+    pub count-out : mostAtoms ≤ d → CountsAdded at f (j + 1) r
     count-out l = record {
       size = C .size;
       equal = λ x m. let ne : (x ≡ d → ⊥) = omega arith in omega (arith, step x, at-other x d ne, C .equal x m);
@@ -79,7 +79,7 @@ module _ (h : List ℕ) (m i : ℕ) (at : List ℕ) (P : PairsCounted h m i at) 
   pub pairs-counts : Counts (mostAtoms * mostAtoms) at
   pairs-counts = record { size = P .size; most = λ d. omega (arith, P .low d) }
 
-  pub pairs-more : (from : ℕ) → from ≡ startOf (suc i) → (r : List ℕ) → Counted at (runAt h from) (m - 1 - i) r → PairsCounted h m (i + 1) r
+  pub pairs-more : (from : ℕ) → from ≡ rowStart (suc i) → (r : List ℕ) → CountsAdded at (runAt h from) (m - 1 - i) r → PairsCounted h m (i + 1) r
   unfolding sum
   pairs-more from e r C = record {
     size = C .size;

@@ -12,14 +12,14 @@ use borrow.Author.Tests.{lt-ltb, le-ltb, ne-eqb}
 use Rattle.graph.specs.Graph.{Within, distance}
 use Rattle.graph.specs.Farthest.{farthest}
 use Rattle.reply.specs.Read.{refused, read, refusal, isOutside}
-use Rattle.half.specs.Half.{allPairs, placeOf, halfWithRow}
+use Rattle.half.specs.Half.{allPairs, abovePlace, halfWithRow}
 use Rattle.half.specs.Places.{Pair}
 use Rattle.half.specs.Rows.{row-size, row-same, row-past, row-other}
 use Rattle.block.specs.Block.{mostAtoms, graphOf, blockReply}
-use Rattle.block.specs.Rows.{table, rowOf, noRow, emptyRow, saidRow, rowReply, farOf, tableOf}
+use Rattle.block.specs.Rows.{table, rowOf, noRow, emptyRow, saidRow, rowReply, farOf, halfTable}
 use Rattle.block.specs.Tables.{length-table, getD-table}
 use Rattle.block.specs.Opened.{neighboursOf, openedReply, saidOpened}
-use Rattle.block.specs.Near.{Ready}
+use Rattle.block.specs.Near.{ReadyBlock}
 use Rattle.block.specs.Told.{row-read}
 use Rattle.block.specs.Drawn.{drawn-is}
 use Rattle.block.specs.Halved.{table-end}
@@ -70,15 +70,15 @@ module _ (n : ℕ) (xs : List ℕ) where
   -- the rows of the first i atoms are stored, and the largest of each
   pub record Rows (h far : List ℕ) (i : ℕ) : Type 0 where
     pub size : length h ≡ allPairs
-    pub done : (k l : ℕ) → Pair k l → k ≤ i → getD h (placeOf k l) 0 ≡ getD (rowOf (graphOf n xs) k) (l - 1) 0
-    pub rest : (k l : ℕ) → Pair k l → i < k → getD h (placeOf k l) 0 ≡ 0
+    pub done : (k l : ℕ) → Pair k l → k ≤ i → getD h (abovePlace k l) 0 ≡ getD (rowOf (graphOf n xs) k) (l - 1) 0
+    pub rest : (k l : ℕ) → Pair k l → i < k → getD h (abovePlace k l) 0 ≡ 0
     pub largest : Filled (λ k. farthest (graphOf n xs) (suc k)) 0 0 far i
 
   pub rows-start : Rows (replicate allPairs 0) emptyRow 0
   rows-start = record {
     size = length-replicate {A = ℕ} allPairs 0;
     done = λ k l p m. absurd (omega (arith, p .low));
-    rest = λ k l p m. zeros allPairs (placeOf k l);
+    rest = λ k l p m. zeros allPairs (abovePlace k l);
     largest = fill-start;
   }
 
@@ -92,14 +92,14 @@ module _ (n : ℕ) (xs : List ℕ) where
   rows-next h far i row d l P e f = record {
     size = row-size h (suc i) row n (omega arith) l (P .size);
     done = λ k j p m. elim (ℕ-discrete k (suc i)) [
-      | yes q ↦ subst⁻¹ (λ (x : ℕ). Pair x j → getD (halfWithRow h (suc i) row n) (placeOf x j) 0 ≡ getD (rowOf (graphOf n xs) x) (j - 1) 0) q (λ p. own j p) p
+      | yes q ↦ subst⁻¹ (λ (x : ℕ). Pair x j → getD (halfWithRow h (suc i) row n) (abovePlace x j) 0 ≡ getD (rowOf (graphOf n xs) x) (j - 1) 0) q (λ p. own j p) p
       | no q ↦ row-other h (suc i) row n (omega arith) l (P .size) k j p q ∙ P .done k j p (omega arith)
     ];
     rest = λ k j p m. row-other h (suc i) row n (omega arith) l (P .size) k j p (λ q. omega arith) ∙ P .rest k j p (omega arith);
     largest = fill-next far i d l (P .largest) f;
   }
     where
-      own : (j : ℕ) → Pair (suc i) j → getD (halfWithRow h (suc i) row n) (placeOf (suc i) j) 0 ≡ getD (rowOf (graphOf n xs) (suc i)) (j - 1) 0
+      own : (j : ℕ) → Pair (suc i) j → getD (halfWithRow h (suc i) row n) (abovePlace (suc i) j) 0 ≡ getD (rowOf (graphOf n xs) (suc i)) (j - 1) 0
       own j p = elim (decLt n j) [
         | yes q ↦ row-past h (suc i) row n (omega arith) l (P .size) j p q ∙ P .rest (suc i) j p (omega arith) ∙ sym (past-row (suc i) j q (p .high))
         | no q ↦ row-same h (suc i) row n (omega arith) l (P .size) j p (omega arith) ∙ ap (λ (x : List ℕ). getD x (j - 1) 0) e
@@ -113,7 +113,7 @@ module _ (n : ℕ) (xs : List ℕ) where
     unfolding rowReply
     beyond k l = rw (fine, ne-eqb (suc k) 0 (omega arith), lt-ltb n (suc k) (omega arith))
 
-    pub rows-end : (h far : List ℕ) → Rows h far n → (h ≡ tableOf n xs) × (far ≡ farOf n xs)
+    pub rows-end : (h far : List ℕ) → Rows h far n → (h ≡ halfTable n xs) × (far ≡ farOf n xs)
     unfolding farOf
     rows-end h far P = (
       table-end n xs fine h (P .size) (P .done) (P .rest),
@@ -143,7 +143,7 @@ module _ (n : ℕ) (xs : List ℕ) where
     unfolding openedReply
     opened-refused r b p q = rw b (λ j. record { reply = p j; near = (q ∙ no-row) j })
 
-    pub opened-fine : Ready n xs (v .near) → v .reply ≡ Fine → v ≡ saidOpened (openedReply n xs)
+    pub opened-fine : ReadyBlock n xs (v .near) → v .reply ≡ Fine → v ≡ saidOpened (openedReply n xs)
     unfolding openedReply
     opened-fine R p =
         let q : v .near ≡ neighboursOf (graphOf n xs) = drawn-is (graphOf n xs) (v .near) (R .shown) in

@@ -16,11 +16,11 @@ use Rattle.graph.specs.Graph.{Bond, bond, Within, anyJoins, degree}
 use Rattle.graph.specs.Bonds.{both, both-true, one-of, first-of, second-of, same-test, any-out, any-head, any-tail}
 use Rattle.graph.specs.Sets.{has, alone, has-or, has-alone}
 use Rattle.block.specs.Block.{limit}
-use Rattle.block.specs.Near.{around, counted, putting, counting, Draws, Holds}
+use Rattle.block.specs.Near.{around, counted, putting, counting, Draws, HoldsBonds}
 use Rattle.block.specs.Faults.{Faultless}
 
 -- how many bonds an atom has
-module _ {n : ℕ} {bs : List Bond} {near count : List ℕ} (H : Holds n bs near count) (u : ℕ) (w : Within n u) where
+module _ {n : ℕ} {bs : List Bond} {near count : List ℕ} (H : HoldsBonds n bs near count) (u : ℕ) (w : Within n u) where
   pub full : limit ≤ counted count u → leb limit (degree bs u) ≡ true
   full l = le-leb limit (degree bs u) (omega (arith, H .degrees u w))
 
@@ -67,7 +67,7 @@ module _ (n : ℕ) (R S : ℕ → ℕ → Bool) (near : List ℕ) (D : Draws n R
   }
 
 -- a bond joins the neighbours at both of its ends
-module _ (n : ℕ) (bs : List Bond) (near count : List ℕ) (H : Holds n bs near count) (a b : ℕ) (F : Faultless n bs a b) where
+module _ (n : ℕ) (bs : List Bond) (near count : List ℕ) (H : HoldsBonds n bs near count) (a b : ℕ) (F : Faultless n bs a b) where
   half : ℕ → ℕ → Bool
   half u w = anyJoins bs u w || (eqb u a && eqb w b)
 
@@ -94,7 +94,7 @@ module _ (n : ℕ) (bs : List Bond) (near count : List ℕ) (H : Holds n bs near
   unfolding half
   once-draws = put-draws n (anyJoins bs) half near (H .draws) a b (F .one) (F .two) (λ u w. refl)
 
-  pub put-holds : Holds n (bond a b ∷ bs) (putting (putting near a b) b a) (counting (counting count a) b)
+  pub put-holds : HoldsBonds n (bond a b ∷ bs) (putting (putting near a b) b a) (counting (counting count a) b)
   unfolding degree
   put-holds = record {
     draws = put-draws n half (anyJoins (bond a b ∷ bs)) (putting near a b) once-draws b a (F .two) (F .one) both-ways;

@@ -21,7 +21,7 @@ use Rattle.graph.specs.Sets.{has, alone, firsts, has-and, has-or, has-xor, has-
 use Rattle.graph.specs.Search.{State, Seen, Deepens, begin, depth-below, looked, deepened, met-distance, unmet-walk, last-level}
 use Rattle.block.specs.Block.{mostAtoms}
 use Rattle.block.specs.Rows.{table, rowOf}
-use Rattle.block.specs.Near.{Shows}
+use Rattle.block.specs.Near.{ShowsGraph}
 use Rattle.block.specs.Found.{Searched}
 use Rattle.block.specs.Tables.{length-table, getD-table}
 use Rattle.block.specs.Lent.{zeros}
@@ -36,7 +36,7 @@ view row rest level next d = record {
   depth = d;
 }
 
-pub sound : {g : Graph} {near : List ℕ} → Shows g near → Sound g
+pub sound : {g : Graph} {near : List ℕ} → ShowsGraph g near → Sound g
 sound D = record { ends = λ v w e. D .ends v w e .0 }
 
 -- the lowest atom of a set
@@ -56,7 +56,7 @@ module _ (g : Graph) (near : List ℕ) (i : ℕ) where
     pub some : 1 ≤ d
     pub deep : connected g ≡ true → d ≡ farthest g i + 1
 
-  module _ (D : Shows g near) where
+  module _ (D : ShowsGraph g near) where
     fits-word : {m : ℕ} → m < 2 ^ g .atoms → m < 2 ^ mostAtoms
     fits-word l = omega (arith, grow)
       where

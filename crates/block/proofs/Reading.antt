@@ -13,7 +13,7 @@ use Rattle.graph.specs.Sets.{has, has-none}
 use Rattle.graph.specs.Bonds.{same-test, any-out, any-head, any-tail, any-none}
 use Rattle.reply.specs.Read.{refused, read, _then_, refuseFor, refusal}
 use Rattle.block.specs.Block.{limit, mostAtoms, bondsOf, graphOf, bondFault, bondsReply}
-use Rattle.block.specs.Near.{counted, putting, counting, Draws, Holds, Shows}
+use Rattle.block.specs.Near.{counted, putting, counting, Draws, HoldsBonds, ShowsGraph}
 use Rattle.block.specs.Faults.{Faultless, faultless}
 use Rattle.block.specs.Numbered.{bondAt, rest, rest-cons, rest-none}
 use Rattle.block.specs.Lent.{zeros}
@@ -31,7 +31,7 @@ length-before xs (suc k) = ap suc (length-before xs k)
 
 -- what holds after k bonds that have no fault
 pub record Reads (n : ℕ) (xs : List ℕ) (k : ℕ) (near count : List ℕ) : Type 0 where
-  pub holds : Holds n (before xs k) near count
+  pub holds : HoldsBonds n (before xs k) near count
   pub answer : bondsReply n [] (bondsOf xs) ≡ bondsReply n (before xs k) (rest xs k)
   pub parts : (u v : ℕ) → anyJoins (bondsOf xs) u v ≡ true → (anyJoins (before xs k) u v ≡ true) ⊎ (anyJoins (rest xs k) u v ≡ true)
   pub passed : (u v : ℕ) → anyJoins (before xs k) u v ≡ true → anyJoins (bondsOf xs) u v ≡ true
@@ -114,6 +114,6 @@ module _ (n : ℕ) (xs : List ℕ) (k : ℕ) (near count : List ℕ) (A : Reads 
   whole u v = same-test (anyJoins (before xs k) u v) (anyJoins (bondsOf xs) u v) (A .passed u v)
       (λ j. ⊎-elim (λ x. x) (λ x. absurd (any-none u v (rw (rest-none xs k last) at x))) (A .parts u v j))
 
-  pub reads-drawn : Shows (graphOf n xs) near
+  pub reads-drawn : ShowsGraph (graphOf n xs) near
   unfolding bonded
   reads-drawn = subst (λ (R : ℕ → ℕ → Bool). Draws n R near) (fun-ext (λ u. fun-ext (λ v. whole u v))) (A .holds .draws)

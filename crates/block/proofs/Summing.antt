@@ -9,12 +9,12 @@ use Rattle.graph.specs.Graph.{Within, sum, sumPairs, itself, evenOf, oddOf, isA
 use Rattle.graph.specs.Farthest.{most}
 use Rattle.graph.specs.Sums.{sum-add, sum-cong, sumPairs-add, sumPairs-cong}
 use Rattle.graph.specs.Parts.{parts-of}
-use Rattle.half.specs.Half.{allPairs, startOf, placeOf, halfAt}
+use Rattle.half.specs.Half.{allPairs, rowStart, abovePlace, halfAt}
 use Rattle.half.specs.Places.{Pair, start-last, start-next, start-most, place-is, place-below}
 use Rattle.half.specs.Reads.{up-reads}
 use Rattle.block.specs.Block.{mostAtoms}
 use Rattle.block.specs.Sums.{entry, indicesBy, vertexBy}
-use Rattle.block.specs.Tally.{tallyBy, Tallied, runAt, Ran}
+use Rattle.block.specs.Tally.{tallyBy, Tallied, runAt, RunOf}
 use Rattle.block.specs.declared.Tally.{Tally}
 use Rattle.block.specs.declared.Run.{Run}
 
@@ -48,7 +48,7 @@ by-rows (suc n) f = omega (arith, longer, sum-add n (λ i. sum (n - i) (λ j. f 
     last = let e : suc n - suc n ≡ 0 = omega arith in rw e
 
 -- the row of atom i + 1 in a half, as far as the atoms go
-module _ (h : List ℕ) (m i from : ℕ) (l : i < m) (s : m ≤ mostAtoms) (e : from ≡ startOf (suc i)) where
+module _ (h : List ℕ) (m i from : ℕ) (l : i < m) (s : m ≤ mostAtoms) (e : from ≡ rowStart (suc i)) where
   pub run-fits : (m - 1 - i ≤ mostAtoms) × (from + (m - 1 - i) ≤ allPairs)
   run-fits = (omega arith, go (m - 1 - i) refl)
     where
@@ -66,11 +66,11 @@ module _ (h : List ℕ) (m i from : ℕ) (l : i < m) (s : m ≤ mostAtoms) (e : 
       same : (j : ℕ) → Within (m - suc i) j → runAt h from j ≡ halfAt h (suc i) (suc i + j)
       same j w =
           let P : Pair (suc i) (suc i + j) = record { low = omega arith; less = omega arith; high = omega arith } in
-          let q : from + (j - 1) ≡ placeOf (suc i) (suc i + j) = omega (arith, place-is (suc i) (suc i + j)) in
+          let q : from + (j - 1) ≡ abovePlace (suc i) (suc i + j) = omega (arith, place-is (suc i) (suc i + j)) in
           rw q (sym (up-reads h P))
 
 -- where the next row begins
-pub from-next : (i from : ℕ) → i < mostAtoms → from ≡ startOf (suc i) → (from + (63 - i) ≡ startOf (suc (i + 1))) × (from ≤ allPairs)
+pub from-next : (i from : ℕ) → i < mostAtoms → from ≡ rowStart (suc i) → (from + (63 - i) ≡ rowStart (suc (i + 1))) × (from ≤ allPairs)
 from-next i from l e =
     rw (add-one i) (omega (arith, start-next (suc i) (omega arith) (omega arith)), omega (arith, start-most (suc i) mostAtoms (omega arith) (omega arith) (omega arith), start-last))
 
@@ -89,7 +89,7 @@ pub sums-none : (h far : List ℕ) (m : ℕ) → Summed h far m 0 0 0 0 0
 unfolding sum most
 sums-none h far m = record { all-is = refl; odd-is = refl; threes-is = refl; top-is = refl; low = omega arith }
 
-module _ (h far : List ℕ) (m i w odd threes top from : ℕ) (S : Summed h far m i w odd threes top) (l : i < m) (s : m ≤ mostAtoms) (e : from ≡ startOf (suc i)) (r : Run) (R : Ran h from (m - 1 - i) r) where
+module _ (h far : List ℕ) (m i w odd threes top from : ℕ) (S : Summed h far m i w odd threes top) (l : i < m) (s : m ≤ mostAtoms) (e : from ≡ rowStart (suc i)) (r : Run) (R : RunOf h from (m - 1 - i) r) where
   -- one row more: what is counted of its entries is added
   more : (f : ℕ → ℕ) (x y : ℕ) → x ≡ rowsUpto h m i f → y ≡ sum (m - 1 - i) (λ j. f (runAt h from j)) → x + y ≡ rowsUpto h m (i + 1) f
   unfolding sum

@@ -12,7 +12,7 @@ use lib.ListN.{getD}
 use mir.Val.{boolByte}
 use Rattle.graph.specs.Graph.{sum, evenOf, oddOf, evenOne, oddOne, isAt}
 use Rattle.block.specs.Sums.{entry}
-use Rattle.block.specs.Tally.{tallyBy, Tallied, runAt, Ran}
+use Rattle.block.specs.Tally.{tallyBy, Tallied, runAt, RunOf}
 use Rattle.block.specs.declared.Tally.{Tally}
 use Rattle.block.specs.declared.Run.{Run}
 
@@ -109,12 +109,12 @@ odd-low d = elim (ℕ-discrete (d % 2) 0) [ yes e ↦ rw e (omega arith) | no e 
 pub run-here : (h : List ℕ) (from j : ℕ) → getD h (from + j) 0 ≡ runAt h from (suc j)
 run-here h from j = let k : suc j - 1 ≡ j = omega arith in rw k
 
-pub run-none : (h : List ℕ) (from : ℕ) → Ran h from 0 (record { all = 0; odd = 0; threes = 0 })
+pub run-none : (h : List ℕ) (from : ℕ) → RunOf h from 0 (record { all = 0; odd = 0; threes = 0 })
 unfolding sum
 run-none h from = record { all-is = refl; odd-is = refl; threes-is = refl; low = omega arith }
 
-pub run-more : (h : List ℕ) (from j : ℕ) (r : Run) → Ran h from j r → (d : ℕ) → d ≡ getD h (from + j) 0 → d ≤ 255
-    → Ran h from (j + 1) (record { all = r .all + d; odd = r .odd + d * (d % 2); threes = r .threes + boolByte (eqb d 3) })
+pub run-more : (h : List ℕ) (from j : ℕ) (r : Run) → RunOf h from j r → (d : ℕ) → d ≡ getD h (from + j) 0 → d ≤ 255
+    → RunOf h from (j + 1) (record { all = r .all + d; odd = r .odd + d * (d % 2); threes = r .threes + boolByte (eqb d 3) })
 unfolding sum
 run-more h from j r R d e l =
     let q : d ≡ runAt h from (suc j) = e ∙ run-here h from j in

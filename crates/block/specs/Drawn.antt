@@ -20,7 +20,7 @@ use Rattle.reply.specs.Read.{Read, refused, read, _then_, saidReply}
 use Rattle.block.specs.Block.{mostAtoms, graphOf, blockReply}
 use Rattle.block.specs.Rows.{table}
 use Rattle.block.specs.Tables.{length-table, getD-table}
-use Rattle.block.specs.Near.{around, Shows}
+use Rattle.block.specs.Near.{around, ShowsGraph}
 use Rattle.block.specs.Opened.{setOf, neighboursOf, openedReply, saidOpened}
 use Rattle.block.specs.declared.Opened.{Opened}
 
@@ -99,7 +99,7 @@ set-is (suc n) m p l h = go (p (suc n)) refl (set-is n (bitXor m (alone (suc n))
         omega (arith, without (no-last n m l (h (suc n) (last n) ∙ e)) (λ v w. h v (wider w)), ap (λ (t : Bool). setOf n p + cond t (alone (suc n)) 0) e)
 
 -- the neighbours that show a graph are its neighbours
-pub drawn-is : (g : Graph) (near : List ℕ) → Shows g near → near ≡ neighboursOf g
+pub drawn-is : (g : Graph) (near : List ℕ) → ShowsGraph g near → near ≡ neighboursOf g
 unfolding neighboursOf
 drawn-is g near D =
     ext-getD 0 near (table mostAtoms sets) (D .size ∙ sym (length-table mostAtoms sets))

@@ -7,11 +7,11 @@ use mathlib.Core.Path.{_≡_}
 use Rattle.graph.specs.Graph.{Graph, Within, connected}
 use Rattle.graph.specs.Farthest.{farthest}
 use Rattle.block.specs.Rows.{rowOf}
-use Rattle.block.specs.Near.{Shows}
+use Rattle.block.specs.Near.{ShowsGraph}
 
 -- a search from atom i over the neighbours of the n atoms of a graph
-pub record Task (g : Graph) (near : List ℕ) (n i : ℕ) : Type 0 where
-  pub shown : Shows g near
+pub record SearchTask (g : Graph) (near : List ℕ) (n i : ℕ) : Type 0 where
+  pub shown : ShowsGraph g near
   pub size : n ≡ g .atoms
   pub start : Within (g .atoms) i
 

@@ -13,11 +13,11 @@ use Rattle.graph.specs.Graph.{Within, distance}
 use Rattle.graph.specs.Farthest.{farthest}
 use Rattle.graph.specs.Distance.{distance-self, distance-sym}
 use Rattle.reply.specs.Read.{Read, refused, read, _then_, refuseIf, isOutside}
-use Rattle.half.specs.Half.{allPairs, placeOf, noPair, halfAt, halfRow, halfOf}
+use Rattle.half.specs.Half.{allPairs, abovePlace, noPair, halfAt, halfRow, halfOf}
 use Rattle.half.specs.Places.{Pair}
 use Rattle.half.specs.Reads.{half-ext, length-half, half-reads, Halved, half-is-rows}
 use Rattle.block.specs.Block.{mostAtoms, graphOf, blockReply}
-use Rattle.block.specs.Rows.{table, rowOf, noRow, saidRow, rowReply, rowsOf, distanceAt, tableOf}
+use Rattle.block.specs.Rows.{table, rowOf, noRow, saidRow, rowReply, rowsOf, distanceAt, halfTable}
 use Rattle.block.specs.Tables.{length-table, getD-table}
 use Rattle.block.specs.Lent.{zeros}
 use Rattle.block.specs.Faults.{inside}
@@ -121,8 +121,8 @@ module _ (n : ℕ) (xs : List ℕ) where
           at-distance f v w ∙ rw (← q) (distance-self (sound n xs f) v)
 
   -- THE HALF READS AS THE ROWS, either way round, and at equal atoms too
-  pub table-is-rows : (i j : ℕ) → halfAt (tableOf n xs) i j ≡ distanceAt (rowsOf n xs) i j
-  unfolding tableOf
+  pub table-is-rows : (i j : ℕ) → halfAt (halfTable n xs) i j ≡ distanceAt (rowsOf n xs) i j
+  unfolding halfTable
   table-is-rows i j = half-is-rows (distanceAt (rowsOf n xs)) halved i j
 
   said-long : (i : ℕ) → length (saidRow (rowReply n xs i) .row) ≡ mostAtoms
@@ -134,7 +134,7 @@ module _ (n : ℕ) (xs : List ℕ) where
       go (read u) true = length-table mostAtoms (λ j. 0)
       go (read u) false = length-table mostAtoms (λ j. cond (ltb j n) (distance (graphOf n xs) i (suc j)) 0)
 
-  row-said : {i : ℕ} → Within mostAtoms i → halfRow (tableOf n xs) i ≡ saidRow (rowReply n xs i) .row
+  row-said : {i : ℕ} → Within mostAtoms i → halfRow (halfTable n xs) i ≡ saidRow (rowReply n xs i) .row
   unfolding halfRow
   row-said {i} v =
       ext-getD 0 (table mostAtoms half) (saidRow (rowReply n xs i) .row) (length-table mostAtoms half ∙ sym (said-long i))
@@ -144,9 +144,9 @@ module _ (n : ℕ) (xs : List ℕ) where
       getD-table mostAtoms half j 0 m ∙ table-is-rows i (suc j) ∙ at-said v (omega arith) ∙ ap (λ (x : ℕ). getD (saidRow (rowReply n xs i) .row) x 0) k)
     where
       half : ℕ → ℕ
-      half j = halfAt (tableOf n xs) i (suc j)
+      half j = halfAt (halfTable n xs) i (suc j)
 
-  pub table-rows : table mostAtoms (λ i. halfRow (tableOf n xs) (suc i)) ≡ rowsOf n xs
+  pub table-rows : table mostAtoms (λ i. halfRow (halfTable n xs) (suc i)) ≡ rowsOf n xs
   unfolding rowsOf
   table-rows =
       ext-getD [] (table mostAtoms half) (table mostAtoms said) (length-table mostAtoms half ∙ sym (length-table mostAtoms said))
@@ -155,33 +155,33 @@ module _ (n : ℕ) (xs : List ℕ) where
       getD-table mostAtoms half i [] m ∙ row-said {i = suc i} (omega arith) ∙ sym (getD-table mostAtoms said i [] m))
     where
       half : ℕ → List ℕ
-      half i = halfRow (tableOf n xs) (suc i)
+      half i = halfRow (halfTable n xs) (suc i)
 
       said : ℕ → List ℕ
       said i = saidRow (rowReply n xs (suc i)) .row
 
   -- a refused block has none
-  pub table-refused : (r : Refusal) → blockReply n xs ≡ refused r → replicate allPairs 0 ≡ tableOf n xs
-  unfolding tableOf
+  pub table-refused : (r : Refusal) → blockReply n xs ≡ refused r → replicate allPairs 0 ≡ halfTable n xs
+  unfolding halfTable
   table-refused r e =
       half-ext (replicate allPairs 0) (halfOf (distanceAt (rowsOf n xs))) (length-replicate {A = ℕ} allPairs 0) (length-half (distanceAt (rowsOf n xs)))
-      (λ i j p. zeros allPairs (placeOf i j) ∙ sym (half-reads (distanceAt (rowsOf n xs)) p ∙ at-refused r e (pair-one p) (pair-two p)))
+      (λ i j p. zeros allPairs (abovePlace i j) ∙ sym (half-reads (distanceAt (rowsOf n xs)) p ∙ at-refused r e (pair-one p) (pair-two p)))
 
   module _ (fine : blockReply n xs ≡ read tt) where
-    pub table-distance : {i j : ℕ} → Within n i → Within n j → halfAt (tableOf n xs) i j ≡ distance (graphOf n xs) i j
+    pub table-distance : {i j : ℕ} → Within n i → Within n j → halfAt (halfTable n xs) i j ≡ distance (graphOf n xs) i j
     table-distance {i} {j} v w = table-is-rows i j ∙ at-distance fine v w
 
-    pub table-row : {i : ℕ} → Within n i → halfRow (tableOf n xs) i ≡ rowOf (graphOf n xs) i
+    pub table-row : {i : ℕ} → Within n i → halfRow (halfTable n xs) i ≡ rowOf (graphOf n xs) i
     table-row {i} v = let m = few-atoms n xs fine in row-said {i = i} (omega arith) ∙ ap (λ (x : Read (List ℕ × ℕ)). saidRow x .row) (row-read n xs fine v)
 
     -- the rows that are stored one by one
-    pub table-end : (h : List ℕ) → length h ≡ allPairs → ((i j : ℕ) → Pair i j → i ≤ n → getD h (placeOf i j) 0 ≡ getD (rowOf (graphOf n xs) i) (j - 1) 0)
-        → ((i j : ℕ) → Pair i j → n < i → getD h (placeOf i j) 0 ≡ 0) → h ≡ tableOf n xs
-    unfolding tableOf
+    pub table-end : (h : List ℕ) → length h ≡ allPairs → ((i j : ℕ) → Pair i j → i ≤ n → getD h (abovePlace i j) 0 ≡ getD (rowOf (graphOf n xs) i) (j - 1) 0)
+        → ((i j : ℕ) → Pair i j → n < i → getD h (abovePlace i j) 0 ≡ 0) → h ≡ halfTable n xs
+    unfolding halfTable
     table-end h l done rest =
         half-ext h (halfOf (distanceAt (rowsOf n xs))) l (length-half (distanceAt (rowsOf n xs)))
         (λ i j p. at-pair i j p (decLt n i) ∙ sym (half-reads (distanceAt (rowsOf n xs)) p))
       where
-        at-pair : (i j : ℕ) → Pair i j → Dec (n < i) → getD h (placeOf i j) 0 ≡ at i j
+        at-pair : (i j : ℕ) → Pair i j → Dec (n < i) → getD h (abovePlace i j) 0 ≡ at i j
         at-pair i j p (yes b) = rest i j p b ∙ sym (at-beyond fine (pair-one p) b (pair-two p))
         at-pair i j p (no b) = done i j p (omega arith) ∙ sym (at-row fine {i = i} (omega (arith, p .low)) (pair-two p))

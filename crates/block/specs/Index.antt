@@ -8,13 +8,13 @@ use Rattle.block.specs.Block.{mostAtoms, graphOf, blockReply}
 use Rattle.block.specs.Rows.{table, noRow}
 use Rattle.reply.specs.declared.Reply.the-variants as reply
 use Rattle.block.specs.declared.Indices.{Indices}
-use Rattle.block.specs.declared.Measured.{Measured}
-use Rattle.block.specs.declared.Measured.the-variants as measured
+use Rattle.block.specs.declared.IndicesReply.{IndicesReply}
+use Rattle.block.specs.declared.IndicesReply.the-variants as measured
 use Rattle.block.specs.declared.Vertex.{Vertex}
-use Rattle.block.specs.declared.Around.{Around}
-use Rattle.block.specs.declared.Around.the-variants as around
-use Rattle.block.specs.declared.Apart.{Apart}
-use Rattle.block.specs.declared.Apart.the-variants as apart
+use Rattle.block.specs.declared.VertexReply.{VertexReply}
+use Rattle.block.specs.declared.VertexReply.the-variants as around
+use Rattle.block.specs.declared.DistanceReply.{DistanceReply}
+use Rattle.block.specs.declared.DistanceReply.the-variants as apart
 use Rattle.block.specs.declared.Pairs.{Pairs}
 
 unfoldable pub indicesOf : Graph → Indices
@@ -23,7 +23,7 @@ indicesOf g = record { atoms = g .atoms; w = wiener g; even = evenPart g; odd = 
 unfoldable pub indicesReply : ℕ → List ℕ → Read Indices
 indicesReply n xs = blockReply n xs then λ _. read (indicesOf (graphOf n xs))
 
-abbrev pub saidIndices : Read Indices → Measured
+abbrev pub saidIndices : Read Indices → IndicesReply
 saidIndices (refused r) = measured.Refused r
 saidIndices (read x) = measured.Of x
 
@@ -44,7 +44,7 @@ vertexOf g a = record {
 unfoldable pub vertexReply : ℕ → List ℕ → ℕ → Read Vertex
 vertexReply n xs a = blockReply n xs then λ _. refuseIf (isOutside n a) 18 0 then λ _. read (vertexOf (graphOf n xs) a)
 
-abbrev pub saidVertex : Read Vertex → Around
+abbrev pub saidVertex : Read Vertex → VertexReply
 saidVertex (refused r) = around.Refused r
 saidVertex (read v) = around.Of v
 
@@ -55,7 +55,7 @@ distanceReply n xs i j =
     refuseIf (isOutside n j) 18 0 then λ _.
     read (distance (graphOf n xs) i j)
 
-abbrev pub saidDistance : Read ℕ → Apart
+abbrev pub saidDistance : Read ℕ → DistanceReply
 saidDistance (refused r) = apart.Refused r
 saidDistance (read d) = apart.Of d
 

@@ -15,7 +15,7 @@ use Rattle.block.specs.Block.{bondsOf}
 use Rattle.block.specs.Numbered.{bondAt, bonds-length, mapped-at}
 
 -- the first m entries are F's, and the others are as they were
-pub record Filled (m : ℕ) (F : ℕ → ℕ) (old new : List ℕ) : Type 0 where
+pub record EntriesFilled (m : ℕ) (F : ℕ → ℕ) (old new : List ℕ) : Type 0 where
   pub same : length new ≡ length old
   pub first : (k : ℕ) → k < m → getD new k 0 ≡ F k
   pub kept : (k : ℕ) → m ≤ k → getD new k 0 ≡ getD old k 0
@@ -30,11 +30,11 @@ zeros (suc m) (suc k) = zeros m k
 pub one-more : {P : ℕ → Type 0} (j : ℕ) → ((k : ℕ) → k < j → P k) → P j → (k : ℕ) → k < j + 1 → P k
 one-more {P} j h e k l = ⊎-elim (λ q. let z : k ≡ j = omega arith in rw z e) (λ q. h k (omega arith)) (eq-or-lt-of-le l)
 
-pub filled-none : {F : ℕ → ℕ} {old : List ℕ} → Filled 0 F old old
+pub filled-none : {F : ℕ → ℕ} {old : List ℕ} → EntriesFilled 0 F old old
 filled-none = record { same = refl; first = λ k l. absurd (omega arith); kept = λ k l. refl }
 
 -- the next entry is stored
-pub filled-store : {m : ℕ} {F : ℕ → ℕ} {old new : List ℕ} → Filled m F old new → m < length new → (x : ℕ) → x ≡ F m → Filled (m + 1) F old (set new m x)
+pub filled-store : {m : ℕ} {F : ℕ → ℕ} {old new : List ℕ} → EntriesFilled m F old new → m < length new → (x : ℕ) → x ≡ F m → EntriesFilled (m + 1) F old (set new m x)
 filled-store {m} {F} {old} {new} h i x e = record {
   same = length-set new m x ∙ h .same;
   first = one-more m (λ k l. getD-set-other new m k x 0 (λ z. omega arith) ∙ h .first k l) (getD-set-same new m x 0 i ∙ e);
@@ -42,15 +42,15 @@ filled-store {m} {F} {old} {new} h i x e = record {
 }
 
 -- the entries are F's as they are
-pub filled-same : {m : ℕ} {F : ℕ → ℕ} {old : List ℕ} → ((k : ℕ) → k < m → getD old k 0 ≡ F k) → Filled m F old old
+pub filled-same : {m : ℕ} {F : ℕ → ℕ} {old : List ℕ} → ((k : ℕ) → k < m → getD old k 0 ≡ F k) → EntriesFilled m F old old
 filled-same h = record { same = refl; first = h; kept = λ k l. refl }
 
 -- by another name
-pub filled-as : {m : ℕ} {F H : ℕ → ℕ} {old new : List ℕ} → Filled m F old new → ((k : ℕ) → k < m → F k ≡ H k) → Filled m H old new
+pub filled-as : {m : ℕ} {F H : ℕ → ℕ} {old new : List ℕ} → EntriesFilled m F old new → ((k : ℕ) → k < m → F k ≡ H k) → EntriesFilled m H old new
 filled-as f e = record { same = f .same; first = λ k l. f .first k l ∙ e k l; kept = f .kept }
 
 -- THE LIST: what f makes of the bonds in list order, and what was behind
-pub filled-bonds : (f : Bond → ℕ) (xs : List ℕ) {old new : List ℕ} → Filled (length xs / 2) (λ k. f (bondAt xs k)) old new → length xs / 2 ≤ length old
+pub filled-bonds : (f : Bond → ℕ) (xs : List ℕ) {old new : List ℕ} → EntriesFilled (length xs / 2) (λ k. f (bondAt xs k)) old new → length xs / 2 ≤ length old
     → new ≡ map f (bondsOf xs) ++ drop (length (bondsOf xs)) old
 filled-bonds f xs {old} {new} h room = ext-getD 0 new (front ++ back) (omega (arith, long, h .same)) (λ k l. go k (ltb k (length xs / 2)) refl)
   where

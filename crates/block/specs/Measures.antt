@@ -10,7 +10,7 @@ use Rattle.graph.specs.Largest.{most-cong, largest-is}
 use Rattle.reply.specs.Read.{read}
 use Rattle.half.specs.Half.{halfAt}
 use Rattle.block.specs.Block.{mostAtoms, graphOf, blockReply}
-use Rattle.block.specs.Rows.{table, rowOf, tableOf, farOf}
+use Rattle.block.specs.Rows.{table, rowOf, halfTable, farOf}
 use Rattle.block.specs.Index.{indicesOf, vertexOf, pairsOf}
 use Rattle.block.specs.Sums.{entry, indicesBy, countsBy, vertexBy}
 use Rattle.block.specs.Told.{few-atoms, molecule, entry-at, farthest-at}
@@ -21,7 +21,7 @@ module _ (n : ℕ) (xs : List ℕ) (fine : blockReply n xs ≡ read tt) where
   g = graphOf n xs
 
   -- what is counted over the entries is counted over the distances
-  pairs-same : (f : ℕ → ℕ) → sumPairs n (λ i j. f (halfAt (tableOf n xs) i j)) ≡ total g f
+  pairs-same : (f : ℕ → ℕ) → sumPairs n (λ i j. f (halfAt (halfTable n xs) i j)) ≡ total g f
   unfolding total
   pairs-same f = sumPairs-cong n (λ i j w v. ap f (table-distance n xs fine w v))
 
@@ -32,11 +32,11 @@ module _ (n : ℕ) (xs : List ℕ) (fine : blockReply n xs ≡ read tt) where
   largest-same : most n (entry (farOf n xs)) ≡ largest g
   largest-same = most-cong n (λ i w. farthest-at n xs fine w) ∙ sym (largest-is (molecule n xs fine))
 
-  pub indices-are : indicesBy n (halfAt (tableOf n xs)) (entry (farOf n xs)) ≡ indicesOf g
+  pub indices-are : indicesBy n (halfAt (halfTable n xs)) (entry (farOf n xs)) ≡ indicesOf g
   unfolding indicesBy indicesOf
   indices-are = rw (pairs-same itself, pairs-same evenOf, pairs-same oddOf, pairs-same (isAt 3), largest-same)
 
-  pub counts-are : countsBy n (halfAt (tableOf n xs)) ≡ pairsOf g
+  pub counts-are : countsBy n (halfAt (halfTable n xs)) ≡ pairsOf g
   unfolding countsBy pairsOf
   counts-are = ap (table mostAtoms) (fun-ext (λ k. pairs-same (isAt k)))
 

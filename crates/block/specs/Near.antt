@@ -36,26 +36,26 @@ pub record Draws (n : ℕ) (R : ℕ → ℕ → Bool) (near : List ℕ) : Type 0
   pub behind : (p : ℕ) → n ≤ p → getD near p 0 ≡ 0
 
 -- the neighbours and the numbers of bonds are those of the bonds bs between the atoms 1 to n
-pub record Holds (n : ℕ) (bs : List Bond) (near count : List ℕ) : Type 0 where
+pub record HoldsBonds (n : ℕ) (bs : List Bond) (near count : List ℕ) : Type 0 where
   pub draws : Draws n (anyJoins bs) near
   pub places : length count ≡ mostAtoms
   pub degrees : (u : ℕ) → Within n u → counted count u ≡ degree bs u
 
 -- the neighbours are those of a graph
-abbrev pub Shows : Graph → List ℕ → Type 0
-Shows g near = Draws (g .atoms) (bonded g) near
+abbrev pub ShowsGraph : Graph → List ℕ → Type 0
+ShowsGraph g near = Draws (g .atoms) (bonded g) near
 
 -- the neighbours are those of a block that is fine
-pub record Ready (n : ℕ) (xs : List ℕ) (near : List ℕ) : Type 0 where
+pub record ReadyBlock (n : ℕ) (xs : List ℕ) (near : List ℕ) : Type 0 where
   pub fine : blockReply n xs ≡ read tt
-  pub shown : Shows (graphOf n xs) near
+  pub shown : ShowsGraph (graphOf n xs) near
 
 -- what reading the bonds gives: the reply to them and, where they are fine, the neighbours
 pub record Reading (n : ℕ) (xs : List ℕ) (r : Opened) : Type 0 where
   pub replied : r .reply ≡ saidReply (bondsReply n [] (bondsOf xs))
-  pub drawn : r .reply ≡ Fine → Shows (graphOf n xs) (r .near)
+  pub drawn : r .reply ≡ Fine → ShowsGraph (graphOf n xs) (r .near)
 
 -- what a block gives: the reply to it and, where it is fine, the neighbours
 pub record Admitting (n : ℕ) (xs : List ℕ) (r : Opened) : Type 0 where
   pub replied : r .reply ≡ saidReply (blockReply n xs)
-  pub ready : r .reply ≡ Fine → Ready n xs (r .near)
+  pub ready : r .reply ≡ Fine → ReadyBlock n xs (r .near)

@@ -47,5 +47,5 @@ unfoldable pub distanceAt : List (List ℕ) → ℕ → ℕ → ℕ
 distanceAt rows i j = cond (isOutside mostAtoms i || isOutside mostAtoms j) 0 (getD (getD rows (i - 1) []) (j - 1) 0)
 
 -- half of the rows
-unfoldable pub tableOf : ℕ → List ℕ → List ℕ
-tableOf n xs = halfOf (distanceAt (rowsOf n xs))
+unfoldable pub halfTable : ℕ → List ℕ → List ℕ
+halfTable n xs = halfOf (distanceAt (rowsOf n xs))

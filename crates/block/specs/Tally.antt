@@ -21,7 +21,7 @@ tallyBy k d = record {
 }
 
 -- no number of the tally is above b
-pub record Below (b : ℕ) (t : Tally) : Type 0 where
+pub record TallyBelow (b : ℕ) (t : Tally) : Type 0 where
   pub even-low : t .even ≤ b
   pub odd-low : t .odd ≤ b
   pub evens-low : t .evens ≤ b
@@ -32,14 +32,14 @@ pub record Below (b : ℕ) (t : Tally) : Type 0 where
 -- the tally of the first k entries of a row of bytes
 pub record Tallied (row : List ℕ) (k : ℕ) (t : Tally) : Type 0 where
   pub equal : t ≡ tallyBy k (entry row)
-  pub low : Below (255 * k) t
+  pub low : TallyBelow (255 * k) t
 
 -- what stands in a half at the places behind `from`, the first for j = 1
 abbrev pub runAt : List ℕ → ℕ → ℕ → ℕ
 runAt h from j = getD h (from + (j - 1)) 0
 
 -- what k bytes of a half add up to
-pub record Ran (h : List ℕ) (from k : ℕ) (r : Run) : Type 0 where
+pub record RunOf (h : List ℕ) (from k : ℕ) (r : Run) : Type 0 where
   pub all-is : r .all ≡ sum k (λ j. runAt h from j)
   pub odd-is : r .odd ≡ sum k (λ j. oddOf (runAt h from j))
   pub threes-is : r .threes ≡ sum k (λ j. isAt 3 (runAt h from j))
@@ -51,6 +51,6 @@ pub record Counts (b : ℕ) (at : List ℕ) : Type 0 where
   pub most : (d : ℕ) → getD at d 0 ≤ b
 
 -- how often each number is among d 1 to d k, added to counts
-pub record Counted (at : List ℕ) (d : ℕ → ℕ) (k : ℕ) (r : List ℕ) : Type 0 where
+pub record CountsAdded (at : List ℕ) (d : ℕ → ℕ) (k : ℕ) (r : List ℕ) : Type 0 where
   pub size : length r ≡ mostAtoms
   pub equal : (x : ℕ) → x < mostAtoms → getD r x 0 ≡ getD at x 0 + sum k (λ j. isAt x (d j))

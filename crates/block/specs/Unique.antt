@@ -6,7 +6,7 @@ use Rattle.half.specs.Half.{halfAt}
 use Rattle.reply.specs.Read.{saidReply}
 use Rattle.reply.specs.Chain.{unique}
 use Rattle.block.specs.Block.{mostAtoms, blockReply}
-use Rattle.block.specs.Rows.{rowsOf, farOf, tableOf, rowReply, saidRow}
+use Rattle.block.specs.Rows.{rowsOf, farOf, halfTable, rowReply, saidRow}
 use Rattle.block.specs.Opened.{openedReply, saidOpened}
 use Rattle.block.specs.Index.{indicesReply, saidIndices, vertexReply, saidVertex, distanceReply, saidDistance, pairsReply, saidPairs}
 use Rattle.block.specs.Sums.{entry, indicesBy, vertexBy}
@@ -14,10 +14,10 @@ use Rattle.reply.specs.declared.Reply.{Reply}
 use Rattle.block.specs.declared.OneRow.{OneRow}
 use Rattle.block.specs.declared.Opened.{Opened}
 use Rattle.block.specs.declared.Indices.{Indices}
-use Rattle.block.specs.declared.Measured.{Measured}
+use Rattle.block.specs.declared.IndicesReply.{IndicesReply}
 use Rattle.block.specs.declared.Vertex.{Vertex}
-use Rattle.block.specs.declared.Around.{Around}
-use Rattle.block.specs.declared.Apart.{Apart}
+use Rattle.block.specs.declared.VertexReply.{VertexReply}
+use Rattle.block.specs.declared.DistanceReply.{DistanceReply}
 use Rattle.block.specs.declared.Pairs.{Pairs}
 
 module _ (n : ℕ) (xs : List ℕ) where
@@ -31,23 +31,23 @@ module _ (n : ℕ) (xs : List ℕ) where
   unique-neighbours r s = unique
 
   -- the reply, and the lent half and largest distances
-  pub unique-table : (r s : Opened) (p q u v : List ℕ) → (r ≡ saidOpened (openedReply n xs)) × (p ≡ tableOf n xs) × (u ≡ farOf n xs)
-      → (s ≡ saidOpened (openedReply n xs)) × (q ≡ tableOf n xs) × (v ≡ farOf n xs) → (r ≡ s) × (p ≡ q) × (u ≡ v)
+  pub unique-table : (r s : Opened) (p q u v : List ℕ) → (r ≡ saidOpened (openedReply n xs)) × (p ≡ halfTable n xs) × (u ≡ farOf n xs)
+      → (s ≡ saidOpened (openedReply n xs)) × (q ≡ halfTable n xs) × (v ≡ farOf n xs) → (r ≡ s) × (p ≡ q) × (u ≡ v)
   unique-table r s p q u v x y = (unique (x .0) (y .0), unique (x .1) (y .1), unique (x .2) (y .2))
 
-  pub unique-distances : (p q u v : List ℕ) → (p ≡ tableOf n xs) × (u ≡ farOf n xs) → (q ≡ tableOf n xs) × (v ≡ farOf n xs) → (p ≡ q) × (u ≡ v)
+  pub unique-distances : (p q u v : List ℕ) → (p ≡ halfTable n xs) × (u ≡ farOf n xs) → (q ≡ halfTable n xs) × (v ≡ farOf n xs) → (p ≡ q) × (u ≡ v)
   unique-distances p q u v x y = (unique (x .0) (y .0), unique (x .1) (y .1))
 
   pub unique-row : (i : ℕ) (r s : OneRow) → r ≡ saidRow (rowReply n xs i) → s ≡ saidRow (rowReply n xs i) → r ≡ s
   unique-row i r s = unique
 
-  pub unique-measure : (r s : Measured) → r ≡ saidIndices (indicesReply n xs) → s ≡ saidIndices (indicesReply n xs) → r ≡ s
+  pub unique-measure : (r s : IndicesReply) → r ≡ saidIndices (indicesReply n xs) → s ≡ saidIndices (indicesReply n xs) → r ≡ s
   unique-measure r s = unique
 
-  pub unique-distance : (i j : ℕ) (r s : Apart) → r ≡ saidDistance (distanceReply n xs i j) → s ≡ saidDistance (distanceReply n xs i j) → r ≡ s
+  pub unique-distance : (i j : ℕ) (r s : DistanceReply) → r ≡ saidDistance (distanceReply n xs i j) → s ≡ saidDistance (distanceReply n xs i j) → r ≡ s
   unique-distance i j r s = unique
 
-  pub unique-vertex-sums : (a : ℕ) (r s : Around) → r ≡ saidVertex (vertexReply n xs a) → s ≡ saidVertex (vertexReply n xs a) → r ≡ s
+  pub unique-vertex-sums : (a : ℕ) (r s : VertexReply) → r ≡ saidVertex (vertexReply n xs a) → s ≡ saidVertex (vertexReply n xs a) → r ≡ s
   unique-vertex-sums a r s = unique
 
   pub unique-pair-counts : (r s : Pairs) → r ≡ saidPairs (pairsReply n xs) → s ≡ saidPairs (pairsReply n xs) → r ≡ s

@@ -11,12 +11,12 @@ ghost use mathlib.Core.List.{List};
 ghost use Prim.Native.Nat.{_≤_};
 ghost use Rattle.graph.specs.Graph.{Bond, bond};
 ghost use Rattle.block.specs.Block.{mostAtoms, bondFault};
-ghost use Rattle.block.specs.Near.{Holds, Reading};
+ghost use Rattle.block.specs.Near.{HoldsBonds, Reading};
 
 // The refusal number of the bond a-b after those that were read, or 0.
 fn fault(n: usize, near: &Neighbours, count: &[u8; ATOMS], a: u8, b: u8) -> usize
     requires { ⌜ n ≤ mostAtoms ⌝ }
-    ensures { λ r. ⌜ ((bs : List Bond) → Holds n bs (now (near .entry)) (now (count .entry)) → r ≡ bondFault n bs (bond a b)) ⌝ }
+    ensures { λ r. ⌜ ((bs : List Bond) → HoldsBonds n bs (now (near .entry)) (now (count .entry)) → r ≡ bondFault n bs (bond a b)) ⌝ }
 {
     let u = a as usize;
     let v = b as usize;

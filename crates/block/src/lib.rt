@@ -4,7 +4,7 @@ ghost use Prim.Native.Nat.{suc, min};
 ghost use Rattle.reply.specs.Read.{refusal, saidReply};
 ghost use Rattle.block.specs.Block.{mostAtoms, blockReply};
 ghost use Rattle.half.specs.Half.{table, halfAt, halfRow};
-ghost use Rattle.block.specs.Rows.{rowsOf, farOf, tableOf, rowReply, saidRow};
+ghost use Rattle.block.specs.Rows.{rowsOf, farOf, halfTable, rowReply, saidRow};
 ghost use Rattle.block.specs.Index.{indicesReply, saidIndices, vertexReply, saidVertex, distanceReply, saidDistance, pairsReply, saidPairs};
 ghost use Rattle.block.specs.Sums.{entry, indicesBy, vertexBy};
 ghost use Rattle.block.specs.Opened.{openedReply, saidOpened};
@@ -53,7 +53,7 @@ pub struct Indices {
     pub largest: u64,
 }
 
-pub enum Measured {
+pub enum IndicesReply {
     Refused(Refusal),
     Of(Indices),
 }
@@ -70,12 +70,12 @@ pub struct Vertex {
     pub farthest: u64,
 }
 
-pub enum Around {
+pub enum VertexReply {
     Refused(Refusal),
     Of(Vertex),
 }
 
-pub enum Apart {
+pub enum DistanceReply {
     Refused(Refusal),
     Of(u64),
 }
@@ -186,7 +186,7 @@ fn square(half: &Half) -> DistanceMatrix
 // Half of the distances of a block, and in what is lent how far the farthest is from each atom. All is 0 beyond the atoms, and where the block
 // is refused.
 pub fn distances(n: usize, bonds: &[u8], far: &mut Farthest) -> Half
-    ensures half { λ r. ⌜ r ≡ tableOf n (now (bonds .entry)) ⌝ }
+    ensures half { λ r. ⌜ r ≡ halfTable n (now (bonds .entry)) ⌝ }
     ensures far { λ _. ⌜ now (far .exit) ≡ farOf n (now (bonds .entry)) ⌝ }
 {
     let admitted = admit(n, bonds);
@@ -212,7 +212,7 @@ pub fn rows(n: usize, bonds: &[u8]) -> DistanceMatrix
 // beyond the atoms, and where the block is refused.
 pub fn table(n: usize, bonds: &[u8], half: &mut Half, far: &mut Farthest) -> Opened
     ensures reply { λ r. ⌜ r ≡ saidOpened (openedReply n (now (bonds .entry))) ⌝ }
-    ensures half { λ _. ⌜ now (half .exit) ≡ tableOf n (now (bonds .entry)) ⌝ }
+    ensures half { λ _. ⌜ now (half .exit) ≡ halfTable n (now (bonds .entry)) ⌝ }
     ensures far { λ _. ⌜ now (far .exit) ≡ farOf n (now (bonds .entry)) ⌝ }
 {
     let admitted = admit(n, bonds);
@@ -310,56 +310,56 @@ pub fn around_row(row: &DistanceRow, n: usize, farthest: u8) -> Vertex
 }
 
 // The indices of a block, or its refusal.
-pub fn measure(n: usize, bonds: &[u8]) -> Measured
+pub fn measure(n: usize, bonds: &[u8]) -> IndicesReply
     ensures { λ r. ⌜ r ≡ saidIndices (indicesReply n (now (bonds .entry))) ⌝ }
 {
     let admitted = admit(n, bonds);
     let reply = admitted.reply;
     match reply {
-        Reply::Refused(refusal) => Measured::Refused(refusal),
+        Reply::Refused(refusal) => IndicesReply::Refused(refusal),
         Reply::Fine => {
             let mut far = [0u8; ATOMS];
             let half = search::from_all(&admitted.near, n, &mut far);
             let indices = sums(&half, &far, n);
-            Measured::Of(indices)
+            IndicesReply::Of(indices)
         }
     }
 }
 
 // The distance of two atoms of a block, or its refusal; 18 at place 0 where there is no such atom.
-pub fn distance(n: usize, bonds: &[u8], i: usize, j: usize) -> Apart
+pub fn distance(n: usize, bonds: &[u8], i: usize, j: usize) -> DistanceReply
     ensures { λ r. ⌜ r ≡ saidDistance (distanceReply n (now (bonds .entry)) i j) ⌝ }
 {
     let seen = row(n, bonds, i);
     let reply = seen.reply;
     match reply {
-        Reply::Refused(refusal) => Apart::Refused(refusal),
+        Reply::Refused(refusal) => DistanceReply::Refused(refusal),
         Reply::Fine => {
             if is_outside(n, j) {
-                return Apart::Refused(Refusal {
+                return DistanceReply::Refused(Refusal {
                     number: 18,
                     place: 0,
                 });
             }
             let row = seen.row;
             let d = wide(row[j - 1]);
-            Apart::Of(d)
+            DistanceReply::Of(d)
         }
     }
 }
 
 // The vertex sum of atom a of a block and what goes with it, or its refusal; 18 at place 0 where there is no such atom.
-pub fn vertex_sums(n: usize, bonds: &[u8], a: usize) -> Around
+pub fn vertex_sums(n: usize, bonds: &[u8], a: usize) -> VertexReply
     ensures { λ r. ⌜ r ≡ saidVertex (vertexReply n (now (bonds .entry)) a) ⌝ }
 {
     let seen = row(n, bonds, a);
     let reply = seen.reply;
     match reply {
-        Reply::Refused(refusal) => Around::Refused(refusal),
+        Reply::Refused(refusal) => VertexReply::Refused(refusal),
         Reply::Fine => {
             let row = seen.row;
             let vertex = around_row(&row, n, seen.largest);
-            Around::Of(vertex)
+            VertexReply::Of(vertex)
         }
     }
 }

@@ -11,9 +11,9 @@ ghost use Prim.Native.Nat.{ℕ};
 ghost use Rattle.graph.specs.Graph.{Graph, Within, connected as isConnected};
 ghost use Rattle.graph.specs.Sets.{firsts};
 ghost use Rattle.block.specs.Block.{mostAtoms, graphOf};
-ghost use Rattle.block.specs.Rows.{emptyRow, tableOf, farOf};
-ghost use Rattle.block.specs.Near.{Ready};
-ghost use Rattle.block.specs.Found.{Task, Searched};
+ghost use Rattle.block.specs.Rows.{emptyRow, halfTable, farOf};
+ghost use Rattle.block.specs.Near.{ReadyBlock};
+ghost use Rattle.block.specs.Found.{SearchTask, Searched};
 
 // The set of the atoms 1 to n.
 fn all(n: usize) -> u64
@@ -32,8 +32,8 @@ pub(crate) struct Ended {
 // The search from atom i: it fills an empty row with the distances. The atoms of level wait until their neighbours were looked at, which go into
 // next; rest is not met yet.
 pub(crate) fn from_atom(near: &Neighbours, n: usize, i: usize, row: &mut [u8]) -> Ended
-    requires { ⌜ ((g : Graph) × Task g (now near) n i) × (now row ≡ emptyRow) ⌝ }
-    ensures { λ r. ⌜ ((g : Graph) → Task g (now (near .entry)) n i → Searched g i (now (row .exit)) (r .rest) (r .last)) ⌝ }
+    requires { ⌜ ((g : Graph) × SearchTask g (now near) n i) × (now row ≡ emptyRow) ⌝ }
+    ensures { λ r. ⌜ ((g : Graph) → SearchTask g (now (near .entry)) n i → Searched g i (now (row .exit)) (r .rest) (r .last)) ⌝ }
 {
     let mut level = 1u64 << (i - 1);
     let mut rest = all(n) ^ level;
@@ -56,8 +56,8 @@ pub(crate) fn from_atom(near: &Neighbours, n: usize, i: usize, row: &mut [u8]) -
 
 // Whether every pair of n atoms has a path.
 pub(crate) fn connected(near: &Neighbours, n: usize) -> bool
-    requires { ⌜ ((xs : List ℕ) × Task (graphOf n xs) (now near) n 1) ⌝ }
-    ensures { λ r. ⌜ ((xs : List ℕ) → Task (graphOf n xs) (now (near .entry)) n 1 → r ≡ isConnected (graphOf n xs)) ⌝ }
+    requires { ⌜ ((xs : List ℕ) × SearchTask (graphOf n xs) (now near) n 1) ⌝ }
+    ensures { λ r. ⌜ ((xs : List ℕ) → SearchTask (graphOf n xs) (now (near .entry)) n 1 → r ≡ isConnected (graphOf n xs)) ⌝ }
 {
     let mut row = [0u8; ATOMS];
     let ended = from_atom(near, n, 1, &mut row);
@@ -66,9 +66,9 @@ pub(crate) fn connected(near: &Neighbours, n: usize) -> bool
 
 // Half of the distances of a block of n atoms, filled row by row, and in what is lent the largest of each row.
 pub(crate) fn from_all(near: &Neighbours, n: usize, far: &mut Farthest) -> Half
-    requires { ⌜ ((xs : List ℕ) × Ready n xs (now near)) ⌝ }
-    ensures half { λ r. ⌜ ((xs : List ℕ) → Ready n xs (now (near .entry)) → r ≡ tableOf n xs) ⌝ }
-    ensures far { λ _. ⌜ ((xs : List ℕ) → Ready n xs (now (near .entry)) → now (far .exit) ≡ farOf n xs) ⌝ }
+    requires { ⌜ ((xs : List ℕ) × ReadyBlock n xs (now near)) ⌝ }
+    ensures half { λ r. ⌜ ((xs : List ℕ) → ReadyBlock n xs (now (near .entry)) → r ≡ halfTable n xs) ⌝ }
+    ensures far { λ _. ⌜ ((xs : List ℕ) → ReadyBlock n xs (now (near .entry)) → now (far .exit) ≡ farOf n xs) ⌝ }
 {
     let mut all = [0u8; PAIRS];
     let mut deep = [0u8; ATOMS];

@@ -10,7 +10,7 @@ ghost use Prim.Native.Nat.{min, max, _+_, _*_, _≤_};
 ghost use Rattle.half.specs.Half.{allPairs, halfAt};
 ghost use Rattle.block.specs.Block.{mostAtoms};
 ghost use Rattle.block.specs.Sums.{countsBy};
-ghost use Rattle.block.specs.Tally.{Tallied, runAt, Ran, Counts, Counted};
+ghost use Rattle.block.specs.Tally.{Tallied, runAt, RunOf, Counts, CountsAdded};
 
 // The first k entries of a row.
 pub(crate) fn along(row: &DistanceRow, k: usize) -> Tally
@@ -71,7 +71,7 @@ fn word(x: u8) -> u16
 // k bytes of a half, from a place on: no branch, so that several go at once.
 pub(crate) fn run(half: &Half, from: usize, k: usize) -> Run
     requires { ⌜ (k ≤ mostAtoms) × (from + k ≤ allPairs) ⌝ }
-    ensures { λ r. ⌜ Ran (now (half .entry)) from k r ⌝ }
+    ensures { λ r. ⌜ RunOf (now (half .entry)) from k r ⌝ }
 {
     let mut all: u16 = 0;
     let mut odd: u16 = 0;
@@ -90,7 +90,7 @@ pub(crate) fn run(half: &Half, from: usize, k: usize) -> Run
 // How often each number stands among k bytes of a half, from a place on, added to counts.
 fn count_run(at: [u16; ATOMS], half: &Half, from: usize, k: usize) -> [u16; ATOMS]
     requires { ⌜ (k ≤ mostAtoms) × (from + k ≤ allPairs) × Counts (mostAtoms * mostAtoms) at ⌝ }
-    ensures { λ r. ⌜ Counted at (runAt (now (half .entry)) from) k r ⌝ }
+    ensures { λ r. ⌜ CountsAdded at (runAt (now (half .entry)) from) k r ⌝ }
 {
     let mut counts = at;
     let mut j = 0;

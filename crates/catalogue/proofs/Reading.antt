@@ -17,14 +17,14 @@ use Rattle.assembly.specs.Book.{bookOf}
 use Rattle.assembly.specs.declared.BlockAt.{BlockAt}
 use Rattle.deck.specs.Deck.{longestDeck, Deck, openReply, endReply}
 use Rattle.deck.specs.Kept.{kept}
-use Rattle.deck.specs.Said.{tableOf}
+use Rattle.deck.specs.Said.{blockTable}
 use Rattle.products.specs.Library.{mostSites, libraryKind, sitesReply, Library, afterBlocks, libraryReply}
 use Rattle.products.specs.Products.{products, countReply}
 use Rattle.products.specs.Sound.{listed}
 use Rattle.products.specs.declared.Site.{Site}
 use Rattle.catalogue.specs.Said.{siteTable, saidSites, tabled, tabledLibrary, saidLibrary, saidCount}
 use Rattle.catalogue.specs.Table.{sitesIn, sites-back}
-use Rattle.catalogue.specs.declared.Counted.the-variants as counted
+use Rattle.catalogue.specs.declared.CountReply.the-variants as counted
 use Rattle.catalogue.specs.declared.LibraryRead.{LibraryRead}
 use Rattle.catalogue.specs.declared.sites.SitesRead.{SitesRead}
 
@@ -40,12 +40,12 @@ sites-ended (read ss) s e f = (ss, refl, ap (λ (y : SitesRead). y .n) e, ap (λ
 -- the record and its end
 module _ (d : List ℕ) (bs : List BlockAt) (at end : ℕ) where
   -- the blocks stand in their table
-  pub said-tabled : tabledLibrary (tableOf bs) (length bs) (afterBlocks d bs at end) ≡ saidLibrary (afterBlocks d bs at end)
+  pub said-tabled : tabledLibrary (blockTable bs) (length bs) (afterBlocks d bs at end) ≡ saidLibrary (afterBlocks d bs at end)
   unfolding afterBlocks
   said-tabled = go (sitesReply (bookOf d bs) (payloadAt d at) at) (endReply d end)
     where
       go : (x : Read (List Site)) (y : Read (Unit {0}))
-          → tabledLibrary (tableOf bs) (length bs) (x then λ ss. y then λ _. read (record { blocks = bs; at = at; sites = ss })) ≡ saidLibrary (x then λ ss. y then λ _. read (record { blocks = bs; at = at; sites = ss }))
+          → tabledLibrary (blockTable bs) (length bs) (x then λ ss. y then λ _. read (record { blocks = bs; at = at; sites = ss })) ≡ saidLibrary (x then λ ss. y then λ _. read (record { blocks = bs; at = at; sites = ss }))
       go (refused r) y = refl
       go (read ss) (refused r) = refl
       go (read ss) (read u) = refl

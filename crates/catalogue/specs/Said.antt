@@ -6,13 +6,13 @@ use Rattle.reply.specs.Read.{Read, refused, read}
 use Rattle.reply.specs.declared.Reply.{Reply}
 use Rattle.reply.specs.declared.Reply.the-variants.{Fine, Refused}
 use Rattle.assembly.specs.declared.BlockAt.{BlockAt}
-use Rattle.deck.specs.Said.{tableOf}
+use Rattle.deck.specs.Said.{blockTable}
 use Rattle.products.specs.Library.{mostSites, Library}
 use Rattle.products.specs.Products.{products}
 use Rattle.products.specs.declared.Site.{Site}
 use Rattle.catalogue.specs.declared.LibraryRead.{LibraryRead}
-use Rattle.catalogue.specs.declared.Counted.{Counted}
-use Rattle.catalogue.specs.declared.Counted.the-variants as counted
+use Rattle.catalogue.specs.declared.CountReply.{CountReply}
+use Rattle.catalogue.specs.declared.CountReply.the-variants as counted
 use Rattle.catalogue.specs.declared.sites.SitesRead.{SitesRead}
 
 abbrev pub noSite : Site
@@ -32,7 +32,7 @@ abbrev pub tabled : List BlockAt → ℕ → Library → LibraryRead
 tabled table count l = record { reply = Fine; count = count; blocks = table; at = l .at; n = length (l .sites); sites = siteTable (l .sites); products = products (l .sites) }
 
 abbrev pub refusedLibrary : Reply → LibraryRead
-refusedLibrary r = record { reply = r; count = 0; blocks = tableOf []; at = 0; n = 0; sites = siteTable []; products = 0 }
+refusedLibrary r = record { reply = r; count = 0; blocks = blockTable []; at = 0; n = 0; sites = siteTable []; products = 0 }
 
 abbrev pub tabledLibrary : List BlockAt → ℕ → Read Library → LibraryRead
 tabledLibrary table count (refused r) = refusedLibrary (Refused r)
@@ -40,8 +40,8 @@ tabledLibrary table count (read l) = tabled table count l
 
 abbrev pub saidLibrary : Read Library → LibraryRead
 saidLibrary (refused r) = refusedLibrary (Refused r)
-saidLibrary (read l) = tabled (tableOf (l .blocks)) (length (l .blocks)) l
+saidLibrary (read l) = tabled (blockTable (l .blocks)) (length (l .blocks)) l
 
-abbrev pub saidCount : Read ℕ → Counted
+abbrev pub saidCount : Read ℕ → CountReply
 saidCount (refused r) = counted.Refused r
 saidCount (read n) = counted.Of n

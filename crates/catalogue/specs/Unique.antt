@@ -7,10 +7,10 @@ use Rattle.products.specs.Library.{libraryReply}
 use Rattle.products.specs.Products.{countReply}
 use Rattle.catalogue.specs.Said.{saidLibrary, saidCount}
 use Rattle.catalogue.specs.declared.LibraryRead.{LibraryRead}
-use Rattle.catalogue.specs.declared.Counted.{Counted}
+use Rattle.catalogue.specs.declared.CountReply.{CountReply}
 
 pub unique-read-library : (d : List ℕ) (r s : LibraryRead) → r ≡ saidLibrary (libraryReply d) → s ≡ saidLibrary (libraryReply d) → r ≡ s
 unique-read-library d r s = unique
 
-pub unique-count : (d : List ℕ) (r s : Counted) → r ≡ saidCount (countReply d) → s ≡ saidCount (countReply d) → r ≡ s
+pub unique-count : (d : List ℕ) (r s : CountReply) → r ≡ saidCount (countReply d) → s ≡ saidCount (countReply d) → r ≡ s
 unique-count d r s = unique

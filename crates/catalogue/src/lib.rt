@@ -41,7 +41,7 @@ pub struct LibraryRead {
 }
 
 // How many products a library deck has.
-pub enum Counted {
+pub enum CountReply {
     Refused(Refusal),
     Of(usize),
 }
@@ -107,13 +107,13 @@ pub fn read_library(d: &[u8]) -> LibraryRead
 }
 
 // How many products a library deck has, or its refusal.
-pub fn count(d: &[u8]) -> Counted
+pub fn count(d: &[u8]) -> CountReply
     ensures { λ r. ⌜ r ≡ saidCount (countReply (now (d .entry))) ⌝ }
 {
     let l = read_library(d);
     let reply = l.reply;
     match reply {
-        Reply::Refused(refusal) => Counted::Refused(refusal),
-        Reply::Fine => Counted::Of(l.products),
+        Reply::Refused(refusal) => CountReply::Refused(refusal),
+        Reply::Fine => CountReply::Of(l.products),
     }
 }

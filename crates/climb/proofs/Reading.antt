@@ -11,8 +11,8 @@ use Rattle.block.specs.Block.{graphOf, blockReply}
 use Rattle.block.specs.Index.{distanceReply, saidDistance}
 use Rattle.reply.specs.declared.Refusal.{Refusal}
 use Rattle.reply.specs.declared.Reply.the-variants.{Fine}
-use Rattle.block.specs.declared.Apart.{Apart}
-use Rattle.block.specs.declared.Apart.the-variants as apart
+use Rattle.block.specs.declared.DistanceReply.{DistanceReply}
+use Rattle.block.specs.declared.DistanceReply.the-variants as apart
 use Rattle.assembly.specs.Book.{find, bondBytes, bookOf}
 use Rattle.assembly.specs.declared.BlockAt.{BlockAt}
 use Rattle.deck.specs.Deck.{Deck, deckReply}
@@ -20,8 +20,8 @@ use Rattle.deck.specs.Molecule.{placedIn, graphAt, moleculeOf}
 use Rattle.deck.specs.Said.{saidDeck}
 use Rattle.deck.specs.declared.DeckRead.{DeckRead}
 use Rattle.deck.specs.declared.Form.the-variants.{Composed}
-use Rattle.climb.specs.Placed.{isMissing, placedReply}
-use Rattle.climb.specs.Pairs.{deckOf, laid-out, between, Pair}
+use Rattle.climb.specs.Placed.{isMissing, placedDistanceReply}
+use Rattle.climb.specs.Pairs.{deckOf, laid-out, between, PlacedPair}
 
 -- a deck that is fine is read
 pub deck-read : (x : Read Deck) (r : DeckRead) → r ≡ saidDeck x → r .reply ≡ Fine → x ≡ read (deckOf (r .layout))
@@ -42,8 +42,8 @@ not-outside : {n a : ℕ} → Within n a → isOutside n a ≡ false
 not-outside {n} {a} w = rw (ne-eqb a 0 (omega arith), le-ltb n a (w .high))
 
 -- two atoms of it are told their distance
-pub told-inside : {d : List ℕ} {deck : Deck} {k i j : ℕ} → Pair d deck k i k j → (b : BlockAt) → b ≡ find (deck .blocks) (placedIn d deck (k - 1) .block)
-    → (r : Apart) → r ≡ saidDistance (distanceReply (b .atoms) (bondBytes d b) i j) → r ≡ apart.Of (distance (graphAt d deck (k - 1)) i j)
+pub told-inside : {d : List ℕ} {deck : Deck} {k i j : ℕ} → PlacedPair d deck k i k j → (b : BlockAt) → b ≡ find (deck .blocks) (placedIn d deck (k - 1) .block)
+    → (r : DistanceReply) → r ≡ saidDistance (distanceReply (b .atoms) (bondBytes d b) i j) → r ≡ apart.Of (distance (graphAt d deck (k - 1)) i j)
 unfolding distanceReply
 told-inside {d} {deck} {k} {i} {j} p b e r f =
     let n : k - 1 < deck .placements = omega (arith, p .one .number, p .whole .count) in
@@ -55,15 +55,15 @@ told-inside {d} {deck} {k} {i} {j} p b e r f =
 
 -- what is replied to a query of a deck that is refused, of one that is read and misses an atom, and of one that has both
 module _ (d : List ℕ) (k i l j : ℕ) where
-  pub reply-refused : {q : Refusal} → deckReply Composed d ≡ refused q → apart.Refused q ≡ saidDistance (placedReply d k i l j)
-  unfolding placedReply
+  pub reply-refused : {q : Refusal} → deckReply Composed d ≡ refused q → apart.Refused q ≡ saidDistance (placedDistanceReply d k i l j)
+  unfolding placedDistanceReply
   reply-refused e = rw e
 
   module _ {deck : Deck} (e : deckReply Composed d ≡ read deck) where
-    pub reply-missing : (isMissing d deck k i || isMissing d deck l j) ≡ true → apart.Refused (refusal 18 0) ≡ saidDistance (placedReply d k i l j)
-    unfolding placedReply
+    pub reply-missing : (isMissing d deck k i || isMissing d deck l j) ≡ true → apart.Refused (refusal 18 0) ≡ saidDistance (placedDistanceReply d k i l j)
+    unfolding placedDistanceReply
     reply-missing m = rw (e, m)
 
-    pub reply-far : isMissing d deck k i ≡ false → isMissing d deck l j ≡ false → apart.Of (between d deck k i l j) ≡ saidDistance (placedReply d k i l j)
-    unfolding placedReply moleculeOf
+    pub reply-far : isMissing d deck k i ≡ false → isMissing d deck l j ≡ false → apart.Of (between d deck k i l j) ≡ saidDistance (placedDistanceReply d k i l j)
+    unfolding placedDistanceReply moleculeOf
     reply-far m n = rw (e, m, n)

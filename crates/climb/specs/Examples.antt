@@ -13,11 +13,11 @@ use Rattle.assembly.specs.Placements as placements
 use Rattle.deck.specs.Deck.{blockReplyAt, assemblyReplyAt, blocksFrom, blocksReply, endReply, sheetReply, deckReply}
 use Rattle.deck.specs.Examples.{document}
 use Rattle.deck.specs.Molecule.{placedIn, graphAt, joinAt, moleculeOf}
-use Rattle.climb.specs.Placed.{isMissing, placedReply}
+use Rattle.climb.specs.Placed.{isMissing, placedDistanceReply}
 
 asked : ℕ → ℕ → ℕ → ℕ → Read ℕ
-unfolding document joins anyJoins bonded anyAtom reaches firstFrom distance allAtoms connected degree sum bondsOf bondFault bondsReply blockReply little kindReply isWrong lengthReply recordReply find bookOf placementAt joinOf joinEnds joinsOn bondsOn firstFault parentFault joinFault laterFault fault placements.placedReply assemblyReply blockReplyAt assemblyReplyAt blocksFrom blocksReply endReply sheetReply deckReply shifted joined startAt written placedIn graphAt joinAt moleculeOf isMissing placedReply
-asked k i l j = placedReply document k i l j
+unfolding document joins anyJoins bonded anyAtom reaches firstFrom distance allAtoms connected degree sum bondsOf bondFault bondsReply blockReply little kindReply isWrong lengthReply recordReply find bookOf placementAt joinOf joinEnds joinsOn bondsOn firstFault parentFault joinFault laterFault fault placements.placedReply assemblyReply blockReplyAt assemblyReplyAt blocksFrom blocksReply endReply sheetReply deckReply shifted joined startAt written placedIn graphAt joinAt moleculeOf isMissing placedDistanceReply
+asked k i l j = placedDistanceReply document k i l j
 
 -- from end to end, back, within one ring, and to a seventh atom and a third placement
 across : asked 1 4 2 4 ≡ read 7

@@ -21,7 +21,7 @@ use Rattle.assembly.specs.Placements.{mostPlacements, placementAt, joinOf}
 use Rattle.deck.specs.Deck.{Deck}
 use Rattle.deck.specs.Molecule.{placedIn, graphAt, joinAt}
 use Rattle.deck.specs.Said.{layoutOf}
-use Rattle.deck.specs.Sound.{Whole}
+use Rattle.deck.specs.Sound.{WholeDeck}
 use Rattle.deck.specs.declared.Layout.{Layout}
 use Rattle.climb.specs.Placed.{isMissing}
 
@@ -44,8 +44,8 @@ module _ (d : List ℕ) (deck : Deck) where
   between k i l j = apart (graphAt d deck) (joinAt d deck) last k i l j
 
 -- atom i of placement number k and atom j of placement number l
-pub record Pair (d : List ℕ) (deck : Deck) (k i l j : ℕ) : Type 0 where
-  pub whole : Whole d deck
+pub record PlacedPair (d : List ℕ) (deck : Deck) (k i l j : ℕ) : Type 0 where
+  pub whole : WholeDeck d deck
   pub one : Has d deck k i
   pub two : Has d deck l j
 
@@ -57,21 +57,21 @@ present d deck k i e =
     record { number = omega arith; atom = inside (graphAt d deck (k - 1) .atoms) i b }
 
 -- two atoms that do not miss
-pub pair : {d : List ℕ} {deck : Deck} {k i l j : ℕ} → Whole d deck → isMissing d deck k i ≡ false → isMissing d deck l j ≡ false → Pair d deck k i l j
+pub pair : {d : List ℕ} {deck : Deck} {k i l j : ℕ} → WholeDeck d deck → isMissing d deck k i ≡ false → isMissing d deck l j ≡ false → PlacedPair d deck k i l j
 pair w a b = record { whole = w; one = present _ _ _ _ a; two = present _ _ _ _ b }
 
 -- a climb from placement number l by way of q: to an atom of its parent, and within its own block
 pub record Climbs (d : List ℕ) (deck : Deck) (q : Placement) (k i l j : ℕ) : Type 0 where
   pub falls : q .parent < l
-  pub rest : Pair d deck k i (q .parent) (q .site)
-  pub own : Pair d deck l (q .own) l j
+  pub rest : PlacedPair d deck k i (q .parent) (q .site)
+  pub own : PlacedPair d deck l (q .own) l j
   pub far : between d deck k i l j ≡ between d deck k i (q .parent) (q .site) + 1 + distance (graphAt d deck (l - 1)) (q .own) j
 
-module _ {d : List ℕ} {deck : Deck} {k i l j : ℕ} (p : Pair d deck k i l j) where
-  pub swapped : Pair d deck l j k i
+module _ {d : List ℕ} {deck : Deck} {k i l j : ℕ} (p : PlacedPair d deck k i l j) where
+  pub swapped : PlacedPair d deck l j k i
   swapped = record { whole = p .whole; one = p .two; two = p .one }
 
-  pub same-pair : k ≡ l → Pair d deck k i k j
+  pub same-pair : k ≡ l → PlacedPair d deck k i k j
   same-pair e = rw (← e) at p
 
   pub same-far : k ≡ l → between d deck k i l j ≡ distance (graphAt d deck (k - 1)) i j

@@ -15,8 +15,8 @@ unfoldable pub isMissing : List ℕ → Deck → ℕ → ℕ → Bool
 isMissing d deck k i = isOutside (deck .placements) k || isOutside (graphAt d deck (k - 1) .atoms) i
 
 -- atom i of placement number k and atom j of placement number l
-unfoldable pub placedReply : List ℕ → ℕ → ℕ → ℕ → ℕ → Read ℕ
-placedReply d k i l j =
+unfoldable pub placedDistanceReply : List ℕ → ℕ → ℕ → ℕ → ℕ → Read ℕ
+placedDistanceReply d k i l j =
     deckReply Composed d then λ deck.
     refuseIf (isMissing d deck k i || isMissing d deck l j) 18 0 then λ _.
     read (distance (moleculeOf d deck) (atomOf (graphAt d deck) k i) (atomOf (graphAt d deck) l j))

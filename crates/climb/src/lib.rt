@@ -5,10 +5,10 @@ ghost use Rattle.graph.specs.Graph.{distance};
 ghost use Rattle.block.specs.Index.{saidDistance};
 ghost use Rattle.assembly.specs.Book.{find};
 ghost use Rattle.deck.specs.Molecule.{placedIn, graphAt};
-ghost use Rattle.climb.specs.Placed.{isMissing, placedReply};
-ghost use Rattle.climb.specs.Pairs.{deckOf, between, Pair};
+ghost use Rattle.climb.specs.Placed.{isMissing, placedDistanceReply};
+ghost use Rattle.climb.specs.Pairs.{deckOf, between, PlacedPair};
 use assembly::BlockAt;
-use block::Apart;
+use block::DistanceReply;
 use deck::Form;
 use deck::Layout;
 use reply::Refusal;
@@ -38,21 +38,21 @@ fn is_missing(d: &[u8], deck: Layout, k: usize, i: usize) -> bool
 
 // The distance of atoms i and j of placement number k.
 fn inside(d: &[u8], deck: Layout, k: usize, i: usize, j: usize) -> u64
-    requires { ⌜ Pair (now d) (deckOf deck) k i k j ⌝ }
+    requires { ⌜ PlacedPair (now d) (deckOf deck) k i k j ⌝ }
     ensures { λ r. ⌜ r ≡ distance (graphAt (now (d .entry)) (deckOf deck) (k - 1)) i j ⌝ }
 {
     let b = block_of(d, deck, k);
     let bonds = assembly::bonds_part(d, b);
     let reply = block::distance(b.atoms as usize, bonds, i, j);
     match reply {
-        Apart::Of(x) => x,
-        Apart::Refused(r) => 0,
+        DistanceReply::Of(x) => x,
+        DistanceReply::Refused(r) => 0,
     }
 }
 
 // The distance of atom i of placement number k and atom j of placement number l. The larger placement number falls at each call.
 fn climb(d: &[u8], deck: Layout, k: usize, i: usize, l: usize, j: usize) -> u64
-    requires { ⌜ Pair (now d) (deckOf deck) k i l j ⌝ }
+    requires { ⌜ PlacedPair (now d) (deckOf deck) k i l j ⌝ }
     ensures { λ r. ⌜ r ≡ between (now (d .entry)) (deckOf deck) k i l j ⌝ }
 {
     if k == l {
@@ -69,22 +69,22 @@ fn climb(d: &[u8], deck: Layout, k: usize, i: usize, l: usize, j: usize) -> u64
 }
 
 // The distance of atom i of placement number k and atom j of placement number l of a deck without a sheet, or its refusal; 18 at place 0 where one does not exist.
-pub fn placed_distance(d: &[u8], k: usize, i: usize, l: usize, j: usize) -> Apart
-    ensures { λ r. ⌜ r ≡ saidDistance (placedReply (now (d .entry)) k i l j) ⌝ }
+pub fn placed_distance(d: &[u8], k: usize, i: usize, l: usize, j: usize) -> DistanceReply
+    ensures { λ r. ⌜ r ≡ saidDistance (placedDistanceReply (now (d .entry)) k i l j) ⌝ }
 {
     let read = deck::read_deck(d, Form::Composed);
     let reply = read.reply;
     match reply {
-        Reply::Refused(r) => Apart::Refused(r),
+        Reply::Refused(r) => DistanceReply::Refused(r),
         Reply::Fine => {
             let deck = read.layout;
             if is_missing(d, deck, k, i) || is_missing(d, deck, l, j) {
-                return Apart::Refused(Refusal {
+                return DistanceReply::Refused(Refusal {
                     number: 18,
                     place: 0,
                 });
             }
-            Apart::Of(climb(d, deck, k, i, l, j))
+            DistanceReply::Of(climb(d, deck, k, i, l, j))
         }
     }
 }

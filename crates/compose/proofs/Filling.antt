@@ -22,9 +22,9 @@ use Rattle.assembly.specs.Book.{bondBytes, blockGraph}
 use Rattle.assembly.specs.Placements.{mostPlacements, placementAt}
 use Rattle.assembly.specs.declared.BlockAt.{BlockAt}
 use Rattle.compose.specs.declared.ends.End.{End}
-use Rattle.compose.specs.Joints.{ends, link, joinsOf, entry, numbersOf, numbersAt, countsOf, countsAt, Task}
+use Rattle.compose.specs.Joints.{ends, link, joinsOf, entry, numbersOf, numbersAt, countsOf, countsAt, JoinTask}
 use Rattle.compose.specs.Tables.{endAt, homeOf, rowFrom, countsFrom, numbersFrom, Ranged, Copied}
-use Rattle.compose.specs.Ready.{placedBlock, placedGraph, Ready}
+use Rattle.compose.specs.Ready.{placedBlock, placedGraph, ReadyDeck}
 
 -- an end is a placement's own atom, or its parent's atom
 end-own : (ls : List (List ℕ)) (e : ℕ) → e % 2 ≡ 0 → endAt ls e ≡ record { home = e / 2; atom = link ls (e / 2) .own }
@@ -35,7 +35,7 @@ end-site : (ls : List (List ℕ)) (e : ℕ) → (e % 2 ≡ 0 → ⊥) → endAt 
 unfolding endAt
 end-site ls e p = rw (ne-eqb (e % 2) 0 p)
 
-module _ {d xs : List ℕ} {bs : List BlockAt} {count placements : ℕ} {ls : List (List ℕ)} (r : Ready d xs bs count placements ls) where
+module _ {d xs : List ℕ} {bs : List BlockAt} {count placements : ℕ} {ls : List (List ℕ)} (r : ReadyDeck d xs bs count placements ls) where
   abbrev graphs : ℕ → Graph
   graphs = placedGraph d xs bs count
 
@@ -160,7 +160,7 @@ module _ {d xs : List ℕ} {bs : List BlockAt} {count placements : ℕ} {ls : Li
       let half : (2 * k + 1) / 2 ≡ k = omega arith in
       end-site ls (2 * k + 1) (λ q. omega arith) ∙ ap (λ (i : ℕ). record { home = link ls i .parent - 1; atom = link ls i .site }) half
 
-  pub fill-end : {rs vs ns : List (List ℕ)} → Filled placements rs vs ns → Task graphs (placements - 1) ls rs vs ns
+  pub fill-end : {rs vs ns : List (List ℕ)} → Filled placements rs vs ns → JoinTask graphs (placements - 1) ls rs vs ns
   fill-end {rs} {vs} {ns} s = record {
     laid = record {
       few = omega (arith, r .few);

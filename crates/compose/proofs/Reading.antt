@@ -19,14 +19,14 @@ use Rattle.assembly.specs.declared.BlockAt.{BlockAt}
 use Rattle.deck.specs.Deck.{Deck, deckReply}
 use Rattle.deck.specs.Molecule.{placedIn, graphAt, joinAt, moleculeOf}
 use Rattle.deck.specs.Sound.{whole}
-use Rattle.deck.specs.Said.{tableOf, layoutOf, saidDeck}
+use Rattle.deck.specs.Said.{blockTable, layoutOf, saidDeck}
 use Rattle.deck.specs.declared.Form.{Form}
 use Rattle.deck.specs.declared.Layout.{Layout}
 use Rattle.compose.specs.Fields.{composeReply, saidComposed}
 use Rattle.compose.specs.declared.ComposeReply.the-variants as composed
-use Rattle.compose.specs.Links.{Linked}
+use Rattle.compose.specs.Links.{PlacementLinked}
 use Rattle.compose.specs.Joints.{link, joinsOf}
-use Rattle.compose.specs.Ready.{placedGraph, Ready}
+use Rattle.compose.specs.Ready.{placedGraph, ReadyDeck}
 
 -- the deck's reply, taken apart
 pub told-refused : (x : Read Deck) {r : Refusal} → saidDeck x .reply ≡ reply.Refused r → x ≡ refused r
@@ -69,17 +69,17 @@ module _ (blocks : ℕ → Graph) {joins joins' : ℕ → Join} where
   }
 
 -- the links say the joins
-linked-join : (xs : List ℕ) (ls : List (List ℕ)) (i : ℕ) → Linked (placementAt xs) i (link ls i) → joinOf (placementAt xs i) ≡ joinsOf ls i
+linked-join : (xs : List ℕ) (ls : List (List ℕ)) (i : ℕ) → PlacementLinked (placementAt xs) i (link ls i) → joinOf (placementAt xs i) ≡ joinsOf ls i
 unfolding joinOf
 linked-join xs ls i l = rw (l .parent, l .site, l .own)
 
 -- a deck that is read, with the links of its placements
 module _ (form : Form) (d : List ℕ) (k : Deck) (e : deckReply form d ≡ read k) (ls : List (List ℕ))
-    (l : (i : ℕ) → i < k .placements → Linked (placementAt (payloadAt d (k .assembly))) i (link ls i)) where
-  table-is : take (length (k .blocks)) (tableOf (k .blocks)) ≡ k .blocks
+    (l : (i : ℕ) → i < k .placements → PlacementLinked (placementAt (payloadAt d (k .assembly))) i (link ls i)) where
+  table-is : take (length (k .blocks)) (blockTable (k .blocks)) ≡ k .blocks
   table-is = take-at (k .blocks) _ _ refl
 
-  graphs-are : placedGraph d (payloadAt d (k .assembly)) (tableOf (k .blocks)) (length (k .blocks)) ≡ graphAt d k
+  graphs-are : placedGraph d (payloadAt d (k .assembly)) (blockTable (k .blocks)) (length (k .blocks)) ≡ graphAt d k
   unfolding graphAt placedIn bookOf
   graphs-are = ap {B = ℕ → Graph} (λ (bs : List BlockAt). λ (i : ℕ). blockGraph d (find bs (placementAt (payloadAt d (k .assembly)) i .block))) table-is
 
@@ -87,7 +87,7 @@ module _ (form : Form) (d : List ℕ) (k : Deck) (e : deckReply form d ≡ read 
   unfolding joinAt placedIn
   joins-are i p q = linked-join (payloadAt d (k .assembly)) ls i (l i (omega arith))
 
-  ready : Ready d (payloadAt d (k .assembly)) (tableOf (k .blocks)) (length (k .blocks)) (k .placements) ls
+  ready : ReadyDeck d (payloadAt d (k .assembly)) (blockTable (k .blocks)) (length (k .blocks)) (k .placements) ls
   unfolding placedIn
   ready =
       let w = whole form d k e in
@@ -98,7 +98,7 @@ module _ (form : Form) (d : List ℕ) (k : Deck) (e : deckReply form d ≡ read 
         fine = λ i h. rw table-is (w .stands i h .fine);
       }
 
-  molecule-is : written (placedGraph d (payloadAt d (k .assembly)) (tableOf (k .blocks)) (length (k .blocks))) (joinsOf ls) (k .placements - 1) ≡ moleculeOf d k
+  molecule-is : written (placedGraph d (payloadAt d (k .assembly)) (blockTable (k .blocks)) (length (k .blocks))) (joinsOf ls) (k .placements - 1) ≡ moleculeOf d k
   unfolding moleculeOf
   molecule-is =
       ap (λ (blocks : ℕ → Graph). written blocks (joinsOf ls) (k .placements - 1)) graphs-are
@@ -109,11 +109,11 @@ module _ (form : Form) (d : List ℕ) (k : Deck) (e : deckReply form d ≡ read 
   pub few-placements : layout .placements ≤ mostPlacements
   few-placements = rw q (whole form d k e .count .high)
 
-  module _ (xs : List ℕ) (p : xs ≡ payloadAt d (layout .assembly)) (ls : List (List ℕ)) (l : (i : ℕ) → i < layout .placements → Linked (placementAt xs) i (link ls i)) where
+  module _ (xs : List ℕ) (p : xs ≡ payloadAt d (layout .assembly)) (ls : List (List ℕ)) (l : (i : ℕ) → i < layout .placements → PlacementLinked (placementAt xs) i (link ls i)) where
     payload-is : xs ≡ payloadAt d (k .assembly)
     payload-is = p ∙ ap (λ (x : Layout). payloadAt d (x .assembly)) q
 
-    pub laid-ready : Ready d xs (layout .blocks) (layout .count) (layout .placements) ls
+    pub laid-ready : ReadyDeck d xs (layout .blocks) (layout .count) (layout .placements) ls
     laid-ready = rw (q, payload-is) (ready form d k e ls (rw (q, payload-is) at l))
 
     pub laid-molecule : written (placedGraph d xs (layout .blocks) (layout .count)) (joinsOf ls) (layout .placements - 1) ≡ moleculeOf d k

@@ -16,12 +16,12 @@ use Rattle.assembly.specs.Placements.{mostPlacements}
 use Rattle.tables.specs.Parts.{grow}
 use Rattle.tables.specs.Written.{first-molecules, second-molecules}
 use Rattle.joining.specs.Joining.{mostCounted, grownOf}
-use Rattle.joining.specs.Small.{Small, grown-small}
+use Rattle.joining.specs.Small.{SmallCounts, grown-small}
 use Rattle.compose.specs.Joints.{link, joinsOf, entry, between, sightAt, Laid}
 use Rattle.compose.proofs.Ports.{few-atoms, stands, port, above}
 
 -- what is counted from an atom of a molecule that is not too large is small
-small-vertex : {g : Graph} {a : ℕ} → Molecule g → g .atoms ≤ mostAtoms * mostPlacements → Within (g .atoms) a → Small (vertexOf g a)
+small-vertex : {g : Graph} {a : ℕ} → Molecule g → g .atoms ≤ mostAtoms * mostPlacements → Within (g .atoms) a → SmallCounts (vertexOf g a)
 unfolding vertexOf
 small-vertex {g} {a} m few w = record {
   sum = most tame-itself;
@@ -38,7 +38,7 @@ small-vertex {g} {a} m few w = record {
     most t = omega (arith, vertex-most m t w, mul-le-mul few few)
 
 -- what joining makes of small numbers
-pub grown-by : {r v o : Vertex} {d : ℕ} (x : Vertex) (n : ℕ) (y : Vertex) → r ≡ grownOf v d o → v ≡ x → d ≡ n → o ≡ y → Small x → n ≤ mostCounted → Small y → r ≡ grow x n y
+pub grown-by : {r v o : Vertex} {d : ℕ} (x : Vertex) (n : ℕ) (y : Vertex) → r ≡ grownOf v d o → v ≡ x → d ≡ n → o ≡ y → SmallCounts x → n ≤ mostCounted → SmallCounts y → r ≡ grow x n y
 grown-by x n y e p q s h l t = e ∙ rw (p, q, s) (grown-small h l t)
 
 module _ {blocks : ℕ → Graph} {last : ℕ} {ls rs : List (List ℕ)} (l : Laid blocks last ls rs) where
@@ -54,13 +54,13 @@ module _ {blocks : ℕ → Graph} {last : ℕ} {ls rs : List (List ℕ)} (l : La
     pub site-within : Within (written blocks (joinsOf ls) (k - 1) .atoms) (siteOf blocks (joinsOf ls) k)
     site-within = placed-within blocks (joinsOf ls) (sighted k (stands l w .parent .high) (w .high))
 
-    pub sight-small : (m : ℕ) → link ls k .parent ≤ m → m ≤ last → Small (sightAt blocks ls m k)
+    pub sight-small : (m : ℕ) → link ls k .parent ≤ m → m ≤ last → SmallCounts (sightAt blocks ls m k)
     sight-small m h q = small-vertex (core (m - 1) (omega arith)) (few-atoms l (m - 1) (omega arith)) (placed-within blocks (joinsOf ls) (sighted m h q))
 
-    pub own-small : Small (vertexOf (blocks k) (link ls k .own))
+    pub own-small : SmallCounts (vertexOf (blocks k) (link ls k .own))
     own-small = small-vertex (l .assembled .molecules k (w .high)) (omega (arith, l .small k (w .high))) (stands l w .own)
 
-    pub block-small : Small (vertexOf (blocks (link ls k .parent - 1)) (link ls k .site))
+    pub block-small : SmallCounts (vertexOf (blocks (link ls k .parent - 1)) (link ls k .site))
     block-small =
         let h : link ls k .parent - 1 ≤ last = omega (arith, stands l w .parent) in
         small-vertex (l .assembled .molecules (link ls k .parent - 1) h) (omega (arith, l .small (link ls k .parent - 1) h)) (stands l w .site)

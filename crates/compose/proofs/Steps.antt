@@ -21,13 +21,13 @@ use Rattle.assembly.specs.Placements.{mostPlacements}
 use Rattle.tables.specs.Parts.{joinSix}
 use Rattle.tables.specs.Written.{six-molecules}
 use Rattle.joining.specs.Joining.{mostField, joinedOf}
-use Rattle.joining.specs.Small.{Room, joined-small}
-use Rattle.compose.specs.Joints.{ends, link, joinsOf, sightAt, numbersAt, countRow, countsOf, countsAt, Laid, Counted, Task, Turn}
+use Rattle.joining.specs.Small.{SmallFields, joined-small}
+use Rattle.compose.specs.Joints.{ends, link, joinsOf, sightAt, numbersAt, countRow, countsOf, countsAt, Laid, JoinsCounted, JoinTask, Turn}
 use Rattle.compose.proofs.Ports.{few-atoms, stands}
 use Rattle.compose.proofs.Seeing.{core, site-within, sight-small, own-small}
 
 -- the numbers of a molecule that is not too large leave room
-room : {g : Graph} → Molecule g → g .atoms ≤ mostAtoms * mostPlacements → Room (indicesOf g)
+room : {g : Graph} → Molecule g → g .atoms ≤ mostAtoms * mostPlacements → SmallFields (indicesOf g)
 unfolding indicesOf
 room {g} m few = record {
   atoms = omega arith;
@@ -61,8 +61,8 @@ module _ {blocks : ℕ → Graph} {last : ℕ} {ls rs : List (List ℕ)} (l : La
       ∙ sym six-next
 
 -- what is counted at the join is kept
-pub counted-next : {blocks : ℕ → Graph} {last : ℕ} {ls vs : List (List ℕ)} (k : ℕ) → k ≤ last → last < mostPlacements → Counted blocks last ls vs k → (v : Vertex) → v ≡ sightAt blocks ls k k
-    → Counted blocks last ls (set vs (2 * k + 1) (countRow v)) (k + 1)
+pub counted-next : {blocks : ℕ → Graph} {last : ℕ} {ls vs : List (List ℕ)} (k : ℕ) → k ≤ last → last < mostPlacements → JoinsCounted blocks last ls vs k → (v : Vertex) → v ≡ sightAt blocks ls k k
+    → JoinsCounted blocks last ls (set vs (2 * k + 1) (countRow v)) (k + 1)
 counted-next {blocks} {last} {ls} {vs} k h few c v e = record {
   long = length-set vs (2 * k + 1) (countRow v) ∙ c .long;
   own = λ m w. ap countsOf (getD-set-other vs (2 * k + 1) (2 * m) (countRow v) [] (λ q. omega arith)) ∙ c .own m w;
@@ -74,7 +74,7 @@ counted-next {blocks} {last} {ls} {vs} k h few c v e = record {
   waits = λ m w q. ap countsOf (getD-set-other vs (2 * k + 1) (2 * m + 1) (countRow v) [] (λ p. omega arith)) ∙ c .waits m w (omega arith);
 }
 
-pub first-numbers : {blocks : ℕ → Graph} {last : ℕ} {ls rs vs ns : List (List ℕ)} → Task blocks last ls rs vs ns
+pub first-numbers : {blocks : ℕ → Graph} {last : ℕ} {ls rs vs ns : List (List ℕ)} → JoinTask blocks last ls rs vs ns
     → numbersAt ns (link ls 0 .block) ≡ indicesOf (written blocks (joinsOf ls) 0)
 unfolding written
 first-numbers t = t .measured 0 (omega arith)

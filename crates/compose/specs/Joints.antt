@@ -73,16 +73,16 @@ pub record Laid (blocks : ℕ → Graph) (last : ℕ) (ls rs : List (List ℕ)) 
 
 -- The joins before index k are made. At 2 m and 2 m + 1 stands what is counted from the own atom of the placement at index m, in its block, and from
 -- its parent's atom: in the parent's block while the join waits, and from then on in the molecule that it is made with.
-pub record Counted (blocks : ℕ → Graph) (last : ℕ) (ls vs : List (List ℕ)) (k : ℕ) : Type 0 where
+pub record JoinsCounted (blocks : ℕ → Graph) (last : ℕ) (ls vs : List (List ℕ)) (k : ℕ) : Type 0 where
   pub long : length vs ≡ ends
   pub own : (m : ℕ) → Within last m → countsAt vs (2 * m) ≡ vertexOf (blocks m) (link ls m .own)
   pub made : (m : ℕ) → Within last m → m < k → countsAt vs (2 * m + 1) ≡ sightAt blocks ls m m
   pub waits : (m : ℕ) → Within last m → k ≤ m → countsAt vs (2 * m + 1) ≡ vertexOf (blocks (link ls m .parent - 1)) (link ls m .site)
 
 -- before any join is made; and the six numbers of each block stand at the first placement that has it
-pub record Task (blocks : ℕ → Graph) (last : ℕ) (ls rs vs ns : List (List ℕ)) : Type 0 where
+pub record JoinTask (blocks : ℕ → Graph) (last : ℕ) (ls rs vs ns : List (List ℕ)) : Type 0 where
   pub laid : Laid blocks last ls rs
-  pub counted : Counted blocks last ls vs 1
+  pub counted : JoinsCounted blocks last ls vs 1
   pub listed : (k : ℕ) → k ≤ last → link ls k .block < mostPlacements
   pub measured : (k : ℕ) → k ≤ last → numbersAt ns (link ls k .block) ≡ indicesOf (blocks k)
 
@@ -90,4 +90,4 @@ pub record Task (blocks : ℕ → Graph) (last : ℕ) (ls rs vs ns : List (List 
 pub record Turn (blocks : ℕ → Graph) (last : ℕ) (ls rs vs : List (List ℕ)) (k : ℕ) : Type 0 where
   pub laid : Laid blocks last ls rs
   pub index : Within last k
-  pub counted : Counted blocks last ls vs k
+  pub counted : JoinsCounted blocks last ls vs k

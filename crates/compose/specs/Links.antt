@@ -17,7 +17,7 @@ pub record First (placed : ℕ → Placement) (k r : ℕ) : Type 0 where
   pub least : (j : ℕ) → j < r → placed j .block ≡ placed k .block → ⊥
 
 -- l says the placement at index k
-pub record Linked (placed : ℕ → Placement) (k : ℕ) (l : Link) : Type 0 where
+pub record PlacementLinked (placed : ℕ → Placement) (k : ℕ) (l : Link) : Type 0 where
   pub block : First placed k (l .block)
   pub parent : l .parent ≡ placed k .parent
   pub site : l .site ≡ placed k .site

@@ -10,7 +10,7 @@ use Rattle.block.specs.Block.{blockReply}
 use Rattle.assembly.specs.Book.{find, bondBytes, blockGraph}
 use Rattle.assembly.specs.Placements.{mostPlacements, placementAt}
 use Rattle.assembly.specs.declared.BlockAt.{BlockAt}
-use Rattle.compose.specs.Links.{Linked}
+use Rattle.compose.specs.Links.{PlacementLinked}
 use Rattle.compose.specs.Joints.{link, joinsOf}
 
 -- the block of the placement at an index, and its graph
@@ -21,8 +21,8 @@ abbrev pub placedGraph : List ℕ → List ℕ → List BlockAt → ℕ → ℕ 
 placedGraph d xs bs count i = blockGraph d (placedBlock xs bs count i)
 
 -- the links are those of the placements, which are an assembly of blocks that are not refused
-pub record Ready (d xs : List ℕ) (bs : List BlockAt) (count placements : ℕ) (ls : List (List ℕ)) : Type 0 where
+pub record ReadyDeck (d xs : List ℕ) (bs : List BlockAt) (count placements : ℕ) (ls : List (List ℕ)) : Type 0 where
   pub few : Within mostPlacements placements
-  pub linked : (i : ℕ) → i < placements → Linked (placementAt xs) i (link ls i)
+  pub linked : (i : ℕ) → i < placements → PlacementLinked (placementAt xs) i (link ls i)
   pub assembled : Assembled (placedGraph d xs bs count) (joinsOf ls) (placements - 1)
   pub fine : (i : ℕ) → i < placements → blockReply (placedBlock xs bs count i .atoms) (bondBytes d (placedBlock xs bs count i)) ≡ read tt

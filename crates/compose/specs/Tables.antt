@@ -9,7 +9,7 @@ use Rattle.graph.specs.Graph.{Within}
 use Rattle.half.specs.Half.{halfAt, halfRow}
 use Rattle.block.specs.Block.{mostAtoms}
 use Rattle.block.specs.Sums.{entry, indicesBy, vertexBy}
-use Rattle.block.specs.Rows.{tableOf, farOf}
+use Rattle.block.specs.Rows.{halfTable, farOf}
 use Rattle.block.specs.declared.Indices.{Indices}
 use Rattle.assembly.specs.Placements.{mostPlacements}
 use Rattle.compose.specs.declared.ends.End.{End}
@@ -37,13 +37,13 @@ countsIn n half far a = countRow (vertexBy (min n mostAtoms) (entry (halfRow hal
 
 -- the row of an atom of a block, what is counted from it, and the block's six numbers
 abbrev pub rowFrom : ℕ → List ℕ → ℕ → List ℕ
-rowFrom n xs = halfRow (tableOf n xs)
+rowFrom n xs = halfRow (halfTable n xs)
 
 abbrev pub countsFrom : ℕ → List ℕ → ℕ → List ℕ
-countsFrom n xs = countsIn n (tableOf n xs) (farOf n xs)
+countsFrom n xs = countsIn n (halfTable n xs) (farOf n xs)
 
 abbrev pub numbersFrom : ℕ → List ℕ → Indices
-numbersFrom n xs = indicesBy (min n mostAtoms) (halfAt (tableOf n xs)) (entry (farOf n xs))
+numbersFrom n xs = indicesBy (min n mostAtoms) (halfAt (halfTable n xs)) (entry (farOf n xs))
 
 -- the ends in the block that the placement at index f has first have what X says of their atoms, the others keep what they have
 pub record Copied (ls : List (List ℕ)) (count f : ℕ) (X : ℕ → List ℕ) (old new : List (List ℕ)) : Type 0 where

@@ -22,7 +22,7 @@ ghost use Rattle.block.specs.Block.{mostAtoms};
 ghost use Rattle.block.specs.Index.{indicesOf};
 ghost use Rattle.assembly.specs.Placements.{mostPlacements};
 ghost use Rattle.joining.specs.Joining.{joinedOf};
-ghost use Rattle.compose.specs.Joints.{ends, entry, link, joinsOf, between, sightAt, Laid, Task, Turn};
+ghost use Rattle.compose.specs.Joints.{ends, entry, link, joinsOf, between, sightAt, Laid, JoinTask, Turn};
 
 // The distance of an atom in the row of an end.
 fn at(rows: &[[u8; ATOMS]; ENDS], end: usize, atom: usize) -> u64
@@ -136,8 +136,8 @@ pub(crate) fn composed(
     counts: &mut [CountRow],
     count: usize,
 ) -> Indices
-    requires { ⌜ ((blocks : ℕ → Graph) × Task blocks (count - 1) (now links) (now rows) (now counts) (now numbers)) ⌝ }
-    ensures { λ r. ⌜ ((blocks : ℕ → Graph) → Task blocks (count - 1) (now (links .entry)) (now (rows .entry)) (now (counts .entry)) (now (numbers .entry)) → r ≡ indicesOf (written blocks (joinsOf (now (links .entry))) (count - 1))) ⌝ }
+    requires { ⌜ ((blocks : ℕ → Graph) × JoinTask blocks (count - 1) (now links) (now rows) (now counts) (now numbers)) ⌝ }
+    ensures { λ r. ⌜ ((blocks : ℕ → Graph) → JoinTask blocks (count - 1) (now (links .entry)) (now (rows .entry)) (now (counts .entry)) (now (numbers .entry)) → r ≡ indicesOf (written blocks (joinsOf (now (links .entry))) (count - 1))) ⌝ }
 {
     let mut s = Summary {
         fields: numbers_at(numbers, links[0][FIRST]),

@@ -43,7 +43,7 @@ ghost use Rattle.deck.specs.declared.Form.{Form};
 ghost use Rattle.compose.specs.Fields.{composeReply, saidComposed};
 ghost use Rattle.compose.specs.Joints.{ends, numbersOf, joinsOf};
 ghost use Rattle.compose.specs.Tables.{numbersFrom, rowFrom, countsFrom, Ranged, Copied};
-ghost use Rattle.compose.specs.Ready.{placedBlock, placedGraph, Ready};
+ghost use Rattle.compose.specs.Ready.{placedBlock, placedGraph, ReadyDeck};
 
 // The six fields of a deck's molecule, and the first byte after its assembly.
 pub struct Composed {
@@ -96,7 +96,7 @@ fn filled(
     placements: usize,
     links: &Links,
 ) -> Indices
-    requires { ⌜ Ready (now d) (now xs) blocks count placements (now links) ⌝ }
+    requires { ⌜ ReadyDeck (now d) (now xs) blocks count placements (now links) ⌝ }
     ensures { λ r. ⌜ r ≡ indicesOf (written (placedGraph (now (d .entry)) (now (xs .entry)) blocks count) (joinsOf (now (links .entry))) (placements - 1)) ⌝ }
 {
     let mut numbers = [[0u64; 6]; PLACEMENTS];

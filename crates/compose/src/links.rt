@@ -6,7 +6,7 @@ ghost use Prim.Native.Nat.{ℕ, _≤_, _<_};
 ghost use lib.ListN.{length};
 ghost use Rattle.assembly.specs.Placements.{mostPlacements, placementAt};
 ghost use Rattle.compose.specs.Joints.{linkOf, link};
-ghost use Rattle.compose.specs.Links.{First, Linked};
+ghost use Rattle.compose.specs.Links.{First, PlacementLinked};
 
 // Both ends of each join.
 pub(crate) const ENDS: usize = 2 * PLACEMENTS;
@@ -43,7 +43,7 @@ fn first_of(xs: &[u8], k: usize) -> usize
 }
 
 fn link_of(xs: &[u8], k: usize) -> Link
-    ensures { λ r. ⌜ Linked (placementAt (now (xs .entry))) k (linkOf r) ⌝ }
+    ensures { λ r. ⌜ PlacementLinked (placementAt (now (xs .entry))) k (linkOf r) ⌝ }
 {
     let q = placement_at(xs, k);
     [
@@ -57,7 +57,7 @@ fn link_of(xs: &[u8], k: usize) -> Link
 // Stores the first `count` placements of an assembly's payload.
 pub(crate) fn fill_links(xs: &[u8], count: usize, links: &mut [Link])
     requires { ⌜ (count ≤ mostPlacements) × (length (now links) ≡ mostPlacements) ⌝ }
-    ensures { λ _. ⌜ ((k : ℕ) → k < count → Linked (placementAt (now (xs .entry))) k (link (now (links .exit)) k)) ⌝ }
+    ensures { λ _. ⌜ ((k : ℕ) → k < count → PlacementLinked (placementAt (now (xs .entry))) k (link (now (links .exit)) k)) ⌝ }
 {
     let mut k: usize = 0;
     while k < count {

@@ -19,7 +19,7 @@ use Rattle.records.specs.declared.Kind.{Kind}
 use Rattle.assembly.specs.Book.{noBlock, used, bondBytes, mostBlocks}
 use Rattle.assembly.specs.declared.BlockAt.{BlockAt}
 use Rattle.deck.specs.Deck.{kindsAfter, blockAt, moved, blockPlace, blockReplyAt, deckAt, blocksFrom}
-use Rattle.deck.specs.Said.{tableOf, tabledDeck, movedReply, saidDeck}
+use Rattle.deck.specs.Said.{blockTable, tabledDeck, movedReply, saidDeck}
 
 -- a kind that is named twice
 twice : (t : Bool) (x y : Read Kind) → cond t x (cond t x y) ≡ cond t x y
@@ -92,7 +92,7 @@ module _ (fuel : ℕ) (last : Kind) (d : List ℕ) (at : ℕ) (done : List Block
       one-block f = rw (e, eq-eqb (kindAt d at) 1 k, f)
 
 -- a table whose places past `count` are empty is the table of its first `count` blocks
-pub table-is : (t : List BlockAt) (count : ℕ) → count ≤ length t → drop count t ≡ drop count (replicate mostBlocks noBlock) → t ≡ tableOf (take count t)
+pub table-is : (t : List BlockAt) (count : ℕ) → count ≤ length t → drop count t ≡ drop count (replicate mostBlocks noBlock) → t ≡ blockTable (take count t)
 table-is t count h e =
     let n : length (take count t) ≡ count = length-take-le count t h in
     rw n (sym (take-append-drop count t) ∙ ap (λ (x : List BlockAt). take count t ++ x) e)
@@ -109,5 +109,5 @@ table-next t count b e =
     ∙ drop-drop 1 count (replicate mostBlocks noBlock)
 
 -- a deck as the code has it
-pub said : (d : List ℕ) (table bs : List BlockAt) (count at : ℕ) → table ≡ tableOf bs → count ≡ length bs → tabledDeck d table count at ≡ saidDeck (read (deckAt d bs at))
+pub said : (d : List ℕ) (table bs : List BlockAt) (count at : ℕ) → table ≡ blockTable bs → count ≡ length bs → tabledDeck d table count at ≡ saidDeck (read (deckAt d bs at))
 said d table bs count at e f = rw (e, f)

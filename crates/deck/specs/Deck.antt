@@ -6,7 +6,7 @@ use mathlib.Core.Path.{_≡_, refl}
 use lib.Dec.{eqb, leb, ltb}
 use lib.ListN.{length}
 use Rattle.reply.specs.declared.Refusal.{Refusal}
-use Rattle.reply.specs.Read.{Read, refused, read, _then_, refuseIf, refusal}
+use Rattle.reply.specs.Read.{Read, refused, read, _then_, refuseIf, refusal, ifElse}
 use Rattle.block.specs.Block.{blockReply}
 use Rattle.records.specs.Bytes.{le16, part}
 use Rattle.records.specs.declared.Kind.{Kind}
@@ -69,11 +69,6 @@ blockReplyAt d at done =
     let b = blockAt d at in
     refuseIf (eqb (b .number) 0 || used done (b .number) || leb mostBlocks (length done)) 14 at then λ _.
     moved (blockPlace at) (blockReply (b .atoms) (bondBytes d b))
-
--- the first where a test holds, else the second; the other is not computed
-abbrev pub ifElse : {A : Type 0} → Bool → (Unit {0} → A) → (Unit {0} → A) → A
-ifElse true f g = f tt
-ifElse false f g = g tt
 
 -- a deck whose blocks end before the record at a place
 abbrev pub deckAt : List ℕ → List BlockAt → ℕ → Deck

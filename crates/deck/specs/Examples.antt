@@ -14,7 +14,7 @@ use Rattle.block.specs.declared.Indices.{Indices}
 use Rattle.records.specs.Bytes.{little}
 use Rattle.records.specs.Records.{kindReply, isWrong, lengthReply, recordReply}
 use Rattle.assembly.specs.Book.{find, bookOf, mostBlocks}
-use Rattle.assembly.specs.Placements.{mostPlacements, placementAt, joinOf, joinEnds, joinsOn, bondsOn, firstFault, parentFault, joinFault, laterFault, fault, placedReply, assemblyReply}
+use Rattle.assembly.specs.Placements.{mostPlacements, placementAt, joinOf, joinEnds, joinsOn, bondsOn, firstFault, parentFault, joinFault, laterFault, fault, placementsReply, assemblyReply}
 use Rattle.deck.specs.Deck.{longestDeck, Deck, blockReplyAt, assemblyReplyAt, blocksFrom, blocksReply, endReply, sheetReply, deckReply, payload, blockSpan, blockPart}
 use Rattle.deck.specs.Molecule.{placedIn, graphAt, joinAt, moleculeOf}
 use Rattle.deck.specs.declared.Form.{Form}
@@ -78,7 +78,7 @@ said (refused r) = r .number ∷ r .place ∷ []
 said (read k) = []
 
 told : Form → List ℕ → List ℕ
-unfolding said joins anyJoins bonded anyAtom reaches firstFrom distance allAtoms connected degree sum bondsOf bondFault bondsReply blockReply little kindReply isWrong lengthReply recordReply find bookOf placementAt joinOf joinEnds joinsOn bondsOn firstFault parentFault joinFault laterFault fault placedReply assemblyReply blockReplyAt assemblyReplyAt blocksFrom blocksReply endReply sheetReply deckReply
+unfolding said joins anyJoins bonded anyAtom reaches firstFrom distance allAtoms connected degree sum bondsOf bondFault bondsReply blockReply little kindReply isWrong lengthReply recordReply find bookOf placementAt joinOf joinEnds joinsOn bondsOn firstFault parentFault joinFault laterFault fault placementsReply assemblyReply blockReplyAt assemblyReplyAt blocksFrom blocksReply endReply sheetReply deckReply
 told form d = said (deckReply form d)
 
 -- the indices of the molecule of a deck
@@ -86,7 +86,7 @@ indicesFor : List ℕ → Read Deck → Read Indices
 indicesFor d r = r then λ k. read (indicesOf (moleculeOf d k))
 
 written-out : indicesFor document (deckReply Composed document) ≡ read (record { atoms = 12; w = 198; even = 96; odd = 102; polarity = 14; largest = 7 })
-unfolding indicesFor document joins anyJoins bonded anyAtom reaches firstFrom distance allAtoms connected degree sum bondsOf bondFault bondsReply blockReply little kindReply isWrong lengthReply recordReply find bookOf placementAt joinOf joinEnds joinsOn bondsOn firstFault parentFault joinFault laterFault fault placedReply assemblyReply blockReplyAt assemblyReplyAt blocksFrom blocksReply endReply sheetReply deckReply shifted joined startAt written sumPairs evenOf oddOf isAt total most mostPairs largest indicesOf placedIn graphAt joinAt moleculeOf
+unfolding indicesFor document joins anyJoins bonded anyAtom reaches firstFrom distance allAtoms connected degree sum bondsOf bondFault bondsReply blockReply little kindReply isWrong lengthReply recordReply find bookOf placementAt joinOf joinEnds joinsOn bondsOn firstFault parentFault joinFault laterFault fault placementsReply assemblyReply blockReplyAt assemblyReplyAt blocksFrom blocksReply endReply sheetReply deckReply shifted joined startAt written sumPairs evenOf oddOf isAt total most mostPairs largest indicesOf placedIn graphAt joinAt moleculeOf
 written-out = refl
 
 same-bytes : document ≡ ring ++ assembly 2 (first ++ joinTo 1 1 1)
@@ -198,7 +198,7 @@ too-long form d h = rw (lt-ltb longestDeck (length d) h)
 
 -- the lookup: the payload in either form and with either sheet, nothing for another number, nothing of a refused deck
 looked : List ℕ → ℕ → List ℕ
-unfolding joins anyJoins bonded anyAtom reaches firstFrom distance allAtoms connected degree sum bondsOf bondFault bondsReply blockReply little kindReply isWrong lengthReply recordReply find bookOf placementAt joinOf joinEnds joinsOn bondsOn firstFault parentFault joinFault laterFault fault placedReply assemblyReply blockReplyAt assemblyReplyAt blocksFrom blocksReply endReply sheetReply deckReply payload blockSpan
+unfolding joins anyJoins bonded anyAtom reaches firstFrom distance allAtoms connected degree sum bondsOf bondFault bondsReply blockReply little kindReply isWrong lengthReply recordReply find bookOf placementAt joinOf joinEnds joinsOn bondsOn firstFault parentFault joinFault laterFault fault placementsReply assemblyReply blockReplyAt assemblyReplyAt blocksFrom blocksReply endReply sheetReply deckReply payload blockSpan
 looked d x = blockPart d x
 
 lookups :

@@ -8,7 +8,7 @@ use native.Mathlib.Omega.{arith}
 use borrow.Author.Tests.{eqb-true, eqb-false, leb-false}
 use lib.Dec.{eqb, leb}
 use lib.ListN.{length, length-append}
-use Rattle.reply.specs.Read.{Read, refused, read, _then_, refuseIf}
+use Rattle.reply.specs.Read.{Read, refused, read, _then_, refuseIf, ifElse}
 use Rattle.reply.specs.Chain.{not-read, then-read, if-read, neither}
 use Rattle.block.specs.Block.{blockReply}
 use Rattle.reply.specs.declared.Refusal.{Refusal}
@@ -17,7 +17,7 @@ use Rattle.records.specs.Taken.{taken, of-first, of-other, of-one}
 use Rattle.records.specs.declared.Kind.{Kind}
 use Rattle.assembly.specs.Book.{used, bondBytes, mostBlocks}
 use Rattle.assembly.specs.declared.BlockAt.{BlockAt}
-use Rattle.deck.specs.Deck.{kindsAfter, blockAt, moved, blockPlace, blockReplyAt, Deck, deckAt, ifElse, blocksFrom, blocksReply}
+use Rattle.deck.specs.Deck.{kindsAfter, blockAt, moved, blockPlace, blockReplyAt, Deck, deckAt, blocksFrom, blocksReply}
 
 -- each block of a list
 unfoldable pub Each : (BlockAt → Type 0) → List BlockAt → Type 0
@@ -31,7 +31,7 @@ pub record Standing (d : List ℕ) (b : BlockAt) : Type 0 where
   pub fine : blockReply (b .atoms) (bondBytes d b) ≡ read tt
 
 -- the blocks of a deck stand in it, and after them a record of the last kind
-pub record Kept (last : Kind) (d : List ℕ) (k : Deck) : Type 0 where
+pub record KeptDeck (last : Kind) (d : List ℕ) (k : Deck) : Type 0 where
   pub places : k ≡ deckAt d (k .blocks) (k .assembly)
   pub blocks : Each (Standing d) (k .blocks)
   pub few : length (k .blocks) ≤ mostBlocks
@@ -60,12 +60,12 @@ first-same true f g other h = h refl
 first-same false f g other h = refl
 
 -- the tests that a block record passed
-pub record Fit (d : List ℕ) (at : ℕ) (done : List BlockAt) : Type 0 where
+pub record BlockFits (d : List ℕ) (at : ℕ) (done : List BlockAt) : Type 0 where
   pub numbered : blockAt d at .number ≡ 0 → ⊥
   pub room : length done < mostBlocks
   pub fine : blockReply (blockAt d at .atoms) (bondBytes d (blockAt d at)) ≡ read tt
 
-pub fit : (d : List ℕ) (at : ℕ) (done : List BlockAt) → blockReplyAt d at done ≡ read tt → Fit d at done
+pub fit : (d : List ℕ) (at : ℕ) (done : List BlockAt) → blockReplyAt d at done ≡ read tt → BlockFits d at done
 unfolding blockReplyAt
 fit d at done e =
     let number = blockAt d at .number in
@@ -80,7 +80,7 @@ fit d at done e =
 
 module _ (last : Kind) (d : List ℕ) where
   -- a block that is taken stands in the deck
-  pub stands : (at : ℕ) (done : List BlockAt) → recordReply (kindsAfter done last) d at ≡ read tt → kindAt d at ≡ blockKind .number → Fit d at done → Standing d (blockAt d at)
+  pub stands : (at : ℕ) (done : List BlockAt) → recordReply (kindsAfter done last) d at ≡ read tt → kindAt d at ≡ blockKind .number → BlockFits d at done → Standing d (blockAt d at)
   stands at done e k f =
       let w = taken d at (kindsAfter done last) e .whole in
       let n : lengthAt d at ≡ wanted blockKind d at = long done e in
@@ -95,7 +95,7 @@ module _ (last : Kind) (d : List ℕ) where
   after-blocks at [] e n = absurd (n (of-one d at blockKind e))
   after-blocks at (b ∷ bs) e n = of-other d at blockKind (last ∷ []) e n
 
-  keeps : (fuel at : ℕ) (done : List BlockAt) {k : Deck} → Each (Standing d) done → length done ≤ mostBlocks → blocksFrom fuel last d at done ≡ read k → Kept last d k
+  keeps : (fuel at : ℕ) (done : List BlockAt) {k : Deck} → Each (Standing d) done → length done ≤ mostBlocks → blocksFrom fuel last d at done ≡ read k → KeptDeck last d k
   unfolding blocksFrom
   keeps zero at done s l e = absurd (not-read e)
   keeps (suc fuel) at done {k} s l e =
@@ -110,7 +110,7 @@ module _ (last : Kind) (d : List ℕ) where
       rw (← same) (record { places = refl; blocks = s; few = l; after = after-blocks at done p (eqb-false (kindAt d at) (blockKind .number) (t .0)) }))
       (chosen (eqb (kindAt d at) (blockKind .number)) _ _ f)
 
-  pub kept : {k : Deck} → blocksReply last d ≡ read k → Kept last d k
+  pub kept : {k : Deck} → blocksReply last d ≡ read k → KeptDeck last d k
   unfolding blocksReply Each
   kept e = keeps (suc mostBlocks) 0 [] tt (omega arith) e
 

@@ -23,33 +23,33 @@ use Rattle.deck.specs.declared.Form.{Form}
 use Rattle.deck.specs.declared.Form.the-variants.{Composed, Judged}
 
 -- a block of the list has the number
-pub record Listed (bs : List BlockAt) (x : ℕ) : Type 0 where
+pub record BlockListed (bs : List BlockAt) (x : ℕ) : Type 0 where
   pub index : ℕ
   pub within : index < length bs
   pub number : getD bs index noBlock .number ≡ x
 
-listed : (bs : List BlockAt) (x : ℕ) → used bs x ≡ true → Listed bs x
+listed : (bs : List BlockAt) (x : ℕ) → used bs x ≡ true → BlockListed bs x
 unfolding find
 listed [] x u =
     let (p, q) = both (not (eqb x 0)) (eqb 0 x) u in
     absurd (eqb-false x 0 (not-true (eqb x 0) p) (sym (eqb-true 0 x q)))
 listed (b ∷ bs) x u = go (eqb (b .number) x) refl u (listed bs x)
   where
-    go : (t : Bool) → eqb (b .number) x ≡ t → isNumbered (cond t b (find bs x)) x ≡ true → (used bs x ≡ true → Listed bs x) → Listed (b ∷ bs) x
+    go : (t : Bool) → eqb (b .number) x ≡ t → isNumbered (cond t b (find bs x)) x ≡ true → (used bs x ≡ true → BlockListed bs x) → BlockListed (b ∷ bs) x
     go true e v more = record { index = 0; within = omega arith; number = eqb-true (b .number) x e }
     go false e v more = let r = more v in record { index = suc (r .index); within = omega (arith, r .within); number = r .number }
 
 -- where each block has a number that is not 0, its number is found
-listed-used : (d : List ℕ) (bs : List BlockAt) (x : ℕ) → Each (Standing d) bs → Listed bs x → used bs x ≡ true
+listed-used : (d : List ℕ) (bs : List BlockAt) (x : ℕ) → Each (Standing d) bs → BlockListed bs x → used bs x ≡ true
 unfolding Each find
 listed-used d [] x s l = absurd (omega (arith, l .within))
 listed-used d (b ∷ bs) x s l = go (eqb (b .number) x) refl (listed-used d bs x (s .1))
   where
-    at : (i : ℕ) → i < length (b ∷ bs) → getD (b ∷ bs) i noBlock .number ≡ x → eqb (b .number) x ≡ false → Listed bs x
+    at : (i : ℕ) → i < length (b ∷ bs) → getD (b ∷ bs) i noBlock .number ≡ x → eqb (b .number) x ≡ false → BlockListed bs x
     at zero h n e = absurd (eqb-false (b .number) x e n)
     at (suc i) h n e = record { index = i; within = omega arith; number = n }
 
-    go : (t : Bool) → eqb (b .number) x ≡ t → (Listed bs x → used bs x ≡ true) → isNumbered (cond t b (find bs x)) x ≡ true
+    go : (t : Bool) → eqb (b .number) x ≡ t → (BlockListed bs x → used bs x ≡ true) → isNumbered (cond t b (find bs x)) x ≡ true
     go true e more =
         let q = eqb-true (b .number) x e in
         both-true (not (eqb x 0)) (eqb (b .number) x) (ap not (ne-eqb x 0 (λ z. s .0 .numbered (q ∙ z)))) e
@@ -71,7 +71,7 @@ payload-none d bs x u = rw u
 module _ (d : List ℕ) (x : ℕ) where
   -- no form in which the deck is read has a block of this number
   abbrev pub Absent : Type 0
-  Absent = (form : Form) (k : Deck) → deckReply form d ≡ read k → Listed (k .blocks) x → ⊥
+  Absent = (form : Form) (k : Deck) → deckReply form d ≡ read k → BlockListed (k .blocks) x → ⊥
 
   unused : Absent → (form : Form) (k : Deck) → deckReply form d ≡ read k → used (k .blocks) x ≡ false
   unused h form k e = distance.not-true (used (k .blocks) x) (λ u. h form k e (listed (k .blocks) x u))
@@ -92,10 +92,10 @@ module _ (d : List ℕ) (x : ℕ) where
       let b = parts g d l q .blocks in
       cc
 
-  some : (form : Form) (k : Deck) → deckReply form d ≡ read k → Listed (k .blocks) x → (other : Form) (l : Deck) → deckReply other d ≡ read l → part d (payload (l .blocks) x .from) (payload (l .blocks) x .len) ≡ [] → ⊥
+  some : (form : Form) (k : Deck) → deckReply form d ≡ read k → BlockListed (k .blocks) x → (other : Form) (l : Deck) → deckReply other d ≡ read l → part d (payload (l .blocks) x .from) (payload (l .blocks) x .len) ≡ [] → ⊥
   some form k e m other l f p =
       let b = whole other d l f .blocks in
-      payload-some d (l .blocks) x b (listed-used d (l .blocks) x b (subst (λ (z : Deck). Listed (z .blocks) x) (same form other k l e f) m)) p
+      payload-some d (l .blocks) x b (listed-used d (l .blocks) x b (subst (λ (z : Deck). BlockListed (z .blocks) x) (same form other k l e f) m)) p
 
   empty-only : blockPart d x ≡ [] → Absent
   unfolding blockSpan

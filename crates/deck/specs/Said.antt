@@ -15,11 +15,11 @@ use Rattle.deck.specs.declared.Layout.{Layout}
 use Rattle.deck.specs.declared.DeckRead.{DeckRead}
 
 -- a table of blocks: as many as there are, then empty places
-abbrev pub tableOf : List BlockAt → List BlockAt
-tableOf bs = bs ++ drop (length bs) (replicate mostBlocks noBlock)
+abbrev pub blockTable : List BlockAt → List BlockAt
+blockTable bs = bs ++ drop (length bs) (replicate mostBlocks noBlock)
 
 abbrev pub layoutOf : Deck → Layout
-layoutOf k = record { count = length (k .blocks); blocks = tableOf (k .blocks); assembly = k .assembly; placements = k .placements; sheet = k .sheet }
+layoutOf k = record { count = length (k .blocks); blocks = blockTable (k .blocks); assembly = k .assembly; placements = k .placements; sheet = k .sheet }
 
 abbrev nothing : Deck
 nothing = record { blocks = []; assembly = 0; placements = 0; sheet = 0 }

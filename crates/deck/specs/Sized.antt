@@ -27,7 +27,7 @@ use Rattle.assembly.specs.Book.{bondBytes, mostBlocks}
 use Rattle.assembly.specs.Placements.{mostPlacements, placementCount}
 use Rattle.assembly.specs.declared.BlockAt.{BlockAt}
 use Rattle.deck.specs.Deck.{kindsAfter, Deck, blockAt, blockReplyAt, deckAt, blocksFrom, blocksReply, sheetReply, endReply, deckReply}
-use Rattle.deck.specs.Kept.{Standing, Fit, fit, stands, kept, chosen}
+use Rattle.deck.specs.Kept.{Standing, BlockFits, fit, stands, kept, chosen}
 use Rattle.deck.specs.Sound.{parts, whole}
 use Rattle.deck.specs.Molecule.{graphAt, joinAt, moleculeOf}
 use Rattle.deck.specs.declared.Form.{Form}
@@ -52,7 +52,7 @@ module _ (last : Kind) (d : List ℕ) where
       let t = neither (not (eqb (length bytes % 2) 0)) (ltb mostBytes (length bytes)) (told.passed (b .atoms) bytes (s .fine) .bytes) in
       omega (arith, s .within, ltb-false mostBytes (length bytes) (t .1), length-take-le (blockKind .item * b .bonds) (drop (b .start + blockKind .fixed) d) (omega (arith, s .within, length-drop (b .start + blockKind .fixed) d)))
 
-  short : (at : ℕ) (done : List BlockAt) → recordReply (kindsAfter done last) d at ≡ read tt → kindAt d at ≡ blockKind .number → Fit d at done → endAt d at ≤ at + longestBlock
+  short : (at : ℕ) (done : List BlockAt) → recordReply (kindsAfter done last) d at ≡ read tt → kindAt d at ≡ blockKind .number → BlockFits d at done → endAt d at ≤ at + longestBlock
   short at done e k f = omega (arith, record-long at done e k, few-bytes (blockAt d at) (stands last d at done e k f))
 
   reach : (fuel at : ℕ) (done : List BlockAt) {k : Deck} → at ≤ length done * longestBlock → length done ≤ mostBlocks → blocksFrom fuel last d at done ≡ read k → k .assembly ≤ mostBlocks * longestBlock

@@ -26,13 +26,13 @@ use Rattle.deck.specs.Molecule.{placedIn, graphAt, joinAt, moleculeOf}
 use Rattle.deck.specs.declared.Form.{Form}
 
 -- its parts
-pub record Parts (form : Form) (d : List ℕ) (k : Deck) : Type 0 where
+pub record DeckParts (form : Form) (d : List ℕ) (k : Deck) : Type 0 where
   pub short : length d ≤ longestDeck
   pub blocks : blocksReply assemblyKind d ≡ read k
   pub assembly : assemblyReply (bookOf d (k .blocks)) (payloadAt d (k .assembly)) ≡ read tt
   pub sheet : sheetReply form d (k .sheet) ≡ read tt
 
-pub parts : (form : Form) (d : List ℕ) (k : Deck) → deckReply form d ≡ read k → Parts form d k
+pub parts : (form : Form) (d : List ℕ) (k : Deck) → deckReply form d ≡ read k → DeckParts form d k
 unfolding deckReply assemblyReplyAt
 parts form d k e =
     let (u, a, f) = then-read (refuseIf (ltb longestDeck (length d)) 20 0) _ e in
@@ -60,7 +60,7 @@ found d (b ∷ bs) x s u = go (eqb (b .number) x) u (found d bs x (s .1))
     go false v more = more v
 
 -- What holds of a deck that is read.
-pub record Whole (d : List ℕ) (k : Deck) : Type 0 where
+pub record WholeDeck (d : List ℕ) (k : Deck) : Type 0 where
   pub short : length d ≤ longestDeck
   pub blocks : Each (Standing d) (k .blocks)
   pub few : length (k .blocks) ≤ mostBlocks
@@ -80,7 +80,7 @@ module _ (form : Form) (d : List ℕ) (k : Deck) (e : deckReply form d ≡ read 
   unfolding bookOf
   book-has x u = found d (k .blocks) x (kept assemblyKind d (parts form d k e .blocks) .blocks) u
 
-  pub whole : Whole d k
+  pub whole : WholeDeck d k
   unfolding bookOf placedIn graphAt joinAt moleculeOf
   whole =
       let p = parts form d k e in

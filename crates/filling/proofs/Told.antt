@@ -17,12 +17,12 @@ use Rattle.reply.specs.Read.{Read, refused, read, _then_, refuseIf, refusal, sa
 use Rattle.reply.specs.Chain.{fine-read, refused-read}
 use Rattle.reply.specs.declared.Refusal.{Refusal}
 use Rattle.reply.specs.declared.Reply.the-variants.{Fine, Refused}
-use Rattle.half.specs.Half.{mostAtoms, allPairs, placeOf, halfAt, halfRow, halfOf}
+use Rattle.half.specs.Half.{mostAtoms, allPairs, abovePlace, halfAt, halfRow, halfOf}
 use Rattle.half.specs.Places.{Pair}
 use Rattle.half.specs.Reads.{half-ext, length-half, half-reads}
 use Rattle.half.specs.Tables.{getD-table}
 use Rattle.block.specs.Block.{bondsOf, graphOf, blockReply}
-use Rattle.block.specs.Rows.{rowOf, rowsOf, distanceAt, tableOf, farOf}
+use Rattle.block.specs.Rows.{rowOf, rowsOf, distanceAt, halfTable, farOf}
 use Rattle.block.specs.Index.{indicesOf, vertexOf}
 use Rattle.block.specs.Sums.{entry, indicesBy, vertexBy}
 use Rattle.block.specs.Measures.{indices-are, vertex-is, all-atoms}
@@ -34,7 +34,7 @@ use Rattle.block.specs.declared.Indices.{Indices}
 use Rattle.block.specs.declared.Vertex.{Vertex}
 use Rattle.summary.specs.Layout.{summaryBytes}
 use Rattle.summary.specs.Summary.{bytes, headOf, seatOf, seatAt, seatsFrom, pairOf, summaryOf}
-use Rattle.filling.specs.Reply.{fillReply, filled, fillBytes}
+use Rattle.filling.specs.Reply.{fillReply, filledSummary, fillBytes}
 use Rattle.filling.specs.Work.{seatBytes, seatOn, oneSeat, seatsBy, headOn, headBy, partsOn}
 use Rattle.filling.specs.Ones.{ones-are-bonds}
 use Rattle.filling.proofs.Laws.{joined, length-one}
@@ -106,8 +106,8 @@ module _ (n : ℕ) (xs : List ℕ) (fine : blockReply n xs ≡ read tt) where
       go (yes l) (no k) = beyond-row (omega (arith, p .low)) l (p .high) ∙ sym (ap (λ (t : Bool). cond t (distance g i j) 0) (lt-leb j n l))
       go (yes l) (yes k) = at-beyond n xs fine (omega (arith, p .low, p .less, p .high)) k (omega (arith, p .low, p .less, p .high)) ∙ sym (ap (λ (t : Bool). cond t (distance g i j) 0) (lt-leb j n l))
 
-  half-same : tableOf n xs ≡ halfOf (pairOf g)
-  unfolding tableOf
+  half-same : halfTable n xs ≡ halfOf (pairOf g)
+  unfolding halfTable
   half-same =
       half-ext (halfOf (distanceAt (rowsOf n xs))) (halfOf (pairOf g)) (length-half (distanceAt (rowsOf n xs))) (length-half (pairOf g))
       (λ i j p. half-reads (distanceAt (rowsOf n xs)) p ∙ pair-is i j p ∙ sym (half-reads (pairOf g) p))
@@ -125,10 +125,10 @@ module _ (n : ℕ) (xs : List ℕ) (fine : blockReply n xs ≡ read tt) where
   unfolding indicesOf
   atoms-few = omega (arith, few)
 
-  head-same : (x : ℕ) → headBy x (tableOf n xs) (farOf n xs) n ≡ headOf x (indicesOf g)
+  head-same : (x : ℕ) → headBy x (halfTable n xs) (farOf n xs) n ≡ headOf x (indicesOf g)
   unfolding headBy
   head-same x =
-      ap (headOn x) (ap (λ (m : ℕ). indicesBy m (halfAt (tableOf n xs)) (entry (farOf n xs))) (all-atoms n xs fine) ∙ indices-are n xs fine)
+      ap (headOn x) (ap (λ (m : ℕ). indicesBy m (halfAt (halfTable n xs)) (entry (farOf n xs))) (all-atoms n xs fine) ∙ indices-are n xs fine)
       ∙ head-small x (indicesOf g) atoms-few largest-few
 
   -- the seats
@@ -153,43 +153,43 @@ module _ (n : ℕ) (xs : List ℕ) (fine : blockReply n xs ≡ read tt) where
       let (p, q, r, s) = counts-low a in
       seat-small (vertexOf g a) (degree (bondsOf xs) a) p q r s (omega (arith, farthest-below mole w, few)) (ones-are-bonds n xs fine a w)
 
-  vertex-here : (i : ℕ) → i < n → vertexBy (min n mostAtoms) (entry (halfRow (tableOf n xs) (i + 1))) (getD (farOf n xs) i 0) ≡ vertexOf g (suc i)
+  vertex-here : (i : ℕ) → i < n → vertexBy (min n mostAtoms) (entry (halfRow (halfTable n xs) (i + 1))) (getD (farOf n xs) i 0) ≡ vertexOf g (suc i)
   vertex-here i l =
       let w : Within n (suc i) = omega arith in
       let k : suc i - 1 ≡ i = omega arith in
-      ap₂ (λ (m : ℕ) (f : ℕ). vertexBy m (entry (halfRow (tableOf n xs) (i + 1))) f) (all-atoms n xs fine) (ap (λ (p : ℕ). getD (farOf n xs) p 0) (sym k) ∙ farthest-at n xs fine w)
-      ∙ ap (λ (p : ℕ). vertexBy n (entry (halfRow (tableOf n xs) p)) (farthest g (suc i))) (add-one i)
+      ap₂ (λ (m : ℕ) (f : ℕ). vertexBy m (entry (halfRow (halfTable n xs) (i + 1))) f) (all-atoms n xs fine) (ap (λ (p : ℕ). getD (farOf n xs) p 0) (sym k) ∙ farthest-at n xs fine w)
+      ∙ ap (λ (p : ℕ). vertexBy n (entry (halfRow (halfTable n xs) p)) (farthest g (suc i))) (add-one i)
       ∙ ap (λ (row : List ℕ). vertexBy n (entry row) (farthest g (suc i))) (table-row n xs fine w)
       ∙ vertex-is n xs fine (suc i)
 
-  seat-one : (i : ℕ) → oneSeat (tableOf n xs) (getD (farOf n xs) i 0) n i ≡ seatAt g (suc i)
+  seat-one : (i : ℕ) → oneSeat (halfTable n xs) (getD (farOf n xs) i 0) n i ≡ seatAt g (suc i)
   unfolding oneSeat seatAt
   seat-one i = go (ltb i n) refl ∙ ap (λ (t : Bool). cond t (seatOf (vertexOf g (suc i)) (degree (bondsOf xs) (suc i))) (replicate 10 0)) (next-test i n)
     where
       go : (t : Bool) → ltb i n ≡ t
-          → cond t (seatOn (vertexBy (min n mostAtoms) (entry (halfRow (tableOf n xs) (i + 1))) (getD (farOf n xs) i 0))) (replicate 10 0) ≡ cond t (seatOf (vertexOf g (suc i)) (degree (bondsOf xs) (suc i))) (replicate 10 0)
+          → cond t (seatOn (vertexBy (min n mostAtoms) (entry (halfRow (halfTable n xs) (i + 1))) (getD (farOf n xs) i 0))) (replicate 10 0) ≡ cond t (seatOf (vertexOf g (suc i)) (degree (bondsOf xs) (suc i))) (replicate 10 0)
       go true e = let l = ltb-true i n e in ap seatOn (vertex-here i l) ∙ seat-same (suc i) (omega arith)
       go false e = refl
 
-  seats-from : (left i : ℕ) → seatsBy (tableOf n xs) (farOf n xs) n i left ≡ seatsFrom g (suc i) left
+  seats-from : (left i : ℕ) → seatsBy (halfTable n xs) (farOf n xs) n i left ≡ seatsFrom g (suc i) left
   unfolding seatsBy seatsFrom
   seats-from zero i = refl
   seats-from (suc left) i = ap₂ (λ (a b : List ℕ). a ++ b) (seat-one i) (seats-from left (suc i))
 
-  pub summary-is : (x : ℕ) → headBy x (tableOf n xs) (farOf n xs) n ++ (seatsBy (tableOf n xs) (farOf n xs) n 0 mostAtoms ++ tableOf n xs) ≡ summaryOf x g
+  pub summary-is : (x : ℕ) → headBy x (halfTable n xs) (farOf n xs) n ++ (seatsBy (halfTable n xs) (farOf n xs) n 0 mostAtoms ++ halfTable n xs) ≡ summaryOf x g
   unfolding summaryOf
   summary-is x = ap₂ (λ (a b : List ℕ). a ++ b) (head-same x) (ap₂ (λ (a b : List ℕ). a ++ b) (seats-from mostAtoms 0) half-same)
 
-  long-half : length (tableOf n xs) ≡ 2016
-  unfolding tableOf
+  long-half : length (halfTable n xs) ≡ 2016
+  unfolding halfTable
   long-half = length-half (distanceAt (rowsOf n xs))
 
   -- ALL OF IT
-  pub all-put : (old : List ℕ) {s : List ℕ} (x : ℕ) (half far : List ℕ) → half ≡ tableOf n xs → far ≡ farOf n xs → s ≡ partsOn old x half far n → summaryBytes ≤ length old → s ≡ summaryOf x g ++ drop summaryBytes old
+  pub all-put : (old : List ℕ) {s : List ℕ} (x : ℕ) (half far : List ℕ) → half ≡ halfTable n xs → far ≡ farOf n xs → s ≡ partsOn old x half far n → summaryBytes ≤ length old → s ≡ summaryOf x g ++ drop summaryBytes old
   unfolding partsOn
   all-put old {s} x half far p q e l =
-      in-front old (headBy x (tableOf n xs) (farOf n xs) n) (seatsBy (tableOf n xs) (farOf n xs) n 0 mostAtoms) (tableOf n xs)
-      (length-head x (tableOf n xs) (farOf n xs) n) (length-seats (tableOf n xs) (farOf n xs) n mostAtoms 0) long-half refl refl (e ∙ rw (p, q)) l
+      in-front old (headBy x (halfTable n xs) (farOf n xs) n) (seatsBy (halfTable n xs) (farOf n xs) n 0 mostAtoms) (halfTable n xs)
+      (length-head x (halfTable n xs) (farOf n xs) n) (length-seats (halfTable n xs) (farOf n xs) n mostAtoms 0) long-half refl refl (e ∙ rw (p, q)) l
       ∙ ap (λ (t : List ℕ). t ++ drop summaryBytes old) (summary-is x)
 
 -- what the reply to a block says
@@ -222,9 +222,9 @@ module _ (n : ℕ) (xs : List ℕ) where
     reply-fine l = rw (fine, le-ltb room summaryBytes l)
 
   pub bytes-stay : (x : ℕ) (out : List ℕ) {r : Refusal} → fillReply n xs (length out) ≡ refused r → out ≡ fillBytes x n xs out
-  unfolding filled
+  unfolding filledSummary
   bytes-stay x out e = rw e
 
   pub bytes-put : (x : ℕ) (out : List ℕ) {new : List ℕ} → fillReply n xs (length out) ≡ read tt → new ≡ summaryOf x (graphOf n xs) ++ drop summaryBytes out → new ≡ fillBytes x n xs out
-  unfolding filled
+  unfolding filledSummary
   bytes-put x out e q = q ∙ rw e

@@ -13,9 +13,9 @@ use Rattle.summary.specs.Summary.{summaryOf}
 unfoldable pub fillReply : ℕ → List ℕ → ℕ → Read (Unit {0})
 fillReply n xs room = blockReply n xs then λ _. refuseIf (ltb room summaryBytes) 9 0
 
-unfoldable pub filled : Read (Unit {0}) → ℕ → Graph → List ℕ → List ℕ
-filled (refused r) x g out = out
-filled (read u) x g out = summaryOf x g ++ drop summaryBytes out
+unfoldable pub filledSummary : Read (Unit {0}) → ℕ → Graph → List ℕ → List ℕ
+filledSummary (refused r) x g out = out
+filledSummary (read u) x g out = summaryOf x g ++ drop summaryBytes out
 
 abbrev pub fillBytes : ℕ → ℕ → List ℕ → List ℕ → List ℕ
-fillBytes x n xs out = filled (fillReply n xs (length out)) x (graphOf n xs) out
+fillBytes x n xs out = filledSummary (fillReply n xs (length out)) x (graphOf n xs) out

@@ -12,7 +12,7 @@ use lib.ListN.{length, getD, set, replicate, length-set}
 use lib.Seq.{sets, length-sets, getD-set-same, getD-set-other, ext-getD}
 use Rattle.reply.specs.Read.{isOutside}
 use Rattle.reply.specs.Chain.{neither}
-use Rattle.half.specs.Half.{mostAtoms, allPairs, table, startOf, placeOf, noPair, halfAt, partOf, halfRow, halfWithRow}
+use Rattle.half.specs.Half.{mostAtoms, allPairs, table, rowStart, abovePlace, noPair, halfAt, partOf, halfRow, halfWithRow}
 use Rattle.half.specs.Tables.{length-table, getD-table}
 use Rattle.half.specs.Places.{Pair, start-first, start-next, place-is, place-below}
 use Rattle.half.specs.Reads.{up-reads, down-reads, none-reads, none-first, self-reads}
@@ -30,7 +30,7 @@ zeros (suc m) zero = refl
 zeros (suc m) (suc k) = zeros m k
 
 -- down a column: from the row of atom j to the next
-column-next : (i j : ℕ) → 1 ≤ j → j + 1 < i → i ≤ mostAtoms → placeOf (j + 1) i ≡ placeOf j i + (mostAtoms - 1 - j)
+column-next : (i j : ℕ) → 1 ≤ j → j + 1 < i → i ≤ mostAtoms → abovePlace (j + 1) i ≡ abovePlace j i + (mostAtoms - 1 - j)
 column-next i j l h m = rw (add-one j) (omega (arith, place-is j i, place-is (suc j) i, start-next j l (omega arith)))
 
 module _ (h : List ℕ) (i : ℕ) where
@@ -74,7 +74,7 @@ pub record Down (h : List ℕ) (i : ℕ) (line : List ℕ) (p j : ℕ) : Type 0 
   pub high : j ≤ i
   pub most : i ≤ mostAtoms
   pub sofar : Upto h i (j - 1) line
-  pub here : j < i → p ≡ placeOf j i + 2
+  pub here : j < i → p ≡ abovePlace j i + 2
   pub near : p ≤ allPairs + 2 + 64 * j
 
 pub down-first : (h : List ℕ) (i : ℕ) → 1 ≤ i → i ≤ mostAtoms → Down h i (replicate mostAtoms 0) i 1
@@ -96,7 +96,7 @@ module _ {h : List ℕ} {i : ℕ} {line : List ℕ} {p j : ℕ} (D : Down h i li
 
   pub down-next : Down h i (set line (j - 1) (getD h (p - 2) 0)) (p + (63 - j)) (j + 1)
   down-next =
-      let e : p - 2 ≡ placeOf j i = omega (arith, D .here l) in
+      let e : p - 2 ≡ abovePlace j i = omega (arith, D .here l) in
       let k : 1 + (j - 1) ≡ j = omega (arith, D .low) in
       let f : (j - 1) + 1 ≡ j + 1 - 1 = omega (arith, D .low) in
       record {
@@ -112,13 +112,13 @@ pub down-last : {h : List ℕ} {i : ℕ} {line : List ℕ} {p j : ℕ} → Down 
 down-last {h} {i} {line} {p} {j} D l = upto-own h i (j - 1) line (D .sofar) (omega (arith, D .low, D .high))
 
 -- along a row: the byte of the atom behind place j
-pub along-next : (h : List ℕ) (i j from : ℕ) (line : List ℕ) → 1 ≤ i → i ≤ j → j < mostAtoms → from ≡ startOf i → Upto h i j line → Upto h i (j + 1) (set line j (getD h (from + (j - i)) 0))
+pub along-next : (h : List ℕ) (i j from : ℕ) (line : List ℕ) → 1 ≤ i → i ≤ j → j < mostAtoms → from ≡ rowStart i → Upto h i j line → Upto h i (j + 1) (set line j (getD h (from + (j - i)) 0))
 along-next h i j from line l m n e U =
     let P : Pair i (1 + j) = record { low = l; less = omega arith; high = omega arith } in
-    let q : from + (j - i) ≡ placeOf i (1 + j) = omega (arith, place-is i (1 + j)) in
+    let q : from + (j - i) ≡ abovePlace i (1 + j) = omega (arith, place-is i (1 + j)) in
     upto-next h i j line (getD h (from + (j - i)) 0) U n (rw q (sym (up-reads h P)))
 
-pub along-place : (i j from : ℕ) → 1 ≤ i → i ≤ j → j < mostAtoms → from ≡ startOf i → from + (j - i) < allPairs
+pub along-place : (i j from : ℕ) → 1 ≤ i → i ≤ j → j < mostAtoms → from ≡ rowStart i → from + (j - i) < allPairs
 along-place i j from l m n e =
     let P : Pair i (1 + j) = record { low = l; less = omega arith; high = omega arith } in
     omega (arith, place-is i (1 + j), place-below P)
@@ -132,24 +132,24 @@ row-none h i o = upto-end h i (replicate mostAtoms 0) (record { size = refl; tol
 
 -- a row is stored byte by byte: what is left to store gives the answer
 pub record Storing (old line : List ℕ) (i m : ℕ) (new : List ℕ) (p j : ℕ) : Type 0 where
-  pub left : sets new p (partOf line j (m - j)) ≡ sets old (startOf i) (partOf line i (m - i))
+  pub left : sets new p (partOf line j (m - j)) ≡ sets old (rowStart i) (partOf line i (m - i))
   pub few : m ≤ mostAtoms
   pub size : length new ≡ length old
   pub first : 1 ≤ i
   pub low : i ≤ j
   pub high : j ≤ mostAtoms
-  pub here : p ≡ startOf i + (j - i)
+  pub here : p ≡ rowStart i + (j - i)
 
 part-step : (line l : List ℕ) (p j m a b c : ℕ) → a ≡ suc p → b ≡ suc j → c ≡ suc m → sets (set l p (getD line j 0)) a (partOf line b m) ≡ sets l p (partOf line j c)
 unfolding partOf
 part-step line l p j m a b c ea eb ec = rw (ea, eb, ec)
 
-pub store-first : (old line : List ℕ) (i m p : ℕ) → m ≤ mostAtoms → 1 ≤ i → i ≤ mostAtoms → p ≡ startOf i → Storing old line i m old p i
+pub store-first : (old line : List ℕ) (i m p : ℕ) → m ≤ mostAtoms → 1 ≤ i → i ≤ mostAtoms → p ≡ rowStart i → Storing old line i m old p i
 store-first old line i m p f l h e = record { left = rw e; few = f; size = refl; first = l; low = omega arith; high = h; here = omega arith }
 
 module _ {old line : List ℕ} {i m : ℕ} {new : List ℕ} {p j : ℕ} (S : Storing old line i m new p j) where
   pub store-place : j < m → allPairs ≤ length old → p < length new
-  store-place l n = omega (arith, along-place i j (startOf i) (S .first) (S .low) (omega (arith, S .few)) refl, S .here, S .size)
+  store-place l n = omega (arith, along-place i j (rowStart i) (S .first) (S .low) (omega (arith, S .few)) refl, S .here, S .size)
 
   pub store-next : j < m → Storing old line i m (set new p (getD line j 0)) (p + 1) (j + 1)
   store-next l = record {

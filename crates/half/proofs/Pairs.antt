@@ -7,14 +7,14 @@ use native.Mathlib.Nat.{mul-le-mul}
 use native.Mathlib.Omega.{arith}
 use lib.ListN.{length, getD, set}
 use lib.Seq.{set-out}
-use Rattle.half.specs.Half.{mostAtoms, allPairs, startOf, placeOf, noPair, pairPlace, halfAt, halfWith}
+use Rattle.half.specs.Half.{mostAtoms, allPairs, rowStart, abovePlace, noPair, pairPlace, halfAt, halfWith}
 use Rattle.half.specs.Places.{Pair, start-last, start-most}
 use Rattle.half.specs.Reads.{Sides, up, down, none, sides, up-place, down-place, none-place, pair-below, pair-reads, pair-stores, none-reads, none-stores}
 
 pub corner : (i : ℕ) → 1 ≤ i → i ≤ mostAtoms → (i - 1) * (2 * mostAtoms - i) ≤ 63 * 127
 corner i l h = mul-le-mul {n₂ = 63} {m₂ = 127} (omega arith) (omega arith)
 
-pub start-low : (i : ℕ) → 1 ≤ i → i ≤ mostAtoms → startOf i ≤ allPairs
+pub start-low : (i : ℕ) → 1 ≤ i → i ≤ mostAtoms → rowStart i ≤ allPairs
 start-low i l h = omega (arith, start-most i mostAtoms l h (omega arith), start-last)
 
 -- two atoms that are a pair, the smaller first

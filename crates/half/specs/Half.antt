@@ -20,11 +20,11 @@ table zero f = []
 table (suc n) f = f zero ∷ table n (λ k. f (suc k))
 
 -- where the row of atom i begins, and the place of the pair i < j in it
-unfoldable pub startOf : ℕ → ℕ
-startOf i = (i - 1) * (2 * mostAtoms - i) / 2
+unfoldable pub rowStart : ℕ → ℕ
+rowStart i = (i - 1) * (2 * mostAtoms - i) / 2
 
-unfoldable pub placeOf : ℕ → ℕ → ℕ
-placeOf i j = startOf i + (j - i - 1)
+unfoldable pub abovePlace : ℕ → ℕ → ℕ
+abovePlace i j = rowStart i + (j - i - 1)
 
 -- i and j are not two of the atoms
 unfoldable pub noPair : ℕ → ℕ → Bool
@@ -32,7 +32,7 @@ noPair i j = isOutside mostAtoms i || isOutside mostAtoms j || eqb i j
 
 -- the place of two atoms, either way round; for no pair the one behind the last
 unfoldable pub pairPlace : ℕ → ℕ → ℕ
-pairPlace i j = cond (noPair i j) allPairs (placeOf (min i j) (max i j))
+pairPlace i j = cond (noPair i j) allPairs (abovePlace (min i j) (max i j))
 
 -- what a half says of two atoms, either way round: 0 for no pair
 unfoldable pub halfAt : List ℕ → ℕ → ℕ → ℕ
@@ -53,7 +53,7 @@ partOf row j (suc m) = getD row j 0 ∷ partOf row (suc j) m
 
 -- with a row of n atoms stored for atom i: what it has for the atoms behind i. Bytes that are no half stay as they are
 unfoldable pub halfWithRow : List ℕ → ℕ → List ℕ → ℕ → List ℕ
-halfWithRow h i row n = cond (isOutside mostAtoms i || ltb (length h) allPairs) h (sets h (startOf i) (partOf row i (min n mostAtoms - i)))
+halfWithRow h i row n = cond (isOutside mostAtoms i || ltb (length h) allPairs) h (sets h (rowStart i) (partOf row i (min n mostAtoms - i)))
 
 -- the half of a table d: the row of atom i and those after it, `left` of them, one behind the other
 unfoldable pub halfFrom : (ℕ → ℕ → ℕ) → ℕ → ℕ → List ℕ

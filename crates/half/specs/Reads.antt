@@ -13,7 +13,7 @@ use lib.ListN.{length, getD, set, length-append, List·getD-append}
 use lib.Seq.{getD-append-add, getD-set-same, getD-set-other, ext-getD}
 use Rattle.reply.specs.Read.{isOutside}
 use Rattle.reply.specs.Chain.{neither}
-use Rattle.half.specs.Half.{mostAtoms, allPairs, table, startOf, placeOf, noPair, pairPlace, halfAt, halfWith, halfRow, halfFrom, halfOf}
+use Rattle.half.specs.Half.{mostAtoms, allPairs, table, rowStart, abovePlace, noPair, pairPlace, halfAt, halfWith, halfRow, halfFrom, halfOf}
 use Rattle.half.specs.Tables.{length-table, getD-table}
 use Rattle.half.specs.Places.{Pair, start-first, start-last, start-next, start-most, place-is, place-below, place-one, Found, place-found}
 
@@ -59,14 +59,14 @@ unfolding noPair
 down-pair {i} {j} p =
     rw (ne-eqb i 0 (omega (arith, p .less)), le-ltb mostAtoms i (p .high), ne-eqb j 0 (omega (arith, p .low)), le-ltb mostAtoms j (omega (arith, p .less, p .high)), ne-eqb i j (omega (arith, p .less)))
 
-pub up-place : {i j : ℕ} → Pair i j → pairPlace i j ≡ placeOf i j
+pub up-place : {i j : ℕ} → Pair i j → pairPlace i j ≡ abovePlace i j
 unfolding pairPlace
 up-place {i} {j} p =
     let a : min i j ≡ i = omega (arith, p .less) in
     let b : max i j ≡ j = omega (arith, p .less) in
     rw (up-pair p, a, b)
 
-pub down-place : {i j : ℕ} → Pair j i → pairPlace i j ≡ placeOf j i
+pub down-place : {i j : ℕ} → Pair j i → pairPlace i j ≡ abovePlace j i
 unfolding pairPlace
 down-place {i} {j} p =
     let a : min i j ≡ j = omega (arith, p .less) in
@@ -78,11 +78,11 @@ unfolding pairPlace
 none-place i j e = rw e
 
 -- what is read
-pub up-reads : (h : List ℕ) {i j : ℕ} → Pair i j → halfAt h i j ≡ getD h (placeOf i j) 0
+pub up-reads : (h : List ℕ) {i j : ℕ} → Pair i j → halfAt h i j ≡ getD h (abovePlace i j) 0
 unfolding halfAt
 up-reads h p = rw (up-pair p, up-place p)
 
-pub down-reads : (h : List ℕ) {i j : ℕ} → Pair j i → halfAt h i j ≡ getD h (placeOf j i) 0
+pub down-reads : (h : List ℕ) {i j : ℕ} → Pair j i → halfAt h i j ≡ getD h (abovePlace j i) 0
 unfolding halfAt
 down-reads h p = rw (down-pair p, down-place p)
 
@@ -118,7 +118,7 @@ ordered i j e = go (sides i j)
     go (none f) = absurd (true≢false (sym f ∙ e))
 
 module _ (i j : ℕ) (e : noPair i j ≡ false) where
-  pair-place : pairPlace i j ≡ placeOf (min i j) (max i j)
+  pair-place : pairPlace i j ≡ abovePlace (min i j) (max i j)
   unfolding pairPlace
   pair-place = rw e
 
@@ -162,13 +162,13 @@ half-other h i j x k l ne ne′ = go (noPair i j) refl (noPair k l) refl
         ∙ sym (pair-reads k l f h)
 
 -- two halves that say the same of each pair are equal
-pub half-ext : (h k : List ℕ) → length h ≡ allPairs → length k ≡ allPairs → ((i j : ℕ) → Pair i j → getD h (placeOf i j) 0 ≡ getD k (placeOf i j) 0) → h ≡ k
+pub half-ext : (h k : List ℕ) → length h ≡ allPairs → length k ≡ allPairs → ((i j : ℕ) → Pair i j → getD h (abovePlace i j) 0 ≡ getD k (abovePlace i j) 0) → h ≡ k
 half-ext h k m n same =
     ext-getD 0 h k (omega (arith, m, n))
     (λ p l. let F = place-found p (omega (arith, m)) in subst (λ (x : ℕ). getD h x 0 ≡ getD k x 0) (F .here) (same (F .one) (F .two) (F .pair)))
 
 -- the rows of a table one behind the other
-length-from : (d : ℕ → ℕ → ℕ) (left i : ℕ) → 1 ≤ i → i + left ≡ mostAtoms → length (halfFrom d i left) + startOf i ≡ allPairs
+length-from : (d : ℕ → ℕ → ℕ) (left i : ℕ) → 1 ≤ i → i + left ≡ mostAtoms → length (halfFrom d i left) + rowStart i ≡ allPairs
 unfolding halfFrom
 length-from d zero i h e = let q : i ≡ mostAtoms = omega arith in rw q (omega (arith, start-last))
 length-from d (suc left) i h e =
@@ -182,34 +182,34 @@ module _ (d : ℕ → ℕ → ℕ) (i left : ℕ) where
   first = table (mostAtoms - i) (λ k. d i (suc (i + k)))
 
   -- in the first of the rows, and in a later one
-  read-here : (l : ℕ) → Pair i l → getD (first ++ halfFrom d (suc i) left) (placeOf i l - startOf i) 0 ≡ d i l
+  read-here : (l : ℕ) → Pair i l → getD (first ++ halfFrom d (suc i) left) (abovePlace i l - rowStart i) 0 ≡ d i l
   read-here l p =
-      let e : placeOf i l - startOf i ≡ l - i - 1 = omega (arith, place-is i l) in
+      let e : abovePlace i l - rowStart i ≡ l - i - 1 = omega (arith, place-is i l) in
       let n : l - i - 1 < mostAtoms - i = omega (arith, p .less, p .high) in
       let f : suc (i + (l - i - 1)) ≡ l = omega (arith, p .less) in
       rw e
       (List·getD-append first (halfFrom d (suc i) left) 0 (l - i - 1) (omega (arith, length-table (mostAtoms - i) (λ k. d i (suc (i + k)))))
       ∙ getD-table (mostAtoms - i) (λ k. d i (suc (i + k))) (l - i - 1) 0 n ∙ ap (d i) f)
 
-  read-there : (k l : ℕ) → 1 ≤ i → i < k → Pair k l → getD (first ++ halfFrom d (suc i) left) (placeOf k l - startOf i) 0 ≡ getD (halfFrom d (suc i) left) (placeOf k l - startOf (suc i)) 0
+  read-there : (k l : ℕ) → 1 ≤ i → i < k → Pair k l → getD (first ++ halfFrom d (suc i) left) (abovePlace k l - rowStart i) 0 ≡ getD (halfFrom d (suc i) left) (abovePlace k l - rowStart (suc i)) 0
   read-there k l h u p =
       let r = start-most (suc i) k (omega arith) (omega arith) (omega (arith, p .less, p .high)) in
-      let e : placeOf k l - startOf i ≡ length first + (placeOf k l - startOf (suc i)) =
-      split (placeOf k l) (startOf i) (startOf (suc i)) (mostAtoms - i) _ (length-table (mostAtoms - i) (λ k. d i (suc (i + k)))) (start-next i h (omega (arith, p .less, p .high))) (omega (arith, place-is k l)) in
-      rw e (getD-append-add first (halfFrom d (suc i) left) (placeOf k l - startOf (suc i)) 0)
+      let e : abovePlace k l - rowStart i ≡ length first + (abovePlace k l - rowStart (suc i)) =
+      split (abovePlace k l) (rowStart i) (rowStart (suc i)) (mostAtoms - i) _ (length-table (mostAtoms - i) (λ k. d i (suc (i + k)))) (start-next i h (omega (arith, p .less, p .high))) (omega (arith, place-is k l)) in
+      rw e (getD-append-add first (halfFrom d (suc i) left) (abovePlace k l - rowStart (suc i)) 0)
     where
       split : (h a b c n : ℕ) → n ≡ c → b ≡ a + c → b ≤ h → h - a ≡ n + (h - b)
       split h a b c n e f l = omega arith
 
-read-from : (d : ℕ → ℕ → ℕ) (left i k l : ℕ) → Pair k l → 1 ≤ i → i ≤ k → k < i + left → getD (halfFrom d i left) (placeOf k l - startOf i) 0 ≡ d k l
+read-from : (d : ℕ → ℕ → ℕ) (left i k l : ℕ) → Pair k l → 1 ≤ i → i ≤ k → k < i + left → getD (halfFrom d i left) (abovePlace k l - rowStart i) 0 ≡ d k l
 unfolding halfFrom
 read-from d zero i k l p h u v = absurd (omega arith)
 read-from d (suc left) i k l p h u v =
     ⊎-elim (λ e. rw (← e) (read-here d i left l (rw (← e) at p))) (λ e. read-there d i left k l h e p ∙ read-from d left (suc i) k l p (omega arith) (omega arith) (omega arith)) (eq-or-lt-of-le u)
 
-pub half-reads : (d : ℕ → ℕ → ℕ) {i j : ℕ} → Pair i j → getD (halfOf d) (placeOf i j) 0 ≡ d i j
+pub half-reads : (d : ℕ → ℕ → ℕ) {i j : ℕ} → Pair i j → getD (halfOf d) (abovePlace i j) 0 ≡ d i j
 half-reads d {i} {j} p =
-    let e : placeOf i j - startOf 1 ≡ placeOf i j = omega (arith, start-first) in
+    let e : abovePlace i j - rowStart 1 ≡ abovePlace i j = omega (arith, start-first) in
     rw (← e) (read-from d (mostAtoms - 1) 1 i j p (omega arith) (p .low) (omega (arith, p .less, p .high)))
 
 -- a table that a half can hold: the same either way round, and 0 for what is no pair

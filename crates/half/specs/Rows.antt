@@ -10,7 +10,7 @@ use borrow.Author.Tests.{ne-eqb, le-ltb}
 use lib.ListN.{length, getD, set, length-set}
 use lib.Seq.{sets, length-sets, getD-set-same, getD-set-other}
 use Rattle.reply.specs.Read.{isOutside}
-use Rattle.half.specs.Half.{mostAtoms, allPairs, startOf, placeOf, partOf, halfWithRow}
+use Rattle.half.specs.Half.{mostAtoms, allPairs, rowStart, abovePlace, partOf, halfWithRow}
 use Rattle.half.specs.Places.{Pair, start-last, start-next, start-most, place-is, place-high}
 
 pub length-part : (row : List ℕ) (j m : ℕ) → length (partOf row j m) ≡ m
@@ -47,30 +47,30 @@ module _ (h : List ℕ) (i : ℕ) (row : List ℕ) (n : ℕ) (low : 1 ≤ i) (hi
   abbrev few : ℕ
   few = min n mostAtoms - i
 
-  stores : halfWithRow h i row n ≡ sets h (startOf i) (partOf row i few)
+  stores : halfWithRow h i row n ≡ sets h (rowStart i) (partOf row i few)
   unfolding halfWithRow
   stores = rw (ne-eqb i 0 (omega arith), le-ltb mostAtoms i high, le-ltb (length h) allPairs (omega arith))
 
   pub row-size : length (halfWithRow h i row n) ≡ allPairs
-  row-size = rw stores (length-sets h (startOf i) (partOf row i few) ∙ size)
+  row-size = rw stores (length-sets h (rowStart i) (partOf row i few) ∙ size)
 
-  pub row-same : (l : ℕ) → Pair i l → l ≤ n → getD (halfWithRow h i row n) (placeOf i l) 0 ≡ getD row (l - 1) 0
+  pub row-same : (l : ℕ) → Pair i l → l ≤ n → getD (halfWithRow h i row n) (abovePlace i l) 0 ≡ getD row (l - 1) 0
   row-same l p q =
       let n = start-next i low (omega (arith, p .less, p .high)) in
       let m = start-most (suc i) mostAtoms (omega arith) (omega (arith, p .less, p .high)) (omega arith) in
-      let e : placeOf i l ≡ startOf i + (l - i - 1) = place-is i l in
+      let e : abovePlace i l ≡ rowStart i + (l - i - 1) = place-is i l in
       let f : i + (l - i - 1) ≡ l - 1 = omega (arith, p .less) in
       rw (stores, e)
-      (sets-in (partOf row i few) h (startOf i) (l - i - 1) (omega (arith, length-part row i few, p .less, p .high)) (omega (arith, length-part row i few, start-last))
+      (sets-in (partOf row i few) h (rowStart i) (l - i - 1) (omega (arith, length-part row i few, p .less, p .high)) (omega (arith, length-part row i few, start-last))
       ∙ getD-part row few i (l - i - 1) (omega (arith, p .less, p .high)) ∙ rw f)
 
   -- behind the n atoms nothing is stored
-  pub row-past : (l : ℕ) → Pair i l → n < l → getD (halfWithRow h i row n) (placeOf i l) 0 ≡ getD h (placeOf i l) 0
-  row-past l p q = rw stores (sets-behind (partOf row i few) h (startOf i) (placeOf i l) (omega (arith, length-part row i few, place-is i l, p .less)))
+  pub row-past : (l : ℕ) → Pair i l → n < l → getD (halfWithRow h i row n) (abovePlace i l) 0 ≡ getD h (abovePlace i l) 0
+  row-past l p q = rw stores (sets-behind (partOf row i few) h (rowStart i) (abovePlace i l) (omega (arith, length-part row i few, place-is i l, p .less)))
 
-  pub row-other : (k l : ℕ) → Pair k l → (k ≡ i → ⊥) → getD (halfWithRow h i row n) (placeOf k l) 0 ≡ getD h (placeOf k l) 0
+  pub row-other : (k l : ℕ) → Pair k l → (k ≡ i → ⊥) → getD (halfWithRow h i row n) (abovePlace k l) 0 ≡ getD h (abovePlace k l) 0
   row-other k l p ne = rw stores (elim (decLt k i) [
-    | yes u ↦ sets-before (partOf row i few) h (startOf i) (placeOf k l) (omega (arith, place-high p, start-most (suc k) i (omega arith) u high))
-    | no u ↦ sets-behind (partOf row i few) h (startOf i) (placeOf k l)
+    | yes u ↦ sets-before (partOf row i few) h (rowStart i) (abovePlace k l) (omega (arith, place-high p, start-most (suc k) i (omega arith) u high))
+    | no u ↦ sets-behind (partOf row i few) h (rowStart i) (abovePlace k l)
         (omega (arith, length-part row i few, start-next i low (omega (arith, p .less, p .high)), start-most (suc i) k (omega arith) (omega arith) (omega (arith, p .less, p .high)), place-is k l))
   ])

@@ -4,7 +4,7 @@ use mathlib.Core.List.{List}
 use mathlib.Core.Path.{_≡_}
 use lib.ListN.{length, getD, drop}
 use lib.Seq.{sets}
-use Rattle.half.specs.Half.{mostAtoms, startOf, placeOf, halfAt}
+use Rattle.half.specs.Half.{mostAtoms, rowStart, abovePlace, halfAt}
 
 -- the first k bytes of a row are atom i's, and the others are 0
 pub record Upto (h : List ℕ) (i k : ℕ) (row : List ℕ) : Type 0 where

@@ -1,7 +1,7 @@
 // Half a table of distances: a byte for each two atoms, stored once.
 ghost use mathlib.Core.Path.{_≡_};
 ghost use Prim.Native.Nat.{_≤_, min};
-ghost use Rattle.half.specs.Half.{mostAtoms, allPairs, startOf, placeOf, noPair, pairPlace, halfAt, halfWith, halfRow, halfWithRow};
+ghost use Rattle.half.specs.Half.{mostAtoms, allPairs, rowStart, abovePlace, noPair, pairPlace, halfAt, halfWith, halfRow, halfWithRow};
 ghost use Rattle.half.specs.Places.{Pair};
 ghost use Rattle.half.specs.Work.{Upto};
 use reply::is_outside;
@@ -20,7 +20,7 @@ pub type Line = [u8; ATOMS];
 // Where the row of atom i begins.
 fn start(i: usize) -> usize
     requires { ⌜ (1 ≤ i) × (i ≤ mostAtoms) ⌝ }
-    ensures { λ r. ⌜ (r ≡ startOf i) × (r ≤ allPairs) ⌝ }
+    ensures { λ r. ⌜ (r ≡ rowStart i) × (r ≤ allPairs) ⌝ }
 {
     (i - 1) * (2 * ATOMS - i) / 2
 }
@@ -28,7 +28,7 @@ fn start(i: usize) -> usize
 // The place of the pair i < j.
 fn above(i: usize, j: usize) -> usize
     requires { ⌜ Pair i j ⌝ }
-    ensures { λ r. ⌜ r ≡ placeOf i j ⌝ }
+    ensures { λ r. ⌜ r ≡ abovePlace i j ⌝ }
 {
     start(i) + (j - i - 1)
 }

@@ -11,8 +11,8 @@ mostCounted = 536870911
 abbrev pub mostField : ℕ
 mostField = 1152921504606846975
 
-unfoldable pub counted : Vertex → Vertex
-counted v = record {
+unfoldable pub cutCounts : Vertex → Vertex
+cutCounts v = record {
   sum = min (v .sum) mostCounted;
   even = min (v .even) mostCounted;
   odd = min (v .odd) mostCounted;
@@ -23,8 +23,8 @@ counted v = record {
   farthest = min (v .farthest) mostCounted;
 }
 
-unfoldable pub held : Indices → Indices
-held x = record {
+unfoldable pub cutFields : Indices → Indices
+cutFields x = record {
   atoms = min (x .atoms) mostField;
   w = min (x .w) mostField;
   even = min (x .even) mostField;
@@ -35,7 +35,7 @@ held x = record {
 
 -- what an atom counts, and the six fields, once two are joined
 unfoldable pub grownOf : Vertex → ℕ → Vertex → Vertex
-grownOf v d o = grow (counted v) (min d mostCounted) (counted o)
+grownOf v d o = grow (cutCounts v) (min d mostCounted) (cutCounts o)
 
 unfoldable pub joinedOf : Indices → Indices → Vertex → Vertex → Indices
-joinedOf x y c o = joinSix (held x) (held y) (counted c) (counted o)
+joinedOf x y c o = joinSix (cutFields x) (cutFields y) (cutCounts c) (cutCounts o)

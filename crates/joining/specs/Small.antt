@@ -5,7 +5,7 @@ use native.Mathlib.Omega.{arith}
 use Rattle.tables.specs.Parts.{grow, joinSix}
 use Rattle.block.specs.declared.Indices.{Indices}
 use Rattle.block.specs.declared.Vertex.{Vertex}
-use Rattle.joining.specs.Joining.{mostCounted, mostField, counted, held, grownOf, joinedOf}
+use Rattle.joining.specs.Joining.{mostCounted, mostField, cutCounts, cutFields, grownOf, joinedOf}
 
 -- each number that is counted is no more than n
 pub record AtMost (n : ℕ) (v : Vertex) : Type 0 where
@@ -18,14 +18,14 @@ pub record AtMost (n : ℕ) (v : Vertex) : Type 0 where
   pub twos : v .twos ≤ n
   pub farthest : v .farthest ≤ n
 
-abbrev pub Small : Vertex → Type 0
-Small v = AtMost mostCounted v
+abbrev pub SmallCounts : Vertex → Type 0
+SmallCounts v = AtMost mostCounted v
 
 -- with room for a sum
 abbrev pub Low : Vertex → Type 0
 Low v = AtMost (2 ^ 60) v
 
-pub record Room (x : Indices) : Type 0 where
+pub record SmallFields (x : Indices) : Type 0 where
   pub atoms : x .atoms ≤ mostField
   pub w : x .w ≤ mostField
   pub even : x .even ≤ mostField
@@ -34,29 +34,29 @@ pub record Room (x : Indices) : Type 0 where
   pub largest : x .largest ≤ mostField
 
 -- what is cut down is small, and what is small stays as it is
-pub counted-small : (v : Vertex) → Small (counted v)
-unfolding counted
+pub counted-small : (v : Vertex) → SmallCounts (cutCounts v)
+unfolding cutCounts
 counted-small v = record { sum = omega arith; even = omega arith; odd = omega arith; evens = omega arith; odds = omega arith; ones = omega arith; twos = omega arith; farthest = omega arith }
 
-pub held-room : (x : Indices) → Room (held x)
-unfolding held
+pub held-room : (x : Indices) → SmallFields (cutFields x)
+unfolding cutFields
 held-room x = record { atoms = omega arith; w = omega arith; even = omega arith; odd = omega arith; polarity = omega arith; largest = omega arith }
 
 whole : {a n : ℕ} → a ≤ n → min a n ≡ a
 whole h = omega arith
 
-small-counted : {v : Vertex} → Small v → counted v ≡ v
-unfolding counted
+small-counted : {v : Vertex} → SmallCounts v → cutCounts v ≡ v
+unfolding cutCounts
 small-counted s = rw (whole (s .sum), whole (s .even), whole (s .odd), whole (s .evens), whole (s .odds), whole (s .ones), whole (s .twos), whole (s .farthest))
 
-room-held : {x : Indices} → Room x → held x ≡ x
-unfolding held
+room-held : {x : Indices} → SmallFields x → cutFields x ≡ x
+unfolding cutFields
 room-held r = rw (whole (r .atoms), whole (r .w), whole (r .even), whole (r .odd), whole (r .polarity), whole (r .largest))
 
-pub grown-small : {v o : Vertex} {d : ℕ} → Small v → d ≤ mostCounted → Small o → grownOf v d o ≡ grow v d o
+pub grown-small : {v o : Vertex} {d : ℕ} → SmallCounts v → d ≤ mostCounted → SmallCounts o → grownOf v d o ≡ grow v d o
 unfolding grownOf
 grown-small s h t = rw (small-counted s, whole h, small-counted t)
 
-pub joined-small : {x y : Indices} {c o : Vertex} → Room x → Room y → Small c → Small o → joinedOf x y c o ≡ joinSix x y c o
+pub joined-small : {x y : Indices} {c o : Vertex} → SmallFields x → SmallFields y → SmallCounts c → SmallCounts o → joinedOf x y c o ≡ joinSix x y c o
 unfolding joinedOf
 joined-small p q s t = rw (room-held p, room-held q, small-counted s, small-counted t)

@@ -5,8 +5,8 @@ ghost use mathlib.Core.Path.{_≡_};
 ghost use Prim.Native.Nat.{_+_, _*_, _^_, _<_, _≤_, max, min};
 ghost use Rattle.graph.specs.Graph.{isAt};
 ghost use Rattle.tables.specs.Parts.{beyond, both, evenAcross, oddAcross, joinSix};
-ghost use Rattle.joining.specs.Joining.{mostCounted, mostField, counted, held, grownOf, joinedOf};
-ghost use Rattle.joining.specs.Small.{Small, Low, Room};
+ghost use Rattle.joining.specs.Joining.{mostCounted, mostField, cutCounts, cutFields, grownOf, joinedOf};
+ghost use Rattle.joining.specs.Small.{SmallCounts, Low, SmallFields};
 
 // The largest number that is counted from an atom, and the largest field: 2^29 - 1 and 2^60 - 1.
 const MOST_COUNTED: u64 = 536870911;
@@ -40,7 +40,7 @@ fn is_at(k: u64, d: u64) -> u64
 }
 
 fn cut(v: Vertex) -> Vertex
-    ensures { λ r. ⌜ (r ≡ counted v) × Small r ⌝ }
+    ensures { λ r. ⌜ (r ≡ cutCounts v) × SmallCounts r ⌝ }
 {
     Vertex {
         sum: smaller(v.sum, MOST_COUNTED),
@@ -55,7 +55,7 @@ fn cut(v: Vertex) -> Vertex
 }
 
 fn cut_fields(x: Indices) -> Indices
-    ensures { λ r. ⌜ (r ≡ held x) × Room r ⌝ }
+    ensures { λ r. ⌜ (r ≡ cutFields x) × SmallFields r ⌝ }
 {
     Indices {
         atoms: smaller(x.atoms, MOST_FIELD),
@@ -70,7 +70,7 @@ fn cut_fields(x: Indices) -> Indices
 // What is counted of o, from an atom d bonds before the joining bond at whose other end o is counted: all is d + 1 farther.
 fn farther(d: u64, o: Vertex) -> Vertex
     requires { ⌜ d ≤ mostCounted ⌝ }
-    requires { ⌜ Small o ⌝ }
+    requires { ⌜ SmallCounts o ⌝ }
     ensures { λ r. ⌜ (r ≡ beyond d o) × Low r ⌝ }
 {
     let by = d + 1;
@@ -106,7 +106,7 @@ fn farther(d: u64, o: Vertex) -> Vertex
 
 // What is counted of both.
 fn with(v: Vertex, w: Vertex) -> Vertex
-    requires { ⌜ Small v ⌝ }
+    requires { ⌜ SmallCounts v ⌝ }
     requires { ⌜ Low w ⌝ }
     ensures { λ r. ⌜ r ≡ both v w ⌝ }
 {
@@ -131,8 +131,8 @@ pub fn grown(v: Vertex, d: u64, o: Vertex) -> Vertex
 
 // The even distances across the joining bond: c is counted from one end, o from the other.
 fn even_across(c: Vertex, o: Vertex) -> u64
-    requires { ⌜ Small c ⌝ }
-    requires { ⌜ Small o ⌝ }
+    requires { ⌜ SmallCounts c ⌝ }
+    requires { ⌜ SmallCounts o ⌝ }
     ensures { λ r. ⌜ (r ≡ evenAcross c o) × (r ≤ 6 * 2 ^ 58) ⌝ }
 {
     times(c.even, o.odds)
@@ -145,8 +145,8 @@ fn even_across(c: Vertex, o: Vertex) -> u64
 
 // The odd ones.
 fn odd_across(c: Vertex, o: Vertex) -> u64
-    requires { ⌜ Small c ⌝ }
-    requires { ⌜ Small o ⌝ }
+    requires { ⌜ SmallCounts c ⌝ }
+    requires { ⌜ SmallCounts o ⌝ }
     ensures { λ r. ⌜ (r ≡ oddAcross c o) × (r ≤ 6 * 2 ^ 58) ⌝ }
 {
     times(c.even, o.evens)
@@ -159,8 +159,8 @@ fn odd_across(c: Vertex, o: Vertex) -> u64
 
 // How many are 3.
 fn threes_across(c: Vertex, o: Vertex) -> u64
-    requires { ⌜ Small c ⌝ }
-    requires { ⌜ Small o ⌝ }
+    requires { ⌜ SmallCounts c ⌝ }
+    requires { ⌜ SmallCounts o ⌝ }
     ensures { λ r. ⌜ (r ≡ o .twos + c .ones * o .ones + c .twos) × (r ≤ 2 ^ 59) ⌝ }
 {
     o.twos + times(c.ones, o.ones) + c.twos
@@ -168,10 +168,10 @@ fn threes_across(c: Vertex, o: Vertex) -> u64
 
 // The fields of both, c and o small.
 fn added(x: Indices, y: Indices, c: Vertex, o: Vertex) -> Indices
-    requires { ⌜ Room x ⌝ }
-    requires { ⌜ Room y ⌝ }
-    requires { ⌜ Small c ⌝ }
-    requires { ⌜ Small o ⌝ }
+    requires { ⌜ SmallFields x ⌝ }
+    requires { ⌜ SmallFields y ⌝ }
+    requires { ⌜ SmallCounts c ⌝ }
+    requires { ⌜ SmallCounts o ⌝ }
     ensures { λ r. ⌜ r ≡ joinSix x y c o ⌝ }
 {
     let even = x.even + y.even + even_across(c, o);

@@ -1,4 +1,4 @@
 // Judges the sheet of a deck.
 fn main() {
-    desk::serve(deck::Form::Judged);
+    console::serve(deck::Form::Judged);
 }

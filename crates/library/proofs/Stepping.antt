@@ -6,16 +6,15 @@ use mathlib.Core.Path.{_≡_, refl, ap}
 use native.Mathlib.Omega.{arith}
 use borrow.Author.Tests.{ltb-true}
 use lib.Dec.{ltb}
-use Rattle.reply.specs.Read.{Read, refused, read}
+use Rattle.reply.specs.Read.{Read, refused, read, ifElse}
 use Rattle.reply.specs.Chain.{then-read}
 use Rattle.reply.specs.declared.Refusal.{Refusal}
 use Rattle.block.specs.declared.Indices.{Indices}
-use Rattle.deck.specs.Deck.{ifElse}
 use Rattle.products.specs.Library.{Library, libraryReply}
 use Rattle.products.specs.Products.{products, productAt, Product, done, made, productReply}
 use Rattle.products.specs.Fine.{few-products}
 use Rattle.library.specs.Said.{saidProduct}
-use Rattle.library.specs.declared.Made.the-variants as product
+use Rattle.library.specs.declared.ProductReply.the-variants as product
 
 -- a product that is said
 pub said-refused : (y : Read Product) (q : Refusal) → saidProduct y ≡ product.Refused q → y ≡ refused q

@@ -12,9 +12,9 @@ use Rattle.reply.specs.declared.Refusal.{Refusal}
 use Rattle.block.specs.Block.{mostAtoms}
 use Rattle.block.specs.Index.{indicesReply, saidIndices, vertexReply, saidVertex}
 use Rattle.block.specs.declared.Indices.{Indices}
-use Rattle.block.specs.declared.Measured.the-variants as measured
+use Rattle.block.specs.declared.IndicesReply.the-variants as measured
 use Rattle.block.specs.declared.Vertex.{Vertex}
-use Rattle.block.specs.declared.Around.the-variants as around
+use Rattle.block.specs.declared.VertexReply.the-variants as around
 use Rattle.assembly.specs.Book.{find, bondBytes}
 use Rattle.assembly.specs.declared.BlockAt.{BlockAt}
 use Rattle.joining.specs.Joining.{joinedOf}

@@ -19,7 +19,7 @@ use Rattle.block.specs.declared.Vertex.{Vertex}
 use Rattle.tables.specs.Parts.{grow, joinSix}
 use Rattle.tables.specs.Written.{six-molecules, first-molecules}
 use Rattle.joining.specs.Joining.{mostCounted, grownOf, joinedOf}
-use Rattle.joining.specs.Small.{Small, Room, grown-small, joined-small}
+use Rattle.joining.specs.Small.{SmallCounts, SmallFields, grown-small, joined-small}
 use Rattle.products.specs.Library.{mostSites}
 use Rattle.library.specs.Kept.{noVertex, noLine, noArm, armOf, growAll, stemOf}
 use Rattle.library.specs.declared.kept.Arm.{Arm}
@@ -29,7 +29,7 @@ use Rattle.library.specs.declared.kept.Core.{Core}
 abbrev pub mostJoined : ℕ
 mostJoined = 320
 
-pub small : {g : Graph} {a : ℕ} → Molecule g → g .atoms ≤ mostJoined → Within (g .atoms) a → Small (vertexOf g a)
+pub small : {g : Graph} {a : ℕ} → Molecule g → g .atoms ≤ mostJoined → Within (g .atoms) a → SmallCounts (vertexOf g a)
 unfolding vertexOf
 small {g} m few w =
     let n = mul-le-mul few few in
@@ -44,7 +44,7 @@ small {g} m few w =
       farthest = omega (arith, few, farthest-below m w);
     }
 
-pub room : {g : Graph} → Molecule g → g .atoms ≤ mostJoined → 1 ≤ g .atoms → Room (indicesOf g)
+pub room : {g : Graph} → Molecule g → g .atoms ≤ mostJoined → 1 ≤ g .atoms → SmallFields (indicesOf g)
 unfolding indicesOf
 room {g} m few one =
     let n = mul-le-mul few (mul-le-mul few few) in
@@ -70,17 +70,17 @@ pub record Growing (product : ℕ → Graph) (core : Graph) (block : ℕ → Gra
   pub grows : (k : ℕ) → k < n → product (suc k) ≡ joined (product k) (block k) (site k) (own k)
 
 -- the core's atoms stay where they are
-pub record Grown (g core : Graph) (k : ℕ) : Type 0 where
+pub record CoreStays (g core : Graph) (k : ℕ) : Type 0 where
   pub molecule : Molecule g
   pub atoms : g .atoms ≤ mostAtoms * suc k
   pub wide : core .atoms ≤ g .atoms
   pub far : (i j : ℕ) → Within (core .atoms) i → Within (core .atoms) j → distance g i j ≡ distance core i j
 
 module _ {product : ℕ → Graph} {core : Graph} {block : ℕ → Graph} {site own : ℕ → ℕ} {n : ℕ} (t : Growing product core block site own n) where
-  within : {g : Graph} {k i : ℕ} → Grown g core k → Within (core .atoms) i → Within (g .atoms) i
+  within : {g : Graph} {k i : ℕ} → CoreStays g core k → Within (core .atoms) i → Within (g .atoms) i
   within w v = omega (arith, w .wide, v .low, v .high)
 
-  pub grown : (k : ℕ) → k ≤ n → Grown (product k) core k
+  pub grown : (k : ℕ) → k ≤ n → CoreStays (product k) core k
   unfolding joined
   grown zero h = rw (t .starts) (record { molecule = t .molecule; atoms = omega (arith, t .atoms); wide = omega arith; far = λ i j v w. refl })
   grown (suc k) h =
@@ -96,7 +96,7 @@ module _ {product : ℕ → Graph} {core : Graph} {block : ℕ → Graph} {site 
       })
 
   -- what is kept of them
-  pub record Keeps (c : Core) (as' : List Arm) : Type 0 where
+  pub record KeepsArms (c : Core) (as' : List Arm) : Type 0 where
     pub six : c .six ≡ indicesOf core
     pub seen : (l : ℕ) → l < n → getD (c .seen) l noVertex ≡ vertexOf core (site l)
     pub apart : (k l : ℕ) → k < n → l < n → getD (getD (c .apart) k noLine .to) l 0 ≡ distance core (site k) (site l)
@@ -133,7 +133,7 @@ module _ {product : ℕ → Graph} {core : Graph} {block : ℕ → Graph} {site 
       ∙ sym (first-molecules (g .molecule) arm at ends from)
       ∙ ap (λ (m : Graph). vertexOf m (site l)) (sym (t .grows k h))
 
-  module _ (c : Core) (arms : List Arm) (q : Keeps c arms) where
+  module _ (c : Core) (arms : List Arm) (q : KeepsArms c arms) where
     pub stem-seen : (k : ℕ) → k ≤ n → (l : ℕ) → l < n → getD (stemOf c arms k .seen) l noVertex ≡ vertexOf (product k) (site l)
     unfolding stemOf growAll
     stem-seen zero h l i = q .seen l i ∙ ap (λ (m : Graph). vertexOf m (site l)) (sym (t .starts))

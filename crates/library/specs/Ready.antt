@@ -28,13 +28,13 @@ use Rattle.deck.specs.Sound.{found}
 use Rattle.products.specs.Library.{mostSites, libraryKind, coreNumber, candidateNumber, candidateAtom, candidateAt, Library, libraryReply}
 use Rattle.products.specs.Products.{products, choiceAt, placedBytes, productBytes, moleculeOver, productAt}
 use Rattle.products.specs.Choices.{IsChoice, is-choice}
-use Rattle.products.specs.Sound.{joins, Joins, Stands, Sites, whole}
+use Rattle.products.specs.Sound.{joins, CandidateJoins, SiteStands, SitesApart, whole}
 use Rattle.products.specs.Growth.{product-grows}
 use Rattle.products.specs.declared.Site.{Site}
 use Rattle.catalogue.specs.Said.{noSite}
 use Rattle.catalogue.specs.Table.{sitesIn, sites-length}
 use Rattle.library.specs.Kept.{noVertex, noLine, noArm, fieldsOr, countedOr, armOf, armIn, armAt, rowEntry, seenFrom, apartFrom, apartAll, coreIn, armsAt, joinedAt, choiceIn}
-use Rattle.library.specs.Grows.{Growing, Keeps, stem-six}
+use Rattle.library.specs.Grows.{Growing, KeepsArms, stem-six}
 use Rattle.library.specs.declared.kept.Line.{Line}
 
 -- what holds of so many holds of fewer
@@ -102,12 +102,12 @@ module _ (d : List ℕ) (l : Library) (e : libraryReply d ≡ read l) where
     pub few-sites : n ≤ mostSites
     few-sites = let w = whole d l e .listed .few in omega (arith, sites-length table n, ap length same, w .high)
 
-    sites-first : (k : ℕ) → k ≤ n → Sites book core xs (sitesIn table k)
-    unfolding Sites sitesIn
-    sites-first k h = fewer (λ m. Sites book core xs (sitesIn table m)) (λ m p. p .2) n k h (rw same (whole d l e .listed .sites))
+    sites-first : (k : ℕ) → k ≤ n → SitesApart book core xs (sitesIn table k)
+    unfolding SitesApart sitesIn
+    sites-first k h = fewer (λ m. SitesApart book core xs (sitesIn table m)) (λ m p. p .2) n k h (rw same (whole d l e .listed .sites))
 
-    pub site-stands : (k : ℕ) → k < n → Stands book core xs (siteOf k)
-    unfolding Sites sitesIn
+    pub site-stands : (k : ℕ) → k < n → SiteStands book core xs (siteOf k)
+    unfolding SitesApart sitesIn
     site-stands k h = sites-first (suc k) h .0
 
     core-has : book .has (coreNumber xs) ≡ true
@@ -134,7 +134,7 @@ module _ (d : List ℕ) (l : Library) (e : libraryReply d ≡ read l) where
       unfolding IsChoice sitesIn choiceIn
       digit-low k h = choice-first (suc k) h .0
 
-      joins-at : (k : ℕ) → k < n → Joins book core xs (siteOf k .atom) (place k)
+      joins-at : (k : ℕ) → k < n → CandidateJoins book core xs (siteOf k .atom) (place k)
       joins-at k h = joins book core xs (siteOf k .atom) (place k) (site-stands k h .candidates (getD digits k 0) (digit-low k h))
 
       pub growing : Growing productOf core block (λ k. siteOf k .atom) own n
@@ -152,7 +152,7 @@ module _ (d : List ℕ) (l : Library) (e : libraryReply d ≡ read l) where
       }
 
       -- and of the arms that are chosen, and the core
-      keeps : Keeps growing (coreIn d (l .blocks) (coreNumber xs) table) (armsAt d (l .blocks) xs table digits)
+      keeps : KeepsArms growing (coreIn d (l .blocks) (coreNumber xs) table) (armsAt d (l .blocks) xs table digits)
       unfolding coreIn armsAt seenFrom apartAll apartFrom armAt bookOf
       keeps =
           let b = block-stands (coreNumber xs) core-has .fine in

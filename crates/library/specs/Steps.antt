@@ -8,8 +8,8 @@ use Rattle.records.specs.declared.Sheet.{Sheet}
 use Rattle.deck.specs.Deck.{longestDeck}
 use Rattle.sheets.specs.Sheets.{fieldsOf, sheetRecord, sheetBytes, sheetPut}
 use Rattle.products.specs.Products.{Product, done, made, productReply}
-use Rattle.library.specs.declared.Stepped.{Stepped}
-use Rattle.library.specs.declared.Stepped.the-variants as stepped
+use Rattle.library.specs.declared.StepReply.{StepReply}
+use Rattle.library.specs.declared.StepReply.the-variants as stepped
 
 -- A step at a position: 20, 9 where the buffer of n bytes is too short, then the library's refusals.
 unfoldable pub stepReply : Sheet → List ℕ → ℕ → ℕ → Read Product
@@ -25,7 +25,7 @@ stepOut s out (read done) = out
 stepOut s out (read (made x)) = sheetPut s out (fieldsOf s x)
 
 -- how the code says it, with the position that is handed back
-abbrev pub saidStep : ℕ → Read Product → Stepped
+abbrev pub saidStep : ℕ → Read Product → StepReply
 saidStep next (refused r) = stepped.Refused r
 saidStep next (read done) = stepped.Done
 saidStep next (read (made x)) = stepped.Next next

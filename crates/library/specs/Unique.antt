@@ -8,21 +8,21 @@ use Rattle.records.specs.declared.Sheet.{Sheet}
 use Rattle.products.specs.Products.{productReply}
 use Rattle.library.specs.Said.{saidProduct}
 use Rattle.library.specs.Steps.{stepReply, stepOut, saidStep, runOf}
-use Rattle.library.specs.declared.Made.{Made}
-use Rattle.library.specs.declared.Stepped.{Stepped}
+use Rattle.library.specs.declared.ProductReply.{ProductReply}
+use Rattle.library.specs.declared.StepReply.{StepReply}
 
 module _ (d : List ℕ) (position : ℕ) where
-  pub unique-product : (r s : Made) → r ≡ saidProduct (productReply d position) → s ≡ saidProduct (productReply d position) → r ≡ s
+  pub unique-product : (r s : ProductReply) → r ≡ saidProduct (productReply d position) → s ≡ saidProduct (productReply d position) → r ≡ s
   unique-product r s = unique
 
   module _ (sheet : Sheet) (out : List ℕ) where
-    pub unique-step : (r s : Stepped) → let x = stepReply sheet d position (length out) in r ≡ saidStep (suc position) x → s ≡ saidStep (suc position) x → r ≡ s
+    pub unique-step : (r s : StepReply) → let x = stepReply sheet d position (length out) in r ≡ saidStep (suc position) x → s ≡ saidStep (suc position) x → r ≡ s
     unique-step r s = unique
 
     pub unique-step-bytes : (a b : List ℕ) → let x = stepReply sheet d position (length out) in a ≡ stepOut sheet out x → b ≡ stepOut sheet out x → a ≡ b
     unique-step-bytes a b = unique
 
-    pub unique-run : (r s : Stepped) → let x = stepReply sheet d position (length out) in let next = runOf sheet d position out .next in r ≡ saidStep next x → s ≡ saidStep next x → r ≡ s
+    pub unique-run : (r s : StepReply) → let x = stepReply sheet d position (length out) in let next = runOf sheet d position out .next in r ≡ saidStep next x → s ≡ saidStep next x → r ≡ s
     unique-run r s = unique
 
     pub unique-run-bytes : (a b : List ℕ) → a ≡ runOf sheet d position out .out → b ≡ runOf sheet d position out .out → a ≡ b

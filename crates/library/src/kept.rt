@@ -3,10 +3,10 @@ use assembly::BlockTable;
 use assembly::bonds_part;
 use assembly::find_block;
 use block::ATOMS;
-use block::Around;
+use block::VertexReply;
 use block::DistanceRow;
 use block::Indices;
-use block::Measured;
+use block::IndicesReply;
 use block::Vertex;
 use block::measure;
 use block::row;
@@ -76,8 +76,8 @@ fn fields_or(n: usize, bonds: &[u8]) -> Indices
 {
     let told = measure(n, bonds);
     match told {
-        Measured::Refused(_) => NO_FIELDS,
-        Measured::Of(all) => all,
+        IndicesReply::Refused(_) => NO_FIELDS,
+        IndicesReply::Of(all) => all,
     }
 }
 
@@ -87,8 +87,8 @@ fn counted_or(n: usize, bonds: &[u8], a: usize) -> Vertex
 {
     let told = vertex_sums(n, bonds, a);
     match told {
-        Around::Refused(_) => NO_VERTEX,
-        Around::Of(v) => v,
+        VertexReply::Refused(_) => NO_VERTEX,
+        VertexReply::Of(v) => v,
     }
 }
 

@@ -40,14 +40,14 @@ ghost use Rattle.library.specs.Steps.{stepReply, stepOut, saidStep, runO
 ghost use Rattle.library.specs.Held.{Held, Spread};
 
 // The product at a position: its fields, or all products are done.
-pub enum Made {
+pub enum ProductReply {
     Refused(Refusal),
     Done,
     Of(Indices),
 }
 
 // What a step or a run says: sheets were written and the next position is this, or all products are done.
-pub enum Stepped {
+pub enum StepReply {
     Refused(Refusal),
     Done,
     Next(usize),
@@ -75,50 +75,50 @@ fn fields_at(
 }
 
 // The fields of the product at a position of a library deck, or its refusal.
-pub fn product(d: &[u8], position: usize) -> Made
+pub fn product(d: &[u8], position: usize) -> ProductReply
     ensures { λ r. ⌜ r ≡ saidProduct (productReply (now (d .entry)) position) ⌝ }
 {
     let l = read_library(d);
     let reply = l.reply;
     match reply {
-        Reply::Refused(refusal) => Made::Refused(refusal),
+        Reply::Refused(refusal) => ProductReply::Refused(refusal),
         Reply::Fine => {
             if l.products <= position {
-                return Made::Done;
+                return ProductReply::Done;
             }
             let blocks = l.blocks;
             let sites = l.sites;
             let all = fields_at(d, blocks, l.count, l.at, sites, l.n, position);
-            Made::Of(all)
+            ProductReply::Of(all)
         }
     }
 }
 
 // Writes the sheet of the product at a position into the first bytes of a buffer, and hands back the next position. A refusal, and a position at or past the
 // number of products, write nothing.
-pub fn step(d: &[u8], sheet: Sheet, position: usize, out: &mut [u8]) -> Stepped
+pub fn step(d: &[u8], sheet: Sheet, position: usize, out: &mut [u8]) -> StepReply
     ensures reply { λ r. ⌜ r ≡ saidStep (suc position) (stepReply sheet (now (d .entry)) position (length (now (out .entry)))) ⌝ }
     ensures bytes { λ _. ⌜ now (out .exit) ≡ stepOut sheet (now (out .entry)) (stepReply sheet (now (d .entry)) position (length (now (out .entry)))) ⌝ }
 {
     if LONGEST < d.len() {
-        return Stepped::Refused(Refusal {
+        return StepReply::Refused(Refusal {
             number: 20,
             place: 0,
         });
     }
     if out.len() < bytes_of(sheet) {
-        return Stepped::Refused(Refusal {
+        return StepReply::Refused(Refusal {
             number: 9,
             place: 0,
         });
     }
     let told = product(d, position);
     match told {
-        Made::Refused(refusal) => Stepped::Refused(refusal),
-        Made::Done => Stepped::Done,
-        Made::Of(all) => {
+        ProductReply::Refused(refusal) => StepReply::Refused(refusal),
+        ProductReply::Done => StepReply::Done,
+        ProductReply::Of(all) => {
             put_sheet(out, sheet, all);
-            Stepped::Next(position + 1)
+            StepReply::Next(position + 1)
         }
     }
 }
@@ -168,18 +168,18 @@ fn run_read(d: &[u8], l: LibraryRead, position: usize, sheet: Sheet, out: &mut [
 
 // Writes the sheets of the products from a position on, one after the other, as many whole ones as a buffer holds, and hands back the next position: what the
 // steps write, each into what the one before left. The blocks are read once.
-pub fn run(d: &[u8], sheet: Sheet, position: usize, out: &mut [u8]) -> Stepped
+pub fn run(d: &[u8], sheet: Sheet, position: usize, out: &mut [u8]) -> StepReply
     ensures reply { λ r. ⌜ r ≡ saidStep (runOf sheet (now (d .entry)) position (now (out .entry)) .next) (stepReply sheet (now (d .entry)) position (length (now (out .entry)))) ⌝ }
     ensures bytes { λ _. ⌜ now (out .exit) ≡ runOf sheet (now (d .entry)) position (now (out .entry)) .out ⌝ }
 {
     if LONGEST < d.len() {
-        return Stepped::Refused(Refusal {
+        return StepReply::Refused(Refusal {
             number: 20,
             place: 0,
         });
     }
     if out.len() < bytes_of(sheet) {
-        return Stepped::Refused(Refusal {
+        return StepReply::Refused(Refusal {
             number: 9,
             place: 0,
         });
@@ -187,13 +187,13 @@ pub fn run(d: &[u8], sheet: Sheet, position: usize, out: &mut [u8]) -> Stepped
     let l = read_library(d);
     let reply = l.reply;
     match reply {
-        Reply::Refused(refusal) => Stepped::Refused(refusal),
+        Reply::Refused(refusal) => StepReply::Refused(refusal),
         Reply::Fine => {
             if l.products <= position {
-                return Stepped::Done;
+                return StepReply::Done;
             }
             let next = run_read(d, l, position, sheet, out);
-            Stepped::Next(next)
+            StepReply::Next(next)
         }
     }
 }

@@ -1,8 +1,8 @@
 -- Worked examples, computed from the definitions.
 use mathlib.Core.Path.{_≡_, refl}
 use Rattle.reply.specs.Read.{refusal}
-use Rattle.block.specs.declared.Measured.the-variants as measured
-use Rattle.molecule.specs.declared.Verdict.the-variants as verdict
+use Rattle.block.specs.declared.IndicesReply.the-variants as measured
+use Rattle.judging.specs.declared.Verdict.the-variants as verdict
 use Rattle.text.specs.Text.{ascii, decimalIn, decimal}
 use Rattle.line.specs.Text.{indicesText, refusalText, measuredText, differsText, verdictText, unreadText}
 use Rattle.line.specs.Label.{hasRoom, labelled}

@@ -6,15 +6,15 @@ use native.Mathlib.Omega.{arith}
 use lib.ListN.{length, length-append}
 use Rattle.reply.specs.declared.Refusal.{Refusal}
 use Rattle.block.specs.declared.Indices.{Indices}
-use Rattle.block.specs.declared.Measured.{Measured}
-use Rattle.block.specs.declared.Measured.the-variants as measured
+use Rattle.block.specs.declared.IndicesReply.{IndicesReply}
+use Rattle.block.specs.declared.IndicesReply.the-variants as measured
 use Rattle.block.specs.Index.{saidIndices}
 use Rattle.deck.specs.declared.Form.{Form}
 use Rattle.deck.specs.declared.Form.the-variants.{Composed, Judged}
 use Rattle.compose.specs.Fields.{fieldsReply}
-use Rattle.molecule.specs.Molecule.{judgeReply, saidVerdict}
-use Rattle.molecule.specs.declared.Verdict.{Verdict}
-use Rattle.molecule.specs.declared.Verdict.the-variants as verdict
+use Rattle.judging.specs.Judging.{judgeReply, saidVerdict}
+use Rattle.judging.specs.declared.Verdict.{Verdict}
+use Rattle.judging.specs.declared.Verdict.the-variants as verdict
 use Rattle.line.specs.Text.{longest, indicesText, refusalText, measuredText, differsText, verdictText, deckText}
 use Rattle.line.proofs.Decimal.{digits-most}
 
@@ -26,7 +26,7 @@ pub refusal-fit : (r : Refusal) → length (refusalText r) ≤ longest
 unfolding refusalText
 refusal-fit r = simp length-append (omega (arith, digits-most (r .number), digits-most (r .place)))
 
-pub measured-fit : (m : Measured) → length (measuredText m) ≤ longest
+pub measured-fit : (m : IndicesReply) → length (measuredText m) ≤ longest
 measured-fit (measured.Of x) = indices-fit x
 measured-fit (measured.Refused r) = refusal-fit r
 

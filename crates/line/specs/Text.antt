@@ -5,15 +5,15 @@ use mathlib.Core.List.{List, _++_}
 use lib.ListN.{length, replicate}
 use Rattle.reply.specs.declared.Refusal.{Refusal}
 use Rattle.block.specs.declared.Indices.{Indices}
-use Rattle.block.specs.declared.Measured.{Measured}
-use Rattle.block.specs.declared.Measured.the-variants as measured
+use Rattle.block.specs.declared.IndicesReply.{IndicesReply}
+use Rattle.block.specs.declared.IndicesReply.the-variants as measured
 use Rattle.block.specs.Index.{saidIndices}
 use Rattle.deck.specs.declared.Form.{Form}
 use Rattle.deck.specs.declared.Form.the-variants.{Composed, Judged}
 use Rattle.compose.specs.Fields.{fieldsReply}
-use Rattle.molecule.specs.Molecule.{judgeReply, saidVerdict}
-use Rattle.molecule.specs.declared.Verdict.{Verdict}
-use Rattle.molecule.specs.declared.Verdict.the-variants as verdict
+use Rattle.judging.specs.Judging.{judgeReply, saidVerdict}
+use Rattle.judging.specs.declared.Verdict.{Verdict}
+use Rattle.judging.specs.declared.Verdict.the-variants as verdict
 use Rattle.text.specs.Text.{ascii, mostDigits, decimal}
 use Rattle.line.specs.declared.Line.{Line}
 
@@ -29,7 +29,7 @@ indicesText x = named "atoms " (x .atoms) ++ named " W " (x .w) ++ named " even 
 unfoldable pub refusalText : Refusal → List ℕ
 refusalText r = named "refused " (r .number) ++ named " at " (r .place) ++ ascii "\n"
 
-abbrev pub measuredText : Measured → List ℕ
+abbrev pub measuredText : IndicesReply → List ℕ
 measuredText (measured.Of x) = indicesText x
 measuredText (measured.Refused r) = refusalText r
 

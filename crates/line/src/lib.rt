@@ -9,9 +9,9 @@ ghost use Rattle.line.specs.Text.{indicesText, refusalText, measuredText
 ghost use Rattle.line.specs.Label.{labelReply, labelled};
 ghost use Rattle.line.specs.Put.{Adds};
 use block::Indices;
-use block::Measured;
+use block::IndicesReply;
 use deck::Form;
-use molecule::Verdict;
+use judging::Verdict;
 use reply::Refusal;
 use text::put;
 
@@ -84,13 +84,13 @@ fn refusal_line(r: Refusal) -> Line
 }
 
 // The line of a block's or a deck's indices, or of its refusal.
-pub fn measured_line(m: Measured) -> Line
+pub fn measured_line(m: IndicesReply) -> Line
     ensures { λ r. ⌜ r ≡ lined (measuredText m) ⌝ }
     ensures { λ r. ⌜ Counts (r .len) (r .text) ⌝ }
 {
     match m {
-        Measured::Refused(r) => refusal_line(r),
-        Measured::Of(x) => indices_line(x),
+        IndicesReply::Refused(r) => refusal_line(r),
+        IndicesReply::Of(x) => indices_line(x),
     }
 }
 
@@ -155,7 +155,7 @@ pub fn deck_line(form: Form, d: &[u8]) -> Line
     ensures { λ r. ⌜ Counts (r .len) (r .text) ⌝ }
 {
     match form {
-        Form::Composed => measured_line(molecule::compose(d)),
-        Form::Judged => verdict_line(molecule::judge(d)),
+        Form::Composed => measured_line(judging::compose(d)),
+        Form::Judged => verdict_line(judging::judge(d)),
     }
 }

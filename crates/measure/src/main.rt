@@ -1,4 +1,4 @@
 // Prints the indices of the block of each molfile.
 fn main() {
-    desk::serve_molfiles();
+    console::serve_molfiles();
 }

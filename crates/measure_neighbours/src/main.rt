@@ -1,4 +1,4 @@
 // Prints the indices of the block of each neighbour text.
 fn main() {
-    desk::serve_neighbours();
+    console::serve_neighbours();
 }

@@ -14,8 +14,8 @@ use Rattle.reply.specs.declared.Refusal.{Refusal}
 use Rattle.block.specs.Block.{mostBytes, blockReply}
 use Rattle.block.specs.Index.{indicesReply}
 use Rattle.block.specs.Told.{passed}
-use Rattle.molfile.specs.Molfile.{linesReply, atomsOf, bytesOf, molfileReply}
-use Rattle.molfile.specs.Said.{filled}
+use Rattle.molfile.specs.Molfile.{linesReply, keptAtoms, bytesOf, molfileReply}
+use Rattle.molfile.specs.Said.{filledBonds}
 use Rattle.measuring.specs.Measuring.{measureReply}
 
 module _ (n : ℕ) (xs : List ℕ) (fine : blockReply n xs ≡ read tt) where
@@ -28,36 +28,36 @@ module _ (n : ℕ) (xs : List ℕ) (fine : blockReply n xs ≡ read tt) where
       omega arith
 
 module _ (d : List ℕ) where
-  pub lines-fine : molfileReply d mostBytes ≡ read tt → (linesReply d ≡ read tt) × (blockReply (atomsOf d) (bytesOf d) ≡ read tt)
+  pub lines-fine : molfileReply d mostBytes ≡ read tt → (linesReply d ≡ read tt) × (blockReply (keptAtoms d) (bytesOf d) ≡ read tt)
   unfolding molfileReply
   lines-fine e =
-      let (u, a, b) = then-read (linesReply d) (λ _. blockReply (atomsOf d) (bytesOf d) then λ _. refuseIf (ltb mostBytes (length (bytesOf d))) 9 0) e in
-      let (v, f, g) = then-read (blockReply (atomsOf d) (bytesOf d)) (λ _. refuseIf (ltb mostBytes (length (bytesOf d))) 9 0) b in
+      let (u, a, b) = then-read (linesReply d) (λ _. blockReply (keptAtoms d) (bytesOf d) then λ _. refuseIf (ltb mostBytes (length (bytesOf d))) 9 0) e in
+      let (v, f, g) = then-read (blockReply (keptAtoms d) (bytesOf d)) (λ _. refuseIf (ltb mostBytes (length (bytesOf d))) 9 0) b in
       (a, f)
 
   pub measure-refused : (r : Refusal) → molfileReply d mostBytes ≡ refused r → measureReply d ≡ refused r
   unfolding molfileReply measureReply indicesReply
-  measure-refused r e = go (linesReply d) (blockReply (atomsOf d) (bytesOf d)) refl e
+  measure-refused r e = go (linesReply d) (blockReply (keptAtoms d) (bytesOf d)) refl e
     where
-      go : (L B : Read (Unit {0})) → blockReply (atomsOf d) (bytesOf d) ≡ B → (L then λ _. B then λ _. refuseIf (ltb mostBytes (length (bytesOf d))) 9 0) ≡ refused r
-          → (L then λ _. indicesReply (atomsOf d) (bytesOf d)) ≡ refused r
+      go : (L B : Read (Unit {0})) → blockReply (keptAtoms d) (bytesOf d) ≡ B → (L then λ _. B then λ _. refuseIf (ltb mostBytes (length (bytesOf d))) 9 0) ≡ refused r
+          → (L then λ _. indicesReply (keptAtoms d) (bytesOf d)) ≡ refused r
       go (refused s) B b f = ap refused (cc)
       go (read u) (refused s) b f = rw b (ap refused (cc))
-      go (read u) (read v) b f = absurd (not-read (sym f ∙ rw (le-ltb mostBytes (length (bytesOf d)) (few (atomsOf d) (bytesOf d) b)) refl))
+      go (read u) (read v) b f = absurd (not-read (sym f ∙ rw (le-ltb mostBytes (length (bytesOf d)) (few (keptAtoms d) (bytesOf d) b)) refl))
 
-  pub measure-read : molfileReply d mostBytes ≡ read tt → measureReply d ≡ indicesReply (atomsOf d) (bytesOf d)
+  pub measure-read : molfileReply d mostBytes ≡ read tt → measureReply d ≡ indicesReply (keptAtoms d) (bytesOf d)
   unfolding measureReply
   measure-read e = rw (lines-fine e .0) refl
 
   -- the bytes that were lent, cut to the bonds
-  pub cut-to : (old new : List ℕ) (m : ℕ) → molfileReply d mostBytes ≡ read tt → length old ≡ mostBytes → new ≡ filled (molfileReply d (length old)) (bytesOf d) old
+  pub cut-to : (old new : List ℕ) (m : ℕ) → molfileReply d mostBytes ≡ read tt → length old ≡ mostBytes → new ≡ filledBonds (molfileReply d (length old)) (bytesOf d) old
       → length (bytesOf d) / 2 ≡ m → (2 * m ≤ mostBytes) × (2 * m ≤ length new) × (take (2 * m) new ≡ bytesOf d)
-  unfolding filled
+  unfolding filledBonds
   cut-to old new m e l h₁ h =
       let b = lines-fine e .1 in
-      let w = whole (atomsOf d) (bytesOf d) b in
+      let w = whole (keptAtoms d) (bytesOf d) b in
       let k : 2 * m ≡ length (bytesOf d) = omega arith in
       let g = rw (l, e) at h₁ in
-      let f = few (atomsOf d) (bytesOf d) b in
+      let f = few (keptAtoms d) (bytesOf d) b in
       let n : length (bytesOf d) ≤ length new = rw g (omega (arith, length-append (bytesOf d) (drop (length (bytesOf d)) old))) in
       (omega arith, omega arith, rw (k, g) (take-append-seam (bytesOf d) (drop (length (bytesOf d)) old)))

@@ -10,28 +10,28 @@ use Rattle.reply.specs.Read.{read, refused}
 use Rattle.reply.specs.declared.Refusal.{Refusal}
 use Rattle.block.specs.Block.{mostBytes}
 use Rattle.block.specs.Index.{indicesReply}
-use Rattle.adjacency.specs.Neighbours.{bondBytes, neighboursReply, bytesAfter}
+use Rattle.adjacency.specs.Neighbours.{bondListBytes, neighboursReply, bytesAfter}
 use Rattle.adjacency.specs.Blocks.{bytes-length}
 use Rattle.adjacency.specs.Taken.{read-fine}
-use Rattle.measuring.specs.Texts.{textReply}
+use Rattle.measuring.specs.Texts.{measuredTextReply}
 use Rattle.measuring.proofs.Fits.{few}
 
 module _ (t : List ℕ) where
-  pub text-refused : (r : Refusal) → neighboursReply t mostBytes ≡ refused r → textReply t ≡ refused r
-  unfolding textReply
+  pub text-refused : (r : Refusal) → neighboursReply t mostBytes ≡ refused r → measuredTextReply t ≡ refused r
+  unfolding measuredTextReply
   text-refused r e = rw e
 
-  pub text-read : (g : Graph) → neighboursReply t mostBytes ≡ read g → textReply t ≡ indicesReply (g .atoms) (bondBytes (g .bonds))
-  unfolding textReply
+  pub text-read : (g : Graph) → neighboursReply t mostBytes ≡ read g → measuredTextReply t ≡ indicesReply (g .atoms) (bondListBytes (g .bonds))
+  unfolding measuredTextReply
   text-read g e = rw e
 
   -- the bytes that were lent, cut to the bonds
   pub text-cut : (old new : List ℕ) (g : Graph) (m : ℕ) → neighboursReply t mostBytes ≡ read g → length old ≡ mostBytes → new ≡ bytesAfter (neighboursReply t (length old)) old
-      → length (g .bonds) ≡ m → (2 * m ≤ mostBytes) × (2 * m ≤ length new) × (take (2 * m) new ≡ bondBytes (g .bonds))
+      → length (g .bonds) ≡ m → (2 * m ≤ mostBytes) × (2 * m ≤ length new) × (take (2 * m) new ≡ bondListBytes (g .bonds))
   text-cut old new g m e l h k =
-      let f = few (g .atoms) (bondBytes (g .bonds)) (read-fine t mostBytes g e) in
+      let f = few (g .atoms) (bondListBytes (g .bonds)) (read-fine t mostBytes g e) in
       let b = bytes-length (g .bonds) in
       let p = rw (l, e) at h in
-      let z : 2 * m ≡ length (bondBytes (g .bonds)) = omega arith in
-      let n : length (bondBytes (g .bonds)) ≤ length new = rw p (omega (arith, length-append (bondBytes (g .bonds)) (drop (2 * length (g .bonds)) old))) in
-      (omega arith, omega arith, rw (z, p) (take-append-seam (bondBytes (g .bonds)) (drop (2 * length (g .bonds)) old)))
+      let z : 2 * m ≡ length (bondListBytes (g .bonds)) = omega arith in
+      let n : length (bondListBytes (g .bonds)) ≤ length new = rw p (omega (arith, length-append (bondListBytes (g .bonds)) (drop (2 * length (g .bonds)) old))) in
+      (omega arith, omega arith, rw (z, p) (take-append-seam (bondListBytes (g .bonds)) (drop (2 * length (g .bonds)) old)))

@@ -4,7 +4,7 @@ use mathlib.Core.List.{List}
 use Rattle.reply.specs.Read.{Read, _then_}
 use Rattle.block.specs.Index.{indicesReply}
 use Rattle.block.specs.declared.Indices.{Indices}
-use Rattle.molfile.specs.Molfile.{linesReply, atomsOf, bytesOf}
+use Rattle.molfile.specs.Molfile.{linesReply, keptAtoms, bytesOf}
 
 unfoldable pub measureReply : List ℕ → Read Indices
-measureReply d = linesReply d then λ _. indicesReply (atomsOf d) (bytesOf d)
+measureReply d = linesReply d then λ _. indicesReply (keptAtoms d) (bytesOf d)

@@ -5,7 +5,7 @@ use Rattle.reply.specs.Read.{Read, _then_}
 use Rattle.block.specs.Block.{mostBytes}
 use Rattle.block.specs.Index.{indicesReply}
 use Rattle.block.specs.declared.Indices.{Indices}
-use Rattle.adjacency.specs.Neighbours.{bondBytes, neighboursReply}
+use Rattle.adjacency.specs.Neighbours.{bondListBytes, neighboursReply}
 
-unfoldable pub textReply : List ℕ → Read Indices
-textReply t = neighboursReply t mostBytes then λ g. indicesReply (g .atoms) (bondBytes (g .bonds))
+unfoldable pub measuredTextReply : List ℕ → Read Indices
+measuredTextReply t = neighboursReply t mostBytes then λ g. indicesReply (g .atoms) (bondListBytes (g .bonds))

@@ -2,19 +2,19 @@
 ghost use mathlib.Core.Path.{_≡_};
 ghost use Rattle.block.specs.Index.{saidIndices};
 ghost use Rattle.measuring.specs.Measuring.{measureReply};
-ghost use Rattle.measuring.specs.Texts.{textReply};
-use block::Measured;
+ghost use Rattle.measuring.specs.Texts.{measuredTextReply};
+use block::IndicesReply;
 use molfile::MolRead;
-use neighbours::Found;
+use neighbours::NeighboursRead;
 
 // Atom count, W, even part, odd part and polarity of the block of a molfile, or its refusal: the lines', then the block's.
-pub fn measure(text: &[u8]) -> Measured
+pub fn measure(text: &[u8]) -> IndicesReply
     ensures { λ r. ⌜ r ≡ saidIndices (measureReply (now (text .entry))) ⌝ }
 {
     let mut bonds = [0u8; block::BYTES];
     let seen = molfile::read(text, &mut bonds);
     match seen {
-        MolRead::Refused(r) => Measured::Refused(r),
+        MolRead::Refused(r) => IndicesReply::Refused(r),
         MolRead::Block(x) => {
             let len = 2 * x.bonds;
             block::measure(x.atoms, &bonds[..len])
@@ -23,14 +23,14 @@ pub fn measure(text: &[u8]) -> Measured
 }
 
 // The same of a neighbour text: its refusals, then the block's.
-pub fn measure_neighbours(text: &[u8]) -> Measured
-    ensures { λ r. ⌜ r ≡ saidIndices (textReply (now (text .entry))) ⌝ }
+pub fn measure_neighbours(text: &[u8]) -> IndicesReply
+    ensures { λ r. ⌜ r ≡ saidIndices (measuredTextReply (now (text .entry))) ⌝ }
 {
     let mut bonds = [0u8; block::BYTES];
     let seen = neighbours::read(text, &mut bonds);
     match seen {
-        Found::Refused(r) => Measured::Refused(r),
-        Found::Block(x) => {
+        NeighboursRead::Refused(r) => IndicesReply::Refused(r),
+        NeighboursRead::Block(x) => {
             let len = 2 * x.bonds;
             block::measure(x.atoms, &bonds[..len])
         }

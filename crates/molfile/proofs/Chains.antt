@@ -11,10 +11,10 @@ use Rattle.reply.specs.Read.{Read, refused, read, _then_, refusal, refuseIf}
 use Rattle.reply.specs.Chain.{then-read, if-read, neither}
 use Rattle.block.specs.Block.{mostAtoms, blockReply}
 use Rattle.reply.specs.declared.Refusal.{Refusal}
-use Rattle.text.specs.Text.{byteAt, isNumber, threeAt, lineStarts}
+use Rattle.text.specs.Text.{characterAt, isNumber, threeAt, lineStarts}
 use Rattle.text.specs.Laws.{three-below}
-use Rattle.molfile.specs.Molfile.{countsPlace, restPlace, atomCount, bondCount, endWord, inTurn, lineReply, headerReply, numbersReply, atomReply, bondReplyOf, endReply, linesReply, atomsOf, bytesOf, molfileReply}
-use Rattle.molfile.specs.Said.{saidAnswer, filled}
+use Rattle.molfile.specs.Molfile.{countsPlace, restPlace, atomLineCount, bondLineCount, endWord, inTurn, lineReply, headerReply, numbersReply, atomReply, bondReplyOf, endLineReply, linesReply, keptAtoms, bytesOf, molfileReply}
+use Rattle.molfile.specs.Said.{saidAnswer, filledBonds}
 use Rattle.molfile.specs.Work.{most, Marks, Ends, countsReply, listsReply, restReply, answerReply}
 
 module _ (d : List ℕ) where
@@ -41,45 +41,45 @@ module _ (d : List ℕ) where
   pub lines-go-on : countsReply d ≡ read tt → linesReply d ≡ listsReply d
   lines-go-on e = lines-are ∙ rw e
 
-  pub lists-no-atom : (r : Refusal) → inTurn (atomCount d) (atomReply d) ≡ refused r → listsReply d ≡ refused r
+  pub lists-no-atom : (r : Refusal) → inTurn (atomLineCount d) (atomReply d) ≡ refused r → listsReply d ≡ refused r
   unfolding listsReply
   lists-no-atom r e = rw e
 
-  pub lists-go-on : inTurn (atomCount d) (atomReply d) ≡ read tt → listsReply d ≡ restReply d
+  pub lists-go-on : inTurn (atomLineCount d) (atomReply d) ≡ read tt → listsReply d ≡ restReply d
   unfolding listsReply restReply
   lists-go-on e = rw e
 
-  pub rest-no-bond : (r : Refusal) → inTurn (bondCount d) (bondReplyOf d) ≡ refused r → restReply d ≡ refused r
+  pub rest-no-bond : (r : Refusal) → inTurn (bondLineCount d) (bondReplyOf d) ≡ refused r → restReply d ≡ refused r
   unfolding restReply
   rest-no-bond r e = rw e
 
-  module _ (e : inTurn (bondCount d) (bondReplyOf d) ≡ read tt) where
+  module _ (e : inTurn (bondLineCount d) (bondReplyOf d) ≡ read tt) where
     pub rest-ended : lineStarts endWord true (drop (restPlace d) d) ≡ true → restReply d ≡ read tt
-    unfolding restReply endReply
+    unfolding restReply endLineReply
     rest-ended f = rw (e, f)
 
     pub rest-no-end : lineStarts endWord true (drop (restPlace d) d) ≡ false → restReply d ≡ refused (refusal 25 (length d))
-    unfolding restReply endReply
+    unfolding restReply endLineReply
     rest-no-end f = rw (e, f)
 
   -- what the lists tell
-  pub lists-there : listsReply d ≡ read tt → (inTurn (atomCount d) (atomReply d) ≡ read tt) × (inTurn (bondCount d) (bondReplyOf d) ≡ read tt)
+  pub lists-there : listsReply d ≡ read tt → (inTurn (atomLineCount d) (atomReply d) ≡ read tt) × (inTurn (bondLineCount d) (bondReplyOf d) ≡ read tt)
   unfolding listsReply
   lists-there e =
-      let (u, a, b) = then-read (inTurn (atomCount d) (atomReply d)) (λ _. inTurn (bondCount d) (bondReplyOf d) then λ _. endReply d (restPlace d)) e in
-      let (v, f, g) = then-read (inTurn (bondCount d) (bondReplyOf d)) (λ _. endReply d (restPlace d)) b in
+      let (u, a, b) = then-read (inTurn (atomLineCount d) (atomReply d)) (λ _. inTurn (bondLineCount d) (bondReplyOf d) then λ _. endLineReply d (restPlace d)) e in
+      let (v, f, g) = then-read (inTurn (bondLineCount d) (bondReplyOf d)) (λ _. endLineReply d (restPlace d)) b in
       (a, f)
 
   -- the counts are below 1000
-  pub counts-few : countsReply d ≡ read tt → (atomCount d ≤ most) × (bondCount d ≤ most)
+  pub counts-few : countsReply d ≡ read tt → (atomLineCount d ≤ most) × (bondLineCount d ≤ most)
   unfolding countsReply numbersReply
   counts-few e =
       let p = countsPlace d in
       let (u, a, b) = then-read (inTurn 3 (headerReply d)) (λ _. numbersReply d p) e in
       let (v, f, g) = then-read (lineReply 6 d p) (λ _. refuseIf (not (isNumber (threeAt d p)) || not (isNumber (threeAt d (p + 3)))) 26 p) b in
       let n = neither (not (isNumber (threeAt d p))) (not (isNumber (threeAt d (p + 3)))) (if-read (not (isNumber (threeAt d p)) || not (isNumber (threeAt d (p + 3)))) 26 p g) in
-      let x = three-below (byteAt d p) (byteAt d (p + 1)) (byteAt d (p + 2)) (not-false (isNumber (threeAt d p)) (n .0)) in
-      let y = three-below (byteAt d (p + 3)) (byteAt d (p + 3 + 1)) (byteAt d (p + 3 + 2)) (not-false (isNumber (threeAt d (p + 3))) (n .1)) in
+      let x = three-below (characterAt d p) (characterAt d (p + 1)) (characterAt d (p + 2)) (not-false (isNumber (threeAt d p)) (n .0)) in
+      let y = three-below (characterAt d (p + 3)) (characterAt d (p + 3 + 1)) (characterAt d (p + 3 + 2)) (not-false (isNumber (threeAt d (p + 3))) (n .1)) in
       (omega arith, omega arith)
 
   -- the block after the lines
@@ -88,7 +88,7 @@ module _ (d : List ℕ) where
     unfolding molfileReply
     molfile-no-line r e = rw e
 
-    pub molfile-answer : linesReply d ≡ read tt → molfileReply d room ≡ answerReply (atomsOf d) (bytesOf d) room
+    pub molfile-answer : linesReply d ≡ read tt → molfileReply d room ≡ answerReply (keptAtoms d) (bytesOf d) room
     unfolding molfileReply answerReply
     molfile-answer e = rw e
 
@@ -119,18 +119,18 @@ module _ (n : ℕ) (xs : List ℕ) (room : ℕ) where
   answer-many l = rw (ne-eqb n 0 (λ z. omega arith), lt-ltb mostAtoms n l)
 
 -- a refusal changes no byte
-pub stays : (xs out : List ℕ) {m : Read (Unit {0})} {r : Refusal} → m ≡ refused r → filled m xs out ≡ out
-unfolding filled
+pub stays : (xs out : List ℕ) {m : Read (Unit {0})} {r : Refusal} → m ≡ refused r → filledBonds m xs out ≡ out
+unfolding filledBonds
 stays xs out e = rw e
 
-pub fills : (xs out : List ℕ) {m : Read (Unit {0})} → m ≡ read tt → filled m xs out ≡ xs ++ drop (length xs) out
-unfolding filled
+pub fills : (xs out : List ℕ) {m : Read (Unit {0})} → m ≡ read tt → filledBonds m xs out ≡ xs ++ drop (length xs) out
+unfolding filledBonds
 fills xs out e = rw e
 
 -- the same answer, whatever the bytes of too many atoms are
 pub record Same (n n′ : ℕ) (xs ys : List ℕ) (out : List ℕ) : Type 0 where
   pub reply : saidAnswer n xs (answerReply n xs (length out)) ≡ saidAnswer n′ ys (answerReply n′ ys (length out))
-  pub bytes : filled (answerReply n xs (length out)) xs out ≡ filled (answerReply n′ ys (length out)) ys out
+  pub bytes : filledBonds (answerReply n xs (length out)) xs out ≡ filledBonds (answerReply n′ ys (length out)) ys out
 
 pub same-answer : (n n′ : ℕ) (xs ys : List ℕ) (out : List ℕ) → n ≡ n′ → (n ≤ mostAtoms → xs ≡ ys) → Same n n′ xs ys out
 same-answer n n′ xs ys out e f = go (ltb mostAtoms n) refl
@@ -144,5 +144,5 @@ same-answer n n′ xs ys out e f = go (ltb mostAtoms n) refl
         let g = f (ltb-false mostAtoms n p) in
         record {
           reply = ap (λ (k : ℕ). saidAnswer k xs (answerReply k xs (length out))) e ∙ ap (λ (zs : List ℕ). saidAnswer n′ zs (answerReply n′ zs (length out))) g;
-          bytes = ap (λ (k : ℕ). filled (answerReply k xs (length out)) xs out) e ∙ ap (λ (zs : List ℕ). filled (answerReply n′ zs (length out)) zs out) g;
+          bytes = ap (λ (k : ℕ). filledBonds (answerReply k xs (length out)) xs out) e ∙ ap (λ (zs : List ℕ). filledBonds (answerReply n′ zs (length out)) zs out) g;
         }

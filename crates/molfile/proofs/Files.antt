@@ -6,25 +6,25 @@ use mathlib.Core.Path.{_≡_, refl, sym, _∙_, ap}
 use lib.ListN.{length, getD}
 use Rattle.graph.specs.Graph.{Bond, Within}
 use Rattle.reply.specs.Read.{read}
-use Rattle.molfile.specs.Molfile.{atomPlace, atomCount, bondPlace, bondCount, endsAt, bondAt, hydrogenAt, hydrogenIn, bondReplyOf, isDropped}
-use Rattle.molfile.specs.Work.{Marks, Ends, listsReply, Inside, Given, Keeps}
+use Rattle.molfile.specs.Molfile.{atomLinePlace, atomLineCount, bondLinePlace, bondLineCount, endsOfLine, bondOfLine, hydrogenAt, hydrogenIn, bondReplyOf, isDropped}
+use Rattle.molfile.specs.Work.{Marks, Ends, listsReply, EndsInside, MarksGiven, KeepsBonds}
 use Rattle.molfile.specs.declared.Kept.{Kept}
 use Rattle.molfile.proofs.Turns.{turn-at}
 use Rattle.molfile.proofs.Lines.{bond-within, bond-is}
 use Rattle.molfile.proofs.Chains.{lists-there}
 
-module _ (d marks ones twos : List ℕ) (e : listsReply d ≡ read tt) (M : Marks d (atomCount d) marks) (E : Ends d (bondCount d) ones twos) where
-  ends-within : (k : ℕ) → k < bondCount d → Within (atomCount d) (bondAt d k .one) × Within (atomCount d) (bondAt d k .two)
-  ends-within k h = rw (bond-is d k) (bond-within (atomCount d) d (bondPlace d k) (turn-at (bondReplyOf d) (bondCount d) k (lists-there d e .1) h))
+module _ (d marks ones twos : List ℕ) (e : listsReply d ≡ read tt) (M : Marks d (atomLineCount d) marks) (E : Ends d (bondLineCount d) ones twos) where
+  ends-within : (k : ℕ) → k < bondLineCount d → Within (atomLineCount d) (bondOfLine d k .one) × Within (atomLineCount d) (bondOfLine d k .two)
+  ends-within k h = rw (bond-is d k) (bond-within (atomLineCount d) d (bondLinePlace d k) (turn-at (bondReplyOf d) (bondLineCount d) k (lists-there d e .1) h))
 
-  pub given-is : Given (hydrogenIn d) (bondAt d) (atomCount d) (bondCount d) marks ones twos
+  pub given-is : MarksGiven (hydrogenIn d) (bondOfLine d) (atomLineCount d) (bondLineCount d) marks ones twos
   unfolding hydrogenIn
   given-is = record { mark = M .at; one = E .one; two = E .two; within = ends-within }
 
-  pub inside-is : {n m : ℕ} → n ≡ atomCount d → m ≡ bondCount d → Inside n m ones twos
+  pub inside-is : {n m : ℕ} → n ≡ atomLineCount d → m ≡ bondLineCount d → EndsInside n m ones twos
   inside-is p q = rw (p, q) (record { one = λ k h. rw (E .one k h) (ends-within k h .0); two = λ k h. rw (E .two k h) (ends-within k h .1) })
 
 pub keeps-at : (h : ℕ → Bool) (f : ℕ → Bond) {marks ones twos buffer : List ℕ} {r : Kept} {n m n′ m′ : ℕ} → n ≡ n′ → m ≡ m′
-    → ((h : ℕ → Bool) (f : ℕ → Bond) → Given h f n m marks ones twos → Keeps (isDropped h f m) f n m buffer r)
-    → Given h f n′ m′ marks ones twos → Keeps (isDropped h f m′) f n′ m′ buffer r
+    → ((h : ℕ → Bool) (f : ℕ → Bond) → MarksGiven h f n m marks ones twos → KeepsBonds (isDropped h f m) f n m buffer r)
+    → MarksGiven h f n′ m′ marks ones twos → KeepsBonds (isDropped h f m′) f n′ m′ buffer r
 keeps-at h f p q k = rw (← p, ← q) (k h f)

@@ -8,7 +8,7 @@ use lib.ListN.{length, getD, set}
 use lib.Seq.{getD-set-same, getD-set-other}
 use Rattle.text.specs.Text.{nextLine, laterLine}
 use Rattle.text.specs.Laws.{later-more}
-use Rattle.molfile.specs.Molfile.{atomPlace, atomCount, bondPlace}
+use Rattle.molfile.specs.Molfile.{atomLinePlace, atomLineCount, bondLinePlace}
 
 -- the entries below i are those that P says
 abbrev pub Holds : (ℕ → ℕ) → ℕ → List ℕ → Type 0
@@ -25,9 +25,9 @@ holds-more P l i v r h e j k = go (ℕ-discrete j i)
     go (no p) = getD-set-other l i j v 0 p ∙ h j (omega arith)
 
 -- the atom lines one after the other
-pub atom-next : (d : List ℕ) (i : ℕ) → atomPlace d (i + 1) ≡ nextLine d (atomPlace d i)
+pub atom-next : (d : List ℕ) (i : ℕ) → atomLinePlace d (i + 1) ≡ nextLine d (atomLinePlace d i)
 atom-next d i = let e : 4 + (i + 1) ≡ 4 + i + 1 = omega arith in rw e (later-more d 0 (4 + i))
 
-pub bonds-begin : (d : List ℕ) → bondPlace d 0 ≡ atomPlace d (atomCount d)
+pub bonds-begin : (d : List ℕ) → bondLinePlace d 0 ≡ atomLinePlace d (atomLineCount d)
 unfolding laterLine
 bonds-begin d = refl

@@ -15,7 +15,7 @@ use Rattle.reply.specs.declared.Refusal.{Refusal}
 use Rattle.text.specs.Text.{isNumber, numberOf, threeAt, lineChars, nextLine}
 use Rattle.text.specs.Said.{noNumber, saidNumber, lineAt}
 use Rattle.text.specs.Laws.{chars-within}
-use Rattle.molfile.specs.Molfile.{bondPlace, endsAt, bondAt, lineReply, numbersReply, bondReply}
+use Rattle.molfile.specs.Molfile.{bondLinePlace, endsOfLine, bondOfLine, lineReply, numbersReply, bondReply}
 
 module _ (least : ℕ) (d : List ℕ) (at : ℕ) where
   pub line-missing : length d ≤ at → lineReply least d at ≡ refused (refusal 25 (length d))
@@ -65,24 +65,24 @@ module _ (n : ℕ) (d : List ℕ) (at : ℕ) where
   bond-no-numbers r e = rw e
 
   module _ (e : numbersReply d at ≡ read tt) where
-    pub bond-outside : (isOutside n (endsAt d at .one) || isOutside n (endsAt d at .two)) ≡ true → bondReply n d at ≡ refused (refusal 27 at)
+    pub bond-outside : (isOutside n (endsOfLine d at .one) || isOutside n (endsOfLine d at .two)) ≡ true → bondReply n d at ≡ refused (refusal 27 at)
     unfolding bondReply
     bond-outside f = rw (e, f)
 
-    pub bond-inside : (isOutside n (endsAt d at .one) || isOutside n (endsAt d at .two)) ≡ false → bondReply n d at ≡ read tt
+    pub bond-inside : (isOutside n (endsOfLine d at .one) || isOutside n (endsOfLine d at .two)) ≡ false → bondReply n d at ≡ read tt
     unfolding bondReply
     bond-inside f = rw (e, f)
 
   -- the ends of a bond line that is read are atoms
-  pub bond-within : bondReply n d at ≡ read tt → Within n (endsAt d at .one) × Within n (endsAt d at .two)
+  pub bond-within : bondReply n d at ≡ read tt → Within n (endsOfLine d at .one) × Within n (endsOfLine d at .two)
   unfolding bondReply
   bond-within e =
-      let one = isOutside n (endsAt d at .one) in
-      let two = isOutside n (endsAt d at .two) in
+      let one = isOutside n (endsOfLine d at .one) in
+      let two = isOutside n (endsOfLine d at .two) in
       let (u, a, b) = then-read (numbersReply d at) (λ _. refuseIf (one || two) 27 at) e in
       let f = neither one two (if-read (one || two) 27 at b) in
-      (inside n (endsAt d at .one) (f .0), inside n (endsAt d at .two) (f .1))
+      (inside n (endsOfLine d at .one) (f .0), inside n (endsOfLine d at .two) (f .1))
 
-pub bond-is : (d : List ℕ) (k : ℕ) → bondAt d k ≡ endsAt d (bondPlace d k)
-unfolding bondAt
+pub bond-is : (d : List ℕ) (k : ℕ) → bondOfLine d k ≡ endsOfLine d (bondLinePlace d k)
+unfolding bondOfLine
 bond-is d k = refl

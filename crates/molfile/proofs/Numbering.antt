@@ -4,15 +4,15 @@ use mathlib.Core.Bool.{Bool, true, false, not, cond}
 use mathlib.Core.Path.{_≡_, refl, sym, _∙_, ap}
 use native.Mathlib.Omega.{arith}
 use native.Mathlib.Numerals.{add-one}
-use Rattle.molfile.specs.Molfile.{count, isKept, newNumber}
+use Rattle.molfile.specs.Molfile.{passingBelow, isKept, newNumber}
 
 module _ (dropped : ℕ → Bool) where
   pub number-none : 0 ≡ newNumber dropped 0
-  unfolding count
+  unfolding passingBelow
   number-none = refl
 
   pub number-suc : (i : ℕ) → newNumber dropped (suc i) ≡ newNumber dropped i + cond (dropped (suc i)) 0 1
-  unfolding count
+  unfolding passingBelow
   number-suc i = ap (λ n. newNumber dropped i + n) (go (dropped (suc i)))
     where
       go : (t : Bool) → _≡_ {A = ℕ} (cond (not t) 1 0) (cond t 0 1)
@@ -23,7 +23,7 @@ module _ (dropped : ℕ → Bool) where
   number-more i = rw (add-one i) (number-suc i)
 
   pub number-few : (i : ℕ) → newNumber dropped i ≤ i
-  unfolding count
+  unfolding passingBelow
   number-few zero = omega arith
   number-few (suc i) = go (isKept dropped i) (number-few i)
     where

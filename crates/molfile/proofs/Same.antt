@@ -10,32 +10,32 @@ use lib.Dec.{eqb}
 use lib.ListN.{length, getD}
 use Rattle.graph.specs.Graph.{Bond, bond, Within}
 use Rattle.block.specs.Block.{mostAtoms}
-use Rattle.molfile.specs.Molfile.{count, names, other, namesToH, bondsOn, hydrogensOn, isDropped, isKept, newNumber, keptBytes}
-use Rattle.molfile.specs.Work.{most, markOf, entryOf, heft, share, sum, weight, bondBy, droppedBy, numberBy, keptBy, Inside, Weighed, Numbered, Small, Given, Keeps}
+use Rattle.molfile.specs.Molfile.{passingBelow, names, other, namesToH, bondLinesOn, hydrogensOn, isDropped, isKept, newNumber, keptBytes}
+use Rattle.molfile.specs.Work.{most, markOf, entryOf, heft, share, sum, weight, bondBy, droppedBy, numberBy, keptBy, EndsInside, Weighed, Numbered, SmallEnds, MarksGiven, KeepsBonds}
 use Rattle.molfile.proofs.Numbering.{number-suc, number-few}
 
 -- counting
-count-same : (n : ℕ) (s t : ℕ → Bool) → ((j : ℕ) → j < n → s j ≡ t j) → count n s ≡ count n t
-unfolding count
+count-same : (n : ℕ) (s t : ℕ → Bool) → ((j : ℕ) → j < n → s j ≡ t j) → passingBelow n s ≡ passingBelow n t
+unfolding passingBelow
 count-same zero s t e = refl
 count-same (suc n) s t e = rw (count-same n s t (λ j h. e j (omega arith)), e n (omega arith))
 
-count-up : (n i : ℕ) (t : ℕ → Bool) → i ≤ n → count i t ≤ count n t
-unfolding count
+count-up : (n i : ℕ) (t : ℕ → Bool) → i ≤ n → passingBelow i t ≤ passingBelow n t
+unfolding passingBelow
 count-up zero i t h = let e : i ≡ 0 = omega arith in rw e (omega arith)
 count-up (suc n) i t h = go (ℕ-discrete i (suc n)) (count-up n i t)
   where
-    go : Dec (i ≡ suc n) → (i ≤ n → count i t ≤ count n t) → count i t ≤ count n t + cond (t n) 1 0
+    go : Dec (i ≡ suc n) → (i ≤ n → passingBelow i t ≤ passingBelow n t) → passingBelow i t ≤ passingBelow n t + cond (t n) 1 0
     go (yes p) ih = rw p (omega arith)
     go (no p) ih = omega (arith, ih (omega arith))
 
 -- of a weight: 1 means one bond, and none to a hydrogen
-fewer : (m : ℕ) (f : ℕ → Bond) (h : ℕ → Bool) (i : ℕ) → hydrogensOn h f m i ≤ bondsOn f m i
-unfolding count
+fewer : (m : ℕ) (f : ℕ → Bond) (h : ℕ → Bool) (i : ℕ) → hydrogensOn h f m i ≤ bondLinesOn f m i
+unfolding passingBelow
 fewer zero f h i = omega arith
 fewer (suc k) f h i = go (names f i k) (h (other (f k) i)) (fewer k f h i)
   where
-    go : (s t : Bool) → hydrogensOn h f k i ≤ bondsOn f k i → hydrogensOn h f k i + cond (s && t) 1 0 ≤ bondsOn f k i + cond s 1 0
+    go : (s t : Bool) → hydrogensOn h f k i ≤ bondLinesOn f k i → hydrogensOn h f k i + cond (s && t) 1 0 ≤ bondLinesOn f k i + cond s 1 0
     go true true l = omega arith
     go true false l = omega arith
     go false t l = omega arith
@@ -60,7 +60,7 @@ and-three : (a b c : Bool) → (a && (b && c)) ≡ (a && b && c)
 and-three true b c = refl
 and-three false b c = refl
 
-module _ (h : ℕ → Bool) (f : ℕ → Bond) (n m : ℕ) (marks ones twos : List ℕ) (given : Given h f n m marks ones twos) where
+module _ (h : ℕ → Bool) (f : ℕ → Bond) (n m : ℕ) (marks ones twos : List ℕ) (given : MarksGiven h f n m marks ones twos) where
   entry-heft : (v : ℕ) → Within n v → heft (entryOf marks v) ≡ 1 + cond (h v) 1 0
   entry-heft zero w = absurd (omega arith)
   entry-heft (suc j) w = rw (given .mark j (omega arith)) (heft-is (h (suc j)))
@@ -76,8 +76,8 @@ module _ (h : ℕ → Bool) (f : ℕ → Bond) (n m : ℕ) (marks ones twos : Li
       go false true p q = p
       go false false p q = refl
 
-  weight-is : (i k : ℕ) → k ≤ m → weight marks (bondBy ones twos) k i ≡ bondsOn f k i + hydrogensOn h f k i
-  unfolding sum count
+  weight-is : (i k : ℕ) → k ≤ m → weight marks (bondBy ones twos) k i ≡ bondLinesOn f k i + hydrogensOn h f k i
+  unfolding sum passingBelow
   weight-is i zero l = refl
   weight-is i (suc k) l = omega (arith, weight-is i k (omega arith), share-is i k (omega arith))
 
@@ -88,8 +88,8 @@ module _ (h : ℕ → Bool) (f : ℕ → Bond) (n m : ℕ) (marks ones twos : Li
     dropped-is : (i : ℕ) → i < n → droppedBy marks weights (suc i) ≡ isDropped h f m (suc i)
     unfolding isDropped
     dropped-is i l =
-        rw (given .mark i l, weighed .at i (omega arith) ∙ weight-is (suc i) m (omega arith), mark-is (h (suc i)), just-one (bondsOn f m (suc i)) (hydrogensOn h f m (suc i)) (fewer m f h (suc i)))
-        (and-three (h (suc i)) (eqb (bondsOn f m (suc i)) 1) (eqb (hydrogensOn h f m (suc i)) 0))
+        rw (given .mark i l, weighed .at i (omega arith) ∙ weight-is (suc i) m (omega arith), mark-is (h (suc i)), just-one (bondLinesOn f m (suc i)) (hydrogensOn h f m (suc i)) (fewer m f h (suc i)))
+        (and-three (h (suc i)) (eqb (bondLinesOn f m (suc i)) 1) (eqb (hydrogensOn h f m (suc i)) 0))
 
     pub number-is : (i : ℕ) → i ≤ n → newNumber (droppedBy marks weights) i ≡ newNumber (isDropped h f m) i
     number-is i l = count-same i (isKept (droppedBy marks weights)) (isKept (isDropped h f m)) (λ j k. ap not (dropped-is j (omega arith)))
@@ -130,7 +130,7 @@ number-small dropped n i l = go (dropped (suc i)) (count-up n (suc i) (isKept dr
     go true h = omega arith
     go false h = h
 
-pub small : (dropped : ℕ → Bool) (n m : ℕ) (ones twos numbers : List ℕ) (r : ℕ) → Numbered dropped n numbers r → r ≤ mostAtoms → Inside n m ones twos → Small m ones twos numbers
+pub small : (dropped : ℕ → Bool) (n m : ℕ) (ones twos numbers : List ℕ) (r : ℕ) → Numbered dropped n numbers r → r ≤ mostAtoms → EndsInside n m ones twos → SmallEnds m ones twos numbers
 small dropped n m ones twos numbers r e l w = record {
   one = λ k h. at (getD ones k 0) (w .one k h);
   two = λ k h. at (getD twos k 0) (w .two k h);
@@ -139,7 +139,7 @@ small dropped n m ones twos numbers r e l w = record {
     at : (v : ℕ) → Within n v → getD numbers (v - 1) 0 < 256
     at v b = omega (arith, e .at (v - 1) (omega arith), number-small dropped n (v - 1) (omega arith), e .count)
 
-pub inside-up : (n m : ℕ) (ones twos : List ℕ) → n ≤ most → Inside n m ones twos → Inside most m ones twos
+pub inside-up : (n m : ℕ) (ones twos : List ℕ) → n ≤ most → EndsInside n m ones twos → EndsInside most m ones twos
 inside-up n m ones twos l w = record { one = λ k h. up (getD ones k 0) (w .one k h); two = λ k h. up (getD twos k 0) (w .two k h) }
   where
     up : (v : ℕ) → Within n v → Within most v

@@ -7,7 +7,7 @@ use Rattle.graph.specs.Graph.{joins, anyJoins, bonded, anyAtom, reaches, firstF
 use Rattle.reply.specs.Read.{Read, refused, read, refusal}
 use Rattle.block.specs.Block.{bondsOf, bondFault, bondsReply, blockReply}
 use Rattle.text.specs.Text.{ascii, feed, allDigits, isNumber, valueFrom, numberOf, untilFeed, lineEnd, hasCarriage, lineChars, nextLine, laterLine, startsWith, lineStarts}
-use Rattle.molfile.specs.Molfile.{bondAt, hydrogenIn, symbolAt, oneH, hydrogenAt, inTurn, lineReply, numbersReply, bondReply, endReply, linesReply, count, isDropped, keptBytes, atomsOf, bytesOf, molfileReply}
+use Rattle.molfile.specs.Molfile.{bondOfLine, hydrogenIn, symbolAt, oneH, hydrogenAt, inTurn, lineReply, numbersReply, bondReply, endLineReply, linesReply, passingBelow, isDropped, keptBytes, keptAtoms, bytesOf, molfileReply}
 
 -- what is told of a file: its refusal, or its atoms and the bytes of its bonds
 pub data Told : Type 0 where
@@ -16,10 +16,10 @@ pub data Told : Type 0 where
 
 says : List ℕ → Read (Unit {0}) → Told
 says d (refused r) = no (r .number) (r .place)
-says d (read u) = yes (atomsOf d) (bytesOf d)
+says d (read u) = yes (keptAtoms d) (bytesOf d)
 
 unfoldable pub told : List ℕ → Told
-unfolding says joins anyJoins bonded anyAtom reaches firstFrom distance allAtoms connected degree bondsOf bondFault bondsReply blockReply allDigits isNumber valueFrom numberOf untilFeed lineEnd hasCarriage lineChars nextLine laterLine startsWith lineStarts bondAt hydrogenIn symbolAt oneH hydrogenAt inTurn lineReply numbersReply bondReply endReply linesReply count isDropped keptBytes molfileReply
+unfolding says joins anyJoins bonded anyAtom reaches firstFrom distance allAtoms connected degree bondsOf bondFault bondsReply blockReply allDigits isNumber valueFrom numberOf untilFeed lineEnd hasCarriage lineChars nextLine laterLine startsWith lineStarts bondOfLine hydrogenIn symbolAt oneH hydrogenAt inTurn lineReply numbersReply bondReply endLineReply linesReply passingBelow isDropped keptBytes molfileReply
 told d = says d (molfileReply d 128)
 
 atom : List ℕ → List ℕ

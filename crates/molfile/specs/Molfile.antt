@@ -7,38 +7,38 @@ use lib.ListN.{length, drop}
 use Rattle.graph.specs.Graph.{Bond, bond}
 use Rattle.reply.specs.Read.{Read, refused, read, _then_, refuseIf, isOutside}
 use Rattle.block.specs.Block.{blockReply}
-use Rattle.text.specs.Text.{ascii, blank, isBlank, byteAt, isNumber, numberOf, threeAt, lineChars, laterLine, lineStarts}
+use Rattle.text.specs.Text.{ascii, blank, isBlank, characterAt, isNumber, numberOf, threeAt, lineChars, laterLine, lineStarts}
 
 -- THE LINES. Where they begin: three header lines, the counts, the atoms, the bonds, and those read over up to M  END. Atoms and bonds count from 0 here.
 abbrev pub countsPlace : List ℕ → ℕ
 countsPlace d = laterLine d 0 3
 
-abbrev pub atomPlace : List ℕ → ℕ → ℕ
-atomPlace d i = laterLine d 0 (4 + i)
+abbrev pub atomLinePlace : List ℕ → ℕ → ℕ
+atomLinePlace d i = laterLine d 0 (4 + i)
 
 -- the counts line begins with the number of atoms and the number of bonds
-abbrev pub atomCount : List ℕ → ℕ
-atomCount d = numberOf (threeAt d (countsPlace d))
+abbrev pub atomLineCount : List ℕ → ℕ
+atomLineCount d = numberOf (threeAt d (countsPlace d))
 
-abbrev pub bondCount : List ℕ → ℕ
-bondCount d = numberOf (threeAt d (countsPlace d + 3))
+abbrev pub bondLineCount : List ℕ → ℕ
+bondLineCount d = numberOf (threeAt d (countsPlace d + 3))
 
-abbrev pub bondPlace : List ℕ → ℕ → ℕ
-bondPlace d k = laterLine d (atomPlace d (atomCount d)) k
+abbrev pub bondLinePlace : List ℕ → ℕ → ℕ
+bondLinePlace d k = laterLine d (atomLinePlace d (atomLineCount d)) k
 
 abbrev pub restPlace : List ℕ → ℕ
-restPlace d = bondPlace d (bondCount d)
+restPlace d = bondLinePlace d (bondLineCount d)
 
 -- a bond line begins with its two ends
-abbrev pub endsAt : List ℕ → ℕ → Bond
-endsAt d at = bond (numberOf (threeAt d at)) (numberOf (threeAt d (at + 3)))
+abbrev pub endsOfLine : List ℕ → ℕ → Bond
+endsOfLine d at = bond (numberOf (threeAt d at)) (numberOf (threeAt d (at + 3)))
 
-unfoldable pub bondAt : List ℕ → ℕ → Bond
-bondAt d k = endsAt d (bondPlace d k)
+unfoldable pub bondOfLine : List ℕ → ℕ → Bond
+bondOfLine d k = endsOfLine d (bondLinePlace d k)
 
 -- the characters 32 to 34 of an atom line are its symbol; past the line's end they are blank
 unfoldable pub symbolAt : List ℕ → ℕ → ℕ → ℕ
-symbolAt d at k = cond (ltb (31 + k) (lineChars d at)) (byteAt d (at + 31 + k)) blank
+symbolAt d at k = cond (ltb (31 + k) (lineChars d at)) (characterAt d (at + 31 + k)) blank
 
 -- one H, otherwise blanks
 abbrev pub isH : ℕ → Bool
@@ -70,7 +70,7 @@ numbersReply d at =
 
 -- two numbers that are not both atoms of the list
 abbrev pub endsReply : ℕ → List ℕ → ℕ → Read (Unit {0})
-endsReply n d at = refuseIf (isOutside n (endsAt d at .one) || isOutside n (endsAt d at .two)) 27 at
+endsReply n d at = refuseIf (isOutside n (endsOfLine d at .one) || isOutside n (endsOfLine d at .two)) 27 at
 
 -- a bond line
 unfoldable pub bondReply : ℕ → List ℕ → ℕ → Read (Unit {0})
@@ -80,32 +80,32 @@ bondReply n d at = numbersReply d at then λ _. endsReply n d at
 abbrev pub endWord : List ℕ
 endWord = ascii "M  END"
 
-unfoldable pub endReply : List ℕ → ℕ → Read (Unit {0})
-endReply d at = refuseIf (not (lineStarts endWord true (drop at d))) 25 (length d)
+unfoldable pub endLineReply : List ℕ → ℕ → Read (Unit {0})
+endLineReply d at = refuseIf (not (lineStarts endWord true (drop at d))) 25 (length d)
 
 -- the header line, the atom line and the bond line of a number from 0
 abbrev pub headerReply : List ℕ → ℕ → Read (Unit {0})
 headerReply d k = lineReply 0 d (laterLine d 0 k)
 
 abbrev pub atomReply : List ℕ → ℕ → Read (Unit {0})
-atomReply d i = lineReply 32 d (atomPlace d i)
+atomReply d i = lineReply 32 d (atomLinePlace d i)
 
 abbrev pub bondReplyOf : List ℕ → ℕ → Read (Unit {0})
-bondReplyOf d k = bondReply (atomCount d) d (bondPlace d k)
+bondReplyOf d k = bondReply (atomLineCount d) d (bondLinePlace d k)
 
 unfoldable pub linesReply : List ℕ → Read (Unit {0})
 linesReply d =
     inTurn 3 (headerReply d) then λ _.
     numbersReply d (countsPlace d) then λ _.
-    inTurn (atomCount d) (atomReply d) then λ _.
-    inTurn (bondCount d) (bondReplyOf d) then λ _.
-    endReply d (restPlace d)
+    inTurn (atomLineCount d) (atomReply d) then λ _.
+    inTurn (bondLineCount d) (bondReplyOf d) then λ _.
+    endLineReply d (restPlace d)
 
 -- THE HYDROGENS that are dropped: `h` says of an atom, from 1, whether it is a hydrogen, `f` gives the bonds, from 0, and there are m of them.
 -- how many numbers below k pass a test
-unfoldable pub count : ℕ → (ℕ → Bool) → ℕ
-count zero t = 0
-count (suc k) t = count k t + cond (t k) 1 0
+unfoldable pub passingBelow : ℕ → (ℕ → Bool) → ℕ
+passingBelow zero t = 0
+passingBelow (suc k) t = passingBelow k t + cond (t k) 1 0
 
 -- whether a bond names an atom, the atom at its other end, and whether that is a hydrogen
 abbrev pub names : (ℕ → Bond) → ℕ → ℕ → Bool
@@ -118,22 +118,22 @@ abbrev pub namesToH : (ℕ → Bool) → (ℕ → Bond) → ℕ → ℕ → Bool
 namesToH h f i k = names f i k && h (other (f k) i)
 
 -- how many bonds an atom has, and how many of these lead to a hydrogen
-abbrev pub bondsOn : (ℕ → Bond) → ℕ → ℕ → ℕ
-bondsOn f m i = count m (names f i)
+abbrev pub bondLinesOn : (ℕ → Bond) → ℕ → ℕ → ℕ
+bondLinesOn f m i = passingBelow m (names f i)
 
 abbrev pub hydrogensOn : (ℕ → Bool) → (ℕ → Bond) → ℕ → ℕ → ℕ
-hydrogensOn h f m i = count m (namesToH h f i)
+hydrogensOn h f m i = passingBelow m (namesToH h f i)
 
 -- a hydrogen with exactly one bond, to an atom that is none
 unfoldable pub isDropped : (ℕ → Bool) → (ℕ → Bond) → ℕ → ℕ → Bool
-isDropped h f m i = h i && eqb (bondsOn f m i) 1 && eqb (hydrogensOn h f m i) 0
+isDropped h f m i = h i && eqb (bondLinesOn f m i) 1 && eqb (hydrogensOn h f m i) 0
 
 -- the atoms that are kept are numbered anew in order: an atom's number is how many of the atoms up to it are kept
 abbrev pub isKept : (ℕ → Bool) → ℕ → Bool
 isKept dropped j = not (dropped (suc j))
 
 abbrev pub newNumber : (ℕ → Bool) → ℕ → ℕ
-newNumber dropped i = count i (isKept dropped)
+newNumber dropped i = passingBelow i (isKept dropped)
 
 -- the bonds between atoms that are kept, two bytes each
 unfoldable pub keptBytes : (ℕ → Bool) → (ℕ → Bond) → ℕ → List ℕ
@@ -145,20 +145,20 @@ keptBytes dropped f (suc k) =
 -- THE BLOCK of a file.
 unfoldable pub hydrogenIn : List ℕ → ℕ → Bool
 hydrogenIn d zero = false
-hydrogenIn d (suc i) = hydrogenAt d (atomPlace d i)
+hydrogenIn d (suc i) = hydrogenAt d (atomLinePlace d i)
 
 abbrev pub droppedIn : List ℕ → ℕ → Bool
-droppedIn d = isDropped (hydrogenIn d) (bondAt d) (bondCount d)
+droppedIn d = isDropped (hydrogenIn d) (bondOfLine d) (bondLineCount d)
 
-abbrev pub atomsOf : List ℕ → ℕ
-atomsOf d = newNumber (droppedIn d) (atomCount d)
+abbrev pub keptAtoms : List ℕ → ℕ
+keptAtoms d = newNumber (droppedIn d) (atomLineCount d)
 
 abbrev pub bytesOf : List ℕ → List ℕ
-bytesOf d = keptBytes (droppedIn d) (bondAt d) (bondCount d)
+bytesOf d = keptBytes (droppedIn d) (bondOfLine d) (bondLineCount d)
 
 -- the file's refusals, the block's over the kept bonds, then 9 where fewer bytes are lent than they take
 unfoldable pub molfileReply : List ℕ → ℕ → Read (Unit {0})
 molfileReply d room =
     linesReply d then λ _.
-    blockReply (atomsOf d) (bytesOf d) then λ _.
+    blockReply (keptAtoms d) (bytesOf d) then λ _.
     refuseIf (ltb room (length (bytesOf d))) 9 0

@@ -3,7 +3,7 @@ use Prim.Native.Nat.{ℕ, _/_}
 use mathlib.Core.List.{List, _++_}
 use lib.ListN.{length, drop}
 use Rattle.reply.specs.Read.{Read, refused, read}
-use Rattle.molfile.specs.Molfile.{atomsOf, bytesOf, molfileReply}
+use Rattle.molfile.specs.Molfile.{keptAtoms, bytesOf, molfileReply}
 use Rattle.molfile.specs.declared.MolRead.{MolRead}
 use Rattle.molfile.specs.declared.MolRead.the-variants.{Refused, Block}
 
@@ -13,12 +13,12 @@ saidAnswer n xs (refused r) = Refused r
 saidAnswer n xs (read u) = Block (record { atoms = n; bonds = length xs / 2 })
 
 abbrev pub saidMolfile : List ℕ → Read (Unit {0}) → MolRead
-saidMolfile d = saidAnswer (atomsOf d) (bytesOf d)
+saidMolfile d = saidAnswer (keptAtoms d) (bytesOf d)
 
 -- the lent bytes afterwards: the bytes of the kept bonds, and later ones as they were; a refusal changes none
-unfoldable pub filled : Read (Unit {0}) → List ℕ → List ℕ → List ℕ
-filled (refused r) xs out = out
-filled (read u) xs out = xs ++ drop (length xs) out
+unfoldable pub filledBonds : Read (Unit {0}) → List ℕ → List ℕ → List ℕ
+filledBonds (refused r) xs out = out
+filledBonds (read u) xs out = xs ++ drop (length xs) out
 
 abbrev pub molfileBytes : List ℕ → List ℕ → List ℕ
-molfileBytes d out = filled (molfileReply d (length out)) (bytesOf d) out
+molfileBytes d out = filledBonds (molfileReply d (length out)) (bytesOf d) out

@@ -11,7 +11,7 @@ use Rattle.block.specs.Block.{mostAtoms, blockReply}
 use Rattle.reply.specs.declared.Reply.{Reply}
 use Rattle.text.specs.Text.{nextLine}
 use Rattle.text.specs.Said.{lineAt}
-use Rattle.molfile.specs.Molfile.{countsPlace, atomPlace, bondPlace, restPlace, atomCount, bondCount, endsAt, bondAt, hydrogenAt, inTurn, lineReply, headerReply, numbersReply, atomReply, bondReplyOf, endReply, newNumber, keptBytes}
+use Rattle.molfile.specs.Molfile.{countsPlace, atomLinePlace, bondLinePlace, restPlace, atomLineCount, bondLineCount, endsOfLine, bondOfLine, hydrogenAt, inTurn, lineReply, headerReply, numbersReply, atomReply, bondReplyOf, endLineReply, newNumber, keptBytes}
 use Rattle.molfile.specs.declared.LineRead.{LineRead}
 use Rattle.molfile.specs.declared.LineRead.the-variants as line
 use Rattle.molfile.specs.declared.Walk.{Walk}
@@ -35,7 +35,7 @@ saidWalk at (read u) = walk.At at
 
 -- two numbers, and where the next line begins
 abbrev pub numbersAt : List ℕ → ℕ → Numbers
-numbersAt d at = record { one = endsAt d at .one; two = endsAt d at .two; next = nextLine d at }
+numbersAt d at = record { one = endsOfLine d at .one; two = endsOfLine d at .two; next = nextLine d at }
 
 abbrev pub saidNumbers : List ℕ → ℕ → Read (Unit {0}) → NumbersRead
 saidNumbers d at (refused r) = numbers.Refused r
@@ -48,48 +48,48 @@ countsReply d = inTurn 3 (headerReply d) then λ _. numbersReply d (countsPlace 
 -- the lines after it
 unfoldable pub listsReply : List ℕ → Read (Unit {0})
 listsReply d =
-    inTurn (atomCount d) (atomReply d) then λ _.
-    inTurn (bondCount d) (bondReplyOf d) then λ _.
-    endReply d (restPlace d)
+    inTurn (atomLineCount d) (atomReply d) then λ _.
+    inTurn (bondLineCount d) (bondReplyOf d) then λ _.
+    endLineReply d (restPlace d)
 
 -- those after the atoms
 unfoldable pub restReply : List ℕ → Read (Unit {0})
-restReply d = inTurn (bondCount d) (bondReplyOf d) then λ _. endReply d (restPlace d)
+restReply d = inTurn (bondLineCount d) (bondReplyOf d) then λ _. endLineReply d (restPlace d)
 
 -- the mark of an atom line: 1 for a hydrogen
 abbrev pub markOf : Bool → ℕ
 markOf h = cond h 1 0
 
 pub record Marks (d : List ℕ) (n : ℕ) (marks : List ℕ) : Type 0 where
-  pub at : (i : ℕ) → i < n → getD marks i 0 ≡ markOf (hydrogenAt d (atomPlace d i))
+  pub at : (i : ℕ) → i < n → getD marks i 0 ≡ markOf (hydrogenAt d (atomLinePlace d i))
 
 -- the ends of the bonds
 pub record Ends (d : List ℕ) (m : ℕ) (ones twos : List ℕ) : Type 0 where
-  pub one : (k : ℕ) → k < m → getD ones k 0 ≡ bondAt d k .one
-  pub two : (k : ℕ) → k < m → getD twos k 0 ≡ bondAt d k .two
+  pub one : (k : ℕ) → k < m → getD ones k 0 ≡ bondOfLine d k .one
+  pub two : (k : ℕ) → k < m → getD twos k 0 ≡ bondOfLine d k .two
 
 -- the atom lines: where they end, and the marks
 pub record AtomsRead (d : List ℕ) (n : ℕ) (before after : List ℕ) (r : Walk) : Type 0 where
-  pub reply : r ≡ saidWalk (atomPlace d n) (inTurn n (atomReply d))
+  pub reply : r ≡ saidWalk (atomLinePlace d n) (inTurn n (atomReply d))
   pub marks : inTurn n (atomReply d) ≡ read tt → Marks d n after
   pub same : length after ≡ length before
 
 pub record BondsRead (d : List ℕ) (m : ℕ) (ones twos ones′ twos′ : List ℕ) (r : Walk) : Type 0 where
-  pub reply : r ≡ saidWalk (bondPlace d m) (inTurn m (bondReplyOf d))
+  pub reply : r ≡ saidWalk (bondLinePlace d m) (inTurn m (bondReplyOf d))
   pub ends : inTurn m (bondReplyOf d) ≡ read tt → Ends d m ones′ twos′
   pub same-one : length ones′ ≡ length ones
   pub same-two : length twos′ ≡ length twos
 
 pub record RestRead (d ones twos ones′ twos′ : List ℕ) (r : Reply) : Type 0 where
   pub reply : r ≡ saidReply (restReply d)
-  pub ends : restReply d ≡ read tt → Ends d (bondCount d) ones′ twos′
+  pub ends : restReply d ≡ read tt → Ends d (bondLineCount d) ones′ twos′
   pub same-one : length ones′ ≡ length ones
   pub same-two : length twos′ ≡ length twos
 
 pub record ListsRead (d marks ones twos marks′ ones′ twos′ : List ℕ) (r : Reply) : Type 0 where
   pub reply : r ≡ saidReply (listsReply d)
-  pub marks-are : listsReply d ≡ read tt → Marks d (atomCount d) marks′
-  pub ends-are : listsReply d ≡ read tt → Ends d (bondCount d) ones′ twos′
+  pub marks-are : listsReply d ≡ read tt → Marks d (atomLineCount d) marks′
+  pub ends-are : listsReply d ≡ read tt → Ends d (bondLineCount d) ones′ twos′
   pub same-marks : length marks′ ≡ length marks
   pub same-one : length ones′ ≡ length ones
   pub same-two : length twos′ ≡ length twos
@@ -120,7 +120,7 @@ abbrev pub weight : List ℕ → (ℕ → Bond) → ℕ → ℕ → ℕ
 weight marks f m i = sum m (share marks f i)
 
 -- the ends are atoms of 1 to n
-pub record Inside (n m : ℕ) (ones twos : List ℕ) : Type 0 where
+pub record EndsInside (n m : ℕ) (ones twos : List ℕ) : Type 0 where
   pub one : (k : ℕ) → k < m → Within n (getD ones k 0)
   pub two : (k : ℕ) → k < m → Within n (getD twos k 0)
 
@@ -155,7 +155,7 @@ keptBy numbers f (suc k) =
     keptBy numbers f k ++ cond (eqb a 0 || eqb b 0) [] (a ∷ b ∷ [])
 
 -- the numbers of their ends are bytes
-pub record Small (m : ℕ) (ones twos numbers : List ℕ) : Type 0 where
+pub record SmallEnds (m : ℕ) (ones twos numbers : List ℕ) : Type 0 where
   pub one : (k : ℕ) → k < m → getD numbers (getD ones k 0 - 1) 0 < 256
   pub two : (k : ℕ) → k < m → getD numbers (getD twos k 0 - 1) 0 < 256
 
@@ -165,14 +165,14 @@ pub record Begins (buffer xs : List ℕ) (r : ℕ) : Type 0 where
   pub bytes : take r buffer ≡ xs
 
 -- what the lists say of hydrogens and bonds
-pub record Given (h : ℕ → Bool) (f : ℕ → Bond) (n m : ℕ) (marks ones twos : List ℕ) : Type 0 where
+pub record MarksGiven (h : ℕ → Bool) (f : ℕ → Bond) (n m : ℕ) (marks ones twos : List ℕ) : Type 0 where
   pub mark : (i : ℕ) → i < n → getD marks i 0 ≡ markOf (h (suc i))
   pub one : (k : ℕ) → k < m → getD ones k 0 ≡ f k .one
   pub two : (k : ℕ) → k < m → getD twos k 0 ≡ f k .two
   pub within : (k : ℕ) → k < m → Within n (f k .one) × Within n (f k .two)
 
 -- what is kept: so many atoms and, where a block may have so many, these bytes
-pub record Keeps (dropped : ℕ → Bool) (f : ℕ → Bond) (n m : ℕ) (buffer : List ℕ) (r : Kept) : Type 0 where
+pub record KeepsBonds (dropped : ℕ → Bool) (f : ℕ → Bond) (n m : ℕ) (buffer : List ℕ) (r : Kept) : Type 0 where
   pub atoms : r .atoms ≡ newNumber dropped n
   pub fits : r .bytes ≤ length buffer
   pub bytes : r .atoms ≤ mostAtoms → take (r .bytes) buffer ≡ keptBytes dropped f m

@@ -5,8 +5,8 @@ ghost use lib.ListN.{length};
 ghost use Rattle.reply.specs.Read.{read};
 ghost use Rattle.text.specs.Text.{threeAt, lineChars};
 ghost use Rattle.text.specs.Said.{saidNumber};
-ghost use Rattle.molfile.specs.Molfile.{countsPlace, atomPlace, bondPlace, atomCount, bondCount, symbolAt, isH, oneH, hydrogenAt, inTurn, lineReply, headerReply, numbersReply, bondReply, molfileReply};
-ghost use Rattle.molfile.specs.Said.{saidAnswer, saidMolfile, filled, molfileBytes};
+ghost use Rattle.molfile.specs.Molfile.{countsPlace, atomLinePlace, bondLinePlace, atomLineCount, bondLineCount, symbolAt, isH, oneH, hydrogenAt, inTurn, lineReply, headerReply, numbersReply, bondReply, molfileReply};
+ghost use Rattle.molfile.specs.Said.{saidAnswer, saidMolfile, filledBonds, molfileBytes};
 ghost use Rattle.molfile.specs.Work.{most, markOf, saidLine, saidWalk, numbersAt, saidNumbers, countsReply, answerReply, AtomsRead, BondsRead, RestRead, ListsRead};
 use reply::Refusal;
 use reply::Reply;
@@ -210,7 +210,7 @@ fn mark(d: &[u8], at: usize, chars: usize) -> u8
 
 // The atom lines from a place on, and their marks.
 fn atoms(d: &[u8], from: usize, n: usize, marks: &mut [u8]) -> Walk
-    requires { ⌜ (from ≡ atomPlace (now d) 0) × (n ≤ length (now marks)) ⌝ }
+    requires { ⌜ (from ≡ atomLinePlace (now d) 0) × (n ≤ length (now marks)) ⌝ }
     ensures { λ r. ⌜ AtomsRead (now (d .entry)) n (now (marks .entry)) (now (marks .exit)) r ⌝ }
 {
     let mut at = from;
@@ -258,7 +258,7 @@ fn bond_line(d: &[u8], at: usize, n: usize) -> NumbersRead
 
 // The bond lines from a place on, and their ends.
 fn bonds(d: &[u8], from: usize, n: usize, m: usize, ones: &mut [u16], twos: &mut [u16]) -> Walk
-    requires { ⌜ (from ≡ bondPlace (now d) 0) × (n ≡ atomCount (now d)) × (n ≤ most) × (m ≤ length (now ones)) × (m ≤ length (now twos)) ⌝ }
+    requires { ⌜ (from ≡ bondLinePlace (now d) 0) × (n ≡ atomLineCount (now d)) × (n ≤ most) × (m ≤ length (now ones)) × (m ≤ length (now twos)) ⌝ }
     ensures { λ r. ⌜ BondsRead (now (d .entry)) m (now (ones .entry)) (now (twos .entry)) (now (ones .exit)) (now (twos .exit)) r ⌝ }
 {
     let mut at = from;
@@ -282,7 +282,7 @@ fn bonds(d: &[u8], from: usize, n: usize, m: usize, ones: &mut [u16], twos: &mut
 
 // The bond lines from a place on and their ends, and M  END: 25 to 27.
 fn rest(d: &[u8], from: usize, n: usize, m: usize, ones: &mut [u16], twos: &mut [u16]) -> Reply
-    requires { ⌜ (from ≡ bondPlace (now d) 0) × (n ≡ atomCount (now d)) × (n ≤ most) × (m ≤ length (now ones)) × (m ≤ length (now twos)) × (m ≡ bondCount (now d)) ⌝ }
+    requires { ⌜ (from ≡ bondLinePlace (now d) 0) × (n ≡ atomLineCount (now d)) × (n ≤ most) × (m ≤ length (now ones)) × (m ≤ length (now twos)) × (m ≡ bondLineCount (now d)) ⌝ }
     ensures { λ r. ⌜ RestRead (now (d .entry)) (now (ones .entry)) (now (twos .entry)) (now (ones .exit)) (now (twos .exit)) r ⌝ }
 {
     let passed = bonds(d, from, n, m, ones, twos);
@@ -315,7 +315,7 @@ fn lists(d: &[u8], x: Numbers, marks: &mut [u8], ones: &mut [u16], twos: &mut [u
 // The answer for a block: its refusals, 9 for a lent output too short, or its bytes.
 fn answer(n: usize, xs: &[u8], out: &mut [u8]) -> MolRead
     ensures reply { λ r. ⌜ r ≡ saidAnswer n (now (xs .entry)) (answerReply n (now (xs .entry)) (length (now (out .entry)))) ⌝ }
-    ensures bytes { λ _. ⌜ now (out .exit) ≡ filled (answerReply n (now (xs .entry)) (length (now (out .entry)))) (now (xs .entry)) (now (out .entry)) ⌝ }
+    ensures bytes { λ _. ⌜ now (out .exit) ≡ filledBonds (answerReply n (now (xs .entry)) (length (now (out .entry)))) (now (xs .entry)) (now (out .entry)) ⌝ }
 {
     let reply = block::check(n, xs);
     match reply {

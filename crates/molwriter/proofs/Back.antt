@@ -15,13 +15,13 @@ use Rattle.reply.specs.Chain.{then-read, for-read, neither}
 use Rattle.block.specs.Faults.{faultless}
 use Rattle.block.specs.Block.{mostBytes, bondsOf, bondFault, bondsReply, blockReply}
 use Rattle.block.specs.Told.{passed, few-atoms}
-use Rattle.text.specs.Text.{ascii, three, blank, isBlank, byteAt, isNumber, numberOf, threeAt, lineChars, laterLine, startsWith, lineStarts}
-use Rattle.molfile.specs.Molfile.{countsPlace, atomPlace, atomCount, bondCount, bondPlace, restPlace, endsAt, bondAt, symbolAt, isH, oneH, hydrogenAt, inTurn, lineReply, numbersReply, bondReply, endWord, endReply, headerReply, atomReply, bondReplyOf, linesReply, hydrogenIn, count, isDropped, newNumber, keptBytes, atomsOf, bytesOf, molfileReply}
+use Rattle.text.specs.Text.{ascii, three, blank, isBlank, characterAt, isNumber, numberOf, threeAt, lineChars, laterLine, startsWith, lineStarts}
+use Rattle.molfile.specs.Molfile.{countsPlace, atomLinePlace, atomLineCount, bondLineCount, bondLinePlace, restPlace, endsOfLine, bondOfLine, symbolAt, isH, oneH, hydrogenAt, inTurn, lineReply, numbersReply, bondReply, endWord, endLineReply, headerReply, atomReply, bondReplyOf, linesReply, hydrogenIn, passingBelow, isDropped, newNumber, keptBytes, keptAtoms, bytesOf, molfileReply}
 use Rattle.molfile.proofs.Turns.{turn-none, turn-more}
 use Rattle.molfile.proofs.Lines.{line-long, numbers-both, bond-inside, bond-is}
 use Rattle.molfile.proofs.Symbols.{h-none}
 use Rattle.text.proofs.Written.{three-back}
-use Rattle.molwriter.specs.Written.{countsLine, atomLine, bondLine, endLine, molfileLines, unlines, molfileText, writeReply, writtenBytes}
+use Rattle.molwriter.specs.Written.{countsLine, atomLine, bondLine, endLine, molfileLines, unlines, molfileText, molfileWriteReply, writtenBytes}
 use Rattle.molwriter.specs.Length.{half-length, few-bytes}
 use Rattle.molwriter.proofs.Replies.{fills}
 use Rattle.molwriter.proofs.Unlines.{LineOf, line-later, rest-later, later-later}
@@ -66,24 +66,24 @@ module _ (n : ℕ) (bs : List Bond) (ln : n < 1000) (lm : length bs < 1000) wher
   unfolding molfileLines countsLine
   counts-line = line-k 3 (omega arith)
 
-  pub atoms-are : atomCount d ≡ n
+  pub atoms-are : atomLineCount d ≡ n
   atoms-are = number-one d (countsPlace d) n (length bs) (ascii "  0  0  0  0  0  0  0  0999 V2000") counts-line ln lm
 
-  pub bonds-are : bondCount d ≡ length bs
+  pub bonds-are : bondLineCount d ≡ length bs
   bonds-are = number-two d (countsPlace d) n (length bs) (ascii "  0  0  0  0  0  0  0  0999 V2000") counts-line ln lm
 
   header-fine : inTurn 3 (headerReply d) ≡ read tt
   header-fine = all-turns (headerReply d) 3 (λ k h. line-long 0 d (laterLine d 0 k) (line-k k (omega arith) .there) (omega arith))
 
-  atom-line : (i : ℕ) → i < n → LineOf d (atomPlace d i) atomLine
+  atom-line : (i : ℕ) → i < n → LineOf d (atomLinePlace d i) atomLine
   atom-line i h = rw (lines-atom n i bs h) at (line-k (4 + i) (omega arith))
 
   atom-long : (at : ℕ) → LineOf d at atomLine → lineChars d at ≡ 69
   unfolding atomLine
   atom-long at l = l .chars
 
-  atoms-fine : inTurn (atomCount d) (atomReply d) ≡ read tt
-  atoms-fine = rw atoms-are (all-turns (atomReply d) n (λ i h. let l = atom-line i h in line-long 32 d (atomPlace d i) (l .there) (omega (arith, atom-long (atomPlace d i) l))))
+  atoms-fine : inTurn (atomLineCount d) (atomReply d) ≡ read tt
+  atoms-fine = rw atoms-are (all-turns (atomReply d) n (λ i h. let l = atom-line i h in line-long 32 d (atomLinePlace d i) (l .there) (omega (arith, atom-long (atomLinePlace d i) l))))
 
   carbon : (at : ℕ) → LineOf d at atomLine → symbolAt d at 0 ≡ 67
   unfolding symbolAt atomLine
@@ -91,46 +91,46 @@ module _ (n : ℕ) (bs : List Bond) (ln : n < 1000) (lm : length bs < 1000) wher
       let e : at + 31 + 0 ≡ at + 31 = omega arith in
       rw (atom-long at l, e) (l .bytes 31 (omega arith))
 
-  pub no-hydrogen : (i : ℕ) → i < n → hydrogenAt d (atomPlace d i) ≡ false
+  pub no-hydrogen : (i : ℕ) → i < n → hydrogenAt d (atomLinePlace d i) ≡ false
   unfolding hydrogenAt
   no-hydrogen i h =
-      let at = atomPlace d i in
+      let at = atomLinePlace d i in
       rw (carbon at (atom-line i h)) (h-none 67 (symbolAt d at 1) (symbolAt d at 2) refl refl)
 
-  bond-begins : (k : ℕ) → bondPlace d k ≡ laterLine d 0 (4 + n + k)
+  bond-begins : (k : ℕ) → bondLinePlace d k ≡ laterLine d 0 (4 + n + k)
   bond-begins k = rw atoms-are (later-later d 0 (4 + n) k)
 
-  bond-line : (k : ℕ) → k < length bs → LineOf d (bondPlace d k) (three (getD bs k no-bond .one) ++ (three (getD bs k no-bond .two) ++ (ascii "  1  0  0  0  0")))
+  bond-line : (k : ℕ) → k < length bs → LineOf d (bondLinePlace d k) (three (getD bs k no-bond .one) ++ (three (getD bs k no-bond .two) ++ (ascii "  1  0  0  0  0")))
   unfolding bondLine
   bond-line k h = rw (bond-begins k) (rw (lines-bond n k bs h) at (line-k (4 + n + k) (omega arith)))
 
   module _ (within : (k : ℕ) → k < length bs → Within n (getD bs k no-bond .one) × Within n (getD bs k no-bond .two)) where
-    pub bond-here : (k : ℕ) → k < length bs → bondAt d k ≡ getD bs k no-bond
+    pub bond-here : (k : ℕ) → k < length bs → bondOfLine d k ≡ getD bs k no-bond
     bond-here k h =
         let w = within k h in
         let b = getD bs k no-bond in
-        let p = bondPlace d k in
+        let p = bondLinePlace d k in
         bond-is d k ∙ rw (number-one d p (b .one) (b .two) (ascii "  1  0  0  0  0") (bond-line k h) (omega arith) (omega arith), number-two d p (b .one) (b .two) (ascii "  1  0  0  0  0") (bond-line k h) (omega arith) (omega arith))
 
-    bonds-fine : inTurn (bondCount d) (bondReplyOf d) ≡ read tt
+    bonds-fine : inTurn (bondLineCount d) (bondReplyOf d) ≡ read tt
     bonds-fine = rw bonds-are (all-turns (bondReplyOf d) (length bs) (λ k h. one k h (within k h) (bond-here k h)))
       where
-        one : (k : ℕ) → k < length bs → Within n (getD bs k no-bond .one) × Within n (getD bs k no-bond .two) → bondAt d k ≡ getD bs k no-bond → bondReplyOf d k ≡ read tt
+        one : (k : ℕ) → k < length bs → Within n (getD bs k no-bond .one) × Within n (getD bs k no-bond .two) → bondOfLine d k ≡ getD bs k no-bond → bondReplyOf d k ≡ read tt
         one k h w e =
             let b = getD bs k no-bond in
-            let p = bondPlace d k in
+            let p = bondLinePlace d k in
             let f = sym (bond-is d k) ∙ e in
-            let o = neither-out (atomCount d) n (endsAt d p) b atoms-are f (w .0) (w .1) in
-            bond-inside (atomCount d) d p (two-numbers d p (b .one) (b .two) (ascii "  1  0  0  0  0") (bond-line k h) (omega arith) (omega arith)) o
+            let o = neither-out (atomLineCount d) n (endsOfLine d p) b atoms-are f (w .0) (w .1) in
+            bond-inside (atomLineCount d) d p (two-numbers d p (b .one) (b .two) (ascii "  1  0  0  0  0") (bond-line k h) (omega arith) (omega arith)) o
 
     rest-is : drop (restPlace d) d ≡ unlines (endLine ∷ [])
     rest-is =
-        ap (λ (p : ℕ). drop p d) (ap (bondPlace d) bonds-are ∙ bond-begins (length bs))
+        ap (λ (p : ℕ). drop p d) (ap (bondLinePlace d) bonds-are ∙ bond-begins (length bs))
         ∙ rest-later (molfileLines n bs) (4 + n + length bs) (lines-plain n bs) (omega (arith, lines-count n bs))
         ∙ ap unlines (lines-rest n bs)
 
-    end-fine : endReply d (restPlace d) ≡ read tt
-    unfolding endReply lineStarts startsWith unlines endLine
+    end-fine : endLineReply d (restPlace d) ≡ read tt
+    unfolding endLineReply lineStarts startsWith unlines endLine
     end-fine = rw rest-is
 
     pub lines-fine : linesReply d ≡ read tt
@@ -169,7 +169,7 @@ module _ (h : ℕ → Bool) (f : ℕ → Bond) (n m : ℕ) (none : (i : ℕ) →
   none-dropped i l = rw (none i l)
 
   same-number : (i : ℕ) → i ≤ n → newNumber (isDropped h f m) i ≡ i
-  unfolding count
+  unfolding passingBelow
   same-number zero l = refl
   same-number (suc i) l = rw (none-dropped i l, same-number i (omega arith)) (omega arith)
 
@@ -208,24 +208,24 @@ module _ (n : ℕ) (xs : List ℕ) (fine : blockReply n xs ≡ read tt) where
   unfolding hydrogenIn
   no-h i h = no-hydrogen n (bondsOf xs) (few .0) (few .1) i h
 
-  here : (k : ℕ) → k < length (bondsOf xs) → (bondAt lines k ≡ bond (getD xs (2 * k) 0) (getD xs (2 * k + 1) 0)) × Within n (bondAt lines k .one) × Within n (bondAt lines k .two)
+  here : (k : ℕ) → k < length (bondsOf xs) → (bondOfLine lines k ≡ bond (getD xs (2 * k) 0) (getD xs (2 * k + 1) 0)) × Within n (bondOfLine lines k .one) × Within n (bondOfLine lines k .two)
   here k h =
       let e = bond-here n (bondsOf xs) (few .0) (few .1) within k h in
       let w = within k h in
       (e ∙ bond-bytes xs k (omega (arith, few .2)), rw e (w .0), rw e (w .1))
 
-  lines-atoms : atomsOf lines ≡ n
-  lines-atoms = rw (atoms-are n (bondsOf xs) (few .0) (few .1)) (same-number (hydrogenIn lines) (bondAt lines) n (bondCount lines) no-h n (omega arith))
+  lines-atoms : keptAtoms lines ≡ n
+  lines-atoms = rw (atoms-are n (bondsOf xs) (few .0) (few .1)) (same-number (hydrogenIn lines) (bondOfLine lines) n (bondLineCount lines) no-h n (omega arith))
 
   lines-bytes : bytesOf lines ≡ xs
   lines-bytes =
       rw (bonds-are n (bondsOf xs) (few .0) (few .1))
-      (same-bytes (hydrogenIn lines) (bondAt lines) n (length (bondsOf xs)) no-h xs here (omega (arith, few .2)) (length (bondsOf xs)) (omega arith)
+      (same-bytes (hydrogenIn lines) (bondOfLine lines) n (length (bondsOf xs)) no-h xs here (omega (arith, few .2)) (length (bondsOf xs)) (omega arith)
       ∙ take-all (2 * length (bondsOf xs)) xs (omega (arith, few .2)))
 
 -- what is written for a block that is not refused reads back as the same atoms and the same bytes, and is refused only where too few bytes are lent
 pub record ReadsBack (n : ℕ) (xs : List ℕ) (room : ℕ) (text : List ℕ) : Type 0 where
-  pub atoms : atomsOf text ≡ n
+  pub atoms : keptAtoms text ≡ n
   pub bytes : bytesOf text ≡ xs
   pub reply : molfileReply text room ≡ refuseIf (ltb room (length xs)) 9 0
 
@@ -239,8 +239,8 @@ reads-back n xs room fine =
     record { atoms = a; bytes = b; reply = rw (l, a, b, fine) }
 
 -- what `write` answers with a count: the block is fine, and that many bytes of the output are its text
-wrote : (n : ℕ) (xs out : List ℕ) (k : ℕ) → writeReply n xs (length out) ≡ read k → (blockReply n xs ≡ read tt) × (take k (writtenBytes n xs out) ≡ molfileText n (bondsOf xs))
-unfolding writeReply
+wrote : (n : ℕ) (xs out : List ℕ) (k : ℕ) → molfileWriteReply n xs (length out) ≡ read k → (blockReply n xs ≡ read tt) × (take k (writtenBytes n xs out) ≡ molfileText n (bondsOf xs))
+unfolding molfileWriteReply
 wrote n xs out k e =
     let text = molfileText n (bondsOf xs) in
     let (u, f, g) = then-read (blockReply n xs) (λ _. refuseIf (ltb (length out) (length text)) 9 0 then λ _. read (length text)) e in
@@ -249,5 +249,5 @@ wrote n xs out k e =
     (f, ap (take k) (fills text out e) ∙ rw (← l) (take-append-seam text (drop (length text) out)))
 
 -- so these bytes read back as the same block
-pub round-trip : (n : ℕ) (xs out : List ℕ) (k room : ℕ) → writeReply n xs (length out) ≡ read k → ReadsBack n xs room (take k (writtenBytes n xs out))
+pub round-trip : (n : ℕ) (xs out : List ℕ) (k room : ℕ) → molfileWriteReply n xs (length out) ≡ read k → ReadsBack n xs room (take k (writtenBytes n xs out))
 round-trip n xs out k room e = let w = wrote n xs out k e in rw (w .1) (reads-back n xs room (w .0))

@@ -8,25 +8,25 @@ use lib.ListN.{length, drop}
 use Rattle.reply.specs.Read.{Read, refused, read, refusal}
 use Rattle.block.specs.Block.{bondsOf, blockReply}
 use Rattle.reply.specs.declared.Refusal.{Refusal}
-use Rattle.molwriter.specs.Written.{molfileText, writeReply, written}
+use Rattle.molwriter.specs.Written.{molfileText, molfileWriteReply, filledText}
 
 module _ (n : ℕ) (xs : List ℕ) (room : ℕ) where
-  pub write-refused : (r : Refusal) → blockReply n xs ≡ refused r → writeReply n xs room ≡ refused r
-  unfolding writeReply
+  pub write-refused : (r : Refusal) → blockReply n xs ≡ refused r → molfileWriteReply n xs room ≡ refused r
+  unfolding molfileWriteReply
   write-refused r e = rw e
 
-  pub write-short : blockReply n xs ≡ read tt → room < length (molfileText n (bondsOf xs)) → writeReply n xs room ≡ refused (refusal 9 0)
-  unfolding writeReply
+  pub write-short : blockReply n xs ≡ read tt → room < length (molfileText n (bondsOf xs)) → molfileWriteReply n xs room ≡ refused (refusal 9 0)
+  unfolding molfileWriteReply
   write-short e l = rw (e, lt-ltb room (length (molfileText n (bondsOf xs))) l)
 
-  pub write-fine : blockReply n xs ≡ read tt → length (molfileText n (bondsOf xs)) ≤ room → writeReply n xs room ≡ read (length (molfileText n (bondsOf xs)))
-  unfolding writeReply
+  pub write-fine : blockReply n xs ≡ read tt → length (molfileText n (bondsOf xs)) ≤ room → molfileWriteReply n xs room ≡ read (length (molfileText n (bondsOf xs)))
+  unfolding molfileWriteReply
   write-fine e l = rw (e, le-ltb room (length (molfileText n (bondsOf xs))) l)
 
-pub stays : (text out : List ℕ) {m : Read ℕ} {r : Refusal} → m ≡ refused r → written m text out ≡ out
-unfolding written
+pub stays : (text out : List ℕ) {m : Read ℕ} {r : Refusal} → m ≡ refused r → filledText m text out ≡ out
+unfolding filledText
 stays text out e = rw e
 
-pub fills : (text out : List ℕ) {m : Read ℕ} {k : ℕ} → m ≡ read k → written m text out ≡ text ++ drop (length text) out
-unfolding written
+pub fills : (text out : List ℕ) {m : Read ℕ} {k : ℕ} → m ≡ read k → filledText m text out ≡ text ++ drop (length text) out
+unfolding filledText
 fills text out e = rw e

@@ -7,7 +7,7 @@ use native.Mathlib.Omega.{arith}
 use borrow.Author.Tests.{ne-eqb}
 use lib.Dec.{eqb, ltb}
 use lib.ListN.{length, getD}
-use Rattle.text.specs.Text.{feed, carriage, blank, byteAt, threeAt, shown, three}
+use Rattle.text.specs.Text.{feed, carriage, blank, characterAt, threeAt, shown, three}
 use Rattle.molwriter.proofs.Unlines.{isPlain, LineOf}
 
 not-feed : (t : Bool) (x : ℕ) → eqb (cond t blank (shown x)) feed ≡ false
@@ -29,7 +29,7 @@ module _ (d : List ℕ) (at a b : ℕ) (rest : List ℕ) (l : LineOf d at (three
   unfolding three
   first-three =
       let e : at ≡ at + 0 = omega arith in
-      let x : byteAt d at ≡ getD (three a ++ (three b ++ rest)) 0 0 = ap (byteAt d) e ∙ l .bytes 0 (omega arith) in
+      let x : characterAt d at ≡ getD (three a ++ (three b ++ rest)) 0 0 = ap (characterAt d) e ∙ l .bytes 0 (omega arith) in
       rw (x, l .bytes 1 (omega arith), l .bytes 2 (omega arith))
 
   pub second-three : threeAt d (at + 3) ≡ three b

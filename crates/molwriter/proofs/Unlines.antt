@@ -10,7 +10,8 @@ use borrow.Author.Tests.{not-true, ne-eqb, lt-ltb, eqb-false, ltb-true}
 use lib.Dec.{eqb, ltb}
 use lib.ListN.{length, getD, take, drop, length-append, take-append-drop, List·getD-append}
 use lib.Seq.{drop-cons, take-suc, drop-append-seam, getD-append-add, length-take-le, drop-at}
-use Rattle.text.specs.Text.{feed, carriage, ifElse, byteAt, untilFeed, lineEnd, hasCarriage, lineChars, nextLine, laterLine}
+use Rattle.reply.specs.Read.{ifElse}
+use Rattle.text.specs.Text.{feed, carriage, characterAt, untilFeed, lineEnd, hasCarriage, lineChars, nextLine, laterLine}
 use Rattle.molwriter.specs.Written.{unlines}
 
 -- no line feed and no carriage return
@@ -52,7 +53,7 @@ pub record LineOf (d : List ℕ) (at : ℕ) (l : List ℕ) : Type 0 where
   pub there : at < length d
   pub chars : lineChars d at ≡ length l
   pub next : nextLine d at ≡ at + length l + 1
-  pub bytes : (j : ℕ) → j < length l → byteAt d (at + j) ≡ getD l j 0
+  pub bytes : (j : ℕ) → j < length l → characterAt d (at + j) ≡ getD l j 0
 
 pub line-of : (before l rest : List ℕ) → isPlain l ≡ true → LineOf (before ++ (l ++ (feed ∷ rest))) (length before) l
 unfolding lineChars hasCarriage nextLine lineEnd
@@ -61,7 +62,7 @@ line-of before l rest p =
     let at = length before in
     let u : untilFeed (drop at d) ≡ length l = ap untilFeed (drop-append-seam before (l ++ (feed ∷ rest))) ∙ until-plain l rest p in
     let n : length d ≡ at + (length l + suc (length rest)) = length-append before (l ++ (feed ∷ rest)) ∙ ap (λ (k : ℕ). at + k) (length-append l (feed ∷ rest)) in
-    let byte : ((j : ℕ) → j < length l → byteAt d (at + j) ≡ getD l j 0) = λ j h. getD-append-add before (l ++ (feed ∷ rest)) j 0 ∙ List·getD-append l (feed ∷ rest) 0 j h in
+    let byte : ((j : ℕ) → j < length l → characterAt d (at + j) ≡ getD l j 0) = λ j h. getD-append-add before (l ++ (feed ∷ rest)) j 0 ∙ List·getD-append l (feed ∷ rest) 0 j h in
     record {
       there = omega arith;
       chars = rw u (go d at byte (ltb at (at + length l)) (lt-of at) (ltb (at + length l) (length d)));
@@ -72,16 +73,16 @@ line-of before l rest p =
     lt-of : (at : ℕ) → ltb at (at + length l) ≡ true → 0 < length l
     lt-of at e = omega (arith, ltb-true at (at + length l) e)
 
-    go : (d : List ℕ) (at : ℕ) → ((j : ℕ) → j < length l → byteAt d (at + j) ≡ getD l j 0) → (t : Bool) → (t ≡ true → 0 < length l) → (s : Bool)
-        → at + length l - at - cond (s && t && eqb (byteAt d (at + length l - 1)) carriage) 1 0 ≡ length l
+    go : (d : List ℕ) (at : ℕ) → ((j : ℕ) → j < length l → characterAt d (at + j) ≡ getD l j 0) → (t : Bool) → (t ≡ true → 0 < length l) → (s : Bool)
+        → at + length l - at - cond (s && t && eqb (characterAt d (at + length l - 1)) carriage) 1 0 ≡ length l
     go d at byte true h false = omega arith
     go d at byte false h false = omega arith
     go d at byte false h true = omega arith
     go d at byte true h true =
         let z = h refl in
         let e : at + length l - 1 ≡ at + (length l - 1) = omega arith in
-        let c : (byteAt d (at + (length l - 1)) ≡ carriage → ⊥) = λ q. plain-at l (length l - 1) p (omega arith) (sym (byte (length l - 1) (omega arith)) ∙ q) in
-        rw (e, ne-eqb (byteAt d (at + (length l - 1))) carriage c) (omega arith)
+        let c : (characterAt d (at + (length l - 1)) ≡ carriage → ⊥) = λ q. plain-at l (length l - 1) p (omega arith) (sym (byte (length l - 1) (omega arith)) ∙ q) in
+        rw (e, ne-eqb (characterAt d (at + (length l - 1))) carriage c) (omega arith)
 
 -- the lines before, and those from a number on
 pub unlines-append : (xs ys : List (List ℕ)) → unlines (xs ++ ys) ≡ unlines xs ++ unlines ys

@@ -3,11 +3,11 @@ use Prim.Native.Nat.{ℕ}
 use mathlib.Core.List.{List}
 use mathlib.Core.Path.{_≡_, sym, _∙_}
 use lib.ListN.{length}
-use Rattle.molwriter.specs.Written.{writeReply, saidWritten, writtenBytes}
+use Rattle.molwriter.specs.Written.{molfileWriteReply, saidMolfileWritten, writtenBytes}
 use Rattle.molwriter.specs.declared.MolWritten.{MolWritten}
 
 module _ (n : ℕ) (xs out : List ℕ) where
-  pub unique-write : (r s : MolWritten) → r ≡ saidWritten (writeReply n xs (length out)) → s ≡ saidWritten (writeReply n xs (length out)) → r ≡ s
+  pub unique-write : (r s : MolWritten) → r ≡ saidMolfileWritten (molfileWriteReply n xs (length out)) → s ≡ saidMolfileWritten (molfileWriteReply n xs (length out)) → r ≡ s
   unique-write r s p q = p ∙ sym q
 
   pub unique-bytes : (a b : List ℕ) → a ≡ writtenBytes n xs out → b ≡ writtenBytes n xs out → a ≡ b

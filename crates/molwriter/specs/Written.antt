@@ -40,21 +40,21 @@ unfoldable pub molfileText : ℕ → List Bond → List ℕ
 molfileText n bs = unlines (molfileLines n bs)
 
 -- the block's refusals, then 9 where fewer bytes are lent than the text has
-unfoldable pub writeReply : ℕ → List ℕ → ℕ → Read ℕ
-writeReply n xs room =
+unfoldable pub molfileWriteReply : ℕ → List ℕ → ℕ → Read ℕ
+molfileWriteReply n xs room =
     blockReply n xs then λ _.
     refuseIf (ltb room (length (molfileText n (bondsOf xs)))) 9 0 then λ _.
     read (length (molfileText n (bondsOf xs)))
 
 -- how the code says it
-abbrev pub saidWritten : Read ℕ → MolWritten
-saidWritten (refused r) = Refused r
-saidWritten (read k) = Bytes k
+abbrev pub saidMolfileWritten : Read ℕ → MolWritten
+saidMolfileWritten (refused r) = Refused r
+saidMolfileWritten (read k) = Bytes k
 
 -- the lent bytes afterwards: the text, and later ones as they were; a refusal changes none
-unfoldable pub written : Read ℕ → List ℕ → List ℕ → List ℕ
-written (refused r) text out = out
-written (read k) text out = text ++ drop (length text) out
+unfoldable pub filledText : Read ℕ → List ℕ → List ℕ → List ℕ
+filledText (refused r) text out = out
+filledText (read k) text out = text ++ drop (length text) out
 
 abbrev pub writtenBytes : ℕ → List ℕ → List ℕ → List ℕ
-writtenBytes n xs out = written (writeReply n xs (length out)) (molfileText n (bondsOf xs)) out
+writtenBytes n xs out = filledText (molfileWriteReply n xs (length out)) (molfileText n (bondsOf xs)) out

@@ -7,7 +7,7 @@ ghost use Rattle.block.specs.Block.{bondsOf, blockReply};
 ghost use Rattle.reply.specs.Read.{read};
 ghost use Rattle.text.specs.Text.{ascii};
 ghost use Rattle.text.specs.Put.{Puts};
-ghost use Rattle.molwriter.specs.Written.{writeReply, saidWritten, writtenBytes};
+ghost use Rattle.molwriter.specs.Written.{molfileWriteReply, saidMolfileWritten, writtenBytes};
 ghost use Rattle.molwriter.specs.Pieces.{countsText, atomsText, bondText, bondsText};
 use reply::Refusal;
 use reply::Reply;
@@ -86,7 +86,7 @@ fn put_bonds(out: &mut [u8], at: usize, bonds: &[u8]) -> usize
 // The answer for a block that is not refused.
 fn written(n: usize, bonds: &[u8], out: &mut [u8]) -> MolWritten
     requires { ⌜ blockReply n (now bonds) ≡ read tt ⌝ }
-    ensures reply { λ r. ⌜ r ≡ saidWritten (writeReply n (now (bonds .entry)) (length (now (out .entry)))) ⌝ }
+    ensures reply { λ r. ⌜ r ≡ saidMolfileWritten (molfileWriteReply n (now (bonds .entry)) (length (now (out .entry)))) ⌝ }
     ensures bytes { λ _. ⌜ now (out .exit) ≡ writtenBytes n (now (bonds .entry)) (now (out .entry)) ⌝ }
 {
     let m = bonds.len() / 2;
@@ -106,7 +106,7 @@ fn written(n: usize, bonds: &[u8], out: &mut [u8]) -> MolWritten
 // Writes a block as a molfile at the front of the lent output and answers how many bytes that takes; later bytes stay. Or it is a refusal, and no byte
 // changes: the block's, then 9 where fewer bytes are lent than the text has.
 pub fn write(n: usize, bonds: &[u8], out: &mut [u8]) -> MolWritten
-    ensures reply { λ r. ⌜ r ≡ saidWritten (writeReply n (now (bonds .entry)) (length (now (out .entry)))) ⌝ }
+    ensures reply { λ r. ⌜ r ≡ saidMolfileWritten (molfileWriteReply n (now (bonds .entry)) (length (now (out .entry)))) ⌝ }
     ensures bytes { λ _. ⌜ now (out .exit) ≡ writtenBytes n (now (bonds .entry)) (now (out .entry)) ⌝ }
 {
     let reply = block::check(n, bonds);

@@ -4,20 +4,20 @@ use mathlib.Core.List.{List}
 use lib.ListN.{length}
 use Rattle.graph.specs.Graph.{Graph}
 use Rattle.reply.specs.Read.{Read, refused, read}
-use Rattle.neighbours.specs.declared.Found.{Found}
-use Rattle.neighbours.specs.declared.Found.the-variants.{Refused, Block}
-use Rattle.neighbours.specs.declared.Written.{Written}
-use Rattle.neighbours.specs.declared.Written.the-variants as written
+use Rattle.neighbours.specs.declared.NeighboursRead.{NeighboursRead}
+use Rattle.neighbours.specs.declared.NeighboursRead.the-variants.{Refused, Block}
+use Rattle.neighbours.specs.declared.NeighboursWritten.{NeighboursWritten}
+use Rattle.neighbours.specs.declared.NeighboursWritten.the-variants as written
 use Rattle.neighbours.specs.declared.Shape.{Shape}
 use Rattle.neighbours.specs.declared.Shape.the-variants as shape
 
-abbrev pub saidFound : Read Graph → Found
-saidFound (refused r) = Refused r
-saidFound (read g) = Block (record { atoms = g .atoms; bonds = length (g .bonds) })
+abbrev pub saidNeighboursRead : Read Graph → NeighboursRead
+saidNeighboursRead (refused r) = Refused r
+saidNeighboursRead (read g) = Block (record { atoms = g .atoms; bonds = length (g .bonds) })
 
-abbrev pub saidWritten : Read (List ℕ) → Written
-saidWritten (refused r) = written.Refused r
-saidWritten (read t) = written.Bytes (length t)
+abbrev pub saidNeighboursWritten : Read (List ℕ) → NeighboursWritten
+saidNeighboursWritten (refused r) = written.Refused r
+saidNeighboursWritten (read t) = written.Bytes (length t)
 
 -- within the crate: 22, or the number of bonds
 abbrev pub saidShape : Read ℕ → Shape

@@ -7,23 +7,23 @@ use lib.ListN.{length}
 use Rattle.graph.specs.Graph.{Graph}
 use Rattle.reply.specs.Read.{Read, refused, read}
 use Rattle.reply.specs.declared.Refusal.{Refusal}
-use Rattle.neighbours.specs.Said.{saidFound, saidWritten}
+use Rattle.neighbours.specs.Said.{saidNeighboursRead, saidNeighboursWritten}
 use Rattle.neighbours.specs.declared.Counts.{Counts}
-use Rattle.neighbours.specs.declared.Found.the-variants as found
-use Rattle.neighbours.specs.declared.Written.the-variants as text
+use Rattle.neighbours.specs.declared.NeighboursRead.the-variants as found
+use Rattle.neighbours.specs.declared.NeighboursWritten.the-variants as text
 
-pub found-refused : (R : Read Graph) {r : Refusal} → saidFound R ≡ found.Refused r → R ≡ refused r
+pub found-refused : (R : Read Graph) {r : Refusal} → saidNeighboursRead R ≡ found.Refused r → R ≡ refused r
 found-refused (refused s) e = ap refused (cc)
 found-refused (read g) e = let z : _≡_ {A = ℕ} 0 1 = cc in absurd (omega arith)
 
-pub found-block : (R : Read Graph) {c : Counts} → saidFound R ≡ found.Block c → (g : Graph) × (R ≡ read g) × (g .atoms ≡ c .atoms) × (length (g .bonds) ≡ c .bonds)
+pub found-block : (R : Read Graph) {c : Counts} → saidNeighboursRead R ≡ found.Block c → (g : Graph) × (R ≡ read g) × (g .atoms ≡ c .atoms) × (length (g .bonds) ≡ c .bonds)
 found-block (refused s) e = let z : _≡_ {A = ℕ} 0 1 = cc in absurd (omega arith)
 found-block (read g) e = (g, refl, cc, cc)
 
-pub text-refused : (R : Read (List ℕ)) {r : Refusal} → saidWritten R ≡ text.Refused r → R ≡ refused r
+pub text-refused : (R : Read (List ℕ)) {r : Refusal} → saidNeighboursWritten R ≡ text.Refused r → R ≡ refused r
 text-refused (refused s) e = ap refused (cc)
 text-refused (read t) e = let z : _≡_ {A = ℕ} 0 1 = cc in absurd (omega arith)
 
-pub text-bytes : (R : Read (List ℕ)) {k : ℕ} → saidWritten R ≡ text.Bytes k → (t : List ℕ) × (R ≡ read t) × (length t ≡ k)
+pub text-bytes : (R : Read (List ℕ)) {k : ℕ} → saidNeighboursWritten R ≡ text.Bytes k → (t : List ℕ) × (R ≡ read t) × (length t ≡ k)
 text-bytes (refused s) e = let z : _≡_ {A = ℕ} 0 1 = cc in absurd (omega arith)
 text-bytes (read t) e = (t, refl, cc)

@@ -3,24 +3,24 @@ use Prim.Native.Nat.{ℕ}
 use mathlib.Core.List.{List}
 use mathlib.Core.Path.{_≡_, sym, _∙_}
 use Rattle.adjacency.specs.Neighbours.{neighboursReply, bytesAfter}
-use Rattle.adjacency.specs.Written.{writeReply, textAfter}
-use Rattle.neighbours.specs.Said.{saidFound, saidWritten}
-use Rattle.neighbours.specs.declared.Found.{Found}
-use Rattle.neighbours.specs.declared.Written.{Written}
+use Rattle.adjacency.specs.Written.{neighboursWriteReply, textAfter}
+use Rattle.neighbours.specs.Said.{saidNeighboursRead, saidNeighboursWritten}
+use Rattle.neighbours.specs.declared.NeighboursRead.{NeighboursRead}
+use Rattle.neighbours.specs.declared.NeighboursWritten.{NeighboursWritten}
 
 unique : {A : Type 0} {r s t : A} → r ≡ t → s ≡ t → r ≡ s
 unique p q = p ∙ sym q
 
 module _ (text : List ℕ) (room : ℕ) where
-  pub unique-read : (r s : Found) → r ≡ saidFound (neighboursReply text room) → s ≡ saidFound (neighboursReply text room) → r ≡ s
+  pub unique-read : (r s : NeighboursRead) → r ≡ saidNeighboursRead (neighboursReply text room) → s ≡ saidNeighboursRead (neighboursReply text room) → r ≡ s
   unique-read r s = unique
 
   pub unique-read-bytes : (out p q : List ℕ) → p ≡ bytesAfter (neighboursReply text room) out → q ≡ bytesAfter (neighboursReply text room) out → p ≡ q
   unique-read-bytes out p q = unique
 
 module _ (n : ℕ) (xs : List ℕ) (room : ℕ) where
-  pub unique-write : (r s : Written) → r ≡ saidWritten (writeReply n xs room) → s ≡ saidWritten (writeReply n xs room) → r ≡ s
+  pub unique-write : (r s : NeighboursWritten) → r ≡ saidNeighboursWritten (neighboursWriteReply n xs room) → s ≡ saidNeighboursWritten (neighboursWriteReply n xs room) → r ≡ s
   unique-write r s = unique
 
-  pub unique-write-bytes : (out p q : List ℕ) → p ≡ textAfter (writeReply n xs room) out → q ≡ textAfter (writeReply n xs room) out → p ≡ q
+  pub unique-write-bytes : (out p q : List ℕ) → p ≡ textAfter (neighboursWriteReply n xs room) out → q ≡ textAfter (neighboursWriteReply n xs room) out → p ≡ q
   unique-write-bytes out p q = unique

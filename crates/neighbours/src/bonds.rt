@@ -9,7 +9,7 @@ ghost use Prim.Native.Nat.{_+_, _≤_};
 ghost use lib.ListN.{length};
 ghost use Rattle.reply.specs.Read.{saidReply};
 ghost use Rattle.adjacency.specs.Neighbours.{end, bondsLength};
-ghost use Rattle.adjacency.specs.Work.{stepsAt, isBond, isHigh, until, putOne, putEnd, Filled, Sized, highReply};
+ghost use Rattle.adjacency.specs.Work.{stepsAt, isBond, isHigh, until, putOne, putEnd, BondsPut, Sized, highReply};
 
 // Whether a number after a label is a bond.
 fn is_bond(label: usize, x: usize) -> bool
@@ -56,7 +56,7 @@ fn put(out: &mut [u8], p: usize, label: usize, x: usize) -> usize
 // Puts the bonds up to the first label above n.
 pub(crate) fn fill(text: &[u8], from: usize, n: usize, out: &mut [u8]) -> Reach
     requires { ⌜ (from ≤ length (now text)) × (bondsLength (until n (stepsAt 0 (now text) from)) ≤ length (now out)) ⌝ }
-    ensures { λ r. ⌜ Filled n (stepsAt 0 (now (text .entry)) from) (now (out .entry)) (now (out .exit)) (r .bytes) (r .high) ⌝ }
+    ensures { λ r. ⌜ BondsPut n (stepsAt 0 (now (text .entry)) from) (now (out .entry)) (now (out .exit)) (r .bytes) (r .high) ⌝ }
 {
     let mut at = from;
     let mut label = 0;

@@ -5,9 +5,9 @@ ghost use lib.ListN.{length};
 ghost use Rattle.reply.specs.Read.{refusal};
 ghost use Rattle.block.specs.Block.{mostAtoms};
 ghost use Rattle.adjacency.specs.Neighbours.{bondsIn, blockOf, neighboursReply, bytesAfter};
-ghost use Rattle.adjacency.specs.Written.{textBy, writeReply, textAfter};
-ghost use Rattle.adjacency.specs.Work.{stepsAt, Fit, Sized, keptReply, givenReply, joinedIn, longest};
-ghost use Rattle.neighbours.specs.Said.{saidFound, saidWritten};
+ghost use Rattle.adjacency.specs.Written.{textBy, neighboursWriteReply, textAfter};
+ghost use Rattle.adjacency.specs.Work.{stepsAt, FewBonds, Sized, keptReply, givenReply, joinedIn, longest};
+ghost use Rattle.neighbours.specs.Said.{saidNeighboursRead, saidNeighboursWritten};
 use block::ATOMS;
 use block::BYTES;
 use block::Neighbours;
@@ -25,13 +25,13 @@ pub struct Counts {
 }
 
 // A block's counts, or why there is none.
-pub enum Found {
+pub enum NeighboursRead {
     Refused(Refusal),
     Block(Counts),
 }
 
 // How many bytes were written, or why none.
-pub enum Written {
+pub enum NeighboursWritten {
     Refused(Refusal),
     Bytes(usize),
 }
@@ -55,27 +55,27 @@ struct Reach {
     pub high: bool,
 }
 
-fn refused(number: usize, place: usize) -> Found
-    ensures { λ r. ⌜ r ≡ Found.Refused (refusal number place) ⌝ }
+fn refused(number: usize, place: usize) -> NeighboursRead
+    ensures { λ r. ⌜ r ≡ NeighboursRead.Refused (refusal number place) ⌝ }
 {
-    Found::Refused(Refusal { number, place })
+    NeighboursRead::Refused(Refusal { number, place })
 }
 
 // 3 to 7 of bonds after which a label above n stands, or none, then 9.
-fn kept(n: usize, bonds: &[u8], high: bool, out: &mut [u8]) -> Found
+fn kept(n: usize, bonds: &[u8], high: bool, out: &mut [u8]) -> NeighboursRead
     requires { ⌜ Sized n (now bonds) ⌝ }
-    ensures reply { λ r. ⌜ r ≡ saidFound (keptReply n (now (bonds .entry)) high (length (now (out .entry)))) ⌝ }
+    ensures reply { λ r. ⌜ r ≡ saidNeighboursRead (keptReply n (now (bonds .entry)) high (length (now (out .entry)))) ⌝ }
     ensures bytes { λ r. ⌜ now (out .exit) ≡ bytesAfter (keptReply n (now (bonds .entry)) high (length (now (out .entry)))) (now (out .entry)) ⌝ }
 {
     let reply = bonds::judged(n, bonds, high);
     match reply {
-        Reply::Refused(refusal) => Found::Refused(refusal),
+        Reply::Refused(refusal) => NeighboursRead::Refused(refusal),
         Reply::Fine => {
             if out.len() < bonds.len() {
                 return refused(9, 0);
             }
             text::put(out, 0, bonds);
-            Found::Block(Counts {
+            NeighboursRead::Block(Counts {
                 atoms: n,
                 bonds: bonds.len() / 2,
             })
@@ -84,9 +84,9 @@ fn kept(n: usize, bonds: &[u8], high: bool, out: &mut [u8]) -> Found
 }
 
 // 3 to 7 of the numbers from a place on, then 9, where 1 and 2 do not refuse.
-fn bonds_of(text: &[u8], at: usize, n: usize, out: &mut [u8]) -> Found
-    requires { ⌜ (at ≤ length (now text)) × Fit n (stepsAt 0 (now text) at) ⌝ }
-    ensures reply { λ r. ⌜ r ≡ saidFound (blockOf n (stepsAt 0 (now (text .entry)) at) (length (now (out .entry)))) ⌝ }
+fn bonds_of(text: &[u8], at: usize, n: usize, out: &mut [u8]) -> NeighboursRead
+    requires { ⌜ (at ≤ length (now text)) × FewBonds n (stepsAt 0 (now text) at) ⌝ }
+    ensures reply { λ r. ⌜ r ≡ saidNeighboursRead (blockOf n (stepsAt 0 (now (text .entry)) at) (length (now (out .entry)))) ⌝ }
     ensures bytes { λ r. ⌜ now (out .exit) ≡ bytesAfter (blockOf n (stepsAt 0 (now (text .entry)) at) (length (now (out .entry)))) (now (out .entry)) ⌝ }
 {
     let mut bytes = [0u8; BYTES];
@@ -96,9 +96,9 @@ fn bonds_of(text: &[u8], at: usize, n: usize, out: &mut [u8]) -> Found
 }
 
 // 1 to 7 of the numbers from a place on, after the count n, then 9; `count` of them are bonds.
-fn block_of(text: &[u8], at: usize, n: usize, count: usize, out: &mut [u8]) -> Found
+fn block_of(text: &[u8], at: usize, n: usize, count: usize, out: &mut [u8]) -> NeighboursRead
     requires { ⌜ (at ≤ length (now text)) × (count ≡ length (bondsIn (stepsAt 0 (now text) at))) ⌝ }
-    ensures reply { λ r. ⌜ r ≡ saidFound (blockOf n (stepsAt 0 (now (text .entry)) at) (length (now (out .entry)))) ⌝ }
+    ensures reply { λ r. ⌜ r ≡ saidNeighboursRead (blockOf n (stepsAt 0 (now (text .entry)) at) (length (now (out .entry)))) ⌝ }
     ensures bytes { λ r. ⌜ now (out .exit) ≡ bytesAfter (blockOf n (stepsAt 0 (now (text .entry)) at) (length (now (out .entry)))) (now (out .entry)) ⌝ }
 {
     if n == 0 {
@@ -114,8 +114,8 @@ fn block_of(text: &[u8], at: usize, n: usize, count: usize, out: &mut [u8]) -> F
 }
 
 // The block of a text. The bonds stand at the front of the lent bytes, two bytes each, and later bytes stay; a refusal changes none.
-pub fn read(text: &[u8], out: &mut [u8]) -> Found
-    ensures reply { λ r. ⌜ r ≡ saidFound (neighboursReply (now (text .entry)) (length (now (out .entry)))) ⌝ }
+pub fn read(text: &[u8], out: &mut [u8]) -> NeighboursRead
+    ensures reply { λ r. ⌜ r ≡ saidNeighboursRead (neighboursReply (now (text .entry)) (length (now (out .entry)))) ⌝ }
     ensures bytes { λ r. ⌜ now (out .exit) ≡ bytesAfter (neighboursReply (now (text .entry)) (length (now (out .entry)))) (now (out .entry)) ⌝ }
 {
     let fault = scan::fault(text);
@@ -128,7 +128,7 @@ pub fn read(text: &[u8], out: &mut [u8]) -> Found
     }
     let shape = scan::shape(text, count.next);
     match shape {
-        Shape::Refused(refusal) => Found::Refused(refusal),
+        Shape::Refused(refusal) => NeighboursRead::Refused(refusal),
         Shape::Bonds(k) => block_of(text, count.next, count.value, k, out),
     }
 }
@@ -137,24 +137,24 @@ pub fn read(text: &[u8], out: &mut [u8]) -> Found
 const TEXT: usize = 8 * ATOMS + 2 * BYTES;
 
 // Puts a text into the lent bytes, or 9.
-fn given(bytes: &[u8], out: &mut [u8]) -> Written
-    ensures reply { λ r. ⌜ r ≡ saidWritten (givenReply (now (bytes .entry)) (length (now (out .entry)))) ⌝ }
+fn given(bytes: &[u8], out: &mut [u8]) -> NeighboursWritten
+    ensures reply { λ r. ⌜ r ≡ saidNeighboursWritten (givenReply (now (bytes .entry)) (length (now (out .entry)))) ⌝ }
     ensures bytes { λ r. ⌜ now (out .exit) ≡ textAfter (givenReply (now (bytes .entry)) (length (now (out .entry)))) (now (out .entry)) ⌝ }
 {
     if out.len() < bytes.len() {
-        return Written::Refused(Refusal {
+        return NeighboursWritten::Refused(Refusal {
             number: 9,
             place: 0,
         });
     }
     text::put(out, 0, bytes);
-    Written::Bytes(bytes.len())
+    NeighboursWritten::Bytes(bytes.len())
 }
 
 // Writes the text of a block by its neighbours.
-fn write_fine(n: usize, near: &Neighbours, out: &mut [u8]) -> Written
+fn write_fine(n: usize, near: &Neighbours, out: &mut [u8]) -> NeighboursWritten
     requires { ⌜ (n ≤ mostAtoms) × (length (textBy (joinedIn (now near)) n) ≤ longest) ⌝ }
-    ensures reply { λ r. ⌜ r ≡ saidWritten (givenReply (textBy (joinedIn (now (near .entry))) n) (length (now (out .entry)))) ⌝ }
+    ensures reply { λ r. ⌜ r ≡ saidNeighboursWritten (givenReply (textBy (joinedIn (now (near .entry))) n) (length (now (out .entry)))) ⌝ }
     ensures bytes { λ r. ⌜ now (out .exit) ≡ textAfter (givenReply (textBy (joinedIn (now (near .entry))) n) (length (now (out .entry)))) (now (out .entry)) ⌝ }
 {
     let mut bytes = [0u8; TEXT];
@@ -163,14 +163,14 @@ fn write_fine(n: usize, near: &Neighbours, out: &mut [u8]) -> Written
 }
 
 // Writes the text of a block at the front of the lent bytes; later bytes stay, and a refusal changes none.
-pub fn write(n: usize, bonds: &[u8], out: &mut [u8]) -> Written
-    ensures reply { λ r. ⌜ r ≡ saidWritten (writeReply n (now (bonds .entry)) (length (now (out .entry)))) ⌝ }
-    ensures bytes { λ r. ⌜ now (out .exit) ≡ textAfter (writeReply n (now (bonds .entry)) (length (now (out .entry)))) (now (out .entry)) ⌝ }
+pub fn write(n: usize, bonds: &[u8], out: &mut [u8]) -> NeighboursWritten
+    ensures reply { λ r. ⌜ r ≡ saidNeighboursWritten (neighboursWriteReply n (now (bonds .entry)) (length (now (out .entry)))) ⌝ }
+    ensures bytes { λ r. ⌜ now (out .exit) ≡ textAfter (neighboursWriteReply n (now (bonds .entry)) (length (now (out .entry)))) (now (out .entry)) ⌝ }
 {
     let opened = block::neighbours(n, bonds);
     let reply = opened.reply;
     match reply {
-        Reply::Refused(refusal) => Written::Refused(refusal),
+        Reply::Refused(refusal) => NeighboursWritten::Refused(refusal),
         Reply::Fine => write_fine(n, &opened.near, out),
     }
 }

@@ -5,11 +5,11 @@ use crate::row::FAR;
 use crate::row::Row;
 use crate::row::STAYS;
 use crate::told;
-use poly::Answer;
+use poly::ValuesReply;
 use poly::Values;
 use reply::Reply;
 use shares::BONDS;
-use shares::Shares;
+use shares::SharesReply;
 
 fn checked(n: usize, bonds: &[u8], row: Row) -> bool {
     let reply = block::check(n, bonds);
@@ -45,7 +45,7 @@ fn apart(n: usize, bonds: &[u8], row: Row) -> bool {
 }
 
 // The first entries of a buffer are lent.
-fn contributed(n: usize, bonds: &[u8], out: &mut [u64], lent: usize) -> Shares
+fn contributed(n: usize, bonds: &[u8], out: &mut [u64], lent: usize) -> SharesReply
     requires { ⌜ lent ≤ length (now out) ⌝ }
 {
     shares::contributions(n, bonds, &mut out[..lent])
@@ -95,8 +95,8 @@ fn valued(letter: u8, n: usize, bonds: &[u8], row: Row) -> bool {
     let x = x_of(letter, row);
     let reply = poly::polynomial(n, bonds, x);
     match reply {
-        Answer::Refused(r) => told::refusal(r).is(row, 2),
-        Answer::Values(v) => values_are(v, row),
+        ValuesReply::Refused(r) => told::refusal(r).is(row, 2),
+        ValuesReply::Values(v) => values_are(v, row),
     }
 }
 

@@ -5,31 +5,31 @@ use crate::row;
 use crate::row::FAR;
 use crate::row::Row;
 use crate::told;
-use molecule::Verdict;
-use molecule::Written;
+use judging::Verdict;
+use judging::SheetWritten;
 use records::Sheet;
 
 // What stands in a lent buffer before it is written to.
 const STAYS: u8 = row::STAYS as u8;
 
 fn composed(deck: &[u8], row: Row) -> bool {
-    let reply = molecule::compose(deck);
+    let reply = judging::compose(deck);
     told::of_measured(reply).is(row, 0)
 }
 
 fn largest(deck: &[u8], row: Row) -> bool {
-    let reply = molecule::compose(deck);
+    let reply = judging::compose(deck);
     told::of_largest(reply).is(row, 0)
 }
 
 fn composed_six(deck: &[u8], row: Row) -> bool {
-    let reply = molecule::compose(deck);
+    let reply = judging::compose(deck);
     told::of_six(reply).is(row, 0)
 }
 
 // The first field that differs, 0 for none.
 fn judged(deck: &[u8], row: Row) -> bool {
-    let reply = molecule::judge(deck);
+    let reply = judging::judge(deck);
     let field = match reply {
         Verdict::Refused(r) => {
             return told::refusal(r).is(row, 0);
@@ -57,10 +57,10 @@ fn found(deck: &[u8], row: Row) -> bool {
 }
 
 // The first bytes of a buffer are lent.
-fn sheet_in(deck: &[u8], sheet: Sheet, out: &mut [u8], lent: usize) -> Written
+fn sheet_in(deck: &[u8], sheet: Sheet, out: &mut [u8], lent: usize) -> SheetWritten
     requires { ⌜ lent ≤ length (now out) ⌝ }
 {
-    molecule::write_sheet(deck, sheet, &mut out[..lent])
+    judging::write_sheet(deck, sheet, &mut out[..lent])
 }
 
 // A sheet or a refusal, or what stands in the buffer after that.
@@ -72,8 +72,8 @@ fn written(deck: &[u8], sheet: Sheet, bytes: bool, row: Row) -> bool {
         return told::bytes_are(&out, row);
     }
     match reply {
-        Written::Refused(r) => told::refusal(r).is(row, 1),
-        Written::Sheet => told::nothing().is(row, 1),
+        SheetWritten::Refused(r) => told::refusal(r).is(row, 1),
+        SheetWritten::Sheet => told::nothing().is(row, 1),
     }
 }
 

@@ -1,14 +1,14 @@
 // Replies as lists of numbers, and whether they are the numbers of a line.
 use crate::row::Row;
 use crate::row::STAYS;
-use block::Apart;
-use block::Around;
-use block::Measured;
+use block::DistanceReply;
+use block::VertexReply;
+use block::IndicesReply;
 use block::OneRow;
 use reply::Refusal;
 use reply::Reply;
 use reply::wide;
-use shares::Shares;
+use shares::SharesReply;
 
 // A refusal's number and place, or so many values; behind them the entries that stay.
 pub(crate) struct Told {
@@ -50,10 +50,10 @@ pub(crate) fn nothing() -> Told {
     }
 }
 
-pub(crate) fn of_measured(m: Measured) -> Told {
+pub(crate) fn of_measured(m: IndicesReply) -> Told {
     match m {
-        Measured::Refused(r) => refusal(r),
-        Measured::Of(x) => Told {
+        IndicesReply::Refused(r) => refusal(r),
+        IndicesReply::Of(x) => Told {
             refused: false,
             count: 5,
             values: [x.atoms, x.w, x.even, x.odd, x.polarity, STAYS, STAYS, STAYS],
@@ -62,10 +62,10 @@ pub(crate) fn of_measured(m: Measured) -> Told {
 }
 
 // The largest distance alone: of a molecule, and of a row.
-pub(crate) fn of_largest(m: Measured) -> Told {
+pub(crate) fn of_largest(m: IndicesReply) -> Told {
     match m {
-        Measured::Refused(r) => refusal(r),
-        Measured::Of(x) => one(x.largest),
+        IndicesReply::Refused(r) => refusal(r),
+        IndicesReply::Of(x) => one(x.largest),
     }
 }
 
@@ -77,10 +77,10 @@ pub(crate) fn of_row(seen: OneRow) -> Told {
     }
 }
 
-pub(crate) fn of_six(m: Measured) -> Told {
+pub(crate) fn of_six(m: IndicesReply) -> Told {
     match m {
-        Measured::Refused(r) => refusal(r),
-        Measured::Of(x) => Told {
+        IndicesReply::Refused(r) => refusal(r),
+        IndicesReply::Of(x) => Told {
             refused: false,
             count: 6,
             values: [
@@ -97,10 +97,10 @@ pub(crate) fn of_six(m: Measured) -> Told {
     }
 }
 
-pub(crate) fn of_around(a: Around) -> Told {
+pub(crate) fn of_around(a: VertexReply) -> Told {
     match a {
-        Around::Refused(r) => refusal(r),
-        Around::Of(x) => Told {
+        VertexReply::Refused(r) => refusal(r),
+        VertexReply::Of(x) => Told {
             refused: false,
             count: 7,
             values: [x.sum, x.even, x.odd, x.evens, x.odds, x.ones, x.twos, STAYS],
@@ -108,17 +108,17 @@ pub(crate) fn of_around(a: Around) -> Told {
     }
 }
 
-pub(crate) fn of_apart(a: Apart) -> Told {
+pub(crate) fn of_apart(a: DistanceReply) -> Told {
     match a {
-        Apart::Refused(r) => refusal(r),
-        Apart::Of(d) => one(d),
+        DistanceReply::Refused(r) => refusal(r),
+        DistanceReply::Of(d) => one(d),
     }
 }
 
-pub(crate) fn of_shares(s: Shares) -> Told {
+pub(crate) fn of_shares(s: SharesReply) -> Told {
     match s {
-        Shares::Refused(r) => refusal(r),
-        Shares::Denominator(d) => one(d),
+        SharesReply::Refused(r) => refusal(r),
+        SharesReply::Denominator(d) => one(d),
     }
 }
 

@@ -13,8 +13,8 @@ use Rattle.graph.specs.Graph.{Graph, Bond, Within, Molecule, joins, bonded, dis
 use Rattle.graph.specs.Bonds.{joins-sym, anyJoins-sym}
 use Rattle.graph.specs.Distance.{distance-sym}
 use Rattle.graph.specs.Sums.{sum-cong, sum-add, sum-swap, sum-pick}
-use Rattle.paths.specs.Paths.{walks, shortestPaths, uses, count, pathCount, pathsUsing, denominator}
-use Rattle.paths.specs.Notions.{Pair}
+use Rattle.paths.specs.Paths.{walks, shortestPaths, uses, passingPaths, pathCount, pathsUsing, denominator}
+use Rattle.paths.specs.Notions.{AtomPair}
 use Rattle.paths.specs.Choices.{eqb-sym, cond-swap, cond-sum}
 use Rattle.paths.specs.Steps.{walks-length, walks-suc, uses-suc, count-self, count-pos}
 use Rattle.paths.specs.Lcm.{pairs-dvd}
@@ -58,17 +58,17 @@ abbrev pub without : Graph → Bond → ℕ → ℕ → Bool
 without g e u v = cond (joins e u v) false (bonded g u v)
 
 -- the walks that use e, and those along the other bonds, are all
-pub uses-power : (g : Graph) (e : Bond) (k i j : ℕ) → count (uses e) (walks g k i j) + power (g .atoms) (without g e) k i j ≡ power (g .atoms) (bonded g) k i j
+pub uses-power : (g : Graph) (e : Bond) (k i j : ℕ) → passingPaths (uses e) (walks g k i j) + power (g .atoms) (without g e) k i j ≡ power (g .atoms) (bonded g) k i j
 unfolding power
-uses-power g e zero i j = unfold walks count uses in go (eqb i j)
+uses-power g e zero i j = unfold walks passingPaths uses in go (eqb i j)
   where
-    go : (t : Bool) → count (uses e) (cond t ((j ∷ []) ∷ []) []) + cond t 1 0 ≡ cond t 1 0
-    go true = unfold count uses in refl
-    go false = unfold count in refl
+    go : (t : Bool) → passingPaths (uses e) (cond t ((j ∷ []) ∷ []) []) + cond t 1 0 ≡ cond t 1 0
+    go true = unfold passingPaths uses in refl
+    go false = unfold passingPaths in refl
 uses-power g e (suc k) i j =
     ap (λ (x : ℕ). x + power (g .atoms) (without g e) (suc k) i j)
     (walks-suc g k i j (uses e) ∙ sum-cong (g .atoms) (λ v w. ap (λ (x : ℕ). cond (bonded g v j) x 0) (uses-suc g e k i v j)))
-    ∙ sym (sum-add (g .atoms) (λ v. cond (bonded g v j) (cond (joins e v j) (length (walks g k i v)) (count (uses e) (walks g k i v))) 0)
+    ∙ sym (sum-add (g .atoms) (λ v. cond (bonded g v j) (cond (joins e v j) (length (walks g k i v)) (passingPaths (uses e) (walks g k i v))) 0)
     (λ v. cond (without g e v j) (power (g .atoms) (without g e) k i v) 0))
     ∙ sum-cong (g .atoms) (λ v w. step (bonded g v j) (joins e v j) _ _ _ _ (walks-power g k i v) (uses-power g e k i v))
   where
@@ -90,12 +90,12 @@ module _ {g : Graph} (m : Molecule g) {i j : ℕ} (hi : Within (g .atoms) i) (hj
   -- as many use a bond from i to j as back
   pub using-sym : (e : Bond) → pathsUsing g e i j ≡ pathsUsing g e j i
   unfolding pathsUsing shortestPaths bonded
-  using-sym e = at (distance g i j) ∙ ap (λ (k : ℕ). count (uses e) (walks g k j i)) (distance-sym m hi hj)
+  using-sym e = at (distance g i j) ∙ ap (λ (k : ℕ). passingPaths (uses e) (walks g k j i)) (distance-sym m hi hj)
     where
       others : (u v : ℕ) → without g e u v ≡ without g e v u
       others u v = ap₂ (λ (x y : Bool). cond x false y) (joins-sym e u v) (anyJoins-sym (g .bonds) u v)
 
-      at : (k : ℕ) → count (uses e) (walks g k i j) ≡ count (uses e) (walks g k j i)
+      at : (k : ℕ) → passingPaths (uses e) (walks g k i j) ≡ passingPaths (uses e) (walks g k j i)
       at k =
           omega (
             arith,
@@ -106,11 +106,11 @@ module _ {g : Graph} (m : Molecule g) {i j : ℕ} (hi : Within (g .atoms) i) (hj
           )
 
 module _ {g : Graph} (m : Molecule g) where
-  pub pair-pos : (i j : ℕ) → Pair (g .atoms) i j → 0 < pathCount g i j
+  pub pair-pos : (i j : ℕ) → AtomPair (g .atoms) i j → 0 < pathCount g i j
   pair-pos i j p = count-pos m (record { low = p .low; high = omega arith }) (record { low = omega arith; high = p .high })
 
   -- D is the least common multiple: it divides exactly what all the counts divide
-  pub denominator-dvd : (t : ℕ) → (denominator g ∣ t) ↔ ((i j : ℕ) → Pair (g .atoms) i j → pathCount g i j ∣ t)
+  pub denominator-dvd : (t : ℕ) → (denominator g ∣ t) ↔ ((i j : ℕ) → AtomPair (g .atoms) i j → pathCount g i j ∣ t)
   unfolding denominator
   denominator-dvd t = pairs-dvd (pathCount g) (g .atoms) pair-pos t
 

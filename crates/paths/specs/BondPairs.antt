@@ -12,7 +12,7 @@ use Rattle.graph.specs.Bonds.{both, joins-out, joins-sym}
 use Rattle.graph.specs.Distance.{not-true}
 use Rattle.graph.specs.Matched.{Mutual, pairs-twice}
 use Rattle.graph.specs.Sums.{sum-cong, sum-add, sum-none, sum-swap, sum-pick, sumPairs-cong, sumPairs-add, sumPairs-none}
-use Rattle.paths.specs.Notions.{Inside, Plain}
+use Rattle.paths.specs.Notions.{BondInside, Plain}
 use Rattle.paths.specs.Choices.{cond-and, cond-or, cond-sum}
 use Rattle.paths.specs.Uses.{join-other}
 
@@ -28,7 +28,7 @@ picked n a b f ha hb =
     ∙ sum-pick n b (f a) hb
 
 -- of the pairs i < j the one that a bond joins
-one-bond : (n : ℕ) (b : Bond) → Inside n b → (f : Bond → ℕ) → Mutual n (ofEnds f) → sumPairs n (λ i j. cond (joins b i j) (f (bond i j)) 0) ≡ f b
+one-bond : (n : ℕ) (b : Bond) → BondInside n b → (f : Bond → ℕ) → Mutual n (ofEnds f) → sumPairs n (λ i j. cond (joins b i j) (f (bond i j)) 0) ≡ f b
 one-bond n b t f s =
     omega (
       arith,

@@ -3,7 +3,7 @@ use Prim.Native.Nat.{ℕ}
 use mathlib.Core.List.{List, [], _∷_, map}
 use mathlib.Core.Path.{_≡_, refl}
 use Rattle.graph.specs.Graph.{Graph, bond, joins, anyJoins, bonded, anyAtom, reaches, firstFrom, distance, sum, sumPairs, evenOf, oddOf, isAt, total, wiener, evenPart, oddPart, polarity}
-use Rattle.paths.specs.Paths.{gather, walks, shortestPaths, uses, count, pathCount, pathsUsing, lcm, lcmOver, lcmPairs, denominator, share}
+use Rattle.paths.specs.Paths.{gather, walks, shortestPaths, uses, passingPaths, pathCount, pathsUsing, lcm, lcmOver, lcmPairs, denominator, share}
 
 -- the numbers of a graph: W, even part, odd part, polarity, D and the shares of its bonds
 pub record Numbers : Type 0 where
@@ -15,7 +15,7 @@ pub record Numbers : Type 0 where
   pub shares : List ℕ
 
 unfoldable pub numbers : Graph → Numbers
-unfolding joins anyJoins bonded anyAtom reaches firstFrom distance sum sumPairs evenOf oddOf isAt total gather walks shortestPaths uses count pathCount pathsUsing lcm lcmOver lcmPairs denominator share
+unfolding joins anyJoins bonded anyAtom reaches firstFrom distance sum sumPairs evenOf oddOf isAt total gather walks shortestPaths uses passingPaths pathCount pathsUsing lcm lcmOver lcmPairs denominator share
 numbers g = record {
   w = wiener g;
   even = evenPart g;

@@ -12,7 +12,7 @@ use Rattle.graph.specs.Bonds.{both}
 use Rattle.graph.specs.Distance.{distance-below, distance-zero}
 use Rattle.graph.specs.Sums.{sum-cong, sum-add, sum-scale, sum-scaled, sum-swap, sum-pick}
 use Rattle.paths.specs.Paths.{pathCount, pathsUsing}
-use Rattle.paths.specs.Notions.{near, Near, across, Inside, onward, gathered}
+use Rattle.paths.specs.Notions.{near, OnTheWay, across, BondInside, onward, gathered}
 use Rattle.paths.specs.Choices.{cond-and, cond-swap, cond-or, cond-add, cond-left, cond-right}
 use Rattle.paths.specs.Steps.{near-at, near-cong, near-none, using-step, using-self}
 use Rattle.paths.specs.Uses.{using-joined}
@@ -48,7 +48,7 @@ module _ (n : ℕ) (m : ℕ → ℕ → Bool) (s U q T : ℕ → ℕ)
           ∙ sum-cong n (λ v w. sum-cong n (λ j x. cond-left (m v j) (U v) (T j) ∙ sym (cond-right (m v j) (U v) (T j))))
 
 -- the sum of f over the atoms that bond e joins to j is f at the one it gives to j
-across-sum : (n : ℕ) (e : Bond) (f : ℕ → ℕ) (j : ℕ) → Inside n e → sum n (λ v. cond (joins e v j) (f v) 0) ≡ across e f j
+across-sum : (n : ℕ) (e : Bond) (f : ℕ → ℕ) (j : ℕ) → BondInside n e → sum n (λ v. cond (joins e v j) (f v) 0) ≡ across e f j
 unfolding joins across
 across-sum n e f j r =
     sum-cong n (λ v w.
@@ -92,7 +92,7 @@ module _ {g : Graph} (m : Molecule g) {i : ℕ} (hi : Within (g .atoms) i) (e : 
       none : (f : ℕ → ℕ) → distance g i j ≡ 0 → sum (g .atoms) (λ v. cond (near g i v j) (f v) 0) ≡ 0
       none f d = near-none g i j (λ v hv y. absurd (omega (arith, y .one)))
 
-      split : (v : ℕ) → Within (g .atoms) v → Near g i v j → (t : Bool) → joins e v j ≡ t
+      split : (v : ℕ) → Within (g .atoms) v → OnTheWay g i v j → (t : Bool) → joins e v j ≡ t
           → cond t (pathCount g i v) (pathsUsing g e i v) ≡ cond t (pathCount g i v) 0 + pathsUsing g e i v
       split v hv y false h = omega arith
       split v hv y true h = omega (arith, using-joined m hi e v j hv (y .one) h)
@@ -106,7 +106,7 @@ module _ {g : Graph} (m : Molecule g) {i : ℕ} (hi : Within (g .atoms) i) (e : 
           ∙ sum-add (g .atoms) (λ v. cond (near g i v j) (cond (joins e v j) (pathCount g i v) 0) 0) (λ v. cond (near g i v j) (pathsUsing g e i v) 0)
 
   -- the weighted uses of e by the shortest paths from i are what it carries
-  pub through : Inside (g .atoms) e → (q : ℕ → ℕ) → sum (g .atoms) (λ j. pathsUsing g e i j * q j) ≡ flow g i (gathered g i q) e
+  pub through : BondInside (g .atoms) e → (q : ℕ → ℕ) → sum (g .atoms) (λ j. pathsUsing g e i j * q j) ≡ flow g i (gathered g i q) e
   unfolding source across
   through r q =
       both-ways n (near g i) source (pathsUsing g e i) q T carried (λ u hu. gathered-step g i q u (distance-below m hi hu))

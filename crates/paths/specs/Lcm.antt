@@ -36,7 +36,7 @@ use Rattle.graph.specs.Graph.{Within, firstFrom}
 use Rattle.graph.specs.Distance.{first-finds}
 use Rattle.graph.specs.Sums.{wider, last}
 use Rattle.paths.specs.Paths.{lcm, lcmOver, lcmPairs}
-use Rattle.paths.specs.Notions.{Gcd, Pair, lcmStarts}
+use Rattle.paths.specs.Notions.{Gcd, AtomPair, lcmStarts}
 
 -- the first that passes is not before `from`, and not after any that passes
 first-between : (fuel from : ℕ) (p : ℕ → Bool) (k : ℕ) → from ≤ k → p k ≡ true → (from ≤ firstFrom fuel from p) × (firstFrom fuel from p ≤ k)
@@ -182,24 +182,24 @@ module _ (f : ℕ → ℕ) (m : ℕ) (pm : 0 < m) where
         λ d. both .1 (rest .1 (d .0, λ k w. d .1 k (wider w)), d .1 (suc n) (last n)),
       )
 
-farther : {n i j : ℕ} → Pair n i j → Pair (suc n) i j
+farther : {n i j : ℕ} → AtomPair n i j → AtomPair (suc n) i j
 farther p = record { low = p .low; less = p .less; high = omega arith }
 
-newest : {n i : ℕ} → Within n i → Pair (suc n) i (suc n)
+newest : {n i : ℕ} → Within n i → AtomPair (suc n) i (suc n)
 newest w = record { low = w .low; less = omega arith; high = omega arith }
 
 -- of all pairs, as they are defined and start by start
 module _ (f : ℕ → ℕ → ℕ) where
-  pub pairs-pos : (n : ℕ) → ((i j : ℕ) → Pair n i j → 0 < f i j) → 0 < lcmPairs n f
+  pub pairs-pos : (n : ℕ) → ((i j : ℕ) → AtomPair n i j → 0 < f i j) → 0 < lcmPairs n f
   unfolding lcmPairs
   pairs-pos zero pos = omega arith
   pairs-pos (suc n) pos = over-pos (λ i. f i (suc n)) (lcmPairs n f) (pairs-pos n (λ i j p. pos i j (farther p))) n (λ k w. pos k (suc n) (newest w))
 
-  pub pairs-dvd : (n : ℕ) → ((i j : ℕ) → Pair n i j → 0 < f i j) → (t : ℕ) → (lcmPairs n f ∣ t) ↔ ((i j : ℕ) → Pair n i j → f i j ∣ t)
+  pub pairs-dvd : (n : ℕ) → ((i j : ℕ) → AtomPair n i j → 0 < f i j) → (t : ℕ) → (lcmPairs n f ∣ t) ↔ ((i j : ℕ) → AtomPair n i j → f i j ∣ t)
   unfolding lcmPairs
   pairs-dvd zero pos t = (λ d i j p. absurd (omega arith), λ d. one-dvd t)
   pairs-dvd (suc n) pos t =
-      let less : (i j : ℕ) → Pair n i j → 0 < f i j = λ i j p. pos i j (farther p) in
+      let less : (i j : ℕ) → AtomPair n i j → 0 < f i j = λ i j p. pos i j (farther p) in
       let rest = pairs-dvd n less t in
       let both = over-dvd (λ i. f i (suc n)) (lcmPairs n f) (pairs-pos n less) n (λ k w. pos k (suc n) (newest w)) t in (
         λ d i j p. let u = both .0 d in
@@ -208,9 +208,9 @@ module _ (f : ℕ → ℕ → ℕ) where
         λ d. both .1 (rest .1 (λ i j p. d i j (farther p)), λ k w. d k (suc n) (newest w)),
       )
 
-  module _ (n : ℕ) (pos : (i j : ℕ) → Pair n i j → 0 < f i j) where
+  module _ (n : ℕ) (pos : (i j : ℕ) → AtomPair n i j → 0 < f i j) where
     -- the pairs of one start
-    onwards : (i : ℕ) → 1 ≤ i → (k : ℕ) → Within (n - i) k → Pair n i (i + k)
+    onwards : (i : ℕ) → 1 ≤ i → (k : ℕ) → Within (n - i) k → AtomPair n i (i + k)
     onwards i l k w = record { low = l; less = omega arith; high = omega arith }
 
     row-pos : (i : ℕ) → 1 ≤ i → (k : ℕ) → Within (n - i) k → 0 < f i (i + k)
@@ -221,7 +221,7 @@ module _ (f : ℕ → ℕ → ℕ) where
     starts-pos zero = omega arith
     starts-pos (suc i) = over-pos (λ k. f (suc i) (suc i + k)) (lcmStarts n f i) (starts-pos i) (n - suc i) (row-pos (suc i) (omega arith))
 
-    pub starts-dvd : (m t : ℕ) → (lcmStarts n f m ∣ t) ↔ ((i j : ℕ) → Pair n i j → i ≤ m → f i j ∣ t)
+    pub starts-dvd : (m t : ℕ) → (lcmStarts n f m ∣ t) ↔ ((i j : ℕ) → AtomPair n i j → i ≤ m → f i j ∣ t)
     unfolding lcmStarts
     starts-dvd zero t = (λ d i j p l. absurd (omega arith), λ d. one-dvd t)
     starts-dvd (suc m) t =

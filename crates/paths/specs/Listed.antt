@@ -10,7 +10,7 @@ use Rattle.graph.specs.Graph.{Graph, Walk, Sound, bonded, distance, sum}
 use Rattle.graph.specs.Graph.Walk.{stay, step}
 use Rattle.graph.specs.Bonds.{both, both-true}
 use Rattle.graph.specs.Sums.{sum-cong, sum-none, sum-pick}
-use Rattle.paths.specs.Paths.{walks, shortestPaths, count}
+use Rattle.paths.specs.Paths.{walks, shortestPaths, passingPaths}
 use Rattle.paths.specs.Steps.{walks-suc}
 
 -- whether two lists of atoms are the same
@@ -46,12 +46,12 @@ unfolding same
 same-self [] = refl
 same-self (a ∷ p) = both-true (eqb a a) (same p p) (eq-eqb a a refl) (same-self p)
 
-count-none : (a : List (List ℕ)) → count (λ p. false) a ≡ 0
-unfolding count
+count-none : (a : List (List ℕ)) → passingPaths (λ p. false) a ≡ 0
+unfolding passingPaths
 count-none [] = refl
 count-none (p ∷ a) = omega (arith, count-none a)
 
-count-and : (t : Bool) (q : List ℕ → Bool) (a : List (List ℕ)) → count (λ p. t && q p) a ≡ cond t (count q a) 0
+count-and : (t : Bool) (q : List ℕ → Bool) (a : List (List ℕ)) → passingPaths (λ p. t && q p) a ≡ cond t (passingPaths q a) 0
 count-and true q a = refl
 count-and false q a = count-none a
 
@@ -71,14 +71,14 @@ last-first true false false l = refl
 last-first false t true l = refl
 last-first false t false l = refl
 
-count-one : (t : Bool) (q : List ℕ → Bool) (p : List ℕ) → count q (cond t (p ∷ []) []) ≡ cond t (cond (q p) 1 0) 0
-unfolding count
+count-one : (t : Bool) (q : List ℕ → Bool) (p : List ℕ) → passingPaths q (cond t (p ∷ []) []) ≡ cond t (cond (q p) 1 0) 0
+unfolding passingPaths
 count-one true q p = omega arith
 count-one false q p = refl
 
 module _ {g : Graph} (s : Sound g) (i : ℕ) where
   -- a walk of no bonds is its one atom
-  none-more : (j : ℕ) (p : List ℕ) → count (same p) (walks g 0 i j) ≡ cond (isWalk g 0 i j p) 1 0
+  none-more : (j : ℕ) (p : List ℕ) → passingPaths (same p) (walks g 0 i j) ≡ cond (isWalk g 0 i j p) 1 0
   unfolding walks same isWalk leads
   none-more j p = count-one (eqb i j) (same p) (j ∷ []) ∙ go p
     where
@@ -121,7 +121,7 @@ module _ {g : Graph} (s : Sound g) (i : ℕ) where
       back false e = never (bonded g b j)
 
   -- THE LAW: a list of atoms stands in `walks` once where it is a walk, and else not at all
-  pub walks-once : (k j : ℕ) (p : List ℕ) → count (same p) (walks g k i j) ≡ cond (isWalk g k i j p) 1 0
+  pub walks-once : (k j : ℕ) (p : List ℕ) → passingPaths (same p) (walks g k i j) ≡ cond (isWalk g k i j p) 1 0
   unfolding same isWalk leads
   walks-once zero j p = none-more j p
   walks-once (suc k) j [] =
@@ -141,7 +141,7 @@ module _ {g : Graph} (s : Sound g) (i : ℕ) where
       go (b ∷ p) = one-before k j a b p
 
   -- so it is with the shortest paths
-  pub paths-once : (j : ℕ) (p : List ℕ) → count (same p) (shortestPaths g i j) ≡ cond (isWalk g (distance g i j) i j p) 1 0
+  pub paths-once : (j : ℕ) (p : List ℕ) → passingPaths (same p) (shortestPaths g i j) ≡ cond (isWalk g (distance g i j) i j p) 1 0
   unfolding shortestPaths
   paths-once j p = walks-once (distance g i j) j p
 

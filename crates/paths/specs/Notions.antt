@@ -11,7 +11,7 @@ use Rattle.paths.specs.Paths.{pathCount, lcmOver}
 unfoldable pub near : Graph → ℕ → ℕ → ℕ → Bool
 near g i v j = bonded g v j && eqb (suc (distance g i v)) (distance g i j)
 
-pub record Near (g : Graph) (i v j : ℕ) : Type 0 where
+pub record OnTheWay (g : Graph) (i v j : ℕ) : Type 0 where
   pub bond : bonded g v j ≡ true
   pub one : suc (distance g i v) ≡ distance g i j
 
@@ -20,7 +20,7 @@ unfoldable pub across : Bond → (ℕ → ℕ) → ℕ → ℕ
 across e f j = cond (eqb (e .two) j) (f (e .one)) 0 + cond (eqb (e .one) j) (f (e .two)) 0
 
 -- a bond joins two atoms of 1 to n
-pub record Inside (n : ℕ) (b : Bond) : Type 0 where
+pub record BondInside (n : ℕ) (b : Bond) : Type 0 where
   pub one : Within n (b .one)
   pub two : Within n (b .two)
   pub apart : b .one ≡ b .two → ⊥
@@ -28,7 +28,7 @@ pub record Inside (n : ℕ) (b : Bond) : Type 0 where
 -- each bond of the list joins two atoms of 1 to n, and none is listed again
 unfoldable pub Plain : ℕ → List Bond → Type 0
 Plain n [] = Unit {0}
-Plain n (b ∷ bs) = Inside n b × (anyJoins bs (b .one) (b .two) ≡ false) × Plain n bs
+Plain n (b ∷ bs) = BondInside n b × (anyJoins bs (b .one) (b .two) ≡ false) × Plain n bs
 
 -- what the pair i, j weighs, counted from its smaller atom
 unfoldable pub weight : Graph → ℕ → ℕ → ℕ → ℕ
@@ -49,7 +49,7 @@ pub record Gcd (a b d : ℕ) : Type 0 where
   pub greatest : (x : ℕ) → x ∣ a → x ∣ b → x ∣ d
 
 -- i < j of 1 to n
-pub record Pair (n i j : ℕ) : Type 0 where
+pub record AtomPair (n i j : ℕ) : Type 0 where
   pub low : 1 ≤ i
   pub less : i < j
   pub high : j ≤ n

@@ -35,9 +35,9 @@ uses e (a ∷ []) = false
 uses e (a ∷ b ∷ p) = joins e b a || uses e (b ∷ p)
 
 -- how many of the paths pass
-unfoldable pub count : (List ℕ → Bool) → List (List ℕ) → ℕ
-count q [] = 0
-count q (p ∷ ps) = cond (q p) 1 0 + count q ps
+unfoldable pub passingPaths : (List ℕ → Bool) → List (List ℕ) → ℕ
+passingPaths q [] = 0
+passingPaths q (p ∷ ps) = cond (q p) 1 0 + passingPaths q ps
 
 -- c(i,j)
 unfoldable pub pathCount : Graph → ℕ → ℕ → ℕ
@@ -45,7 +45,7 @@ pathCount g i j = length (shortestPaths g i j)
 
 -- c(i,j;e)
 unfoldable pub pathsUsing : Graph → Bond → ℕ → ℕ → ℕ
-pathsUsing g e i j = count (uses e) (shortestPaths g i j)
+pathsUsing g e i j = passingPaths (uses e) (shortestPaths g i j)
 
 -- the least common multiple: the first multiple of a, from a on, that b divides
 unfoldable pub lcm : ℕ → ℕ → ℕ

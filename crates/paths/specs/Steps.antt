@@ -13,40 +13,40 @@ use Rattle.graph.specs.Graph.{Graph, Bond, Walk, Within, Sound, Molecule, joins
 use Rattle.graph.specs.Graph.Walk.{stay, step}
 use Rattle.graph.specs.Distance.{distance-shortest, distance-self, distance-zero, distance-bond}
 use Rattle.graph.specs.Sums.{sum-cong, sum-none, sum-at, sum-some}
-use Rattle.paths.specs.Paths.{gather, walks, shortestPaths, uses, count, pathCount, pathsUsing}
-use Rattle.paths.specs.Notions.{near, Near}
+use Rattle.paths.specs.Paths.{gather, walks, shortestPaths, uses, passingPaths, pathCount, pathsUsing}
+use Rattle.paths.specs.Notions.{near, OnTheWay}
 
-count-append : (q : List ℕ → Bool) (a b : List (List ℕ)) → count q (a ++ b) ≡ count q a + count q b
-unfolding count
+count-append : (q : List ℕ → Bool) (a b : List (List ℕ)) → passingPaths q (a ++ b) ≡ passingPaths q a + passingPaths q b
+unfolding passingPaths
 count-append q [] b = omega arith
 count-append q (p ∷ a) b = omega (arith, count-append q a b)
 
-count-map : (q : List ℕ → Bool) (j : ℕ) (a : List (List ℕ)) → count q (map (λ p. j ∷ p) a) ≡ count (λ p. q (j ∷ p)) a
-unfolding count
+count-map : (q : List ℕ → Bool) (j : ℕ) (a : List (List ℕ)) → passingPaths q (map (λ p. j ∷ p) a) ≡ passingPaths (λ p. q (j ∷ p)) a
+unfolding passingPaths
 count-map q j [] = refl
 count-map q j (p ∷ a) = ap (λ (n : ℕ). cond (q (j ∷ p)) 1 0 + n) (count-map q j a)
 
-count-gather : (q : List ℕ → Bool) (n : ℕ) (f : ℕ → List (List ℕ)) → count q (gather n f) ≡ sum n (λ v. count q (f v))
-unfolding gather sum count
+count-gather : (q : List ℕ → Bool) (n : ℕ) (f : ℕ → List (List ℕ)) → passingPaths q (gather n f) ≡ sum n (λ v. passingPaths q (f v))
+unfolding gather sum passingPaths
 count-gather q zero f = refl
-count-gather q (suc n) f = count-append q (gather n f) (f (suc n)) ∙ ap (λ (m : ℕ). m + count q (f (suc n))) (count-gather q n f)
+count-gather q (suc n) f = count-append q (gather n f) (f (suc n)) ∙ ap (λ (m : ℕ). m + passingPaths q (f (suc n))) (count-gather q n f)
 
-count-cond : (q : List ℕ → Bool) (t : Bool) (a : List (List ℕ)) → count q (cond t a []) ≡ cond t (count q a) 0
-unfolding count
+count-cond : (q : List ℕ → Bool) (t : Bool) (a : List (List ℕ)) → passingPaths q (cond t a []) ≡ cond t (passingPaths q a) 0
+unfolding passingPaths
 count-cond q true a = refl
 count-cond q false a = refl
 
-count-all : (a : List (List ℕ)) → count (λ p. true) a ≡ length a
-unfolding count
+count-all : (a : List (List ℕ)) → passingPaths (λ p. true) a ≡ length a
+unfolding passingPaths
 count-all [] = refl
 count-all (p ∷ a) = omega (arith, count-all a)
 
-count-le : (q : List ℕ → Bool) (a : List (List ℕ)) → count q a ≤ length a
-unfolding count
+count-le : (q : List ℕ → Bool) (a : List (List ℕ)) → passingPaths q a ≤ length a
+unfolding passingPaths
 count-le q [] = omega arith
 count-le q (p ∷ a) = go (q p) (count-le q a)
   where
-    go : (t : Bool) → count q a ≤ length a → cond t 1 0 + count q a ≤ suc (length a)
+    go : (t : Bool) → passingPaths q a ≤ length a → cond t 1 0 + passingPaths q a ≤ suc (length a)
     go true h = omega arith
     go false h = omega arith
 
@@ -56,7 +56,7 @@ using-le g e i j = count-le (uses e) (shortestPaths g i j)
 
 -- one more bond: a walk to j is a walk to a neighbour, and j
 pub walks-suc : (g : Graph) (k i j : ℕ) (q : List ℕ → Bool)
-    → count q (walks g (suc k) i j) ≡ sum (g .atoms) (λ v. cond (bonded g v j) (count (λ p. q (j ∷ p)) (walks g k i v)) 0)
+    → passingPaths q (walks g (suc k) i j) ≡ sum (g .atoms) (λ v. cond (bonded g v j) (passingPaths (λ p. q (j ∷ p)) (walks g k i v)) 0)
 unfolding walks
 walks-suc g k i j q =
     count-map q j (gather (g .atoms) (λ v. cond (bonded g v j) (walks g k i v) []))
@@ -97,12 +97,12 @@ walks-of-walk {g} {i} s (step {v = v} {w = j} {k = k} p b) =
 
 -- whether e is used by a walk to v that goes on to j
 pub uses-suc : (g : Graph) (e : Bond) (k i v j : ℕ)
-    → count (λ p. uses e (j ∷ p)) (walks g k i v) ≡ cond (joins e v j) (length (walks g k i v)) (count (uses e) (walks g k i v))
-unfolding walks count uses
+    → passingPaths (λ p. uses e (j ∷ p)) (walks g k i v) ≡ cond (joins e v j) (length (walks g k i v)) (passingPaths (uses e) (walks g k i v))
+unfolding walks passingPaths uses
 uses-suc g e zero i v j = go (eqb i v) (joins e v j) refl
   where
     go : (t w : Bool) → joins e v j ≡ w
-        → count (λ p. uses e (j ∷ p)) (cond t ((v ∷ []) ∷ []) []) ≡ cond w (length (cond t ((v ∷ []) ∷ []) [])) (count (uses e) (cond t ((v ∷ []) ∷ []) []))
+        → passingPaths (λ p. uses e (j ∷ p)) (cond t ((v ∷ []) ∷ []) []) ≡ cond w (length (cond t ((v ∷ []) ∷ []) [])) (passingPaths (uses e) (cond t ((v ∷ []) ∷ []) []))
     go true true h = rw h
     go true false h = rw h
     go false true h = refl
@@ -113,32 +113,32 @@ uses-suc g e (suc k) i v j = count-map (λ p. uses e (j ∷ p)) v before ∙ go 
     before = gather (g .atoms) (λ u. cond (bonded g u v) (walks g k i u) [])
 
     go : (w : Bool) → joins e v j ≡ w
-        → count (λ p. uses e (j ∷ v ∷ p)) before ≡ cond w (length (map (λ p. v ∷ p) before)) (count (uses e) (map (λ p. v ∷ p) before))
+        → passingPaths (λ p. uses e (j ∷ v ∷ p)) before ≡ cond w (length (map (λ p. v ∷ p) before)) (passingPaths (uses e) (map (λ p. v ∷ p) before))
     go true h = simp h (sym (count-map (λ p. true) v before) ∙ count-all (map (λ p. v ∷ p) before))
     go false h = simp h (sym (count-map (uses e) v before))
 
 -- `near` as facts: what stands where v is not a nearer neighbour of j does not matter
-near-out : (g : Graph) (i v j : ℕ) → near g i v j ≡ true → Near g i v j
+near-out : (g : Graph) (i v j : ℕ) → near g i v j ≡ true → OnTheWay g i v j
 unfolding near
 near-out g i v j h = go (bonded g v j) refl (eqb (suc (distance g i v)) (distance g i j)) refl h
   where
-    go : (t : Bool) → bonded g v j ≡ t → (w : Bool) → eqb (suc (distance g i v)) (distance g i j) ≡ w → t && w ≡ true → Near g i v j
+    go : (t : Bool) → bonded g v j ≡ t → (w : Bool) → eqb (suc (distance g i v)) (distance g i j) ≡ w → t && w ≡ true → OnTheWay g i v j
     go true b true e h = record { bond = b; one = eqb-true (suc (distance g i v)) (distance g i j) e }
     go true b false e h = let z : _≡_ {A = ℕ} 0 1 = cc in absurd (omega arith)
     go false b w e h = let z : _≡_ {A = ℕ} 0 1 = cc in absurd (omega arith)
 
-pub near-at : (g : Graph) (i v j : ℕ) {x y : ℕ} → (Near g i v j → x ≡ y) → cond (near g i v j) x 0 ≡ cond (near g i v j) y 0
+pub near-at : (g : Graph) (i v j : ℕ) {x y : ℕ} → (OnTheWay g i v j → x ≡ y) → cond (near g i v j) x 0 ≡ cond (near g i v j) y 0
 near-at g i v j {x} {y} e = go (near g i v j) refl
   where
     go : (t : Bool) → near g i v j ≡ t → cond t x 0 ≡ cond t y 0
     go true h = e (near-out g i v j h)
     go false h = refl
 
-pub near-cong : (g : Graph) (i j : ℕ) {f h : ℕ → ℕ} → ((v : ℕ) → Within (g .atoms) v → Near g i v j → f v ≡ h v)
+pub near-cong : (g : Graph) (i j : ℕ) {f h : ℕ → ℕ} → ((v : ℕ) → Within (g .atoms) v → OnTheWay g i v j → f v ≡ h v)
     → sum (g .atoms) (λ v. cond (near g i v j) (f v) 0) ≡ sum (g .atoms) (λ v. cond (near g i v j) (h v) 0)
 near-cong g i j e = sum-cong (g .atoms) (λ v w. near-at g i v j (e v w))
 
-pub near-none : (g : Graph) (i j : ℕ) {f : ℕ → ℕ} → ((v : ℕ) → Within (g .atoms) v → Near g i v j → f v ≡ 0)
+pub near-none : (g : Graph) (i j : ℕ) {f : ℕ → ℕ} → ((v : ℕ) → Within (g .atoms) v → OnTheWay g i v j → f v ≡ 0)
     → sum (g .atoms) (λ v. cond (near g i v j) (f v) 0) ≡ 0
 near-none g i j e = near-cong g i j {h = λ v. 0} e ∙ sum-cong (g .atoms) (λ v w. same (near g i v j)) ∙ sum-none (g .atoms)
   where
@@ -149,18 +149,18 @@ near-none g i j e = near-cong g i j {h = λ v. 0} e ∙ sum-cong (g .atoms) (λ 
 module _ {g : Graph} (m : Molecule g) {i : ℕ} (hi : Within (g .atoms) i) where
   -- the shortest paths to j that pass are those to a nearer neighbour that pass with j put before
   by-last : (k j : ℕ) (q : List ℕ → Bool) → distance g i j ≡ suc k
-      → count q (shortestPaths g i j) ≡ sum (g .atoms) (λ v. cond (near g i v j) (count (λ p. q (j ∷ p)) (shortestPaths g i v)) 0)
+      → passingPaths q (shortestPaths g i j) ≡ sum (g .atoms) (λ v. cond (near g i v j) (passingPaths (λ p. q (j ∷ p)) (shortestPaths g i v)) 0)
   unfolding shortestPaths near
   by-last k j q d =
-      ap (λ (m : ℕ). count q (walks g m i j)) d ∙ walks-suc g k i j q
+      ap (λ (m : ℕ). passingPaths q (walks g m i j)) d ∙ walks-suc g k i j q
       ∙ sum-cong (g .atoms) (λ v w. go v w (bonded g v j) refl (eqb (suc (distance g i v)) (distance g i j)) refl)
     where
       go : (v : ℕ) → Within (g .atoms) v → (t : Bool) → bonded g v j ≡ t → (w : Bool) → eqb (suc (distance g i v)) (distance g i j) ≡ w
-          → cond t (count (λ p. q (j ∷ p)) (walks g k i v)) 0 ≡ cond (t && w) (count (λ p. q (j ∷ p)) (walks g (distance g i v) i v)) 0
+          → cond t (passingPaths (λ p. q (j ∷ p)) (walks g k i v)) 0 ≡ cond (t && w) (passingPaths (λ p. q (j ∷ p)) (walks g (distance g i v) i v)) 0
       go v hv false b w e = refl
       go v hv true b true e =
           let same : k ≡ distance g i v = omega (arith, eqb-true (suc (distance g i v)) (distance g i j) e) in
-          ap (λ (m : ℕ). count (λ p. q (j ∷ p)) (walks g m i v)) same
+          ap (λ (m : ℕ). passingPaths (λ p. q (j ∷ p)) (walks g m i v)) same
       go v hv true b false e =
           ⊎-elim (λ z. omega (arith, count-le (λ p. q (j ∷ p)) (walks g k i v)))
           (λ z. absurd (eqb-false (suc (distance g i v)) (distance g i j) e
@@ -185,7 +185,7 @@ module _ {g : Graph} (m : Molecule g) {i : ℕ} (hi : Within (g .atoms) i) where
   count-self = rw (distance-self (m .sound) hi, eq-eqb i i refl)
 
   pub using-self : (e : Bond) → pathsUsing g e i i ≡ 0
-  unfolding pathsUsing shortestPaths walks count uses
+  unfolding pathsUsing shortestPaths walks passingPaths uses
   using-self e = rw (distance-self (m .sound) hi, eq-eqb i i refl)
 
   pub count-pos : {j : ℕ} → Within (g .atoms) j → 0 < pathCount g i j

@@ -12,7 +12,7 @@ use Rattle.graph.specs.Bonds.{joins-out, anyJoins-sym}
 use Rattle.graph.specs.Sums.{sum-cong, sum-scaled, sum-le, sumPairs-rows, sumPairs-scaled}
 use Rattle.graph.specs.BondSums.{bonds-cong, bonds-none, bonds-scaled, bonds-cond, bonds-swap}
 use Rattle.paths.specs.Paths.{pathCount, pathsUsing, denominator, share}
-use Rattle.paths.specs.Notions.{near, Near, Plain, weight}
+use Rattle.paths.specs.Notions.{near, OnTheWay, Plain, weight}
 use Rattle.paths.specs.Choices.{cond-left, cond-right}
 use Rattle.graph.specs.Distance.{distance-zero}
 use Rattle.paths.specs.Steps.{near-cong, near-none, count-step, using-step, using-self, using-le}
@@ -51,7 +51,7 @@ module _ {g : Graph} (m : Molecule g) {i : ℕ} (hi : Within (g .atoms) i) where
       using-step m hi e k j d
       ∙ near-none g i j (λ v hv y. go v y (joins e v j) refl (using-none e k (λ p q h l r. far p q h (omega arith) (omega arith)) v hv (omega (arith, y .one))))
     where
-      go : (v : ℕ) → Near g i v j → (t : Bool) → joins e v j ≡ t → pathsUsing g e i v ≡ 0 → cond t (pathCount g i v) (pathsUsing g e i v) ≡ 0
+      go : (v : ℕ) → OnTheWay g i v j → (t : Bool) → joins e v j ≡ t → pathsUsing g e i v ≡ 0 → cond t (pathCount g i v) (pathsUsing g e i v) ≡ 0
       go v y true h z = absurd (far v j h (omega (arith, y .one)) (omega (arith, y .one)))
       go v y false h z = z
 
@@ -75,7 +75,7 @@ module _ {g : Graph} (m : Molecule g) {i : ℕ} (hi : Within (g .atoms) i) where
       ∙ sum-scaled (g .atoms) (λ v. cond (near g i v j) (pathCount g i v) 0) (suc k)
       ∙ omega (arith, ap (λ (x : ℕ). x * suc k) (count-step m hi k j d))
     where
-      at : (v : ℕ) → Within (g .atoms) v → Near g i v j → sumBonds (g .bonds) (λ e. pathsUsing g e i v) ≡ k * pathCount g i v
+      at : (v : ℕ) → Within (g .atoms) v → OnTheWay g i v j → sumBonds (g .bonds) (λ e. pathsUsing g e i v) ≡ k * pathCount g i v
           → sumBonds (g .bonds) (λ e. cond (joins e v j) (pathCount g i v) (pathsUsing g e i v)) ≡ pathCount g i v * suc k
       at v hv y h =
           let joined : anyJoins (g .bonds) v j ≡ true = unfold bonded in y .bond in

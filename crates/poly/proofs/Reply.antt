@@ -15,13 +15,13 @@ use Rattle.block.specs.Block.{mostAtoms, graphOf, blockReply}
 use Rattle.block.specs.Told.{few-atoms, molecule}
 use Rattle.poly.specs.Poly.{half, unusable, value, valuesOf, valuesReply, polynomialReply, saidPolynomial}
 use Rattle.poly.specs.Exact.{allFinite, exactTo, scaled, Exact}
-use Rattle.poly.specs.declared.Answer.{Answer}
+use Rattle.poly.specs.declared.ValuesReply.{ValuesReply}
 use Rattle.poly.proofs.Counts.{count-most, none-beyond}
 use Rattle.poly.proofs.Exact.{exact-at-half}
 use Rattle.poly.proofs.Finite.{always-finite}
 
 -- two replies that satisfy the promise are equal
-pub one-reply : (n : ℕ) (xs : List ℕ) (x : Float) (r s : Answer) → r ≡ saidPolynomial (polynomialReply n xs x) → s ≡ saidPolynomial (polynomialReply n xs x) → r ≡ s
+pub one-reply : (n : ℕ) (xs : List ℕ) (x : Float) (r s : ValuesReply) → r ≡ saidPolynomial (polynomialReply n xs x) → s ≡ saidPolynomial (polynomialReply n xs x) → r ≡ s
 one-reply n xs x r s p q = p ∙ sym q
 
 -- a block that is not refused has at most 64 atoms, so that no count is above the square of that
@@ -29,9 +29,9 @@ few : (n : ℕ) (xs : List ℕ) → blockReply n xs ≡ read tt → (k : ℕ) �
 few n xs fine k = count-most (graphOf n xs) k mostAtoms (few-atoms n xs fine .high)
 
 -- no value is a NaN or infinite
-pub finite-reply : (n : ℕ) (xs : List ℕ) (x : Float) (r : Answer) → r ≡ saidPolynomial (polynomialReply n xs x) → T (allFinite r)
+pub finite-reply : (n : ℕ) (xs : List ℕ) (x : Float) (r : ValuesReply) → r ≡ saidPolynomial (polynomialReply n xs x) → T (allFinite r)
 unfolding polynomialReply valuesReply valuesOf
-finite-reply n xs x r e = subst (λ (a : Answer). T (allFinite a)) (sym e) (go (blockReply n xs) refl (unusable x) refl)
+finite-reply n xs x r e = subst (λ (a : ValuesReply). T (allFinite a)) (sym e) (go (blockReply n xs) refl (unusable x) refl)
   where
     g : Graph
     g = graphOf n xs
@@ -43,14 +43,14 @@ finite-reply n xs x r e = subst (λ (a : Answer). T (allFinite a)) (sym e) (go (
     go (read z) b false u = and-i (finite (value 0 (pairsAt g) x)) (finite (value 1 (pairsAt g) x)) (always-finite 0 (pairsAt g) x (few n xs b) u) (always-finite 1 (pairsAt g) x (few n xs b) u)
 
 -- at x = 0.5 both values of a block of largest distance at most 40 are exact
-pub exact-reply : (n : ℕ) (xs : List ℕ) → blockReply n xs ≡ read tt → largest (graphOf n xs) ≤ exactTo → (r : Answer) → r ≡ saidPolynomial (polynomialReply n xs half) → Exact (graphOf n xs) r
+pub exact-reply : (n : ℕ) (xs : List ℕ) → blockReply n xs ≡ read tt → largest (graphOf n xs) ≤ exactTo → (r : ValuesReply) → r ≡ saidPolynomial (polynomialReply n xs half) → Exact (graphOf n xs) r
 unfolding polynomialReply valuesReply valuesOf unusable eq lt isNan
 exact-reply n xs fine short r e = subst (Exact g) (sym (e ∙ ap said fine)) (both 0, both 1)
   where
     g : Graph
     g = graphOf n xs
 
-    said : Read (Unit {0}) → Answer
+    said : Read (Unit {0}) → ValuesReply
     said b = saidPolynomial (b then λ _. valuesReply (pairsAt g) half)
 
     both : (p : ℕ) → HasValue (value p (pairsAt g) half) false (scaled p (pairsAt g)) (2 ^ exactTo)

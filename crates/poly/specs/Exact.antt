@@ -5,11 +5,11 @@ use lib.Ieee.Exact.{HasValue}
 use lib.Ieee.Scale.{finite}
 use Rattle.graph.specs.Graph.{Graph, pairsAt, sum}
 use Rattle.poly.specs.Poly.{ofParity}
-use Rattle.poly.specs.declared.Answer.{Answer}
-use Rattle.poly.specs.declared.Answer.the-variants as answer
+use Rattle.poly.specs.declared.ValuesReply.{ValuesReply}
+use Rattle.poly.specs.declared.ValuesReply.the-variants as answer
 
 -- neither value is a NaN or an infinity
-abbrev pub allFinite : Answer → Bool
+abbrev pub allFinite : ValuesReply → Bool
 allFinite (answer.Values v) = finite (v .even) && finite (v .odd)
 allFinite (answer.Refused r) = true
 
@@ -22,6 +22,6 @@ abbrev pub scaled : ℕ → (ℕ → ℕ) → ℕ
 scaled p n = sum exactTo (λ k. ofParity p n k * 2 ^ (exactTo - k))
 
 -- a reply that is no refusal, and whose values times 2 ^ 40 are those sums: `HasValue v false a c` says that v is finite, not negative and equal to a / c
-abbrev pub Exact : Graph → Answer → Type 0
+abbrev pub Exact : Graph → ValuesReply → Type 0
 Exact g (answer.Values v) = HasValue (v .even) false (scaled 0 (pairsAt g)) (2 ^ exactTo) × HasValue (v .odd) false (scaled 1 (pairsAt g)) (2 ^ exactTo)
 Exact g (answer.Refused r) = ⊥

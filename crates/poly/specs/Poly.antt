@@ -10,8 +10,8 @@ use Rattle.graph.specs.Graph.{pairsAt}
 use Rattle.reply.specs.Read.{Read, refused, read, _then_, refuseIf}
 use Rattle.block.specs.Block.{mostAtoms, graphOf, blockReply}
 use Rattle.poly.specs.declared.Values.{Values}
-use Rattle.poly.specs.declared.Answer.{Answer}
-use Rattle.poly.specs.declared.Answer.the-variants as answer
+use Rattle.poly.specs.declared.ValuesReply.{ValuesReply}
+use Rattle.poly.specs.declared.ValuesReply.the-variants as answer
 
 -- the floats 0, 1 and 0.5
 abbrev pub zeroF : Float
@@ -59,10 +59,10 @@ unfoldable pub polynomialReply : ℕ → List ℕ → Float → Read Values
 polynomialReply n xs x = blockReply n xs then λ _. valuesReply (pairsAt (graphOf n xs)) x
 
 -- how the code says it
-abbrev pub saidPolynomial : Read Values → Answer
+abbrev pub saidPolynomial : Read Values → ValuesReply
 saidPolynomial (refused r) = answer.Refused r
 saidPolynomial (read v) = answer.Values v
 
 -- n(k) as the code holds it: at place k of a list
-abbrev pub counted : List ℕ → ℕ → ℕ
-counted counts k = getD counts k 0
+abbrev pub pairsCounted : List ℕ → ℕ → ℕ
+pairsCounted counts k = getD counts k 0

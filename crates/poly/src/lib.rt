@@ -1,6 +1,6 @@
 // The even and odd polynomial values of a block.
 ghost use mathlib.Core.Path.{_≡_};
-ghost use Rattle.poly.specs.Poly.{counted, value, valuesReply, polynomialReply, saidPolynomial};
+ghost use Rattle.poly.specs.Poly.{pairsCounted, value, valuesReply, polynomialReply, saidPolynomial};
 use block::ATOMS;
 use reply::Refusal;
 use reply::Reply;
@@ -12,7 +12,7 @@ pub struct Values {
 }
 
 // The two values, or a refusal.
-pub enum Answer {
+pub enum ValuesReply {
     Values(Values),
     Refused(Refusal),
 }
@@ -21,7 +21,7 @@ const FARTHEST: usize = ATOMS - 1;
 
 // Start at 0; for k from 63 down to 1 add n(k), or 0 for the other parity, then multiply by x.
 fn value_of(counts: [u16; ATOMS], parity: usize, x: f64) -> f64
-    ensures { λ r. ⌜ r ≡ value parity (counted counts) x ⌝ }
+    ensures { λ r. ⌜ r ≡ value parity (pairsCounted counts) x ⌝ }
 {
     let mut v = 0.0f64;
     let mut k = FARTHEST;
@@ -36,31 +36,31 @@ fn value_of(counts: [u16; ATOMS], parity: usize, x: f64) -> f64
     v
 }
 
-fn values_of(counts: [u16; ATOMS], x: f64) -> Answer
-    ensures { λ r. ⌜ r ≡ saidPolynomial (valuesReply (counted counts) x) ⌝ }
+fn values_of(counts: [u16; ATOMS], x: f64) -> ValuesReply
+    ensures { λ r. ⌜ r ≡ saidPolynomial (valuesReply (pairsCounted counts) x) ⌝ }
 {
     if x > 0.0 {
         if x <= 1.0 {
             let even = value_of(counts, 0, x);
             let odd = value_of(counts, 1, x);
-            return Answer::Values(Values { even, odd });
+            return ValuesReply::Values(Values { even, odd });
         }
     }
-    Answer::Refused(Refusal {
+    ValuesReply::Refused(Refusal {
         number: 10,
         place: 0,
     })
 }
 
 // The polynomial values of a block at x.
-pub fn polynomial(n: usize, bonds: &[u8], x: f64) -> Answer
+pub fn polynomial(n: usize, bonds: &[u8], x: f64) -> ValuesReply
     ensures { λ r. ⌜ r ≡ saidPolynomial (polynomialReply n (now (bonds .entry)) x) ⌝ }
 {
     let pairs = block::pair_counts(n, bonds);
     let reply = pairs.reply;
     let counts = pairs.at;
     match reply {
-        Reply::Refused(r) => Answer::Refused(r),
+        Reply::Refused(r) => ValuesReply::Refused(r),
         Reply::Fine => values_of(counts, x),
     }
 }

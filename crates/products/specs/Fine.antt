@@ -17,13 +17,13 @@ use Rattle.records.specs.Longer.{little-same, little-behind}
 use Rattle.records.specs.Records.{payloadAt}
 use Rattle.assembly.specs.Book.{Book, bookOf}
 use Rattle.assembly.specs.Degrees.{joins-zero, joins-suc}
-use Rattle.assembly.specs.Placements.{mostPlacements, placementCount, placementAt, joinOf, joinEnds, siteAt, shelfOf, joinsOn, isFull, joinOn, graphOn, sitesOn, fault, placedReply, assemblyReply}
+use Rattle.assembly.specs.Placements.{mostPlacements, placementCount, placementAt, joinOf, joinEnds, atomSite, shelfOf, joinsOn, isFull, joinOn, graphOn, sitesOn, fault, placementsReply, assemblyReply}
 use Rattle.assembly.specs.declared.Placement.{Placement}
 use Rattle.assembly.proofs.Faults.{first-fine, joins-well, has-parent, is-first, is-later, faultless, none-left, count-within}
 use Rattle.products.specs.Library.{mostSites, mostCandidates, coreNumber, candidateNumber, candidateAtom, candidateAt, isTaken, isFullIn, candidateFault, Library, libraryReply}
 use Rattle.products.specs.Products.{joinBytes, placedBytes, productBytes, products, choiceAt, assemblyAt}
 use Rattle.products.specs.Choices.{IsChoice, is-choice}
-use Rattle.products.specs.Sound.{joins, Sites, Listed, whole}
+use Rattle.products.specs.Sound.{joins, SitesApart, CandidatesListed, whole}
 use Rattle.products.specs.declared.Site.{Site}
 
 -- the placement at an index, in bytes without the count before them
@@ -109,7 +109,7 @@ module _ (book : Book) (xs : List ℕ) where
   core = book .graph (coreNumber xs)
 
   -- the placement at an index is a candidate that may stand at its site
-  pub record Good (ss : List Site) (ys : List ℕ) (k : ℕ) : Type 0 where
+  pub record GoodPlacement (ss : List Site) (ys : List ℕ) (k : ℕ) : Type 0 where
     pub atom : ℕ
     pub place : ℕ
     pub said : placedIn ys k ≡ joined (candidateNumber xs place) atom (candidateAtom xs place)
@@ -117,7 +117,7 @@ module _ (book : Book) (xs : List ℕ) where
     pub inside : isOutside (core .atoms) atom ≡ false
     pub taken : isTaken ss atom ≡ true
 
-  good-later : (s : Site) (ss : List Site) (ys zs : List ℕ) (k : ℕ) → 6 * k + 6 ≤ length ys → Good ss ys k → Good (s ∷ ss) (ys ++ zs) k
+  good-later : (s : Site) (ss : List Site) (ys zs : List ℕ) (k : ℕ) → 6 * k + 6 ≤ length ys → GoodPlacement ss ys k → GoodPlacement (s ∷ ss) (ys ++ zs) k
   good-later s ss ys zs k h g = record {
     atom = g .atom;
     place = g .place;
@@ -132,8 +132,8 @@ module _ (book : Book) (xs : List ℕ) where
   unfolding placedBytes
   last-said s ss j js k c e = placed-behind (placedBytes xs ss js) (joinBytes xs s j) k (omega (arith, length-placed xs ss js c)) ∙ join-said xs s j
 
-  pub good : (ss : List Site) (js : List ℕ) → Sites book core xs ss → IsChoice ss js → (k : ℕ) → 1 ≤ k → k ≤ length ss → Good ss (placedBytes xs ss js) k
-  unfolding Sites IsChoice placedBytes
+  pub good : (ss : List Site) (js : List ℕ) → SitesApart book core xs ss → IsChoice ss js → (k : ℕ) → 1 ≤ k → k ≤ length ss → GoodPlacement ss (placedBytes xs ss js) k
+  unfolding SitesApart IsChoice placedBytes
   good [] js h c k l m = absurd (omega arith)
   good (s ∷ ss) [] h c k l m = absurd c
   good (s ∷ ss) (j ∷ js) h c k l m =
@@ -149,9 +149,9 @@ module _ (book : Book) (xs : List ℕ) where
       })
       (le-suc-iff .0 m)
 
-  fresh : (ss : List Site) (js : List ℕ) → Sites book core xs ss → IsChoice ss js → (i k : ℕ) → 1 ≤ i → i < k → k ≤ length ss
+  fresh : (ss : List Site) (js : List ℕ) → SitesApart book core xs ss → IsChoice ss js → (i k : ℕ) → 1 ≤ i → i < k → k ≤ length ss
       → placedIn (placedBytes xs ss js) i .site ≡ placedIn (placedBytes xs ss js) k .site → ⊥
-  unfolding Sites IsChoice placedBytes
+  unfolding SitesApart IsChoice placedBytes
   fresh [] js h c i k l m n e = absurd (omega arith)
   fresh (s ∷ ss) [] h c i k l m n e = absurd c
   fresh (s ∷ ss) (j ∷ js) h c i k l m n e =
@@ -169,7 +169,7 @@ module _ (book : Book) (xs : List ℕ) where
       (le-suc-iff .0 n)
 
   -- the product of a choice, written out
-  module _ (ss : List Site) (js : List ℕ) (listed : Listed book xs ss) (c : IsChoice ss js) where
+  module _ (ss : List Site) (js : List ℕ) (listed : CandidatesListed book xs ss) (c : IsChoice ss js) where
     abbrev placed : ℕ → Placement
     placed = placementAt (productBytes xs ss js)
 
@@ -177,7 +177,7 @@ module _ (book : Book) (xs : List ℕ) where
     unfolding productBytes
     placed-is k = behind-count (suc (length ss)) 0 (placedBytes xs ss js) k
 
-    at : (k : ℕ) → 1 ≤ k → k ≤ length ss → Good ss (placedBytes xs ss js) k
+    at : (k : ℕ) → 1 ≤ k → k ≤ length ss → GoodPlacement ss (placedBytes xs ss js) k
     at k l m = good ss js (listed .sites) c k l m
 
     first-is : placed 0 ≡ record { block = coreNumber xs; parent = 0; site = 0; own = 0 }
@@ -248,7 +248,7 @@ module _ (book : Book) (xs : List ℕ) where
         ap (λ (p : ℕ). joinsOn (joinOn placed) (k - 1) p (placed k .site)) (parent-is k l m) ∙ site-free k l m in
         is-later (shelfOf book) placed k has (omega arith)
         ∙ has-parent (shelfOf book) placed k parent
-        ∙ joins-well (siteAt (sitesOn (shelfOf book) placed (placed k .parent - 1)) (placed k .site)) (siteAt (sitesOn (shelfOf book) placed k) (placed k .own)) (joinOn placed) k site own
+        ∙ joins-well (atomSite (sitesOn (shelfOf book) placed (placed k .parent - 1)) (placed k .site)) (atomSite (sitesOn (shelfOf book) placed k) (placed k .own)) (joinOn placed) k site own
         (not-full (graphOn book placed (placed k .parent - 1)) k (placed k .parent) (placed k .site) free full)
         (not-full (graphOn book placed k) k (suc k) (placed k .own) (own-free k l m) own-full)
 
@@ -256,7 +256,7 @@ module _ (book : Book) (xs : List ℕ) where
     well zero h = first-well
     well (suc k) h = later-well (suc k) (omega arith) h
 
-    from : (left k : ℕ) → k + left ≤ suc (length ss) → placedReply (shelfOf book) placed k left ≡ read tt
+    from : (left k : ℕ) → k + left ≤ suc (length ss) → placementsReply (shelfOf book) placed k left ≡ read tt
     from zero k h = none-left (shelfOf book) placed k
     from (suc left) k h = faultless (shelfOf book) placed k left (well k (omega arith)) ∙ from left (suc k) (omega arith)
 
@@ -269,14 +269,14 @@ module _ (book : Book) (xs : List ℕ) where
     choice-fine =
         let n = count-is in
         let few : isOutside mostPlacements (placementCount (productBytes xs ss js)) ≡ false = rw (n, ne-eqb (suc (length ss)) 0 (omega arith), le-ltb mostPlacements (suc (length ss)) (omega (arith, listed .few))) in
-        count-within book (productBytes xs ss js) few ∙ ap (placedReply (shelfOf book) placed 0) n ∙ from (suc (length ss)) 0 (omega arith)
+        count-within book (productBytes xs ss js) few ∙ ap (placementsReply (shelfOf book) placed 0) n ∙ from (suc (length ss)) 0 (omega arith)
 
 -- Where a library is not refused, the product at each position, written out as an assembly over the deck's blocks, is not refused.
 pub product-fine : (d : List ℕ) (l : Library) (position : ℕ) → libraryReply d ≡ read l → position < products (l .sites) → assemblyReply (bookOf d (l .blocks)) (assemblyAt d l position) ≡ read tt
 product-fine d l position e h = choice-fine (bookOf d (l .blocks)) (payloadAt d (l .at)) (l .sites) (choiceAt (l .sites) position) (whole d l e .listed) (is-choice (l .sites) position h)
 
-some-products : (book : Book) (g : Graph) (xs : List ℕ) (ss : List Site) → Sites book g xs ss → (1 ≤ products ss) × (products ss ≤ mostCandidates ^ length ss)
-unfolding Sites products
+some-products : (book : Book) (g : Graph) (xs : List ℕ) (ss : List Site) → SitesApart book g xs ss → (1 ≤ products ss) × (products ss ≤ mostCandidates ^ length ss)
+unfolding SitesApart products
 some-products book g xs [] h = (omega arith, omega arith)
 some-products book g xs (s ∷ ss) h =
     let (low, high) = some-products book g xs ss (h .2) in

@@ -15,7 +15,7 @@ use Rattle.products.specs.Products.{moleculeOver}
 use Rattle.products.specs.Library.{candidateNumber, candidateAtom, candidateAt}
 use Rattle.products.specs.Products.{joinBytes, placedBytes, productBytes}
 use Rattle.products.specs.Choices.{IsChoice}
-use Rattle.products.specs.Sound.{Sites}
+use Rattle.products.specs.Sound.{SitesApart}
 use Rattle.products.specs.Fine.{behind-count, placed-before, length-placed, core, good, last-said}
 use Rattle.products.specs.declared.Site.{Site}
 
@@ -32,7 +32,7 @@ agree book p q (suc m) same one =
     ∙ ap₂ (λ (g : Graph) (x : Placement). graph.joined g (book .graph (x .block)) (0 + x .site) (x .own)) (agree book p q m (λ i h. same i (omega arith)) (λ i l h. one i l (omega arith))) e
     ∙ ap (λ (i : ℕ). graph.joined (written (graphOn book q) (joinOn q) m) (graphOn book q (suc m)) (startAt (graphOn book q) i + q (suc m) .site) (q (suc m) .own)) (sym y)
 
-module _ (book : Book) (xs : List ℕ) (s : Site) (ss : List Site) (j : ℕ) (js : List ℕ) (h : Sites book (core book xs) xs (s ∷ ss)) (c : IsChoice (s ∷ ss) (j ∷ js)) where
+module _ (book : Book) (xs : List ℕ) (s : Site) (ss : List Site) (j : ℕ) (js : List ℕ) (h : SitesApart book (core book xs) xs (s ∷ ss)) (c : IsChoice (s ∷ ss) (j ∷ js)) where
   abbrev long : List ℕ
   long = productBytes xs (s ∷ ss) (j ∷ js)
 
@@ -47,7 +47,7 @@ module _ (book : Book) (xs : List ℕ) (s : Site) (ss : List Site) (j : ℕ) (js
       ∙ sym (behind-count (suc (length ss)) 0 (placedBytes xs ss js) i)
 
   one : (i : ℕ) → 1 ≤ i → i ≤ length ss → placementAt short i .parent ≡ 1
-  unfolding productBytes Sites IsChoice
+  unfolding productBytes SitesApart IsChoice
   one i l m = ap (λ (x : Placement). x .parent) (behind-count (suc (length ss)) 0 (placedBytes xs ss js) i ∙ good book xs ss js (h .2) (c .1) i l m .said)
 
   last : let p = candidateAt s j in placementAt long (suc (length ss)) ≡ record { block = candidateNumber xs p; parent = 1; site = s .atom; own = candidateAtom xs p }

@@ -6,14 +6,13 @@ use lib.Dec.{ltb}
 use lib.ListN.{length}
 use Rattle.graph.specs.Graph.{Graph}
 use Rattle.graph.specs.Assembly.{written}
-use Rattle.reply.specs.Read.{Read, read, _then_}
+use Rattle.reply.specs.Read.{Read, read, _then_, ifElse}
 use Rattle.block.specs.Index.{indicesOf}
 use Rattle.block.specs.declared.Indices.{Indices}
 use Rattle.records.specs.Bytes.{byteAt}
 use Rattle.records.specs.Records.{payloadAt}
 use Rattle.assembly.specs.Book.{Book, bookOf}
 use Rattle.assembly.specs.Placements.{placementCount, placementAt, graphOn, joinOn}
-use Rattle.deck.specs.Deck.{ifElse}
 use Rattle.products.specs.Library.{Library, libraryReply, candidateAt}
 use Rattle.products.specs.declared.Site.{Site}
 

@@ -28,14 +28,14 @@ both-none (suc m) n e = absurd (omega arith)
 
 module _ (book : Book) (core : Graph) (xs : List ℕ) where
   -- a candidate that may stand at a site
-  pub record Joins (atom p : ℕ) : Type 0 where
+  pub record CandidateJoins (atom p : ℕ) : Type 0 where
     pub within : p + candidateBytes ≤ length xs
     pub has : book .has (candidateNumber xs p) ≡ true
     pub own : isOutside (book .graph (candidateNumber xs p) .atoms) (candidateAtom xs p) ≡ false
     pub room : isFullIn core atom ≡ false
     pub own-room : isFullIn (book .graph (candidateNumber xs p)) (candidateAtom xs p) ≡ false
 
-  pub joins : (atom p : ℕ) → candidateFault book core xs atom p ≡ 0 → Joins atom p
+  pub joins : (atom p : ℕ) → candidateFault book core xs atom p ≡ 0 → CandidateJoins atom p
   unfolding candidateFault
   joins atom p e =
       let block = book .graph (candidateNumber xs p) in
@@ -65,13 +65,13 @@ module _ (book : Book) (core : Graph) (xs : List ℕ) where
       omega (arith, candidates-end atom left (p + candidateBytes) b (joins atom p a .within))
 
   -- a site that is read
-  pub record Stands (s : Site) : Type 0 where
+  pub record SiteStands (s : Site) : Type 0 where
     pub many : Within mostCandidates (s .many)
     pub inside : isOutside (core .atoms) (s .atom) ≡ false
     pub candidates : (j : ℕ) → j < s .many → candidateFault book core xs (s .atom) (candidateAt s j) ≡ 0
     pub within : siteEnd s ≤ length xs
 
-  pub stands : (done : List Site) (p : ℕ) → siteFault book core xs done p ≡ 0 → Stands (siteAt xs p) × (isTaken done (siteAt xs p .atom) ≡ false)
+  pub stands : (done : List Site) (p : ℕ) → siteFault book core xs done p ≡ 0 → SiteStands (siteAt xs p) × (isTaken done (siteAt xs p .atom) ≡ false)
   unfolding siteFault
   stands done p e =
       let s = siteAt xs p in
@@ -89,12 +89,12 @@ module _ (book : Book) (core : Graph) (xs : List ℕ) where
       )
 
   -- all sites, no two at one atom
-  unfoldable pub Sites : List Site → Type 0
-  Sites [] = Unit {0}
-  Sites (s ∷ ss) = Stands s × (isTaken ss (s .atom) ≡ false) × Sites ss
+  unfoldable pub SitesApart : List Site → Type 0
+  SitesApart [] = Unit {0}
+  SitesApart (s ∷ ss) = SiteStands s × (isTaken ss (s .atom) ≡ false) × SitesApart ss
 
-  sites-from : (at left p : ℕ) (done ss : List Site) → sitesFrom book core xs at left p done ≡ read ss → Sites done → Sites ss × (length ss ≡ left + length done)
-  unfolding sitesFrom Sites
+  sites-from : (at left p : ℕ) (done ss : List Site) → sitesFrom book core xs at left p done ≡ read ss → SitesApart done → SitesApart ss × (length ss ≡ left + length done)
+  unfolding sitesFrom SitesApart
   sites-from at zero p done ss e h =
       let (u, a, f) = then-read (refuseIf (ltb p (length xs)) 13 at) (λ _. read done) e in
       let same : done ≡ ss = cc f in
@@ -105,14 +105,14 @@ module _ (book : Book) (core : Graph) (xs : List ℕ) where
       let (q, n) = sites-from at left (siteEnd (siteAt xs p)) (siteAt xs p ∷ done) ss f (s, t, h) in
       (q, omega (arith, n))
 
-pub record Listed (book : Book) (xs : List ℕ) (ss : List Site) : Type 0 where
+pub record CandidatesListed (book : Book) (xs : List ℕ) (ss : List Site) : Type 0 where
   pub few : Within mostSites (length ss)
   pub count : length ss ≡ siteCount xs
   pub has : book .has (coreNumber xs) ≡ true
-  pub sites : Sites book (book .graph (coreNumber xs)) xs ss
+  pub sites : SitesApart book (book .graph (coreNumber xs)) xs ss
 
-pub listed : (book : Book) (xs : List ℕ) (at : ℕ) (ss : List Site) → sitesReply book xs at ≡ read ss → Listed book xs ss
-unfolding sitesReply Sites
+pub listed : (book : Book) (xs : List ℕ) (at : ℕ) (ss : List Site) → sitesReply book xs at ≡ read ss → CandidatesListed book xs ss
+unfolding sitesReply SitesApart
 listed book xs at ss e =
     let (u, a, f) = then-read (refuseIf (isOutside mostSites (siteCount xs)) 31 at) _ e in
     let (v, b, g) = then-read (refuseIf (not (book .has (coreNumber xs))) 16 at) _ f in
@@ -122,16 +122,16 @@ listed book xs at ss e =
     record { few = rw m w; count = m; has = not-false (book .has (coreNumber xs)) (if-read _ 16 at b); sites = q }
 
 -- a library deck that is not refused
-pub record Whole (d : List ℕ) (l : Library) : Type 0 where
+pub record WholeLibrary (d : List ℕ) (l : Library) : Type 0 where
   pub short : length d ≤ longestDeck
   pub deck : Deck
   pub blocks : blocksReply libraryKind d ≡ read deck
   pub same : l .blocks ≡ deck .blocks
   pub at : l .at ≡ deck .assembly
-  pub listed : Listed (bookOf d (l .blocks)) (payloadAt d (l .at)) (l .sites)
+  pub listed : CandidatesListed (bookOf d (l .blocks)) (payloadAt d (l .at)) (l .sites)
   pub ends : endReply d (deck .sheet) ≡ read tt
 
-pub whole : (d : List ℕ) (l : Library) → libraryReply d ≡ read l → Whole d l
+pub whole : (d : List ℕ) (l : Library) → libraryReply d ≡ read l → WholeLibrary d l
 unfolding libraryReply openReply afterBlocks
 whole d l e =
     let (k, o, f) = then-read (openReply libraryKind d) (λ k. afterBlocks d (k .blocks) (k .assembly) (k .sheet)) e in

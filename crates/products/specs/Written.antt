@@ -97,12 +97,12 @@ abbrev pub productDeck : List ℕ → Library → ℕ → List ℕ
 productDeck d l position = take (l .at) d ++ assemblyRecord (assemblyAt d l position)
 
 -- it is never too long, is not refused, and its molecule is the product's
-pub record Same (d : List ℕ) (l : Library) (position : ℕ) : Type 0 where
+pub record SameMolecule (d : List ℕ) (l : Library) (position : ℕ) : Type 0 where
   pub deck : Deck
   pub reads : deckReply Composed (productDeck d l position) ≡ read deck
   pub molecule : moleculeOf (productDeck d l position) deck ≡ moleculeOver (bookOf d (l .blocks)) (assemblyAt d l position)
 
-pub product-deck : (d : List ℕ) (l : Library) (position : ℕ) → libraryReply d ≡ read l → position < products (l .sites) → Same d l position
+pub product-deck : (d : List ℕ) (l : Library) (position : ℕ) → libraryReply d ≡ read l → position < products (l .sites) → SameMolecule d l position
 unfolding productBytes
 product-deck d l position e h =
     let w = whole d l e in

@@ -12,18 +12,18 @@ use Rattle.reply.specs.Read.{Read, refused, read, refusal, _then_, refuseIf, sa
 use Rattle.reply.specs.declared.Refusal.{Refusal}
 use Rattle.reply.specs.declared.Reply.{Reply}
 use Rattle.block.specs.Block.{graphOf, blockReply}
-use Rattle.filling.specs.Reply.{fillReply, filled, fillBytes}
+use Rattle.filling.specs.Reply.{fillReply, filledSummary, fillBytes}
 use Rattle.reply.specs.Chain.{then-read, if-read}
-use Rattle.storage.specs.Shelf.{places, numberIn, placeOf, isHeld, heldBy, holds, noNumber, unless, roomReply, addReply, added, lookReply, dropReply, dropped}
-use Rattle.storage.specs.Table.{shelfBytes, tableBytes, startOf, shelf, onTable, tableAfter, withShelf, tableReply, zeroed, emptied}
+use Rattle.storage.specs.Shelf.{places, numberIn, placeHolding, isHeld, heldBy, holds, zeroNumber, unless, roomReply, addReply, added, lookReply, dropReply, dropped}
+use Rattle.storage.specs.Table.{shelfBytes, tableBytes, shelfStart, shelf, onTable, tableAfter, withShelf, tableReply, zeroed, emptied}
 use Rattle.storage.specs.declared.Queue.{Queue}
 use Rattle.summary.specs.Layout.{summaryBytes}
-use Rattle.queues.specs.Queues.{stored}
+use Rattle.queues.specs.Queues.{storedBlock}
 use Rattle.queues.specs.Work.{firstOf, filledIn}
 use Rattle.queues.specs.Alone.{length-stored}
 
 module _ (s : List ℕ) (x : ℕ) where
-  pub held-is : (k : ℕ) (b : Bool) → b ≡ isHeld x k → k ≡ placeOf summaryBytes s x → holds summaryBytes s x ≡ b
+  pub held-is : (k : ℕ) (b : Bool) → b ≡ isHeld x k → k ≡ placeHolding summaryBytes s x → holds summaryBytes s x ≡ b
   unfolding heldBy
   held-is k b h e = rw (h, e)
 
@@ -36,20 +36,20 @@ module _ (s : List ℕ) (x : ℕ) where
     unfolding roomReply
     room-held h = rw (ne-eqb x 0 n, h)
 
-    pub room-fine : holds summaryBytes s x ≡ false → placeOf summaryBytes s 0 < places → roomReply summaryBytes s x ≡ read tt
+    pub room-fine : holds summaryBytes s x ≡ false → placeHolding summaryBytes s 0 < places → roomReply summaryBytes s x ≡ read tt
     unfolding roomReply
-    room-fine h l = rw (ne-eqb x 0 n, h, lt-ltb (placeOf summaryBytes s 0) places l)
+    room-fine h l = rw (ne-eqb x 0 n, h, lt-ltb (placeHolding summaryBytes s 0) places l)
 
-    pub room-none : holds summaryBytes s x ≡ false → places ≤ placeOf summaryBytes s 0 → roomReply summaryBytes s x ≡ refused (refusal 28 0)
+    pub room-none : holds summaryBytes s x ≡ false → places ≤ placeHolding summaryBytes s 0 → roomReply summaryBytes s x ≡ refused (refusal 28 0)
     unfolding roomReply
-    room-none h l = rw (ne-eqb x 0 n, h, le-ltb (placeOf summaryBytes s 0) places l)
+    room-none h l = rw (ne-eqb x 0 n, h, le-ltb (placeHolding summaryBytes s 0) places l)
 
   pub look-none : {F : Type 0} (f : List ℕ → F) → holds summaryBytes s x ≡ false → lookReply summaryBytes s f x ≡ refused (refusal 30 0)
   unfolding lookReply
   look-none f h = rw h
 
   -- what is read of the part from the place's first byte to the next one's
-  pub look-held : {F : Type 0} (f : List ℕ → F) (k : ℕ) → holds summaryBytes s x ≡ true → k ≡ placeOf summaryBytes s x
+  pub look-held : {F : Type 0} (f : List ℕ → F) (k : ℕ) → holds summaryBytes s x ≡ true → k ≡ placeHolding summaryBytes s x
       → lookReply summaryBytes s f x ≡ read (f (take (summaryBytes * k + summaryBytes - summaryBytes * k) (drop (summaryBytes * k) s)))
   unfolding lookReply
   look-held f k h e = let n : summaryBytes * k + summaryBytes - summaryBytes * k ≡ summaryBytes = omega arith in rw (n, h, e)
@@ -66,7 +66,7 @@ module _ (s : List ℕ) (x : ℕ) where
   unfolding dropped
   dropped-none h = rw (drop-none h)
 
-  pub dropped-held : holds summaryBytes s x ≡ true → dropped summaryBytes s x ≡ sets s (summaryBytes * placeOf summaryBytes s x) (noNumber)
+  pub dropped-held : holds summaryBytes s x ≡ true → dropped summaryBytes s x ≡ sets s (summaryBytes * placeHolding summaryBytes s x) (zeroNumber)
   unfolding dropped
   dropped-held h = rw (drop-held h)
 
@@ -76,11 +76,11 @@ module _ (s : List ℕ) (x : ℕ) where
     unfolding addReply firstOf
     add-unroomed r e = rw e
 
-    pub added-unroomed : (r : Refusal) → roomReply summaryBytes s x ≡ refused r → s ≡ added summaryBytes s x (blockReply n bs) (stored x n bs)
+    pub added-unroomed : (r : Refusal) → roomReply summaryBytes s x ≡ refused r → s ≡ added summaryBytes s x (blockReply n bs) (storedBlock x n bs)
     unfolding added firstOf
-    added-unroomed r e = go (blockReply n bs) ∙ sym (ap (λ (m : Read (Unit {0})). unless m s (sets s (summaryBytes * placeOf summaryBytes s 0) (stored x n bs))) (add-unroomed r e))
+    added-unroomed r e = go (blockReply n bs) ∙ sym (ap (λ (m : Read (Unit {0})). unless m s (sets s (summaryBytes * placeHolding summaryBytes s 0) (storedBlock x n bs))) (add-unroomed r e))
       where
-        go : (m : Read (Unit {0})) → s ≡ unless (firstOf m r) s (sets s (summaryBytes * placeOf summaryBytes s 0) (stored x n bs))
+        go : (m : Read (Unit {0})) → s ≡ unless (firstOf m r) s (sets s (summaryBytes * placeHolding summaryBytes s 0) (storedBlock x n bs))
         go (refused q) = refl
         go (read u) = refl
 
@@ -92,17 +92,17 @@ module _ (s : List ℕ) (x : ℕ) where
         go (refused r) = refl
         go (read u) = refl
 
-    pub added-roomed : roomReply summaryBytes s x ≡ read tt → added summaryBytes s x (blockReply n bs) (stored x n bs) ≡ filledIn s x n bs
+    pub added-roomed : roomReply summaryBytes s x ≡ read tt → added summaryBytes s x (blockReply n bs) (storedBlock x n bs) ≡ filledIn s x n bs
     unfolding added filledIn
-    added-roomed e = ap (λ (r : Read (Unit {0})). unless r s (sets s (summaryBytes * placeOf summaryBytes s 0) (stored x n bs))) (add-roomed e)
+    added-roomed e = ap (λ (r : Read (Unit {0})). unless r s (sets s (summaryBytes * placeHolding summaryBytes s 0) (storedBlock x n bs))) (add-roomed e)
 
 -- where there is room, an empty place is one of the eight
-pub room-place : (s : List ℕ) (x : ℕ) → roomReply summaryBytes s x ≡ read tt → placeOf summaryBytes s 0 < places
+pub room-place : (s : List ℕ) (x : ℕ) → roomReply summaryBytes s x ≡ read tt → placeHolding summaryBytes s 0 < places
 unfolding roomReply
 room-place s x e =
     let (u, a, f) = then-read (refuseIf (eqb x 0) 14 0) _ e in
     let (v, b, g) = then-read (refuseIf (holds summaryBytes s x) 29 0) _ f in
-    ltb-true (placeOf summaryBytes s 0) places (not-false _ (if-read _ 28 0 g))
+    ltb-true (placeHolding summaryBytes s 0) places (not-false _ (if-read _ 28 0 g))
 
 -- the table
 module _ (t : List ℕ) where
@@ -131,7 +131,7 @@ module _ (t : List ℕ) where
   long-empty l = rw (long-table l)
 
 -- what a call does with the part of a table that it is lent
-module _ (q : Queue) (t : List ℕ) (a : ℕ) (e : a ≡ startOf summaryBytes q) (l : (tableBytes summaryBytes) ≤ length t) where
+module _ (q : Queue) (t : List ℕ) (a : ℕ) (e : a ≡ shelfStart summaryBytes q) (l : (tableBytes summaryBytes) ≤ length t) where
   size : a + (shelfBytes summaryBytes) - a ≡ (shelfBytes summaryBytes)
   size = omega arith
 
@@ -153,7 +153,7 @@ in-place w at s v l h =
 in-place-stays : (w at : ℕ) (s : List ℕ) → take at s ++ (take w (drop at s) ++ drop w (drop at s)) ≡ s
 in-place-stays w at s = ap (λ (t : List ℕ). take at s ++ t) (take-append-drop w (drop at s)) ∙ take-append-drop at s
 
-module _ (s : List ℕ) (x n : ℕ) (bs : List ℕ) (k : ℕ) (e : k ≡ placeOf summaryBytes s 0) (size : length s ≡ shelfBytes summaryBytes) (l : placeOf summaryBytes s 0 < places) where
+module _ (s : List ℕ) (x n : ℕ) (bs : List ℕ) (k : ℕ) (e : k ≡ placeHolding summaryBytes s 0) (size : length s ≡ shelfBytes summaryBytes) (l : placeHolding summaryBytes s 0 < places) where
   abbrev lent : List ℕ
   lent = take (summaryBytes * k + summaryBytes - summaryBytes * k) (drop (summaryBytes * k) s)
 
@@ -176,18 +176,18 @@ module _ (s : List ℕ) (x n : ℕ) (bs : List ℕ) (k : ℕ) (e : k ≡ placeOf
 
   pub lent-bytes : (new : List ℕ) → new ≡ fillBytes x n bs lent
       → take (summaryBytes * k) s ++ (new ++ drop (summaryBytes * k + summaryBytes - summaryBytes * k) (drop (summaryBytes * k) s)) ≡ filledIn s x n bs
-  unfolding filledIn filled
+  unfolding filledIn filledSummary
   lent-bytes new q = rw (q, fill-is, width) (go (blockReply n bs))
     where
       fits : summaryBytes * k + summaryBytes ≤ length s
       fits = omega (arith, size, l, e)
 
       go : (m : Read (Unit {0}))
-          → take (summaryBytes * k) s ++ (filled m x (graphOf n bs) (take summaryBytes (drop (summaryBytes * k) s)) ++ drop summaryBytes (drop (summaryBytes * k) s))
-          ≡ unless m s (sets s (summaryBytes * placeOf summaryBytes s 0) (stored x n bs))
+          → take (summaryBytes * k) s ++ (filledSummary m x (graphOf n bs) (take summaryBytes (drop (summaryBytes * k) s)) ++ drop summaryBytes (drop (summaryBytes * k) s))
+          ≡ unless m s (sets s (summaryBytes * placeHolding summaryBytes s 0) (storedBlock x n bs))
       go (refused r) = in-place-stays summaryBytes (summaryBytes * k) s
       go (read u) =
-          in-place summaryBytes (summaryBytes * k) s (stored x n bs) (length-stored x (graphOf n bs)) fits ∙ ap (λ (i : ℕ). sets s (summaryBytes * i) (stored x n bs)) e
+          in-place summaryBytes (summaryBytes * k) s (storedBlock x n bs) (length-stored x (graphOf n bs)) fits ∙ ap (λ (i : ℕ). sets s (summaryBytes * i) (storedBlock x n bs)) e
 
 -- a refusal that comes first, or last
 pub first-refused : (m : Read (Unit {0})) (r q : Refusal) → m ≡ refused r → firstOf m q ≡ refused r

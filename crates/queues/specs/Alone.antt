@@ -16,22 +16,22 @@ use Rattle.block.specs.Index.{indicesOf}
 use Rattle.block.specs.Told.{molecule}
 use Rattle.block.specs.declared.Indices.{Indices}
 use Rattle.records.specs.Bytes.{little, le16}
-use Rattle.summary.specs.Layout.{summaryBytes, fieldsOf}
+use Rattle.summary.specs.Layout.{summaryBytes, storedFields}
 use Rattle.summary.specs.Summary.{bytes, headOf, seatsFrom, pairOf, summaryOf}
 use Rattle.summary.specs.Back.{length-head, length-seats, fields-told, summary-told, ends-told}
 use Rattle.shelf.specs.Shelf.{placeFrom, shelfIn, placeOf as placeIn}
 use Rattle.summaries.specs.Composing.{composedReply}
-use Rattle.summaries.specs.Written.{writtenReply, composed-written, Honest as HonestBook}
-use Rattle.storage.specs.Shelf.{places, numberIn, seek, heldBy, holds, placeOf, lookReply}
+use Rattle.summaries.specs.Written.{writtenReply, composed-written, HonestBook as HonestBook}
+use Rattle.storage.specs.Shelf.{places, numberIn, seek, heldBy, holds, placeHolding, lookReply}
 use Rattle.storage.specs.Table.{tableBytes, shelf, emptied}
 use Rattle.storage.specs.Calls.{Sent, own, answersTo, tableAll}
 use Rattle.storage.specs.Model.{Entry, lookup, has, toldLook, toldAll, leftAll}
 use Rattle.storage.specs.Entries.{has-positive}
-use Rattle.storage.specs.Keeps.{Keeps, Honest}
-use Rattle.storage.specs.Kept.{Kept, proper-at, stands, same-look}
+use Rattle.storage.specs.Keeps.{KeepsQueue, HonestTrade}
+use Rattle.storage.specs.Kept.{KeptPlaces, proper-at, stands, same-look}
 use Rattle.storage.specs.Alone.{own-calls-only, keeps-own}
 use Rattle.storage.specs.declared.Queue.{Queue}
-use Rattle.queues.specs.Queues.{stored}
+use Rattle.queues.specs.Queues.{storedBlock}
 use Rattle.queues.specs.Blocks.{Block, noBlock, blockIn, bookIn, summaryTable, blocks}
 
 -- a summary's bytes
@@ -60,7 +60,7 @@ module _ (s : List ℕ) (size : length s ≡ summaryBytes * places) where
   eight : length s / summaryBytes ≡ places
   eight = rw size
 
-  place-same : (x : ℕ) → 1 ≤ x → placeIn s x ≡ placeOf summaryBytes s x
+  place-same : (x : ℕ) → 1 ≤ x → placeIn s x ≡ placeHolding summaryBytes s x
   unfolding placeIn
   place-same x h = rw (ne-eqb x 0 (λ z. omega arith), eight) (same-seek x 0 places)
 
@@ -73,14 +73,14 @@ module _ (s : List ℕ) (size : length s ≡ summaryBytes * places) where
       go false = ap (λ (k : ℕ). ltb k places) (same-seek x 0 places)
 
 -- a queue's shelf tells its blocks
-module _ (s : List ℕ) (q : List (Entry Block)) (k : Keeps summaryTable blocks (lit≤ tt) s q) where
-  abbrev size : (x : ℕ) (g : Block) → length (stored x (g .atoms) (g .bytes)) ≡ summaryBytes
+module _ (s : List ℕ) (q : List (Entry Block)) (k : KeepsQueue summaryTable blocks (lit≤ tt) s q) where
+  abbrev size : (x : ℕ) (g : Block) → length (storedBlock x (g .atoms) (g .bytes)) ≡ summaryBytes
   size x g = length-stored x (graphOf (g .atoms) (g .bytes))
 
   fine-at : (x : ℕ) → has noBlock q x ≡ true → blockReply (blockIn q x .atoms) (blockIn q x .bytes) ≡ read tt
   fine-at x e = proper-at summaryTable blocks (lit≤ tt) size k x e .fine
 
-  there : (x : ℕ) → has noBlock q x ≡ true → placeIn s x ≡ placeOf summaryBytes s x
+  there : (x : ℕ) → has noBlock q x ≡ true → placeIn s x ≡ placeHolding summaryBytes s x
   there x e = place-same s (k .stores .size) x (has-positive noBlock q x e)
 
   tells : HonestBook s (bookIn q)
@@ -92,7 +92,7 @@ module _ (s : List ℕ) (q : List (Entry Block)) (k : Keeps summaryTable blocks 
   }
 
 -- THE BYTES SAY WHAT THE BLOCKS MEAN
-pub tells-blocks : Honest summaryTable blocks
+pub tells-blocks : HonestTrade summaryTable blocks
 tells-blocks = record {
   wide = lit≤ tt;
   check = λ g. refl;
@@ -109,7 +109,7 @@ queue-alone q t long cs = own-calls-only tells-blocks q t long cs
 
 -- what it looks up are the fields of the block that it added
 pub queue-fields : (q : Queue) (t : List ℕ) → tableBytes summaryBytes ≤ length t → (cs : List (Sent Block (List ℕ))) → let held = leftAll blocks [] (own q cs) in (x : ℕ) → has noBlock held x ≡ true
-    → lookReply summaryBytes (shelf summaryBytes q (tableAll summaryTable (emptied summaryBytes t) cs)) fieldsOf x ≡ read (indicesOf (graphOf (blockIn held x .atoms) (blockIn held x .bytes)))
+    → lookReply summaryBytes (shelf summaryBytes q (tableAll summaryTable (emptied summaryBytes t) cs)) storedFields x ≡ read (indicesOf (graphOf (blockIn held x .atoms) (blockIn held x .bytes)))
 unfolding toldLook
 queue-fields q t long cs x h = same-look tells-blocks (keeps-own tells-blocks q t long cs) x ∙ rw h
 

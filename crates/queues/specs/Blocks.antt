@@ -7,12 +7,12 @@ use Rattle.block.specs.Block.{graphOf, blockReply}
 use Rattle.block.specs.Index.{indicesOf}
 use Rattle.block.specs.declared.Indices.{Indices}
 use Rattle.assembly.specs.Book.{Book}
-use Rattle.summary.specs.Layout.{summaryBytes, fieldsOf}
+use Rattle.summary.specs.Layout.{summaryBytes, storedFields}
 use Rattle.summaries.specs.Composing.{composedReply}
 use Rattle.summaries.specs.Written.{writtenReply}
 use Rattle.storage.specs.Calls.{Trade}
 use Rattle.storage.specs.Model.{Entry, lookup, has, Meaning}
-use Rattle.queues.specs.Queues.{stored}
+use Rattle.queues.specs.Queues.{storedBlock}
 
 -- a block: its atom count and its bonds
 pub record Block : Type 0 where
@@ -34,8 +34,8 @@ abbrev pub summaryTable : Trade Block Indices (List ℕ) Indices (Read Indices)
 summaryTable = record {
   width = summaryBytes;
   check = λ g. blockReply (g .atoms) (g .bytes);
-  stored = λ x g. stored x (g .atoms) (g .bytes);
-  fieldsOf = fieldsOf;
+  storedBlock = λ x g. storedBlock x (g .atoms) (g .bytes);
+  storedFields = storedFields;
   composed = composedReply;
   said = λ xs r. r;
 }
@@ -45,6 +45,6 @@ abbrev pub blocks : Meaning Block Indices (List ℕ) (Read Indices)
 blocks = record {
   nothing = noBlock;
   fine = λ g. blockReply (g .atoms) (g .bytes);
-  fieldsOf = λ g. indicesOf (graphOf (g .atoms) (g .bytes));
+  storedFields = λ g. indicesOf (graphOf (g .atoms) (g .bytes));
   composedOf = λ q xs. writtenReply (bookIn q) xs;
 }

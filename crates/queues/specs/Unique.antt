@@ -6,7 +6,7 @@ use Rattle.reply.specs.Read.{saidReply}
 use Rattle.reply.specs.Chain.{unique}
 use Rattle.reply.specs.declared.Reply.{Reply}
 use Rattle.block.specs.Index.{saidIndices}
-use Rattle.block.specs.declared.Measured.{Measured}
+use Rattle.block.specs.declared.IndicesReply.{IndicesReply}
 use Rattle.summary.specs.Layout.{summaryBytes}
 use Rattle.storage.specs.Table.{tableReply, emptied}
 use Rattle.storage.specs.declared.Queue.{Queue}
@@ -28,11 +28,11 @@ module _ (t : List ℕ) where
     pub unique-add : (x n : ℕ) (bs : List ℕ) (r s : Reply) (u v : List ℕ) → Left (saidReply (addTold t q x n bs)) (tableAdded t q x n bs) r u → Left (saidReply (addTold t q x n bs)) (tableAdded t q x n bs) s v → (r ≡ s) × (u ≡ v)
     unique-add x n bs r s u v = same
 
-    pub unique-look : (x : ℕ) (r s : Measured) → r ≡ saidIndices (lookTold t q x) → s ≡ saidIndices (lookTold t q x) → r ≡ s
+    pub unique-look : (x : ℕ) (r s : IndicesReply) → r ≡ saidIndices (lookTold t q x) → s ≡ saidIndices (lookTold t q x) → r ≡ s
     unique-look x r s = unique
 
     pub unique-drop : (x : ℕ) (r s : Reply) (u v : List ℕ) → Left (saidReply (dropTold t q x)) (tableDropped t q x) r u → Left (saidReply (dropTold t q x)) (tableDropped t q x) s v → (r ≡ s) × (u ≡ v)
     unique-drop x r s u v = same
 
-    pub unique-compose : (xs : List ℕ) (r s : Measured) → r ≡ saidIndices (composeTold t q xs) → s ≡ saidIndices (composeTold t q xs) → r ≡ s
+    pub unique-compose : (xs : List ℕ) (r s : IndicesReply) → r ≡ saidIndices (composeTold t q xs) → s ≡ saidIndices (composeTold t q xs) → r ≡ s
     unique-compose xs r s = unique

@@ -6,8 +6,8 @@ use Rattle.reply.specs.Read.{Read, refused, _then_}
 use Rattle.reply.specs.declared.Refusal.{Refusal}
 use Rattle.block.specs.Block.{blockReply}
 use Rattle.summary.specs.Layout.{summaryBytes}
-use Rattle.storage.specs.Shelf.{placeOf, unless}
-use Rattle.queues.specs.Queues.{stored}
+use Rattle.storage.specs.Shelf.{placeHolding, unless}
+use Rattle.queues.specs.Queues.{storedBlock}
 
 -- a reply, and a refusal where it has none
 unfoldable pub firstOf : Read (Unit {0}) → Refusal → Read (Unit {0})
@@ -15,4 +15,4 @@ firstOf r q = r then λ _. refused q
 
 -- a shelf whose first empty place is filled, unless the block is refused
 unfoldable pub filledIn : List ℕ → ℕ → ℕ → List ℕ → List ℕ
-filledIn s x n bs = unless (blockReply n bs) s (sets s (summaryBytes * placeOf summaryBytes s 0) (stored x n bs))
+filledIn s x n bs = unless (blockReply n bs) s (sets s (summaryBytes * placeHolding summaryBytes s 0) (storedBlock x n bs))

@@ -1,7 +1,7 @@
 // Two queues at one table: a lent table of sixteen summaries of blocks, eight places for each queue.
 mod places;
 
-use block::Measured;
+use block::IndicesReply;
 use places::SHELF;
 use places::add_to;
 use places::clear;
@@ -14,7 +14,7 @@ use storage::Queue;
 ghost use mathlib.Core.Path.{_≡_};
 ghost use Prim.Native.Nat.{_≤_};
 ghost use Rattle.reply.specs.Read.{saidReply};
-ghost use Rattle.storage.specs.Table.{shelfBytes, startOf, tableReply, emptied};
+ghost use Rattle.storage.specs.Table.{shelfBytes, shelfStart, tableReply, emptied};
 ghost use Rattle.block.specs.Index.{saidIndices};
 ghost use Rattle.summary.specs.Layout.{summaryBytes};
 ghost use Rattle.queues.specs.Queues.{addTold, tableAdded, lookTold, dropTold, tableDropped, composeTold};
@@ -24,7 +24,7 @@ pub const TABLE: usize = SHELF + SHELF;
 
 // Where the shelf of a queue starts.
 fn start_of(queue: Queue) -> usize
-    ensures { λ r. ⌜ (r ≡ startOf summaryBytes queue) × (r ≤ shelfBytes summaryBytes) ⌝ }
+    ensures { λ r. ⌜ (r ≡ shelfStart summaryBytes queue) × (r ≤ shelfBytes summaryBytes) ⌝ }
 {
     match queue {
         Queue::Day => 0,
@@ -58,11 +58,11 @@ pub fn add(table: &mut [u8], queue: Queue, number: u16, n: usize, bonds: &[u8]) 
 }
 
 // The six fields of the block that a queue holds under a number.
-pub fn look(table: &[u8], queue: Queue, number: u16) -> Measured
+pub fn look(table: &[u8], queue: Queue, number: u16) -> IndicesReply
     ensures { λ r. ⌜ r ≡ saidIndices (lookTold (now (table .entry)) queue number) ⌝ }
 {
     if table.len() < TABLE {
-        return Measured::Refused(Refusal {
+        return IndicesReply::Refused(Refusal {
             number: 9,
             place: 0,
         });
@@ -86,11 +86,11 @@ pub fn drop(table: &mut [u8], queue: Queue, number: u16) -> Reply
 }
 
 // The six fields that an assembly's payload makes of the blocks that a queue holds, or its refusal, 15 to 19, 23 or 24, at the placement's number.
-pub fn compose(table: &[u8], queue: Queue, xs: &[u8]) -> Measured
+pub fn compose(table: &[u8], queue: Queue, xs: &[u8]) -> IndicesReply
     ensures { λ r. ⌜ r ≡ saidIndices (composeTold (now (table .entry)) queue (now (xs .entry))) ⌝ }
 {
     if table.len() < TABLE {
-        return Measured::Refused(Refusal {
+        return IndicesReply::Refused(Refusal {
             number: 9,
             place: 0,
         });

@@ -1,6 +1,6 @@
 // A shelf: one queue's eight places, a summary each. A place is empty where its number is 0.
 use super::TABLE;
-use block::Measured;
+use block::IndicesReply;
 use filling::fill;
 use records::le16_at;
 use reply::Refusal;
@@ -12,11 +12,11 @@ ghost use lib.ListN.{length};
 ghost use lib.Seq.{sets};
 ghost use Rattle.reply.specs.Read.{refusal, saidReply};
 ghost use Rattle.block.specs.Index.{saidIndices};
-ghost use Rattle.summary.specs.Layout.{summaryBytes, fieldsOf};
+ghost use Rattle.summary.specs.Layout.{summaryBytes, storedFields};
 ghost use Rattle.block.specs.Block.{blockReply};
-ghost use Rattle.storage.specs.Shelf.{places, isHeld, placeOf, noNumber, roomReply, addReply, added, lookReply, dropReply, dropped};
+ghost use Rattle.storage.specs.Shelf.{places, isHeld, placeHolding, zeroNumber, roomReply, addReply, added, lookReply, dropReply, dropped};
 ghost use Rattle.storage.specs.Table.{shelfBytes, tableBytes, zeroed};
-ghost use Rattle.queues.specs.Queues.{stored};
+ghost use Rattle.queues.specs.Queues.{storedBlock};
 ghost use Rattle.queues.specs.Work.{firstOf, filledIn};
 
 pub(crate) const PLACES: usize = 8;
@@ -32,7 +32,7 @@ pub(crate) fn refused(number: usize) -> Reply
 
 // The first place that has a number; PLACES where none has it.
 pub(crate) fn place_of(s: &[u8], number: u16) -> usize
-    ensures { λ r. ⌜ (r ≡ placeOf summaryBytes (now (s .entry)) number) × (r ≤ places) ⌝ }
+    ensures { λ r. ⌜ (r ≡ placeHolding summaryBytes (now (s .entry)) number) × (r ≤ places) ⌝ }
 {
     let mut k = 0;
     while k < PLACES {
@@ -80,7 +80,7 @@ fn not_added(n: usize, bonds: &[u8], room: Refusal) -> Reply
 
 // Fills the first empty place.
 fn fill_in(s: &mut [u8], number: u16, n: usize, bonds: &[u8]) -> Reply
-    requires { ⌜ (length (now s) ≡ shelfBytes summaryBytes) × (placeOf summaryBytes (now s) 0 < places) ⌝ }
+    requires { ⌜ (length (now s) ≡ shelfBytes summaryBytes) × (placeHolding summaryBytes (now s) 0 < places) ⌝ }
     ensures reply { λ r. ⌜ r ≡ saidReply (blockReply n (now (bonds .entry))) ⌝ }
     ensures bytes { λ _. ⌜ now (s .exit) ≡ filledIn (now (s .entry)) number n (now (bonds .entry)) ⌝ }
 {
@@ -93,7 +93,7 @@ fn fill_in(s: &mut [u8], number: u16, n: usize, bonds: &[u8]) -> Reply
 pub(crate) fn add_to(s: &mut [u8], number: u16, n: usize, bonds: &[u8]) -> Reply
     requires { ⌜ length (now s) ≡ shelfBytes summaryBytes ⌝ }
     ensures reply { λ r. ⌜ r ≡ saidReply (addReply summaryBytes (now (s .entry)) number (blockReply n (now (bonds .entry)))) ⌝ }
-    ensures bytes { λ _. ⌜ now (s .exit) ≡ added summaryBytes (now (s .entry)) number (blockReply n (now (bonds .entry))) (stored number n (now (bonds .entry))) ⌝ }
+    ensures bytes { λ _. ⌜ now (s .exit) ≡ added summaryBytes (now (s .entry)) number (blockReply n (now (bonds .entry))) (storedBlock number n (now (bonds .entry))) ⌝ }
 {
     let room = room_reply(s, number);
     match room {
@@ -103,26 +103,26 @@ pub(crate) fn add_to(s: &mut [u8], number: u16, n: usize, bonds: &[u8]) -> Reply
 }
 
 // The fields of the block that has a number.
-pub(crate) fn look_in(s: &[u8], number: u16) -> Measured
+pub(crate) fn look_in(s: &[u8], number: u16) -> IndicesReply
     requires { ⌜ length (now s) ≡ shelfBytes summaryBytes ⌝ }
-    ensures { λ r. ⌜ r ≡ saidIndices (lookReply summaryBytes (now (s .entry)) fieldsOf number) ⌝ }
+    ensures { λ r. ⌜ r ≡ saidIndices (lookReply summaryBytes (now (s .entry)) storedFields number) ⌝ }
 {
     let k = place_of(s, number);
     if !is_held(number, k) {
-        return Measured::Refused(Refusal {
+        return IndicesReply::Refused(Refusal {
             number: 30,
             place: 0,
         });
     }
     let start = SUMMARY * k;
     let end = start + SUMMARY;
-    Measured::Of(summary::fields(&s[start..end]))
+    IndicesReply::Of(summary::fields(&s[start..end]))
 }
 
 // Sets the number at a place to 0.
 fn free(s: &mut [u8], at: usize)
     requires { ⌜ at + 2 ≤ length (now s) ⌝ }
-    ensures { λ _. ⌜ now (s .exit) ≡ sets (now (s .entry)) at noNumber ⌝ }
+    ensures { λ _. ⌜ now (s .exit) ≡ sets (now (s .entry)) at zeroNumber ⌝ }
 {
     s[at] = 0;
     s[at + 1] = 0;

@@ -20,11 +20,11 @@ use Rattle.deck.specs.declared.Form.the-variants.{Composed, Judged}
 use Rattle.sheets.specs.Sheets.{fieldsOf, widths, fieldsAt, sheetOf, claimedAt, sheetBytes}
 use Rattle.sheets.specs.Back.{fields-behind}
 use Rattle.compose.specs.Fields.{fieldsReply}
-use Rattle.molecule.specs.Molecule.{judgeReply, saidVerdict, writeReply, saidWritten, sheetOut}
-use Rattle.molecule.specs.Headline.{accepted-exactly}
-use Rattle.molecule.specs.Theorems.{written-accepted}
-use Rattle.molecule.specs.declared.Verdict.the-variants.{Accepted}
-use Rattle.molecule.specs.declared.Written.the-variants as written
+use Rattle.judging.specs.Judging.{judgeReply, saidVerdict, sheetWriteReply, saidSheetWritten, sheetOut}
+use Rattle.judging.specs.Headline.{accepted-exactly}
+use Rattle.judging.specs.Theorems.{written-accepted}
+use Rattle.judging.specs.declared.Verdict.the-variants.{Accepted}
+use Rattle.judging.specs.declared.SheetWritten.the-variants as written
 use Rattle.renumbered.specs.Renumbered.{RelistedDecks}
 use Rattle.renumbered.specs.Distances.{reversed, same-indices}
 
@@ -66,8 +66,8 @@ module _ {c d : List ℕ} (r : RelistedDecks Composed Composed c d) where
   unfolding fieldsReply
   same-fields = rw (r .one, r .two) (ap {B = Read Indices} read (deck-indices r))
 
-  pub same-writing : (kind : Sheet) (n : ℕ) → writeReply kind c n ≡ writeReply kind d n
-  unfolding writeReply
+  pub same-writing : (kind : Sheet) (n : ℕ) → sheetWriteReply kind c n ≡ sheetWriteReply kind d n
+  unfolding sheetWriteReply
   same-writing kind n =
       rw (
         le-ltb longestDeck (length c) (omega (arith, composed-short c (r .first) (r .one))),
@@ -77,12 +77,12 @@ module _ {c d : List ℕ} (r : RelistedDecks Composed Composed c d) where
 
   -- THE EXCHANGE: the sheet that is written for one deck is accepted behind the other
   behind-other : (kind : Sheet) (out : List ℕ) → sheetBytes kind ≤ length out
-      → saidVerdict (judgeReply (d ++ take (sheetBytes kind) (sheetOut kind out (writeReply kind c (length out))))) ≡ Accepted
+      → saidVerdict (judgeReply (d ++ take (sheetBytes kind) (sheetOut kind out (sheetWriteReply kind c (length out))))) ≡ Accepted
   behind-other kind out n = rw (same-writing kind (length out)) (written-accepted kind d out told)
     where
-      told : saidWritten (writeReply kind d (length out)) ≡ written.Sheet
+      told : saidSheetWritten (sheetWriteReply kind d (length out)) ≡ written.Sheet
       told =
-          unfold writeReply fieldsReply in rw (le-ltb longestDeck (length d) (omega (arith, composed-short d (r .second) (r .two))), le-ltb (length out) (sheetBytes kind) n, r .two)
+          unfold sheetWriteReply fieldsReply in rw (le-ltb longestDeck (length d) (omega (arith, composed-short d (r .second) (r .two))), le-ltb (length out) (sheetBytes kind) n, r .two)
 
   -- THE VERDICT on any sheet, of whichever kind, whoever wrote it and whatever it claims, is the same behind either deck
   pub same-verdict : {kind : Sheet} (s : List ℕ) → IsSheet kind s → judgeReply (c ++ s) ≡ judgeReply (d ++ s)
@@ -106,6 +106,6 @@ module _ {c d : List ℕ} (r : RelistedDecks Composed Composed c d) where
 
 -- either way
 pub exchanged : {c d : List ℕ} → RelistedDecks Composed Composed c d → (kind : Sheet) (out : List ℕ) → sheetBytes kind ≤ length out
-    → (saidVerdict (judgeReply (d ++ take (sheetBytes kind) (sheetOut kind out (writeReply kind c (length out))))) ≡ Accepted)
-    × (saidVerdict (judgeReply (c ++ take (sheetBytes kind) (sheetOut kind out (writeReply kind d (length out))))) ≡ Accepted)
+    → (saidVerdict (judgeReply (d ++ take (sheetBytes kind) (sheetOut kind out (sheetWriteReply kind c (length out))))) ≡ Accepted)
+    × (saidVerdict (judgeReply (c ++ take (sheetBytes kind) (sheetOut kind out (sheetWriteReply kind d (length out))))) ≡ Accepted)
 exchanged r kind out n = (behind-other r kind out n, behind-other (exchange r) kind out n)

@@ -8,7 +8,7 @@ use lib.ListN.{length, take, replicate}
 use Rattle.graph.specs.Graph.{Graph, joins, anyJoins, bonded, anyAtom, reaches, firstFrom, distance, allAtoms, connected, degree, sum, sumPairs, sumBonds, itself, evenOf, oddOf, isAt, total}
 use Rattle.graph.specs.Farthest.{most, mostPairs, largest}
 use Rattle.graph.specs.Assembly.{shifted, joined, startAt, written}
-use Rattle.paths.specs.Paths.{gather, walks, shortestPaths, uses, count, pathCount, pathsUsing, lcm, lcmOver, lcmPairs, denominator, share}
+use Rattle.paths.specs.Paths.{gather, walks, shortestPaths, uses, passingPaths, pathCount, pathsUsing, lcm, lcmOver, lcmPairs, denominator, share}
 use Rattle.reply.specs.Read.{read}
 use Rattle.block.specs.Block.{bondsOf, graphOf, bondFault, bondsReply, blockReply}
 use Rattle.block.specs.Told.{molecule}
@@ -23,14 +23,14 @@ use Rattle.records.specs.Records.{kindReply, isWrong, lengthReply, recordReply}
 use Rattle.records.specs.declared.Sheet.{Sheet}
 use Rattle.records.specs.declared.Sheet.the-variants.{Five, Six}
 use Rattle.assembly.specs.Book.{find, bookOf}
-use Rattle.assembly.specs.Placements.{placementAt, joinOf, joinEnds, joinsOn, bondsOn, firstFault, parentFault, joinFault, laterFault, fault, placedReply, assemblyReply}
+use Rattle.assembly.specs.Placements.{placementAt, joinOf, joinEnds, joinsOn, bondsOn, firstFault, parentFault, joinFault, laterFault, fault, placementsReply, assemblyReply}
 use Rattle.deck.specs.Deck.{Deck, blockReplyAt, assemblyReplyAt, blocksFrom, blocksReply, endReply, sheetReply, deckReply}
 use Rattle.deck.specs.Molecule.{placedIn, graphAt, joinAt, moleculeOf}
 use Rattle.deck.specs.Examples.{document}
 use Rattle.deck.specs.declared.Form.the-variants.{Composed}
 use Rattle.sheets.specs.Sheets.{allFields, fieldsOf, sheetOf, sheetBytes}
-use Rattle.molecule.specs.Molecule.{judgeReply, saidVerdict, writeReply, sheetOut}
-use Rattle.molecule.specs.declared.Verdict.the-variants.{Accepted}
+use Rattle.judging.specs.Judging.{judgeReply, saidVerdict, sheetWriteReply, sheetOut}
+use Rattle.judging.specs.declared.Verdict.the-variants.{Accepted}
 use Rattle.renumbered.specs.Renumbered.{Renumbered, RelistedBlocks, RelistedDecks}
 use Rattle.renumbered.specs.Distances.{same-total}
 use Rattle.graph.specs.Matched.{same-size}
@@ -51,11 +51,11 @@ abbrev drawnDeck : Deck
 drawnDeck = record { blocks = record { number = 1; start = 4; atoms = 12; bonds = 13 } ∷ []; assembly = 36; placements = 1; sheet = 48 }
 
 document-read : deckReply Composed document ≡ read documentDeck
-unfolding document joins anyJoins bonded anyAtom reaches firstFrom distance allAtoms connected degree sum bondsOf bondFault bondsReply blockReply little kindReply isWrong lengthReply recordReply find bookOf placementAt joinOf joinEnds joinsOn bondsOn firstFault parentFault joinFault laterFault fault placedReply assemblyReply blockReplyAt assemblyReplyAt blocksFrom blocksReply endReply sheetReply deckReply
+unfolding document joins anyJoins bonded anyAtom reaches firstFrom distance allAtoms connected degree sum bondsOf bondFault bondsReply blockReply little kindReply isWrong lengthReply recordReply find bookOf placementAt joinOf joinEnds joinsOn bondsOn firstFault parentFault joinFault laterFault fault placementsReply assemblyReply blockReplyAt assemblyReplyAt blocksFrom blocksReply endReply sheetReply deckReply
 document-read = refl
 
 drawn-read : deckReply Composed drawn ≡ read drawnDeck
-unfolding drawn joins anyJoins bonded anyAtom reaches firstFrom distance allAtoms connected degree sum bondsOf bondFault bondsReply blockReply little kindReply isWrong lengthReply recordReply find bookOf placementAt joinOf joinEnds joinsOn bondsOn firstFault parentFault joinFault laterFault fault placedReply assemblyReply blockReplyAt assemblyReplyAt blocksFrom blocksReply endReply sheetReply deckReply
+unfolding drawn joins anyJoins bonded anyAtom reaches firstFrom distance allAtoms connected degree sum bondsOf bondFault bondsReply blockReply little kindReply isWrong lengthReply recordReply find bookOf placementAt joinOf joinEnds joinsOn bondsOn firstFault parentFault joinFault laterFault fault placementsReply assemblyReply blockReplyAt assemblyReplyAt blocksFrom blocksReply endReply sheetReply deckReply
 drawn-read = refl
 
 -- atom 1 of the first ring, which the joining bond is at, is atom 4 of the drawing, and so on round the ring
@@ -78,8 +78,8 @@ unfolding biphenyl
 biphenyl-sheet = same-sheet biphenyl
 
 pub biphenyl-exchanged : (kind : Sheet) (out : List ℕ) → sheetBytes kind ≤ length out
-    → (saidVerdict (judgeReply (drawn ++ take (sheetBytes kind) (sheetOut kind out (writeReply kind document (length out))))) ≡ Accepted)
-    × (saidVerdict (judgeReply (document ++ take (sheetBytes kind) (sheetOut kind out (writeReply kind drawn (length out))))) ≡ Accepted)
+    → (saidVerdict (judgeReply (drawn ++ take (sheetBytes kind) (sheetOut kind out (sheetWriteReply kind document (length out))))) ≡ Accepted)
+    × (saidVerdict (judgeReply (document ++ take (sheetBytes kind) (sheetOut kind out (sheetWriteReply kind drawn (length out))))) ≡ Accepted)
 biphenyl-exchanged = exchanged biphenyl
 
 -- by computing
@@ -106,7 +106,7 @@ ringed-relisted = record {
 -- D is 2 and the Szeged index 28; the bond to the fifth atom is last in the one list and first in the other, and so is what is told of it
 pub ringed-shares :
     (sharesReply 5 ringed 5 ≡ read 2) × (sharesEntries 5 ringed (replicate 5 0) ≡ 7 ∷ 5 ∷ 5 ∷ 7 ∷ 8 ∷ []) × (sharesEntries 5 ringedAgain (replicate 5 0) ≡ 8 ∷ 5 ∷ 7 ∷ 7 ∷ 5 ∷ [])
-unfolding ringed ringedAgain joins anyJoins bonded anyAtom reaches firstFrom distance allAtoms connected degree sum sumPairs bondsOf bondFault bondsReply blockReply gather walks shortestPaths uses count pathCount pathsUsing lcm lcmOver lcmPairs denominator share sharesReply shares.filled
+unfolding ringed ringedAgain joins anyJoins bonded anyAtom reaches firstFrom distance allAtoms connected degree sum sumPairs bondsOf bondFault bondsReply blockReply gather walks shortestPaths uses passingPaths pathCount pathsUsing lcm lcmOver lcmPairs denominator share sharesReply shares.filled
 ringed-shares = (refl, refl, refl)
 
 pub ringed-terms :

@@ -9,7 +9,7 @@ use lib.Dec.{eqb}
 use lib.ListN.{length}
 use Rattle.graph.specs.Graph.{Graph, Bond, Within, Molecule, joins, bonded, distance}
 use Rattle.graph.specs.Bonds.{joins-out}
-use Rattle.paths.specs.Paths.{walks, shortestPaths, uses, count, pathCount, pathsUsing, denominator, share}
+use Rattle.paths.specs.Paths.{walks, shortestPaths, uses, passingPaths, pathCount, pathsUsing, denominator, share}
 use Rattle.paths.specs.Backwards.{power, walks-power, without, uses-power, count-sym, using-sym, count-dvd, denominator-dvd}
 use Rattle.graph.specs.Matching.{Matching}
 use Rattle.renumbered.specs.Renumbered.{Renumbered, Partners}
@@ -60,7 +60,7 @@ module _ {g h : Graph} (m : Molecule g) (w : Molecule h) (r : Renumbered g h) {i
       let d = distance g i j in
       let x = r .numbers .to i in
       let y = r .numbers .to j in
-      let same : count (uses e) (walks g d i j) ≡ count (uses f) (walks h d x y) =
+      let same : passingPaths (uses e) (walks g d i j) ≡ passingPaths (uses f) (walks h d x y) =
       omega (
         arith,
         uses-power g e d i j,
@@ -69,7 +69,7 @@ module _ {g h : Graph} (m : Molecule g) (w : Molecule h) (r : Renumbered g h) {i
         power-to (r .numbers) (without g e) (without h f)
             (λ u v hu hv. ap₂ (λ (x y : Bool). cond x false y) (joins-to r e f a b t u v hu hv) (same-bonded r u v hu hv)) d i j hi hj,
       ) in
-      same ∙ ap (λ (k : ℕ). count (uses f) (walks h k x y)) (same-distance m w r hi hj)
+      same ∙ ap (λ (k : ℕ). passingPaths (uses f) (walks h k x y)) (same-distance m w r hi hj)
 
 -- D of one divides D of the other
 divides : {g h : Graph} → Molecule g → Molecule h → Renumbered g h → denominator g ∣ denominator h

@@ -29,6 +29,11 @@ abbrev pub refuseFor : ℕ → ℕ → Read (Unit {0})
 refuseFor zero p = read tt
 refuseFor (suc n) p = refused (refusal (suc n) p)
 
+-- the first where a test holds, else the second; the other is not computed
+abbrev pub ifElse : {A : Type 0} → Bool → (Unit {0} → A) → (Unit {0} → A) → A
+ifElse true f g = f tt
+ifElse false f g = g tt
+
 -- 0 or above n
 abbrev pub isOutside : ℕ → ℕ → Bool
 isOutside n v = eqb v 0 || ltb n v

@@ -13,7 +13,7 @@ use Rattle.graph.specs.Graph.{bond, Within, sumBonds}
 use Rattle.block.specs.Block.{mostAtoms, bondsOf}
 use Rattle.block.specs.Numbered.{bondAt, rest, rest-sum, rest-over}
 use Rattle.block.specs.Lent.{zeros}
-use Rattle.sets.specs.Merging.{places, unit, mark, tally, key, Listed, Keyed}
+use Rattle.sets.specs.Merging.{places, unit, mark, tally, key, BondsListed, Keyed}
 use Rattle.sets.proofs.Storing.{more-at}
 
 -- the keys before bond k from 0, and what they are at most
@@ -40,7 +40,7 @@ keying-start xs root w = record {
     ]
 
 -- the next bond is added at its one end, then at the other
-module _ {xs : List ℕ} {root k : ℕ} {keys : List ℕ} (l : Listed xs root) (s : Keying xs root k keys) (i : k < length xs / 2) {a b : ℕ}
+module _ {xs : List ℕ} {root k : ℕ} {keys : List ℕ} (l : BondsListed xs root) (s : Keying xs root k keys) (i : k < length xs / 2) {a b : ℕ}
     (p : a ≡ bondAt xs k .one) (q : b ≡ bondAt xs k .two) where
   abbrev once : List ℕ
   once = set keys a (getD keys a 0 + (unit + b))

@@ -10,7 +10,7 @@ use lib.Dec.{eqb, leb}
 use borrow.Author.Tests.{eq-eqb, ne-eqb, eqb-true, le-leb, lt-leb}
 use Rattle.graph.specs.Graph.{Graph, Bond, anyJoins, bonded}
 use Rattle.graph.specs.Bonds.{both, both-true, one-of, first-of, second-of, any-out, any-head, any-tail, any-none, bonded-sym}
-use Rattle.sets.specs.Sets.{subsets, count, some, apart, setsApart, atomsOf, merrifieldSimmons}
+use Rattle.sets.specs.Sets.{subsets, passing, some, apart, setsApart, atomsDown, merrifieldSimmons}
 use Rattle.sets.proofs.Counts.{Proper, count-cong, count-first, count-empty, some-cong}
 use Rattle.sets.specs.Merging.{weight}
 use Rattle.sets.proofs.Weigh.{mix, gone, where-so, atOne, atTwo, weigh, weigh-cong, weigh-mix, weigh-none, product-ones}
@@ -93,8 +93,8 @@ member s v = some (eqb v) s
 
 module _ (n : ℕ) (bs : List Bond) (proper : Proper n bs) where
   by-atoms : (k : ℕ) (isIn : ℕ → Bool) → k ≤ n → ((v : ℕ) → v ≤ k → isIn v ≡ false)
-      → weigh false n bs (upTo k isIn) ≡ count (λ s. not (clash bs (λ v. isIn v || member s v))) (subsets (atomsOf k))
-  unfolding upTo atomsOf member some sure
+      → weigh false n bs (upTo k isIn) ≡ passing (λ s. not (clash bs (λ v. isIn v || member s v))) (subsets (atomsDown k))
+  unfolding upTo atomsDown member some sure
   by-atoms zero isIn l out =
       weigh-cong false n bs (λ v w. ap (λ (t : Bool). cond t (weight 1 1) (sure (isIn v))) (lt-leb v 0 (w .low)))
       ∙ surely n bs isIn proper
@@ -106,8 +106,8 @@ module _ (n : ℕ) (bs : List Bond) (proper : Proper n bs) where
         arith,
         by-atoms k isIn (omega arith) (λ v h. out v (omega arith)),
         by-atoms k more (omega arith) (λ v h. still v h),
-        count-first (λ s. not (clash bs (λ v. isIn v || member s v))) (suc k) (atomsOf k),
-        count-cong (subsets (atomsOf k)) (λ s. ap not (clash-cong bs (λ v. or-assoc (isIn v) (eqb v (suc k)) (member s v)))),
+        count-first (λ s. not (clash bs (λ v. isIn v || member s v))) (suc k) (atomsDown k),
+        count-cong (subsets (atomsDown k)) (λ s. ap not (clash-cong bs (λ v. or-assoc (isIn v) (eqb v (suc k)) (member s v)))),
       )
     where
       more : ℕ → Bool
@@ -204,6 +204,6 @@ agree n g s h = go (clash (g .bonds) (member s)) refl (apart (bonded g) s) refl
 pub of-atoms : (g : Graph) → Proper (g .atoms) (g .bonds) → merrifieldSimmons g ≡ weigh false (g .atoms) (g .bonds) (λ v. weight 1 1)
 unfolding merrifieldSimmons setsApart upTo
 of-atoms g h =
-    count-cong (subsets (atomsOf (g .atoms))) (λ s. agree (g .atoms) g s h)
+    count-cong (subsets (atomsDown (g .atoms))) (λ s. agree (g .atoms) g s h)
     ∙ sym (by-atoms (g .atoms) (g .bonds) h (g .atoms) (λ v. false) (omega arith) (λ v l. refl))
     ∙ weigh-cong false (g .atoms) (g .bonds) (λ v w. ap (λ (t : Bool). cond t (weight 1 1) (sure false)) (le-leb v (g .atoms) (w .high)))

@@ -7,7 +7,7 @@ use native.Mathlib.Omega.{arith}
 use lib.Dec.{eqb}
 use borrow.Author.Tests.{eq-eqb, ne-eqb, eqb-true}
 use Rattle.graph.specs.Graph.{Graph, Bond}
-use Rattle.sets.specs.Sets.{subsets, count, some, apart, setsApart, touches, share, hosoya}
+use Rattle.sets.specs.Sets.{subsets, passing, some, apart, setsApart, touches, shareAtom, hosoya}
 use Rattle.sets.proofs.Counts.{Proper, count-cong, count-none, count-first, count-empty, some-cong, some-or, or-four}
 use Rattle.sets.specs.Merging.{weight}
 use Rattle.sets.proofs.Weigh.{gone, where-so, weigh, weigh-cong, weigh-none, product-ones}
@@ -22,7 +22,7 @@ hit used b = used (b .one) || used (b .two)
 
 -- a set of bonds that share no atom, and use none that is used
 free : (ℕ → Bool) → List Bond → Bool
-free used s = not (some (hit used) s) && apart share s
+free used s = not (some (hit used) s) && apart shareAtom s
 
 -- a used atom counts 1 as long as no bond uses it
 spent : Bool → Weight
@@ -76,23 +76,23 @@ module _ (b : Bond) (differ : b .one ≡ b .two → ⊥) (used : ℕ → Bool) w
 
   -- a set with b in it
   set-more : (s : List Bond) → hit used b ≡ false → free used (b ∷ s) ≡ free more s
-  unfolding free some apart hit more share
+  unfolding free some apart hit more shareAtom
   set-more s h =
-      rw (h, meets) (split (some (hit used) s) (some (share b) s) (apart share s))
+      rw (h, meets) (split (some (hit used) s) (some (shareAtom b) s) (apart shareAtom s))
     where
       split : (p q r : Bool) → (not p && (not q && r)) ≡ (not (p || q) && r)
       split true q r = refl
       split false q r = refl
 
-      meets : some (hit more) s ≡ (some (hit used) s || some (share b) s)
-      meets = some-cong s (λ c. or-four (used (c .one)) (touches b (c .one)) (used (c .two)) (touches b (c .two))) ∙ some-or (hit used) (share b) s
+      meets : some (hit more) s ≡ (some (hit used) s || some (shareAtom b) s)
+      meets = some-cong s (λ c. or-four (used (c .one)) (touches b (c .one)) (used (c .two)) (touches b (c .two))) ∙ some-or (hit used) (shareAtom b) s
 
   set-hit : (s : List Bond) → hit used b ≡ true → free used (b ∷ s) ≡ false
   unfolding free some
   set-hit s h = rw h
 
 -- sets of the bonds that use no used atom
-by-used : (n : ℕ) (bs : List Bond) (used : ℕ → Bool) → Proper n bs → count (free used) (subsets bs) ≡ weigh true n bs (λ v. spent (used v))
+by-used : (n : ℕ) (bs : List Bond) (used : ℕ → Bool) → Proper n bs → passing (free used) (subsets bs) ≡ weigh true n bs (λ v. spent (used v))
 unfolding weigh free some apart spent hit
 by-used n [] used h = count-empty (free used) ∙ none ∙ sym (product-ones n (λ v. spent (used v) .x) (λ v w. one (used v)))
   where
@@ -106,8 +106,8 @@ by-used n (b ∷ bs) used (one, two, differ, h) =
     count-first (free used) b bs
     ∙ ap₂ _+_ (by-used n bs used h ∙ sym (weigh-cong true n bs (λ v w. out-same b v (spent (used v))))) (go (hit used b) refl (by-used n bs (more b differ used) h))
   where
-    go : (t : Bool) → hit used b ≡ t → count (free (more b differ used)) (subsets bs) ≡ weigh true n bs (λ v. spent (more b differ used v))
-        → count (λ s. free used (b ∷ s)) (subsets bs) ≡ weigh true n bs (λ v. gone true true b v (spent (used v)))
+    go : (t : Bool) → hit used b ≡ t → passing (free (more b differ used)) (subsets bs) ≡ weigh true n bs (λ v. spent (more b differ used v))
+        → passing (λ s. free used (b ∷ s)) (subsets bs) ≡ weigh true n bs (λ v. gone true true b v (spent (used v)))
     go true e i =
         count-cong (subsets bs) (λ s. set-hit b differ used s e) ∙ count-none (subsets bs)
         ∙ sym (⊎-elim (λ q. weigh-none true n bs (b .one) _ one (used-one b differ used q)) (λ q. weigh-none true n bs (b .two) _ two (used-two b differ used q)) (one-of (used (b .one)) (used (b .two)) e))
@@ -124,5 +124,5 @@ of-bonds g h = count-cong (subsets (g .bonds)) all ∙ by-used (g .atoms) (g .bo
     none [] = refl
     none (b ∷ s) = none s
 
-    all : (s : List Bond) → apart share s ≡ free (λ v. false) s
+    all : (s : List Bond) → apart shareAtom s ≡ free (λ v. false) s
     all s = rw (none s)

@@ -13,7 +13,7 @@ use Rattle.graph.specs.Graph.{Graph, Bond, Within, sumBonds, distance}
 use Rattle.block.specs.Block.{mostAtoms, bondsOf, graphOf}
 use Rattle.block.specs.Numbered.{bonds-length}
 use Rattle.sets.specs.Reply.{setsOf}
-use Rattle.sets.specs.Merging.{weight, taken, Pair, places, held, Store, Stored, unit, mark, tally, key, Keyed, Rooted}
+use Rattle.sets.specs.Merging.{weight, taken, WeightPair, places, held, Store, Stored, unit, mark, tally, key, Keyed, Rooted}
 use Rattle.sets.specs.declared.Sets.{Sets}
 use Rattle.sets.specs.declared.Weight.{Weight}
 use Rattle.sets.proofs.Storing.{at-child, at-parent, elsewhere, twice-size}
@@ -90,14 +90,14 @@ module _ {n : ℕ} {xs : List ℕ} {root : ℕ} {keys all free omitted chosen : 
     apart : a ≡ p → ⊥
     apart = differ (s .peeling) a p (s .current) not-root tells below
 
-    pair : (κ : Bool) → Pair κ (weights all free omitted chosen κ p) (weights all free omitted chosen κ a)
+    pair : (κ : Bool) → WeightPair κ (weights all free omitted chosen κ p) (weights all free omitted chosen κ a)
     pair κ = record {
       into = s .peeling .good κ p p-within;
       from = s .peeling .good κ a (s .current);
       fits = omega (arith, fits (s .peeling) a p (s .current) not-root tells below κ, small r κ);
     }
 
-    store : (κ : Bool) (us vs : List ℕ) → length us ≡ places → length vs ≡ places → Pair κ (held us vs p) (held us vs a) → Store κ us vs a p
+    store : (κ : Bool) (us vs : List ℕ) → length us ≡ places → length vs ≡ places → WeightPair κ (held us vs p) (held us vs a) → Store κ us vs a p
     store κ us vs f g h = record {
       first = f;
       second = g;

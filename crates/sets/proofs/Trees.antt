@@ -19,8 +19,8 @@ use Rattle.reply.specs.Read.{read}
 use Rattle.block.specs.Block.{mostAtoms, bondsOf, graphOf, blockReply}
 use Rattle.block.specs.Told.{few-atoms, molecule, each-bond}
 use Rattle.block.specs.Numbered.{bonds-length, bond-within}
-use Rattle.sets.specs.Sets.{some, apart, share, setsApart, atomsOf, hosoya, merrifieldSimmons}
-use Rattle.sets.specs.Merging.{weight, unit, Listed, Rooted}
+use Rattle.sets.specs.Sets.{some, apart, shareAtom, setsApart, atomsDown, hosoya, merrifieldSimmons}
+use Rattle.sets.specs.Merging.{weight, unit, BondsListed, Rooted}
 use Rattle.sets.specs.declared.Weight.{Weight}
 use Rattle.sets.proofs.Counts.{Proper, count-most, count-less}
 use Rattle.sets.proofs.Weigh.{weigh, weigh-cong}
@@ -28,17 +28,17 @@ use Rattle.sets.proofs.OfBonds.{of-bonds}
 use Rattle.sets.proofs.OfAtoms.{of-atoms, member, found}
 use Rattle.sets.proofs.Peel.{Peeling}
 
-length-atoms : (n : ℕ) → length (atomsOf n) ≡ n
-unfolding atomsOf
+length-atoms : (n : ℕ) → length (atomsDown n) ≡ n
+unfolding atomsDown
 length-atoms zero = refl
 length-atoms (suc n) = ap suc (length-atoms n)
 
-all-atoms : (n v : ℕ) → Within n v → member (atomsOf n) v ≡ true
-unfolding member atomsOf some
+all-atoms : (n v : ℕ) → Within n v → member (atomsDown n) v ≡ true
+unfolding member atomsDown some
 all-atoms zero v w = absurd (omega arith)
 all-atoms (suc n) v w =
-    ⊎-elim (λ q. second-of (eqb v (suc n)) (some (eqb v) (atomsOf n)) (all-atoms n v (record { low = w .low; high = q })))
-    (λ q. first-of (eqb v (suc n)) (some (eqb v) (atomsOf n)) (eq-eqb v (suc n) q)) (le-suc-iff .0 (w .high))
+    ⊎-elim (λ q. second-of (eqb v (suc n)) (some (eqb v) (atomsDown n)) (all-atoms n v (record { low = w .low; high = q })))
+    (λ q. first-of (eqb v (suc n)) (some (eqb v) (atomsDown n)) (eq-eqb v (suc n) q)) (le-suc-iff .0 (w .high))
 
 -- the bounds
 few-bonds : (g : Graph) → suc (length (g .bonds)) ≡ g .atoms → g .atoms ≤ mostAtoms → hosoya g < 2 ^ 64
@@ -46,19 +46,19 @@ unfolding hosoya setsApart
 few-bonds g e l =
     let p : 2 ^ length (g .bonds) ≤ 2 ^ 63 = pow-mono {j = 63} (omega arith) in
     let q : 2 ^ 63 < 2 ^ 64 = lit≤ tt in
-    omega (arith, count-most (apart share) (g .bonds))
+    omega (arith, count-most (apart shareAtom) (g .bonds))
 
 few-sets : (n : ℕ) (bs : List Bond) → Proper n bs → suc (length bs) ≡ n → n ≤ mostAtoms → merrifieldSimmons (record { atoms = n; bonds = bs }) < 2 ^ 64
 unfolding merrifieldSimmons setsApart
 few-sets n [] h e l =
-    let p : 2 ^ length (atomsOf n) ≤ 2 ^ 1 = pow-mono {j = 1} (omega (arith, length-atoms n)) in
-    omega (arith, count-most (apart (bonded (record { atoms = n; bonds = [] }))) (atomsOf n))
+    let p : 2 ^ length (atomsDown n) ≤ 2 ^ 1 = pow-mono {j = 1} (omega (arith, length-atoms n)) in
+    omega (arith, count-most (apart (bonded (record { atoms = n; bonds = [] }))) (atomsDown n))
 few-sets n (b ∷ bs) (one, two, differ, h) e l =
     let g : Graph = record { atoms = n; bonds = b ∷ bs } in
-    let p : 2 ^ length (atomsOf n) ≤ 2 ^ 64 = pow-mono {j = 64} (omega (arith, length-atoms n)) in
-    let f : apart (bonded g) (atomsOf n) ≡ false =
-    found g (atomsOf n) (b .one) (b .two) differ (all-atoms n (b .one) one) (all-atoms n (b .two) two) (unfold bonded in any-head b bs (b .one) (b .two) (inl (refl, refl))) in
-    omega (arith, count-less (apart (bonded g)) (atomsOf n) f)
+    let p : 2 ^ length (atomsDown n) ≤ 2 ^ 64 = pow-mono {j = 64} (omega (arith, length-atoms n)) in
+    let f : apart (bonded g) (atomsDown n) ≡ false =
+    found g (atomsDown n) (b .one) (b .two) differ (all-atoms n (b .one) one) (all-atoms n (b .two) two) (unfold bonded in any-head b bs (b .one) (b .two) (inl (refl, refl))) in
+    omega (arith, count-less (apart (bonded g)) (atomsDown n) f)
 
 -- both numbers
 abbrev pub total : Graph → Bool → ℕ
@@ -92,7 +92,7 @@ module _ {n : ℕ} {xs : List ℕ} {root : ℕ} (r : Rooted n xs root) where
   pub root-low : distance g root root ≡ 0
   root-low = distance-self (m .sound) (r .start)
 
-  pub listed : Listed xs root
+  pub listed : BondsListed xs root
   listed = record {
     few = let f = few in omega (arith, r .few);
     start = let f = few in let w = r .start in omega arith;

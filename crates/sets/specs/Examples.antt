@@ -5,12 +5,12 @@ use mathlib.Core.Path.{_≡_, refl}
 use Rattle.graph.specs.Graph.{joins, anyJoins, bonded, anyAtom, reaches, firstFrom, distance, allAtoms, connected, degree}
 use Rattle.reply.specs.Read.{Read, refused, read, refusal}
 use Rattle.block.specs.Block.{bondsOf, bondFault, bondsReply, blockReply}
-use Rattle.sets.specs.Sets.{withOne, subsets, count, some, apart, setsApart, touches, share, atomsOf, hosoya, merrifieldSimmons}
+use Rattle.sets.specs.Sets.{withOne, subsets, passing, some, apart, setsApart, touches, shareAtom, atomsDown, hosoya, merrifieldSimmons}
 use Rattle.sets.specs.Reply.{setsOf, treeReply, setsReply}
 use Rattle.sets.specs.declared.Sets.{Sets}
 
 unfoldable pub told : ℕ → List ℕ → Read Sets
-unfolding joins anyJoins bonded anyAtom reaches firstFrom distance allAtoms connected degree bondsOf bondFault bondsReply blockReply withOne subsets count some apart setsApart touches share atomsOf hosoya merrifieldSimmons setsOf treeReply setsReply
+unfolding joins anyJoins bonded anyAtom reaches firstFrom distance allAtoms connected degree bondsOf bondFault bondsReply blockReply withOne subsets passing some apart setsApart touches shareAtom atomsDown hosoya merrifieldSimmons setsOf treeReply setsReply
 told n xs = setsReply n xs
 
 abbrev pub of : ℕ → ℕ → Read Sets

@@ -28,7 +28,7 @@ abbrev pub Good : Weight → Type 0
 Good p = (1 ≤ p .x) × (p .y ≤ p .x)
 
 -- two weights that can be merged
-pub record Pair (κ : Bool) (p q : Weight) : Type 0 where
+pub record WeightPair (κ : Bool) (p q : Weight) : Type 0 where
   pub into : Good p
   pub from : Good q
   pub fits : taken κ p q .x < 2 ^ 64
@@ -48,7 +48,7 @@ pub record Store (κ : Bool) (xs ys : List ℕ) (u v : ℕ) : Type 0 where
   pub child : Within mostAtoms u
   pub parent : Within mostAtoms v
   pub differ : u ≡ v → ⊥
-  pub pair : Pair κ (held xs ys v) (held xs ys u)
+  pub pair : WeightPair κ (held xs ys v) (held xs ys u)
 
 -- u is merged into v
 pub record Stored (κ : Bool) (xs ys : List ℕ) (u v : ℕ) (xs′ ys′ : List ℕ) : Type 0 where
@@ -73,7 +73,7 @@ abbrev pub key : ℕ → List Bond → ℕ → ℕ
 key root bs v = cond (eqb root v) (2 * unit) 0 + tally bs v
 
 -- bonds between atoms that have an entry, no more of them than atoms
-pub record Listed (xs : List ℕ) (root : ℕ) : Type 0 where
+pub record BondsListed (xs : List ℕ) (root : ℕ) : Type 0 where
   pub few : length xs ≤ 2 * mostAtoms
   pub start : Within mostAtoms root
   pub ends : (k : ℕ) → k < length xs / 2 → Within mostAtoms (bondAt xs k .one) × Within mostAtoms (bondAt xs k .two)

@@ -16,9 +16,9 @@ subsets [] = [] ∷ []
 subsets (x ∷ xs) = let r = subsets xs in r ++ withOne x r
 
 -- how many members pass
-unfoldable pub count : {A : Type 0} → (A → Bool) → List A → ℕ
-count p [] = 0
-count p (x ∷ xs) = cond (p x) 1 0 + count p xs
+unfoldable pub passing : {A : Type 0} → (A → Bool) → List A → ℕ
+passing p [] = 0
+passing p (x ∷ xs) = cond (p x) 1 0 + passing p xs
 
 -- whether some member passes
 unfoldable pub some : {A : Type 0} → (A → Bool) → List A → Bool
@@ -32,24 +32,24 @@ apart related (x ∷ xs) = not (some (related x) xs) && apart related xs
 
 -- the number of sets of members no two of which are related; the empty set is one
 unfoldable pub setsApart : {A : Type 0} → (A → A → Bool) → List A → ℕ
-setsApart related xs = count (apart related) (subsets xs)
+setsApart related xs = passing (apart related) (subsets xs)
 
 -- whether v is an end of a bond, and whether two bonds share an atom
 unfoldable pub touches : Bond → ℕ → Bool
 touches b v = eqb (b .one) v || eqb (b .two) v
 
-unfoldable pub share : Bond → Bond → Bool
-share b c = touches b (c .one) || touches b (c .two)
+unfoldable pub shareAtom : Bond → Bond → Bool
+shareAtom b c = touches b (c .one) || touches b (c .two)
 
 -- the atoms n to 1
-unfoldable pub atomsOf : ℕ → List ℕ
-atomsOf zero = []
-atomsOf (suc n) = suc n ∷ atomsOf n
+unfoldable pub atomsDown : ℕ → List ℕ
+atomsDown zero = []
+atomsDown (suc n) = suc n ∷ atomsDown n
 
 -- all sets of bonds that share no atom
 unfoldable pub hosoya : Graph → ℕ
-hosoya g = setsApart share (g .bonds)
+hosoya g = setsApart shareAtom (g .bonds)
 
 -- all sets of atoms no two of which are bonded
 unfoldable pub merrifieldSimmons : Graph → ℕ
-merrifieldSimmons g = setsApart (bonded g) (atomsOf (g .atoms))
+merrifieldSimmons g = setsApart (bonded g) (atomsDown (g .atoms))

@@ -3,7 +3,7 @@ ghost use mathlib.Core.Path.{_≡_};
 ghost use Rattle.reply.specs.Read.{refusal};
 ghost use Rattle.block.specs.Block.{graphOf};
 ghost use Rattle.sets.specs.Reply.{setsOf, setsReply, setsFromReply, saidSets};
-ghost use Rattle.sets.specs.Merging.{weight, taken, Pair, Store, Stored, Listed, Keyed, Rooted};
+ghost use Rattle.sets.specs.Merging.{weight, taken, WeightPair, Store, Stored, BondsListed, Keyed, Rooted};
 use block::ATOMS;
 use reply::Refusal;
 use reply::Reply;
@@ -34,7 +34,7 @@ const UNIT: usize = 256;
 
 // A child with the weight (u, v) is merged into an atom with the weight (x, y).
 fn combine(kind: bool, x: u64, y: u64, u: u64, v: u64) -> Weight
-    requires { ⌜ Pair kind (weight x y) (weight u v) ⌝ }
+    requires { ⌜ WeightPair kind (weight x y) (weight u v) ⌝ }
     ensures { λ r. ⌜ r ≡ taken kind (weight x y) (weight u v) ⌝ }
 {
     if kind {
@@ -64,7 +64,7 @@ fn merge(kind: bool, xs: &mut [u64], ys: &mut [u64], u: usize, v: usize)
 
 // The key of each atom. The root's is that of an atom with two bonds more, so that it never tells of one.
 fn keyed(bonds: &[u8], root: usize) -> [usize; PLACES]
-    requires { ⌜ Listed (now bonds) root ⌝ }
+    requires { ⌜ BondsListed (now bonds) root ⌝ }
     ensures { λ r. ⌜ Keyed (now (bonds .entry)) root r ⌝ }
 {
     let mut keys = [0usize; PLACES];

@@ -9,7 +9,7 @@ use Rattle.paths.specs.Notions.{Plain, lcmStarts}
 use Rattle.reply.specs.Read.{Read, refused, read, _then_}
 use Rattle.half.specs.Half.{halfRow}
 use Rattle.block.specs.Block.{mostAtoms, mostBytes, bondsOf, graphOf, blockReply}
-use Rattle.block.specs.Rows.{rowOf, farOf, tableOf}
+use Rattle.block.specs.Rows.{rowOf, farOf, halfTable}
 use Rattle.block.specs.Opened.{neighboursOf, openedReply, saidOpened}
 use Rattle.block.specs.Drawn.{neighbour-fits, has-neighbour}
 use Rattle.block.specs.Told.{few-atoms, molecule, each-bond, entry-at, farthest-at}
@@ -20,7 +20,7 @@ use Rattle.reply.specs.declared.Refusal.{Refusal}
 use Rattle.reply.specs.declared.Reply.the-variants.{Fine, Refused}
 use Rattle.block.specs.declared.Opened.{Opened}
 use Rattle.block.proofs.Replies.{not-fine}
-use Rattle.shares.specs.Work.{Given, Whole, Sofar}
+use Rattle.shares.specs.Work.{BlockGiven, WholeBlock, Sofar}
 
 -- what a block that was read tells
 module _ (n : ℕ) (xs : List ℕ) (v : Opened) (is : v ≡ saidOpened (openedReply n xs)) where
@@ -52,8 +52,8 @@ module _ (n : ℕ) (xs : List ℕ) (fine : blockReply n xs ≡ read tt) where
   few = few-atoms n xs fine .high
 
   -- its neighbours, half of its distances, and the largest from each atom
-  pub given : (near half fars : List ℕ) → near ≡ neighboursOf (graphOf n xs) → half ≡ tableOf n xs → fars ≡ farOf n xs
-      → Given n (bondsOf xs) near half fars
+  pub given : (near half fars : List ℕ) → near ≡ neighboursOf (graphOf n xs) → half ≡ halfTable n xs → fars ≡ farOf n xs
+      → BlockGiven n (bondsOf xs) near half fars
   given near half fars e h f = record {
     small = few;
     molecule = molecule n xs fine;
@@ -65,13 +65,13 @@ module _ (n : ℕ) (xs : List ℕ) (fine : blockReply n xs ≡ read tt) where
       inner : {v : ℕ} → Within n v → Within mostAtoms v
       inner a = record { low = a .low; high = omega (arith, few) }
 
-      row-shows : (i : ℕ) → Within n i → (j : ℕ) → j < n → getD (halfRow (tableOf n xs) i) j 0 ≡ distance (graphOf n xs) i (suc j)
+      row-shows : (i : ℕ) → Within n i → (j : ℕ) → j < n → getD (halfRow (halfTable n xs) i) j 0 ≡ distance (graphOf n xs) i (suc j)
       row-shows i a j l =
           let e : suc j - 1 ≡ j = omega arith in
           ap (λ (row : List ℕ). getD row j 0) (table-row n xs fine a) ∙ ap (λ (k : ℕ). getD (rowOf (graphOf n xs) i) k 0) (sym e)
           ∙ entry-at n xs fine i (record { low = omega arith; high = l })
 
-  pub whole : Whole n xs 0 1
+  pub whole : WholeBlock n xs 0 1
   unfolding lcmStarts
   whole = record { small = few; molecule = molecule n xs fine; plain = plain; is = refl; low = omega arith }
 

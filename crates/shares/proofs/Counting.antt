@@ -17,7 +17,7 @@ use Rattle.paths.specs.Steps.{count-rule}
 use Rattle.paths.specs.Flow.{gathered-step}
 use Rattle.block.specs.Block.{mostAtoms}
 use Rattle.block.specs.Sums.{entry}
-use Rattle.shares.specs.Work.{Shows, Levels, heights, Rule, graph, Start}
+use Rattle.shares.specs.Work.{ShowsRow, Levels, heights, Rule, graph, Start}
 use Rattle.shares.proofs.Rows.{of-places}
 use Rattle.shares.proofs.Layering.{levels-same}
 
@@ -30,11 +30,11 @@ eqb-same a b c d f h = go (eqb a b) refl
     go false e = sym (ne-eqb c d (λ q. eqb-false a b e (h q)))
 
 -- a row by the atoms' numbers
-pub shown-at : {n : ℕ} {d : ℕ → ℕ} {row : List ℕ} → Shows n d row → (v : ℕ) → Within n v → entry row v ≡ d v
+pub shown-at : {n : ℕ} {d : ℕ → ℕ} {row : List ℕ} → ShowsRow n d row → (v : ℕ) → Within n v → entry row v ≡ d v
 shown-at {n} {d} {row} s = of-places (λ v. entry row v ≡ d v) n (λ j l. let e : suc j - 1 ≡ j = omega arith in ap (λ (k : ℕ). getD row k 0) e ∙ s .shows j l)
 
 -- the row of a start, by levels
-module _ {n : ℕ} {bs : List Bond} (small : n ≤ mostAtoms) (m : Molecule (graph n bs)) {i : ℕ} (start : Within n i) {row : List ℕ} (far : Shows n (distance (graph n bs) i) row) where
+module _ {n : ℕ} {bs : List Bond} (small : n ≤ mostAtoms) (m : Molecule (graph n bs)) {i : ℕ} (start : Within n i) {row : List ℕ} (far : ShowsRow n (distance (graph n bs) i) row) where
   far-below : (v : ℕ) → Within n v → distance (graph n bs) i v < n
   far-below v hv = distance-below m start hv
 

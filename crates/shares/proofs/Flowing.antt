@@ -11,7 +11,7 @@ use lib.ListN.{length, getD}
 use Rattle.graph.specs.Graph.{Graph, Bond, Within, anyJoins, bonded, distance}
 use Rattle.graph.specs.Bonds.{anyJoins-sym}
 use Rattle.paths.specs.Paths.{pathCount}
-use Rattle.paths.specs.Notions.{near, Inside, weight, gathered}
+use Rattle.paths.specs.Notions.{near, BondInside, weight, gathered}
 use Rattle.paths.specs.Steps.{count-pos}
 use Rattle.paths.specs.Lcm.{starts-pos}
 use Rattle.paths.specs.Backwards.{pair-pos}
@@ -19,8 +19,8 @@ use Rattle.paths.specs.Uses.{start-le}
 use Rattle.paths.specs.Flow.{through}
 use Rattle.block.specs.Block.{mostAtoms, bondsOf, graphOf}
 use Rattle.block.specs.Numbered.{bondAt}
-use Rattle.shares.specs.Reply.{most}
-use Rattle.shares.specs.Work.{cap, full, at, carried, Whole, Ready}
+use Rattle.shares.specs.Reply.{mostDenominator}
+use Rattle.shares.specs.Work.{cap, full, at, carried, WholeBlock, StartRows}
 use Rattle.shares.proofs.Counting.{shown-at}
 use Rattle.shares.proofs.Listing.{listed}
 use Rattle.shares.proofs.Scaling.{count-divides}
@@ -32,15 +32,15 @@ let-pass p q x t e = simp (eq-eqb (suc p) q (omega arith))
 pub let-none : (p q x t : ℕ) → (p + 1 ≡ q → ⊥) → 0 ≡ cond (eqb (suc p) q) x 0 * t
 let-none p q x t d = simp (ne-eqb (suc p) q (λ z. d (omega arith))) (omega arith)
 
-module _ {n : ℕ} {xs : List ℕ} {i d : ℕ} (W : Whole n xs i d) where
-  pub count-low : {v : ℕ} → Within n i → Within n v → pathCount (graphOf n xs) i v ≤ most
+module _ {n : ℕ} {xs : List ℕ} {i d : ℕ} (W : WholeBlock n xs i d) where
+  pub count-low : {v : ℕ} → Within n i → Within n v → pathCount (graphOf n xs) i v ≤ mostDenominator
   count-low hi hv =
       omega (arith, W .is, W .low, le-of-dvd (starts-pos (pathCount (graphOf n xs)) n (pair-pos (W .molecule)) i) (count-divides (W .molecule) hi hv))
 
   pub carried-low : {s : ℕ} → Within n s → (e : Bond) → carried (graphOf n xs) s d e ≤ full
   carried-low hi e = omega (arith, start-le (W .molecule) hi e d, mul-le-mul (W .small) (W .low))
 
-module _ {n : ℕ} {xs row c t : List ℕ} {i d : ℕ} (R : Ready n xs row c t i d) (k : ℕ) (l : k < length xs / 2) where
+module _ {n : ℕ} {xs row c t : List ℕ} {i d : ℕ} (R : StartRows n xs row c t i d) (k : ℕ) (l : k < length xs / 2) where
   abbrev g : Graph
   g = graphOf n xs
 
@@ -50,7 +50,7 @@ module _ {n : ℕ} {xs row c t : List ℕ} {i d : ℕ} (R : Ready n xs row c t i
   abbrev T : ℕ → ℕ
   T = gathered g i (weight g d i)
 
-  ends : Inside n e
+  ends : BondInside n e
   ends = listed n xs (R .whole .plain) k l .0
 
   passes : (u v : ℕ) → Within n u → Within n v → Within mostAtoms u × Within mostAtoms v × (at c u ≤ cap) × (at t v ≤ full)

@@ -16,10 +16,10 @@ use Rattle.reply.specs.Chain.{then-read}
 use Rattle.block.specs.Block.{bondsOf, graphOf, blockReply}
 use Rattle.block.specs.Told.{molecule}
 use Rattle.block.specs.Numbered.{bondAt, bonds-length}
-use Rattle.block.specs.Lent.{Filled, filled-bonds}
+use Rattle.block.specs.Lent.{EntriesFilled, filled-bonds}
 use Rattle.reply.specs.declared.Refusal.{Refusal}
-use Rattle.shares.specs.Reply.{most, sharesReply, saidShares, filled, sharesEntries}
-use Rattle.shares.specs.declared.Shares.{Shares}
+use Rattle.shares.specs.Reply.{mostDenominator, sharesReply, saidShares, filledShares, sharesEntries}
+use Rattle.shares.specs.declared.SharesReply.{SharesReply}
 use Rattle.shares.proofs.Blocks.{plain}
 
 module _ (n : ℕ) (xs : List ℕ) where
@@ -33,26 +33,26 @@ module _ (n : ℕ) (xs : List ℕ) where
     reply-short l = rw (fine, lt-ltb room (length (bondsOf xs)) (omega (arith, bonds-length xs)))
 
     module _ (fits : length xs / 2 ≤ room) where
-      pub reply-large : most < denominator (graphOf n xs) → sharesReply n xs room ≡ refused (refusal 8 0)
+      pub reply-large : mostDenominator < denominator (graphOf n xs) → sharesReply n xs room ≡ refused (refusal 8 0)
       unfolding sharesReply
-      reply-large l = rw (fine, le-ltb room (length (bondsOf xs)) (omega (arith, bonds-length xs)), lt-ltb most (denominator (graphOf n xs)) l)
+      reply-large l = rw (fine, le-ltb room (length (bondsOf xs)) (omega (arith, bonds-length xs)), lt-ltb mostDenominator (denominator (graphOf n xs)) l)
 
-      pub reply-done : denominator (graphOf n xs) ≤ most → sharesReply n xs room ≡ read (denominator (graphOf n xs))
+      pub reply-done : denominator (graphOf n xs) ≤ mostDenominator → sharesReply n xs room ≡ read (denominator (graphOf n xs))
       unfolding sharesReply
-      reply-done l = rw (fine, le-ltb room (length (bondsOf xs)) (omega (arith, bonds-length xs)), le-ltb most (denominator (graphOf n xs)) l)
+      reply-done l = rw (fine, le-ltb room (length (bondsOf xs)) (omega (arith, bonds-length xs)), le-ltb mostDenominator (denominator (graphOf n xs)) l)
 
   -- a refusal leaves the entries as they are
   pub entries-stay : (out : List ℕ) {r : Refusal} → sharesReply n xs (length out) ≡ refused r → out ≡ sharesEntries n xs out
-  unfolding filled
+  unfolding filledShares
   entries-stay out e = rw e
 
-  pub entries-done : {out new : List ℕ} {d : ℕ} → sharesReply n xs (length out) ≡ read d → Filled (length xs / 2) (λ k. share (graphOf n xs) (bondAt xs k)) out new
+  pub entries-done : {out new : List ℕ} {d : ℕ} → sharesReply n xs (length out) ≡ read d → EntriesFilled (length xs / 2) (λ k. share (graphOf n xs) (bondAt xs k)) out new
       → length xs / 2 ≤ length out → new ≡ sharesEntries n xs out
-  unfolding filled
+  unfolding filledShares
   entries-done e f room = filled-bonds (share (graphOf n xs)) xs f room ∙ rw e
 
 -- THE PROMISE DETERMINES the reply and the entries
-pub one-reply : (n : ℕ) (xs out : List ℕ) (r s : Shares) (o p : List ℕ) → r ≡ saidShares (sharesReply n xs (length out)) → o ≡ sharesEntries n xs out
+pub one-reply : (n : ℕ) (xs out : List ℕ) (r s : SharesReply) (o p : List ℕ) → r ≡ saidShares (sharesReply n xs (length out)) → o ≡ sharesEntries n xs out
     → s ≡ saidShares (sharesReply n xs (length out)) → p ≡ sharesEntries n xs out → (r ≡ s) × (o ≡ p)
 one-reply n xs out r s o p a b c d = (a ∙ sym c, b ∙ sym d)
 
@@ -62,13 +62,13 @@ unfolding sharesReply
 told n xs room d e =
     let (u, fine, f) = then-read (blockReply n xs) _ e in
     let (v, p, g) = then-read (refuseIf (ltb room (length (bondsOf xs))) 9 0) _ f in
-    let (w, q, h) = then-read (refuseIf (ltb most (denominator (graphOf n xs))) 8 0) _ g in
+    let (w, q, h) = then-read (refuseIf (ltb mostDenominator (denominator (graphOf n xs))) 8 0) _ g in
     (fine, cc)
 
 -- THE ENTRIES ADD UP: those of the bonds make D times W
 pub adds-up : (n : ℕ) (xs out : List ℕ) (d : ℕ) → sharesReply n xs (length out) ≡ read d
     → added (take (length (bondsOf xs)) (sharesEntries n xs out)) ≡ d * wiener (graphOf n xs)
-unfolding filled
+unfolding filledShares
 adds-up n xs out d e =
     let (fine, is) = told n xs (length out) d e in
     rw e

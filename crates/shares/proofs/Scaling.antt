@@ -9,7 +9,7 @@ use lib.Dec.{ltb}
 use Rattle.graph.specs.Graph.{Graph, Bond, Within, Molecule, sum}
 use Rattle.graph.specs.Sums.{sum-cong, sum-scale}
 use Rattle.paths.specs.Paths.{pathCount, pathsUsing}
-use Rattle.paths.specs.Notions.{Pair, weight, lcmStarts}
+use Rattle.paths.specs.Notions.{AtomPair, weight, lcmStarts}
 use Rattle.paths.specs.Lcm.{starts-dvd}
 use Rattle.paths.specs.Steps.{count-pos, count-self}
 use Rattle.paths.specs.Backwards.{count-sym, pair-pos}
@@ -24,7 +24,7 @@ module _ {g : Graph} (m : Molecule g) where
   abbrev starts : ℕ → ℕ
   starts i = lcmStarts (g .atoms) (pathCount g) i
 
-  pair-divides : (i s j : ℕ) → Pair (g .atoms) s j → s ≤ i → pathCount g s j ∣ starts i
+  pair-divides : (i s j : ℕ) → AtomPair (g .atoms) s j → s ≤ i → pathCount g s j ∣ starts i
   pair-divides i s j p l = starts-dvd (pathCount g) (g .atoms) (pair-pos m) i (starts i) .0 (dvd-refl (starts i)) s j p l
 
   pub next-divides : (i : ℕ) → starts i ∣ starts (i + 1)

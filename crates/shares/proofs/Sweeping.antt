@@ -19,7 +19,7 @@ use Rattle.graph.specs.Sets.{has, alone, has-and, has-xor, has-none, has-alone,
 use Rattle.graph.specs.Sums.{sum-cong, sum-add, sum-none, sum-split, sum-min, sum-pick}
 use Rattle.block.specs.Block.{mostAtoms}
 use Rattle.block.specs.Drawn.{has-set}
-use Rattle.shares.specs.Work.{at, overSet, Near, Levels, Rule, Holds}
+use Rattle.shares.specs.Work.{at, overSet, NearSets, Levels, Rule, CappedRow}
 
 -- the lowest place of a set
 abbrev pub first : ℕ → ℕ
@@ -112,14 +112,14 @@ module _ {n : ℕ} (small : n ≤ mostAtoms) (rest : ℕ) (waits : rest < 2 ^ n)
   its-place : suc (first rest) - 1 ≡ first rest
   its-place = omega arith
 
-  pub asked-fits : {B : ℕ → ℕ → Bool} {near : List ℕ} (below : ℕ) → Near n B near → bitAnd (getD near (first rest) 0) below < 2 ^ n
+  pub asked-fits : {B : ℕ → ℕ → Bool} {near : List ℕ} (below : ℕ) → NearSets n B near → bitAnd (getD near (first rest) 0) below < 2 ^ n
   asked-fits {near = near} below N = omega (arith, and-le-l (getD near (first rest) 0) below, ap (λ (p : ℕ). getD near p 0) its-place, N .fits (suc (first rest)) taken)
 
-  its-near : {B : ℕ → ℕ → Bool} {near : List ℕ} → Near n B near → (w : ℕ) → Within n w → has (getD near (first rest) 0) w ≡ B (suc (first rest)) w
+  its-near : {B : ℕ → ℕ → Bool} {near : List ℕ} → NearSets n B near → (w : ℕ) → Within n w → has (getD near (first rest) 0) w ≡ B (suc (first rest)) w
   its-near {near = near} N w h = ap (λ (p : ℕ). has (getD near p 0) w) (sym its-place) ∙ N .each (suc (first rest)) w taken h
 
 module _ {n : ℕ} {B : ℕ → ℕ → Bool} {near : List ℕ} {key own F : ℕ → ℕ} {sets : List ℕ} {top cap : ℕ}
-    (N : Near n B near) (L : Levels n key sets top) (R : Rule n B key own F) where
+    (N : NearSets n B near) (L : Levels n key sets top) (R : Rule n B key own F) where
   pub sweeping-start : (row : List ℕ) → ((w : ℕ) → at row w ≡ own w) → Sweeping n key own F top cap 0 0 (at sets 0) row
   sweeping-start row o = record {
     waits = L .fits 0;
@@ -132,7 +132,7 @@ module _ {n : ℕ} {B : ℕ → ℕ → Bool} {near : List ℕ} {key own F : ℕ
   }
 
   module _ (d below rest : ℕ) (row : List ℕ) (S : Sweeping n key own F top cap d below rest row) where
-    pub sweeping-done : top < d → Holds n cap F row
+    pub sweeping-done : top < d → CappedRow n cap F row
     sweeping-done l = record { holds = λ w h. S .lower w h (omega (arith, L .high w h)) }
 
     -- no atom of the level waits

@@ -13,14 +13,14 @@ use Rattle.graph.specs.Graph.{Bond, Within, Molecule, distance}
 use Rattle.graph.specs.Farthest.{farthest}
 use Rattle.graph.specs.Largest.{farthest-over, farthest-below}
 use Rattle.paths.specs.Paths.{pathCount, lcm, lcmOver, denominator}
-use Rattle.paths.specs.Notions.{Gcd, Pair, lcmStarts}
+use Rattle.paths.specs.Notions.{Gcd, AtomPair, lcmStarts}
 use Rattle.paths.specs.Lcm.{over-pos, lcm-cap, starts-pos, starts-all, starts-le}
 use Rattle.paths.specs.Steps.{count-pos}
 use Rattle.paths.specs.Backwards.{pair-pos}
 use Rattle.half.specs.Half.{halfRow}
 use Rattle.block.specs.Block.{mostAtoms}
 use Rattle.block.specs.Sums.{entry}
-use Rattle.shares.specs.Work.{cap, full, at, Shows, Tops, Levels, Holds, graph, Start, Tally, Given}
+use Rattle.shares.specs.Work.{cap, full, at, ShowsRow, Tops, Levels, CappedRow, graph, Start, Tally, BlockGiven}
 use Rattle.shares.proofs.Counting.{shown-at, row-below, by-distance}
 
 pub divisor-pos : {a b d : ℕ} → Gcd a b d → 0 < a → 0 < d
@@ -59,11 +59,11 @@ module _ {n : ℕ} {f : ℕ → ℕ} {m : ℕ} {c : List ℕ} {before : ℕ} (t 
         ∙ rw (next, last)
 
 -- a start's arrays, of all
-module _ {n : ℕ} {bs : List Bond} {near : List ℕ} {half fars : List ℕ} (G : Given n bs near half fars) (i : ℕ) (l : i < n) (row : List ℕ) (is : row ≡ halfRow half (i + 1)) where
+module _ {n : ℕ} {bs : List Bond} {near : List ℕ} {half fars : List ℕ} (G : BlockGiven n bs near half fars) (i : ℕ) (l : i < n) (row : List ℕ) (is : row ≡ halfRow half (i + 1)) where
   first : Within n (i + 1)
   first = record { low = omega arith; high = omega arith }
 
-  shown : Shows n (distance (graph n bs) (i + 1)) row
+  shown : ShowsRow n (distance (graph n bs) (i + 1)) row
   shown = rw is (G .far (i + 1) first)
 
   pub start-below : (j : ℕ) → j < n → getD row j 0 < mostAtoms
@@ -91,13 +91,13 @@ module _ {n : ℕ} {bs : List Bond} {near : List ℕ} {half fars : List ℕ} (G 
 
 -- the starts one by one
 module _ {n : ℕ} {bs : List Bond} (molecule : Molecule (graph n bs)) where
-  pairs : (i j : ℕ) → Pair n i j → 0 < pathCount (graph n bs) i j
+  pairs : (i j : ℕ) → AtomPair n i j → 0 < pathCount (graph n bs) i j
   pairs = pair-pos molecule
 
   abbrev starts : ℕ → ℕ
   starts i = lcmStarts n (pathCount (graph n bs)) i
 
-  pub tally-of : (i : ℕ) {near row sets c : List ℕ} {top all : ℕ} → Start n bs near row sets top (i + 1) → Holds n cap (pathCount (graph n bs) (i + 1)) c → all ≡ starts i → all ≤ cap
+  pub tally-of : (i : ℕ) {near row sets c : List ℕ} {top all : ℕ} → Start n bs near row sets top (i + 1) → CappedRow n cap (pathCount (graph n bs) (i + 1)) c → all ≡ starts i → all ≤ cap
       → Tally n (pathCount (graph n bs) (i + 1)) (starts i) c all
   tally-of i s h e l = record {
     small = s .small;

@@ -7,30 +7,30 @@ use Rattle.graph.specs.Graph.{Graph}
 use Rattle.paths.specs.Paths.{denominator, share}
 use Rattle.reply.specs.Read.{Read, refused, read, _then_, refuseIf}
 use Rattle.block.specs.Block.{bondsOf, graphOf, blockReply}
-use Rattle.shares.specs.declared.Shares.{Shares}
-use Rattle.shares.specs.declared.Shares.the-variants.{Refused, Denominator}
+use Rattle.shares.specs.declared.SharesReply.{SharesReply}
+use Rattle.shares.specs.declared.SharesReply.the-variants.{Refused, Denominator}
 
 -- the most that D may be
-abbrev pub most : ℕ
-most = 1_000_000
+abbrev pub mostDenominator : ℕ
+mostDenominator = 1_000_000
 
 -- 9 where there are fewer entries than bonds, 8 where D is above the most
 unfoldable pub sharesReply : ℕ → List ℕ → ℕ → Read ℕ
 sharesReply n xs room =
     blockReply n xs then λ _.
     refuseIf (ltb room (length (bondsOf xs))) 9 0 then λ _.
-    refuseIf (ltb most (denominator (graphOf n xs))) 8 0 then λ _.
+    refuseIf (ltb mostDenominator (denominator (graphOf n xs))) 8 0 then λ _.
     read (denominator (graphOf n xs))
 
 -- how the code says it
-abbrev pub saidShares : Read ℕ → Shares
+abbrev pub saidShares : Read ℕ → SharesReply
 saidShares (refused r) = Refused r
 saidShares (read d) = Denominator d
 
 -- the lent entries afterwards: the share of each bond in list order, and later entries as they were; a refusal changes none
-unfoldable pub filled : Read ℕ → Graph → List ℕ → List ℕ
-filled (refused r) g out = out
-filled (read d) g out = map (share g) (g .bonds) ++ drop (length (g .bonds)) out
+unfoldable pub filledShares : Read ℕ → Graph → List ℕ → List ℕ
+filledShares (refused r) g out = out
+filledShares (read d) g out = map (share g) (g .bonds) ++ drop (length (g .bonds)) out
 
 abbrev pub sharesEntries : ℕ → List ℕ → List ℕ → List ℕ
-sharesEntries n xs out = filled (sharesReply n xs (length out)) (graphOf n xs) out
+sharesEntries n xs out = filledShares (sharesReply n xs (length out)) (graphOf n xs) out

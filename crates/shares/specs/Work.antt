@@ -15,21 +15,21 @@ use Rattle.block.specs.Block.{mostAtoms, bondsOf, graphOf}
 use Rattle.block.specs.Numbered.{bondAt}
 use Rattle.block.specs.Opened.{setOf}
 use Rattle.block.specs.Near.{around}
-use Rattle.shares.specs.Reply.{most}
+use Rattle.shares.specs.Reply.{mostDenominator}
 
 -- where path counts stop, just above the most that D may be, and where what is gathered stops
 abbrev pub cap : ℕ
-cap = most + 1
+cap = mostDenominator + 1
 
 abbrev pub full : ℕ
-full = mostAtoms * most
+full = mostAtoms * mostDenominator
 
 -- what an array has for atom v, numbered from 1
 abbrev pub at : List ℕ → ℕ → ℕ
 at row v = getD row v 0
 
 -- a row whose first place is atom 1's has d
-pub record Shows (n : ℕ) (d : ℕ → ℕ) (row : List ℕ) : Type 0 where
+pub record ShowsRow (n : ℕ) (d : ℕ → ℕ) (row : List ℕ) : Type 0 where
   pub shows : (j : ℕ) → j < n → getD row j 0 ≡ d (suc j)
 
 -- what f gives the atoms of a set
@@ -37,7 +37,7 @@ abbrev pub overSet : ℕ → (ℕ → ℕ) → ℕ
 overSet m f = sum mostAtoms (λ w. cond (has m w) (f w) 0)
 
 -- the atoms that B gives each of the atoms 1 to n, as sets
-pub record Near (n : ℕ) (B : ℕ → ℕ → Bool) (near : List ℕ) : Type 0 where
+pub record NearSets (n : ℕ) (B : ℕ → ℕ → Bool) (near : List ℕ) : Type 0 where
   pub each : (v w : ℕ) → Within n v → Within n w → has (around near v) w ≡ B v w
   pub fits : (v : ℕ) → Within n v → around near v < 2 ^ n
 
@@ -63,7 +63,7 @@ pub record Rule (n : ℕ) (B : ℕ → ℕ → Bool) (key own F : ℕ → ℕ) :
   pub rule : (v : ℕ) → Within n v → F v ≡ own v + sum n (λ w. cond (B v w && eqb (suc (key w)) (key v)) (F w) 0)
 
 -- an array that has F, up to a cap
-pub record Holds (n top : ℕ) (F : ℕ → ℕ) (row : List ℕ) : Type 0 where
+pub record CappedRow (n top : ℕ) (F : ℕ → ℕ) (row : List ℕ) : Type 0 where
   pub holds : (v : ℕ) → Within n v → at row v ≡ min top (F v)
 
 -- a graph of n atoms
@@ -74,23 +74,23 @@ graph n bs = record { atoms = n; bonds = bs }
 pub record Start (n : ℕ) (bs : List Bond) (near row sets : List ℕ) (top i : ℕ) : Type 0 where
   pub small : n ≤ mostAtoms
   pub molecule : Molecule (graph n bs)
-  pub beside : Near n (bonded (graph n bs)) near
-  pub far : Shows n (distance (graph n bs) i) row
+  pub beside : NearSets n (bonded (graph n bs)) near
+  pub far : ShowsRow n (distance (graph n bs) i) row
   pub levels : Levels n (distance (graph n bs) i) sets top
   pub start : Within n i
 
 -- the neighbours of a block, half of its distances, and the largest from each atom
-pub record Given (n : ℕ) (bs : List Bond) (near half fars : List ℕ) : Type 0 where
+pub record BlockGiven (n : ℕ) (bs : List Bond) (near half fars : List ℕ) : Type 0 where
   pub small : n ≤ mostAtoms
   pub molecule : Molecule (graph n bs)
-  pub beside : Near n (bonded (graph n bs)) near
-  pub far : (i : ℕ) → Within n i → Shows n (distance (graph n bs) i) (halfRow half i)
+  pub beside : NearSets n (bonded (graph n bs)) near
+  pub far : (i : ℕ) → Within n i → ShowsRow n (distance (graph n bs) i) (halfRow half i)
   pub largest : (i : ℕ) → Within n i → getD fars (i - 1) 0 ≡ farthest (graph n bs) i
 
 -- positive counts f and a positive number m, up to the cap
 pub record Tally (n : ℕ) (f : ℕ → ℕ) (m : ℕ) (c : List ℕ) (before : ℕ) : Type 0 where
   pub small : n ≤ mostAtoms
-  pub counts : Holds n cap f c
+  pub counts : CappedRow n cap f c
   pub positive : (v : ℕ) → Within n v → 0 < f v
   pub first : 0 < m
   pub capped : before ≡ min cap m
@@ -104,12 +104,12 @@ abbrev pub sofar : ℕ → List ℕ → ℕ → ℕ → ℕ → ℕ
 sofar n xs i d k = sum i (λ s. carried (graphOf n xs) s d (bondAt xs k))
 
 -- a block that is not refused, and D of the pairs whose first atom is one of 1 to i
-pub record Whole (n : ℕ) (xs : List ℕ) (i d : ℕ) : Type 0 where
+pub record WholeBlock (n : ℕ) (xs : List ℕ) (i d : ℕ) : Type 0 where
   pub small : n ≤ mostAtoms
   pub molecule : Molecule (graphOf n xs)
   pub plain : Plain n (bondsOf xs)
   pub is : d ≡ lcmStarts n (pathCount (graphOf n xs)) i
-  pub low : d ≤ most
+  pub low : d ≤ mostDenominator
 
 -- entries that have what the starts 1 to i add up to, over d
 pub record Sofar (n : ℕ) (xs : List ℕ) (i d : ℕ) (out : List ℕ) : Type 0 where
@@ -117,14 +117,14 @@ pub record Sofar (n : ℕ) (xs : List ℕ) (i d : ℕ) (out : List ℕ) : Type 0
   pub first : (k : ℕ) → k < length xs / 2 → getD out k 0 ≡ sofar n xs i d k
 
 -- the rows of one start: distances, counts, and what is gathered
-pub record Ready (n : ℕ) (xs row c t : List ℕ) (i d : ℕ) : Type 0 where
-  pub whole : Whole n xs i d
-  pub far : Shows n (distance (graphOf n xs) i) row
+pub record StartRows (n : ℕ) (xs row c t : List ℕ) (i d : ℕ) : Type 0 where
+  pub whole : WholeBlock n xs i d
+  pub far : ShowsRow n (distance (graphOf n xs) i) row
   pub start : Within n i
-  pub counts : Holds n cap (pathCount (graphOf n xs) i) c
-  pub passed : Holds n full (gathered (graphOf n xs) i (weight (graphOf n xs) d i)) t
+  pub counts : CappedRow n cap (pathCount (graphOf n xs) i) c
+  pub passed : CappedRow n full (gathered (graphOf n xs) i (weight (graphOf n xs) d i)) t
 
 -- the lent entries have room for the bonds, and each can grow
-pub record Room (xs out : List ℕ) : Type 0 where
+pub record SharesRoom (xs out : List ℕ) : Type 0 where
   pub room : length xs / 2 ≤ length out
   pub low : (k : ℕ) → k < length xs / 2 → getD out k 0 ≤ mostAtoms * full

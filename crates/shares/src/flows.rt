@@ -20,9 +20,9 @@ ghost use Rattle.paths.specs.Paths.{pathCount, denominator, share};
 ghost use Rattle.paths.specs.Notions.{lcmStarts};
 ghost use Rattle.block.specs.Block.{mostAtoms, mostBytes, bondsOf, graphOf};
 ghost use Rattle.block.specs.Numbered.{bondAt};
-ghost use Rattle.block.specs.Lent.{Filled};
-ghost use Rattle.shares.specs.Reply.{most};
-ghost use Rattle.shares.specs.Work.{cap, full, at, carried, Start, Given, Whole, Sofar, Ready, Room};
+ghost use Rattle.block.specs.Lent.{EntriesFilled};
+ghost use Rattle.shares.specs.Reply.{mostDenominator};
+ghost use Rattle.shares.specs.Work.{cap, full, at, carried, Start, BlockGiven, WholeBlock, Sofar, StartRows, SharesRoom};
 
 // What each atom after start weighs: its part of d.
 fn weights(n: usize, c: &[u64; SEATS], start: usize, d: u64) -> [u64; SEATS]
@@ -55,10 +55,10 @@ fn passed(row: &DistanceRow, c: &[u64; SEATS], t: &[u64; SEATS], a: usize, b: us
 
 // Adds to the entry of each bond what it carries.
 fn add_flows(bonds: &[u8], row: &DistanceRow, c: &[u64; SEATS], t: &[u64; SEATS], out: &mut [u64])
-    requires { ⌜ ((n : ℕ) × (i : ℕ) × (d : ℕ) × Ready n (now bonds) (now row) (now c) (now t) i d) × Room (now bonds) (now out) ⌝ }
+    requires { ⌜ ((n : ℕ) × (i : ℕ) × (d : ℕ) × StartRows n (now bonds) (now row) (now c) (now t) i d) × SharesRoom (now bonds) (now out) ⌝ }
     ensures { λ _. ⌜
-        ((n i d : ℕ) → Ready n (now (bonds .entry)) (now (row .entry)) (now (c .entry)) (now (t .entry)) i d
-        → Filled (length (now (bonds .entry)) / 2)
+        ((n i d : ℕ) → StartRows n (now (bonds .entry)) (now (row .entry)) (now (c .entry)) (now (t .entry)) i d
+        → EntriesFilled (length (now (bonds .entry)) / 2)
         (λ k. getD (now (out .entry)) k 0 + carried (graphOf n (now (bonds .entry))) i d (bondAt (now (bonds .entry)) k)) (now (out .entry)) (now (out .exit)))
         ⌝ }
 {
@@ -76,7 +76,7 @@ fn add_flows(bonds: &[u8], row: &DistanceRow, c: &[u64; SEATS], t: &[u64; SEATS]
 // Multiplies the first m entries by f.
 fn raise(m: usize, f: u64, out: &mut [u64])
     requires { ⌜ (m ≤ length (now out)) × ((k : ℕ) → k < m → getD (now out) k 0 * f ≤ mostAtoms * full) ⌝ }
-    ensures { λ _. ⌜ Filled m (λ k. getD (now (out .entry)) k 0 * f) (now (out .entry)) (now (out .exit)) ⌝ }
+    ensures { λ _. ⌜ EntriesFilled m (λ k. getD (now (out .entry)) k 0 * f) (now (out .entry)) (now (out .exit)) ⌝ }
 {
     if f == 1 {
         return;
@@ -102,11 +102,11 @@ fn add_start(
     out: &mut [u64],
 ) -> u64
     requires { ⌜
-        Start n (bondsOf (now bonds)) (now near) (now row) (now sets) top (i + 1) × Whole n (now bonds) i before × Sofar n (now bonds) i before (now out)
+        Start n (bondsOf (now bonds)) (now near) (now row) (now sets) top (i + 1) × WholeBlock n (now bonds) i before × Sofar n (now bonds) i before (now out)
         ⌝ }
     ensures { λ r. ⌜
         (r ≡ min cap (lcmStarts n (pathCount (graphOf n (now (bonds .entry)))) (i + 1)))
-        × (r ≤ most → Sofar n (now (bonds .entry)) (i + 1) r (now (out .exit)))
+        × (r ≤ mostDenominator → Sofar n (now (bonds .entry)) (i + 1) r (now (out .exit)))
         ⌝ }
 {
     let start = i + 1;
@@ -131,10 +131,10 @@ pub(crate) fn fill(
     far: &Farthest,
     out: &mut [u64],
 ) -> u64
-    requires { ⌜ Whole n (now bonds) 0 1 × Given n (bondsOf (now bonds)) (now near) (now half) (now far) × Sofar n (now bonds) 0 1 (now out) ⌝ }
+    requires { ⌜ WholeBlock n (now bonds) 0 1 × BlockGiven n (bondsOf (now bonds)) (now near) (now half) (now far) × Sofar n (now bonds) 0 1 (now out) ⌝ }
     ensures { λ r. ⌜
         (r ≡ min cap (denominator (graphOf n (now (bonds .entry)))))
-        × (r ≤ most → (k : ℕ) → k < length (now (bonds .entry)) / 2 → getD (now (out .exit)) k 0 ≡ share (graphOf n (now (bonds .entry))) (bondAt (now (bonds .entry)) k))
+        × (r ≤ mostDenominator → (k : ℕ) → k < length (now (bonds .entry)) / 2 → getD (now (out .exit)) k 0 ≡ share (graphOf n (now (bonds .entry))) (bondAt (now (bonds .entry)) k))
         ⌝ }
 {
     let mut d: u64 = 1;
@@ -156,7 +156,7 @@ pub(crate) fn fill(
 // Puts the first m of the entries worked out into those that are lent.
 pub(crate) fn put(m: usize, entries: &[u64; BONDS], out: &mut [u64])
     requires { ⌜ (m ≤ length (now out)) × (m ≤ mostBytes / 2) ⌝ }
-    ensures { λ _. ⌜ Filled m (λ k. getD (now (entries .entry)) k 0) (now (out .entry)) (now (out .exit)) ⌝ }
+    ensures { λ _. ⌜ EntriesFilled m (λ k. getD (now (entries .entry)) k 0) (now (out .entry)) (now (out .exit)) ⌝ }
 {
     let mut j = 0;
     while j < m {

@@ -3,7 +3,7 @@ ghost use mathlib.Core.Path.{_≡_};
 ghost use lib.ListN.{length};
 ghost use Rattle.reply.specs.Read.{read, refusal};
 ghost use Rattle.block.specs.Block.{graphOf, blockReply};
-ghost use Rattle.block.specs.Rows.{farOf, tableOf};
+ghost use Rattle.block.specs.Rows.{farOf, halfTable};
 ghost use Rattle.block.specs.Opened.{neighboursOf};
 ghost use Rattle.shares.specs.Reply.{sharesReply, saidShares, sharesEntries};
 use block::ATOMS;
@@ -34,16 +34,16 @@ const CAP: u64 = MOST + 1;
 const FULL: u64 = ATOMS as u64 * MOST;
 
 // D, or why there is none.
-pub enum Shares {
+pub enum SharesReply {
     Refused(Refusal),
     Denominator(u64),
 }
 
 // A refusal at place 0.
-fn refused(number: usize) -> Shares
-    ensures { λ r. ⌜ r ≡ Shares.Refused (refusal number 0) ⌝ }
+fn refused(number: usize) -> SharesReply
+    ensures { λ r. ⌜ r ≡ SharesReply.Refused (refusal number 0) ⌝ }
 {
-    Shares::Refused(Refusal { number, place: 0 })
+    SharesReply::Refused(Refusal { number, place: 0 })
 }
 
 // The answer for a block that is not refused.
@@ -54,9 +54,9 @@ fn answered(
     half: &Half,
     far: &Farthest,
     out: &mut [u64],
-) -> Shares
+) -> SharesReply
     requires { ⌜
-        (blockReply n (now bonds) ≡ read tt) × (now near ≡ neighboursOf (graphOf n (now bonds))) × (now half ≡ tableOf n (now bonds)) × (now far ≡ farOf n (now bonds))
+        (blockReply n (now bonds) ≡ read tt) × (now near ≡ neighboursOf (graphOf n (now bonds))) × (now half ≡ halfTable n (now bonds)) × (now far ≡ farOf n (now bonds))
         ⌝ }
     ensures reply { λ r. ⌜ r ≡ saidShares (sharesReply n (now (bonds .entry)) (length (now (out .entry)))) ⌝ }
     ensures entries { λ _. ⌜ now (out .exit) ≡ sharesEntries n (now (bonds .entry)) (now (out .entry)) ⌝ }
@@ -70,12 +70,12 @@ fn answered(
         return refused(8);
     }
     flows::put(bonds.len() / 2, &entries, out);
-    Shares::Denominator(d)
+    SharesReply::Denominator(d)
 }
 
 // The contributions of a block's bonds. The reply is D; the entry of each bond, in list order, is D times its contribution, and later entries
 // stay. Or it is a refusal, and no entry changes: the block's, then 9 where there are fewer entries than bonds, then 8 where D is above the most.
-pub fn contributions(n: usize, bonds: &[u8], out: &mut [u64]) -> Shares
+pub fn contributions(n: usize, bonds: &[u8], out: &mut [u64]) -> SharesReply
     ensures reply { λ r. ⌜ r ≡ saidShares (sharesReply n (now (bonds .entry)) (length (now (out .entry)))) ⌝ }
     ensures entries { λ _. ⌜ now (out .exit) ≡ sharesEntries n (now (bonds .entry)) (now (out .entry)) ⌝ }
 {
@@ -84,7 +84,7 @@ pub fn contributions(n: usize, bonds: &[u8], out: &mut [u64]) -> Shares
     let opened = block::table(n, bonds, &mut half, &mut far);
     let reply = opened.reply;
     match reply {
-        Reply::Refused(refusal) => Shares::Refused(refusal),
+        Reply::Refused(refusal) => SharesReply::Refused(refusal),
         Reply::Fine => answered(n, bonds, &opened.near, &half, &far, out),
     }
 }

@@ -34,7 +34,7 @@ ghost use Rattle.paths.specs.Paths.{pathCount};
 ghost use Rattle.paths.specs.Notions.{gathered};
 ghost use Rattle.block.specs.Block.{mostAtoms};
 ghost use Rattle.block.specs.Sums.{entry};
-ghost use Rattle.shares.specs.Work.{cap, full, at, overSet, heights, Near, Tops, Levels, Rule, Holds, graph, Start};
+ghost use Rattle.shares.specs.Work.{cap, full, at, overSet, heights, NearSets, Tops, Levels, Rule, CappedRow, graph, Start};
 
 pub(crate) fn wide(x: u8) -> usize
     ensures { λ r. ⌜ (r ≡ x) × (r < 256) ⌝ }
@@ -99,12 +99,12 @@ fn pull(set: u64, row: &[u64]) -> u64
 // before have, up to the cap. Of level d the atoms of rest wait; below is the level before.
 fn sweep(near: &Neighbours, sets: &[u64; SEATS], top: usize, row: &mut [u64], cap: u64)
     requires { ⌜
-        ((n : ℕ) × (B : ℕ → ℕ → Bool) × (key : ℕ → ℕ) × Near n B (now near) × Levels n key (now sets) top × (cap ≤ full))
+        ((n : ℕ) × (B : ℕ → ℕ → Bool) × (key : ℕ → ℕ) × NearSets n B (now near) × Levels n key (now sets) top × (cap ≤ full))
         × (length (now row) ≡ suc mostAtoms) × ((w : ℕ) → at (now row) w ≤ cap)
         ⌝ }
     ensures { λ _. ⌜
-        ((n : ℕ) (B : ℕ → ℕ → Bool) (key F : ℕ → ℕ) → Near n B (now (near .entry)) → Levels n key (now (sets .entry)) top
-        → Rule n B key (at (now (row .entry))) F → Holds n cap F (now (row .exit)))
+        ((n : ℕ) (B : ℕ → ℕ → Bool) (key F : ℕ → ℕ) → NearSets n B (now (near .entry)) → Levels n key (now (sets .entry)) top
+        → Rule n B key (at (now (row .entry))) F → CappedRow n cap F (now (row .exit)))
         ⌝ }
 {
     let mut below: u64 = 0;
@@ -134,7 +134,7 @@ pub(crate) fn counts(
     requires { ⌜ ((n : ℕ) × (bs : List Bond) × (row : List ℕ) × Start n bs (now near) row (now sets) top start) ⌝ }
     ensures { λ r. ⌜
         ((n : ℕ) (bs : List Bond) (row : List ℕ) → Start n bs (now (near .entry)) row (now (sets .entry)) top start
-        → Holds n cap (pathCount (graph n bs) start) r)
+        → CappedRow n cap (pathCount (graph n bs) start) r)
         ⌝ }
 {
     let mut row = [0u64; SEATS];
@@ -151,7 +151,7 @@ pub(crate) fn onward(near: &Neighbours, sets: &[u64; SEATS], top: usize, weight:
         ⌝ }
     ensures { λ _. ⌜
         ((n : ℕ) (bs : List Bond) (row : List ℕ) (i : ℕ) (q : ℕ → ℕ) → Start n bs (now (near .entry)) row (now (sets .entry)) top i
-        → ((v : ℕ) → Within n v → at (now (weight .entry)) v ≡ q v) → Holds n full (gathered (graph n bs) i q) (now (weight .exit)))
+        → ((v : ℕ) → Within n v → at (now (weight .entry)) v ≡ q v) → CappedRow n full (gathered (graph n bs) i q) (now (weight .exit)))
         ⌝ }
 {
     let back = reversed(sets, top);

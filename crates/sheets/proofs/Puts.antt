@@ -16,7 +16,7 @@ use Rattle.records.specs.declared.Sheet.{Sheet}
 use Rattle.records.specs.declared.Sheet.the-variants.{Five, Six}
 use Rattle.records.proofs.Numbers.{past}
 use Rattle.sheets.specs.Sheets.{allFields, allWidths, fieldCount, widths, fieldsOf, fieldsAt, claimedAt, littleBytes, fieldBytes, sheetRecord, sheetBytes, sheetPut, firstWrong}
-use Rattle.sheets.specs.Along.{total, Narrow}
+use Rattle.sheets.specs.Along.{widthsTotal, Narrow}
 use Rattle.sheets.specs.Back.{length-little, length-sheet, fields-some}
 
 -- a byte is stored, and then the rest; at the end nothing is left
@@ -47,21 +47,21 @@ one-field a b at w x ws xs e = rw e (sets-more a at (littleBytes w x) (fieldByte
 -- Along a list of widths: what was put before i, and what is left from there.
 pub record Putting (ws xs out₀ : List ℕ) (from i at : ℕ) (out : List ℕ) : Type 0 where
   pub more : sets out₀ from (fieldBytes ws xs) ≡ sets out at (fieldBytes (drop i ws) (drop i xs))
-  pub room : at + total (drop i ws) ≤ length out₀
+  pub room : at + widthsTotal (drop i ws) ≤ length out₀
   pub same : length out ≡ length out₀
 
 module _ {ws xs out₀ : List ℕ} {from : ℕ} where
-  pub put-none : from + total ws ≤ length out₀ → Putting ws xs out₀ from 0 from out₀
+  pub put-none : from + widthsTotal ws ≤ length out₀ → Putting ws xs out₀ from 0 from out₀
   put-none h = record { more = refl; room = h; same = refl }
 
   module _ {i at : ℕ} {out : List ℕ} where
     pub put-room : i < length ws → Putting ws xs out₀ from i at out → at + getD ws i 0 ≤ length out
-    unfolding total
+    unfolding widthsTotal
     put-room l p = omega (arith, rw (drop-cons ws i 0 l) at (p .room), p .same)
 
     pub put-one : (next : List ℕ) → i < length ws → length xs ≡ length ws → next ≡ sets out at (littleBytes (getD ws i 0) (getD xs i 0)) → Putting ws xs out₀ from i at out
         → Putting ws xs out₀ from (i + 1) (at + getD ws i 0) next
-    unfolding total
+    unfolding widthsTotal
     put-one next l e q p =
         let w = getD ws i 0 in
         let x = getD xs i 0 in
@@ -84,7 +84,7 @@ fields-past (w ∷ ws) d at h = ap₂ (λ (y : ℕ) (ys : List ℕ). y ∷ ys) (
 pub record Reading (ws d out₀ : List ℕ) (from i at : ℕ) (out : List ℕ) : Type 0 where
   pub more : sets out₀ 0 (fieldsAt ws d from) ≡ sets out i (fieldsAt (drop i ws) d at)
   pub narrow : Narrow (drop i ws)
-  pub room : at + total (drop i ws) ≤ from + total ws
+  pub room : at + widthsTotal (drop i ws) ≤ from + widthsTotal ws
   pub same : length out ≡ length out₀
 
 module _ {ws d out₀ : List ℕ} {from : ℕ} where
@@ -92,13 +92,13 @@ module _ {ws d out₀ : List ℕ} {from : ℕ} where
   read-none h = record { more = refl; narrow = h; room = omega arith; same = refl }
 
   module _ {i at : ℕ} {out : List ℕ} where
-    pub read-room : i < length ws → Reading ws d out₀ from i at out → at + getD ws i 0 ≤ from + total ws
-    unfolding total
+    pub read-room : i < length ws → Reading ws d out₀ from i at out → at + getD ws i 0 ≤ from + widthsTotal ws
+    unfolding widthsTotal
     read-room l p = omega (arith, rw (drop-cons ws i 0 l) at (p .room))
 
     pub read-one : (n : ℕ) → i < length ws → n ≡ little (min (getD ws i 0) 8) d at → Reading ws d out₀ from i at out
         → Reading ws d out₀ from (i + 1) (at + getD ws i 0) (set out i n)
-    unfolding total Narrow fieldsAt
+    unfolding widthsTotal Narrow fieldsAt
     read-one n l q p =
         let w = getD ws i 0 in
         let c = drop-cons ws i 0 l in

@@ -2,9 +2,9 @@
 use Prim.Native.Nat.{ℕ, _+_, _≤_}
 use mathlib.Core.List.{List, [], _∷_}
 
-unfoldable pub total : List ℕ → ℕ
-total [] = 0
-total (w ∷ ws) = w + total ws
+unfoldable pub widthsTotal : List ℕ → ℕ
+widthsTotal [] = 0
+widthsTotal (w ∷ ws) = w + widthsTotal ws
 
 unfoldable pub Narrow : List ℕ → Type 0
 Narrow [] = Unit {0}

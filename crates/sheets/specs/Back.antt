@@ -16,7 +16,7 @@ use Rattle.records.specs.declared.Sheet.{Sheet}
 use Rattle.records.specs.declared.Sheet.the-variants.{Five, Six}
 use Rattle.records.specs.Longer.{little-behind}
 use Rattle.sheets.specs.Sheets.{allFields, allWidths, fieldCount, widths, fieldsOf, fieldsAt, littleBytes, fieldBytes, sheetRecord, sheetBytes, firstWrong}
-use Rattle.sheets.specs.Along.{total}
+use Rattle.sheets.specs.Along.{widthsTotal}
 
 pub length-little : (k n : ℕ) → length (littleBytes k n) ≡ k
 unfolding littleBytes
@@ -24,8 +24,8 @@ length-little zero n = refl
 length-little (suc k) n = ap suc (length-little k (n / 256))
 
 -- the widths of a sheet are its payload, and there is one for each field
-pub widths-fill : (s : Sheet) → total (widths s) ≡ sheetKind s .fixed
-unfolding total widths
+pub widths-fill : (s : Sheet) → widthsTotal (widths s) ≡ sheetKind s .fixed
+unfolding widthsTotal widths
 widths-fill Five = refl
 widths-fill Six = refl
 
@@ -35,8 +35,8 @@ one-each Five x = refl
 one-each Six x = refl
 
 -- fields of some widths take as many bytes as these come to
-length-bytes : (ws xs : List ℕ) → length xs ≡ length ws → length (fieldBytes ws xs) ≡ total ws
-unfolding fieldBytes total
+length-bytes : (ws xs : List ℕ) → length xs ≡ length ws → length (fieldBytes ws xs) ≡ widthsTotal ws
+unfolding fieldBytes widthsTotal
 length-bytes [] xs e = refl
 length-bytes (w ∷ ws) [] e = absurd (omega arith)
 length-bytes (w ∷ ws) (x ∷ xs) e =
@@ -44,7 +44,7 @@ length-bytes (w ∷ ws) (x ∷ xs) e =
     length-append (littleBytes w x) (fieldBytes ws xs) ∙ ap₂ _+_ (length-little w x) (length-bytes ws xs l)
 
 pub length-sheet : (s : Sheet) (x : Indices) → length (sheetRecord s (fieldsOf s x)) ≡ sheetBytes s
-unfolding sheetRecord total
+unfolding sheetRecord widthsTotal
 length-sheet s x =
     let head = sheetKind s .fixed ∷ sheetKind s .number ∷ [] in
     length-bytes (2 ∷ 2 ∷ widths s) (sheetKind s .fixed ∷ sheetKind s .number ∷ fieldsOf s x) (ap (λ (n : ℕ). suc (suc n)) (one-each s x)) ∙ omega (arith, widths-fill s)
@@ -69,13 +69,13 @@ little-back (suc k) n d at cs h e =
     rw (first-byte d at b rest e, little-back k (n / 256) d (at + 1) cs small (behind d at (b ∷ []) rest 1 refl e)) (omega arith)
 
 -- each number fits its width
-abbrev pub Fit : List ℕ → List ℕ → Type 0
-Fit [] [] = Unit {0}
-Fit [] (x ∷ xs) = ⊥
-Fit (w ∷ ws) [] = ⊥
-Fit (w ∷ ws) (x ∷ xs) = (x < 256 ^ w) × Fit ws xs
+abbrev pub FitWidths : List ℕ → List ℕ → Type 0
+FitWidths [] [] = Unit {0}
+FitWidths [] (x ∷ xs) = ⊥
+FitWidths (w ∷ ws) [] = ⊥
+FitWidths (w ∷ ws) (x ∷ xs) = (x < 256 ^ w) × FitWidths ws xs
 
-fields-back : (ws xs : List ℕ) (d : List ℕ) (at : ℕ) (cs : List ℕ) → Fit ws xs → drop at d ≡ fieldBytes ws xs ++ cs → fieldsAt ws d at ≡ xs
+fields-back : (ws xs : List ℕ) (d : List ℕ) (at : ℕ) (cs : List ℕ) → FitWidths ws xs → drop at d ≡ fieldBytes ws xs ++ cs → fieldsAt ws d at ≡ xs
 unfolding fieldBytes fieldsAt
 fields-back [] [] d at cs f e = refl
 fields-back [] (x ∷ xs) d at cs f e = absurd f
@@ -87,19 +87,19 @@ fields-back (w ∷ ws) (x ∷ xs) d at cs f e =
     (fields-back ws xs d (at + w) cs (f .1) (behind d at (littleBytes w x) (fieldBytes ws xs ++ cs) w (length-little w x) q))
 
 -- if all fit, those of a sheet do
-fit-some : (n : ℕ) (ws xs : List ℕ) → Fit ws xs → Fit (take n ws) (take n xs)
+fit-some : (n : ℕ) (ws xs : List ℕ) → FitWidths ws xs → FitWidths (take n ws) (take n xs)
 fit-some zero ws xs f = tt
 fit-some (suc n) [] [] f = tt
 fit-some (suc n) [] (x ∷ xs) f = absurd f
 fit-some (suc n) (w ∷ ws) [] f = absurd f
 fit-some (suc n) (w ∷ ws) (x ∷ xs) f = (f .0, fit-some n ws xs (f .1))
 
-pub fit-of : (s : Sheet) (x : Indices) → Fit allWidths (allFields x) → Fit (widths s) (fieldsOf s x)
+pub fit-of : (s : Sheet) (x : Indices) → FitWidths allWidths (allFields x) → FitWidths (widths s) (fieldsOf s x)
 unfolding fieldsOf widths
 fit-of s x f = fit-some (fieldCount s) allWidths (allFields x) f
 
 -- The record of a sheet whose fields fit says them.
-module _ (s : Sheet) (x : Indices) (fit : Fit (widths s) (fieldsOf s x)) where
+module _ (s : Sheet) (x : Indices) (fit : FitWidths (widths s) (fieldsOf s x)) where
   abbrev bytes : List ℕ
   bytes = sheetRecord s (fieldsOf s x)
 
@@ -112,7 +112,7 @@ module _ (s : Sheet) (x : Indices) (fit : Fit (widths s) (fieldsOf s x)) where
   unfolding sheetRecord
   read-whole =
       let h = head-fits s in
-      let all : Fit (2 ∷ 2 ∷ widths s) (sheetKind s .fixed ∷ sheetKind s .number ∷ fieldsOf s x) = (h .0, (h .1, fit)) in
+      let all : FitWidths (2 ∷ 2 ∷ widths s) (sheetKind s .fixed ∷ sheetKind s .number ∷ fieldsOf s x) = (h .0, (h .1, fit)) in
       fields-back (2 ∷ 2 ∷ widths s) (sheetKind s .fixed ∷ sheetKind s .number ∷ fieldsOf s x) bytes 0 [] all (sym (append-nil bytes))
 
 -- bytes before a sheet do not matter

@@ -5,7 +5,7 @@ ghost use lib.ListN.{length, take};
 ghost use lib.Seq.{sets};
 ghost use Rattle.records.specs.Records.{headBytes, sheetAt};
 ghost use Rattle.sheets.specs.Sheets.{fieldCount, allFields, allWidths, fieldsOf, fieldsAt, claimedAt, littleBytes, fieldBytes, sheetBytes, sheetPut, firstWrong};
-ghost use Rattle.sheets.specs.Along.{total, Narrow};
+ghost use Rattle.sheets.specs.Along.{widthsTotal, Narrow};
 use block::Indices;
 use records::HEAD;
 use records::Sheet;
@@ -52,7 +52,7 @@ pub fn bytes_of(sheet: Sheet) -> usize
 
 // Reads numbers of some widths, one after the other from a place on.
 fn read_fields(d: &[u8], from: usize, widths: &[usize], fields: &mut [u64])
-    requires { ⌜ (length (now fields) ≡ length (now widths)) × Narrow (now widths) × (from + total (now widths) < 2 ^ 64) ⌝ }
+    requires { ⌜ (length (now fields) ≡ length (now widths)) × Narrow (now widths) × (from + widthsTotal (now widths) < 2 ^ 64) ⌝ }
     ensures { λ _. ⌜ now (fields .exit) ≡ fieldsAt (now (widths .entry)) (now (d .entry)) from ⌝ }
 {
     let mut at = from;
@@ -95,7 +95,7 @@ fn put(out: &mut [u8], at: usize, width: usize, n: u64)
 
 // Puts numbers into fields of some widths, one after the other from a place on.
 fn put_fields(out: &mut [u8], from: usize, widths: &[usize], fields: &[u64])
-    requires { ⌜ (length (now fields) ≡ length (now widths)) × (from + total (now widths) ≤ length (now out)) ⌝ }
+    requires { ⌜ (length (now fields) ≡ length (now widths)) × (from + widthsTotal (now widths) ≤ length (now out)) ⌝ }
     ensures { λ _. ⌜ now (out .exit) ≡ sets (now (out .entry)) from (fieldBytes (now (widths .entry)) (now (fields .entry))) ⌝ }
 {
     let mut at = from;

@@ -6,7 +6,7 @@ use lib.Dec.{eqb, ltb}
 use lib.ListN.{length}
 use Rattle.records.specs.Bytes.{le16, part}
 use Rattle.assembly.specs.Placements.{Sites, Shelf}
-use Rattle.summary.specs.Layout.{summaryBytes, atomsOf, endsAt}
+use Rattle.summary.specs.Layout.{summaryBytes, storedAtoms, storedDegree}
 
 abbrev pub placesIn : List ℕ → ℕ
 placesIn b = length b / summaryBytes
@@ -24,7 +24,7 @@ unfoldable pub placeOf : List ℕ → ℕ → ℕ
 placeOf b x = cond (eqb x 0) (placesIn b) (placeFrom b x 0 (placesIn b))
 
 abbrev pub sitesIn : List ℕ → Sites
-sitesIn s = record { atoms = atomsOf s; ends = endsAt s }
+sitesIn s = record { atoms = storedAtoms s; ends = storedDegree s }
 
 abbrev pub shelfIn : List ℕ → Shelf
 shelfIn b = record { has = λ x. ltb (placeOf b x) (placesIn b); sites = λ x. sitesIn (summaryAt b (placeOf b x)) }

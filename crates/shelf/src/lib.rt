@@ -1,6 +1,6 @@
 // A book of summaries, one behind the other: the place of a block's number, and what is refused of an assembly over them.
 use assembly::PLACEMENTS;
-use assembly::Site;
+use assembly::JoinSite;
 use assembly::first_fault;
 use assembly::join_fault;
 use assembly::parent_fault;
@@ -17,7 +17,7 @@ ghost use mathlib.Core.Path.{_≡_};
 ghost use Prim.Native.Nat.{_*_};
 ghost use Rattle.reply.specs.Read.{saidReply};
 ghost use Rattle.records.specs.Bytes.{PartOf};
-ghost use Rattle.assembly.specs.Placements.{placementAt, siteAt, laterFault, fault, shelfReply};
+ghost use Rattle.assembly.specs.Placements.{placementAt, atomSite, laterFault, fault, shelfReply};
 ghost use Rattle.summary.specs.Layout.{summaryBytes};
 ghost use Rattle.shelf.specs.Shelf.{placeOf, shelfIn};
 
@@ -50,11 +50,11 @@ pub fn place_of(book: &[u8], number: usize) -> usize
 }
 
 // What is asked of the block with a number at its atom a.
-fn site_of(book: &[u8], number: u16, a: u8) -> Site
-    ensures { λ r. ⌜ r ≡ siteAt (shelfIn (now (book .entry)) .sites number) a ⌝ }
+fn site_of(book: &[u8], number: u16, a: u8) -> JoinSite
+    ensures { λ r. ⌜ r ≡ atomSite (shelfIn (now (book .entry)) .sites number) a ⌝ }
 {
     let s = summary_at(book, place_of(book, number as usize));
-    Site {
+    JoinSite {
         atoms: atoms(s),
         ends: ends(s, a as usize),
     }

@@ -10,13 +10,13 @@ use lib.Dec.{ltb, leb}
 use lib.ListN.{length, getD, take, drop, replicate, length-append, length-take, length-drop, length-replicate, getD-replicate, take-append-drop, List·getD-eq-default}
 use lib.Seq.{sets, length-sets, length-take-le, take-at, drop-at, getD-take, getD-drop}
 use Rattle.reply.specs.Read.{Read, refused, read, _then_, refuseIf, refusal}
-use Rattle.storage.specs.Shelf.{places, placeOf, unless, noNumber, addReply, added, lookReply, dropReply, dropped}
-use Rattle.storage.specs.Table.{shelfBytes, tableBytes, startOf, shelf, withShelf, tableReply, onTable, tableAfter, zeroed, emptied}
+use Rattle.storage.specs.Shelf.{places, placeHolding, unless, zeroNumber, addReply, added, lookReply, dropReply, dropped}
+use Rattle.storage.specs.Table.{shelfBytes, tableBytes, shelfStart, shelf, withShelf, tableReply, onTable, tableAfter, zeroed, emptied}
 use Rattle.storage.specs.Calls.{Trade, Call, add, look, drop as remove, compose, Answer, done, fields, sheet, Sent, mine, consIf, own, answer, after, answers, tableAnswer, tableLeft, answersTo, tableAll}
 use Rattle.storage.specs.Model.{Entry, Meaning, left, toldAll, leftAll}
 use Rattle.storage.specs.Stored.{byte-put}
-use Rattle.storage.specs.Keeps.{Honest}
-use Rattle.storage.specs.Kept.{Kept, keeps-empty, same-answer, same-left}
+use Rattle.storage.specs.Keeps.{HonestTrade}
+use Rattle.storage.specs.Kept.{KeptPlaces, keeps-empty, same-answer, same-left}
 use Rattle.storage.specs.declared.Queue.{Queue}
 use Rattle.storage.specs.declared.Queue.the-variants.{Day, Night}
 
@@ -66,9 +66,9 @@ module _ {G F O S T : Type 0} (trade : Trade G F O S T) where
   -- a call keeps the length of a shelf
   after-length : (s : List ℕ) (c : Call G O) → length (after trade s c) ≡ length s
   unfolding added dropped
-  after-length s (add x g) = unless-length (addReply w s (x .value) (trade .check g)) s _ (length-sets s (w * placeOf w s 0) (trade .stored (x .value) g))
+  after-length s (add x g) = unless-length (addReply w s (x .value) (trade .check g)) s _ (length-sets s (w * placeHolding w s 0) (trade .stored (x .value) g))
   after-length s (look x) = refl
-  after-length s (remove x) = unless-length (dropReply w s x) s _ (length-sets s (w * placeOf w s x) noNumber)
+  after-length s (remove x) = unless-length (dropReply w s x) s _ (length-sets s (w * placeHolding w s x) zeroNumber)
   after-length s (compose o) = refl
 
   module _ (t : List ℕ) (long : tableBytes w ≤ length t) where
@@ -198,15 +198,15 @@ module _ (w : ℕ) (t : List ℕ) (long : tableBytes w ≤ length t) where
   zero-shelf Night i = zero-part (shelfBytes w) (tableBytes w) t long (shelfBytes w) (omega arith) i
 
 -- where the bytes say what the goods mean
-module _ {G F O S T : Type 0} {trade : Trade G F O S T} {m : Meaning G F O T} (h : Honest trade m) where
+module _ {G F O S T : Type 0} {trade : Trade G F O S T} {m : Meaning G F O T} (h : HonestTrade trade m) where
   -- on a shelf that holds what a queue holds, the answers are the queue's
-  told-alone : {s : List ℕ} {held : List (Entry G)} → Kept h s held → (cs : List (Call G O)) → answers trade s cs ≡ toldAll m held cs
+  told-alone : {s : List ℕ} {held : List (Entry G)} → KeptPlaces h s held → (cs : List (Call G O)) → answers trade s cs ≡ toldAll m held cs
   unfolding answers toldAll
   told-alone k [] = refl
   told-alone k (c ∷ cs) = ap₂ (λ (a : Answer F T) (l : List (Answer F T)). a ∷ l) (same-answer h k c) (told-alone (same-left h k c) cs)
 
   -- a table that was made empty holds nothing, for either queue
-  keeps-emptied : (t : List ℕ) → tableBytes (trade .width) ≤ length t → (q : Queue) → Kept h (shelf (trade .width) q (zeroed (trade .width) t)) []
+  keeps-emptied : (t : List ℕ) → tableBytes (trade .width) ≤ length t → (q : Queue) → KeptPlaces h (shelf (trade .width) q (zeroed (trade .width) t)) []
   keeps-emptied t long q =
       keeps-empty h (shelf (trade .width) q (zeroed (trade .width) t)) (shelf-size trade (zeroed (trade .width) t) (emptied-long (trade .width) t long) q) (zero-shelf (trade .width) t long q)
 
@@ -218,8 +218,8 @@ module _ {G F O S T : Type 0} {trade : Trade G F O S T} {m : Meaning G F O T} (h
       ∙ told-alone (keeps-emptied t long q) (own q cs)
 
   -- and after any calls of both, its places hold what its own calls left
-  keeps-all : (q : Queue) (t : List ℕ) → tableBytes (trade .width) ≤ length t → (held : List (Entry G)) → Kept h (shelf (trade .width) q t) held → (cs : List (Sent G O))
-      → Kept h (shelf (trade .width) q (tableAll trade t cs)) (leftAll m held (own q cs))
+  keeps-all : (q : Queue) (t : List ℕ) → tableBytes (trade .width) ≤ length t → (held : List (Entry G)) → KeptPlaces h (shelf (trade .width) q t) held → (cs : List (Sent G O))
+      → KeptPlaces h (shelf (trade .width) q (tableAll trade t cs)) (leftAll m held (own q cs))
   unfolding tableAll leftAll own
   keeps-all q t long held k [] = k
   keeps-all q t long held k (c ∷ cs) =
@@ -227,9 +227,9 @@ module _ {G F O S T : Type 0} {trade : Trade G F O S T} {m : Meaning G F O T} (h
       go (mine q (c .queue)) refl (λ l r. keeps-all q next (left-long trade t long (c .queue) (c .call)) l r cs)
     where
       go : (b : Bool) → mine q (c .queue) ≡ b
-          → ((l : List (Entry G)) → Kept h (shelf (trade .width) q (tableLeft trade (c .queue) t (c .call))) l
-          → Kept h (shelf (trade .width) q (tableAll trade (tableLeft trade (c .queue) t (c .call)) cs)) (leftAll m l (own q cs)))
-          → Kept h (shelf (trade .width) q (tableAll trade (tableLeft trade (c .queue) t (c .call)) cs)) (leftAll m held (consIf b (c .call) (own q cs)))
+          → ((l : List (Entry G)) → KeptPlaces h (shelf (trade .width) q (tableLeft trade (c .queue) t (c .call))) l
+          → KeptPlaces h (shelf (trade .width) q (tableAll trade (tableLeft trade (c .queue) t (c .call)) cs)) (leftAll m l (own q cs)))
+          → KeptPlaces h (shelf (trade .width) q (tableAll trade (tableLeft trade (c .queue) t (c .call)) cs)) (leftAll m held (consIf b (c .call) (own q cs)))
       go true e more =
           let r = mine-same q (c .queue) e in
           let s : shelf (trade .width) q (tableLeft trade (c .queue) t (c .call)) ≡ after trade (shelf (trade .width) q t) (c .call)
@@ -238,6 +238,6 @@ module _ {G F O S T : Type 0} {trade : Trade G F O S T} {m : Meaning G F O T} (h
       go false e more = more held (rw (other-after trade t long q (c .queue) (c .call) e) k)
 
   pub keeps-own : (q : Queue) (t : List ℕ) → tableBytes (trade .width) ≤ length t → (cs : List (Sent G O))
-      → Kept h (shelf (trade .width) q (tableAll trade (emptied (trade .width) t) cs)) (leftAll m [] (own q cs))
+      → KeptPlaces h (shelf (trade .width) q (tableAll trade (emptied (trade .width) t) cs)) (leftAll m [] (own q cs))
   keeps-own q t long cs =
       rw (emptied-is (trade .width) t long) (keeps-all q (zeroed (trade .width) t) (emptied-long (trade .width) t long) [] (keeps-emptied t long q) cs)

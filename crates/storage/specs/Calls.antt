@@ -9,7 +9,7 @@ use Rattle.storage.specs.declared.Queue.{Queue}
 use Rattle.storage.specs.declared.Queue.the-variants.{Day, Night}
 
 -- a number of two bytes
-pub record Number : Type 0 where
+pub record CallNumber : Type 0 where
   pub value : ℕ
   pub small : value < 65536
 
@@ -24,7 +24,7 @@ pub record Trade (Goods Fields Order Sheet Told : Type 0) : Type 0 where
 
 -- the calls of a queue
 pub data Call (Goods Order : Type 0) : Type 0 where
-  add : Number → Goods → Call Goods Order
+  add : CallNumber → Goods → Call Goods Order
   look : ℕ → Call Goods Order
   drop : ℕ → Call Goods Order
   compose : Order → Call Goods Order

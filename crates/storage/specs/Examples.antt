@@ -7,9 +7,9 @@ use lib.Dec.{ltb, lit<}
 use lib.ListN.{length, replicate}
 use Rattle.reply.specs.Read.{Read, refused, read, _then_, refuseIf, refusal}
 use Rattle.records.specs.Bytes.{byteAt, little}
-use Rattle.storage.specs.Shelf.{placeOf, holds, seek, heldBy, roomReply, addReply, added, lookReply, dropReply, dropped}
+use Rattle.storage.specs.Shelf.{placeHolding, holds, seek, heldBy, roomReply, addReply, added, lookReply, dropReply, dropped}
 use Rattle.storage.specs.Table.{zeroed, emptied}
-use Rattle.storage.specs.Calls.{Number, Trade, Call, add, look, drop, compose, Answer, done, fields, sheet, Sent, own, answersTo, tableAll}
+use Rattle.storage.specs.Calls.{CallNumber, Trade, Call, add, look, drop, compose, Answer, done, fields, sheet, Sent, own, answersTo, tableAll}
 use Rattle.storage.specs.declared.Queue.the-variants.{Day, Night}
 
 abbrev bytes : Trade ℕ ℕ ℕ ℕ (Read ℕ)
@@ -18,17 +18,17 @@ bytes = record {
   check = λ g. refuseIf (ltb 255 g) 1 0;
   stored = λ x g. (x % 256) ∷ (x / 256) ∷ g ∷ [];
   fieldsOf = λ l. byteAt l 2;
-  composed = λ s x. refuseIf (not (holds 3 s x)) 16 0 then λ _. read (byteAt s (3 * placeOf 3 s x + 2) + 100);
+  composed = λ s x. refuseIf (not (holds 3 s x)) 16 0 then λ _. read (byteAt s (3 * placeHolding 3 s x + 2) + 100);
   said = λ x r. r;
 }
 
-abbrev one : Number
+abbrev one : CallNumber
 one = record { value = 1; small = lit< tt }
 
-abbrev two : Number
+abbrev two : CallNumber
 two = record { value = 258; small = lit< tt }
 
-abbrev zero : Number
+abbrev zero : CallNumber
 zero = record { value = 0; small = lit< tt }
 
 abbrev day : Call ℕ ℕ → Sent ℕ ℕ

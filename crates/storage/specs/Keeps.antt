@@ -23,14 +23,14 @@ module _ {G F O S T : Type 0} (trade : Trade G F O S T) (m : Meaning G F O T) wh
   abbrev pub stored : Entry G → List ℕ
   stored e = trade .stored (e .number) (e .goods)
 
-  pub record Keeps (wide : 2 ≤ trade .width) (s : List ℕ) (q : List (Entry G)) : Type 0 where
+  pub record KeepsQueue (wide : 2 ≤ trade .width) (s : List ℕ) (q : List (Entry G)) : Type 0 where
     pub stores : Stores (m .nothing) (trade .width) wide stored s q
     pub proper : AllProper q
 
-  pub record Honest : Type 0 where
+  pub record HonestTrade : Type 0 where
     pub wide : 2 ≤ trade .width
     pub check : (g : G) → trade .check g ≡ m .fine g
     pub size : (x : ℕ) (g : G) → length (trade .stored x g) ≡ trade .width
     pub number : (x : ℕ) (g : G) → x < 65536 → le16 (trade .stored x g) 0 ≡ x
     pub fields : (x : ℕ) (g : G) → m .fine g ≡ read tt → trade .fieldsOf (trade .stored x g) ≡ m .fieldsOf g
-    pub composed : (s : List ℕ) (q : List (Entry G)) → Keeps wide s q → (o : O) → trade .said o (trade .composed s o) ≡ m .composedOf q o
+    pub composed : (s : List ℕ) (q : List (Entry G)) → KeepsQueue wide s q → (o : O) → trade .said o (trade .composed s o) ≡ m .composedOf q o

@@ -11,14 +11,14 @@ use lib.Seq.{sets}
 use Rattle.reply.specs.Read.{Read, refused, read, _then_, refuseIf}
 use Rattle.reply.specs.Chain.{then-read, if-read}
 use Rattle.records.specs.Bytes.{part}
-use Rattle.storage.specs.Shelf.{places, numberIn, placeOf, placeAt, holds, unless, noNumber, roomReply, addReply, added, lookReply, dropReply, dropped}
-use Rattle.storage.specs.Calls.{Number, Trade, Call, add, look, drop, compose, Answer, done, fields, sheet, answer, after}
+use Rattle.storage.specs.Shelf.{places, numberIn, placeHolding, placeAt, holds, unless, zeroNumber, roomReply, addReply, added, lookReply, dropReply, dropped}
+use Rattle.storage.specs.Calls.{CallNumber, Trade, Call, add, look, drop, compose, Answer, done, fields, sheet, answer, after}
 use Rattle.storage.specs.Model.{Entry, lookup, has, without, Meaning, toldAdd, toldLook, toldDrop, told, left}
 use Rattle.storage.specs.Seeks.{taken-most}
 use Rattle.storage.specs.Entries.{has-positive, has-number}
 use Rattle.storage.specs.Storage.{Storable, Stores, stores-empty, stores-added, stores-dropped}
 use Rattle.storage.specs.Room.{room-by}
-use Rattle.storage.specs.Keeps.{Proper, AllProper, stored, Keeps, Honest}
+use Rattle.storage.specs.Keeps.{Proper, AllProper, stored, KeepsQueue, HonestTrade}
 
 -- what stands under a number
 module _ {G F O S T : Type 0} (trade : Trade G F O S T) (m : Meaning G F O T) (wide : 2 ≤ trade .width) (size : (x : ℕ) (g : G) → length (trade .stored x g) ≡ trade .width) where
@@ -32,24 +32,24 @@ module _ {G F O S T : Type 0} (trade : Trade G F O S T) (m : Meaning G F O T) (w
       go true n more = k .0
       go false n more = more n
 
-  module _ {s : List ℕ} {q : List (Entry G)} (k : Keeps trade m wide s q) (x : ℕ) (e : has (m .nothing) q x ≡ true) where
+  module _ {s : List ℕ} {q : List (Entry G)} (k : KeepsQueue trade m wide s q) (x : ℕ) (e : has (m .nothing) q x ≡ true) where
     pub proper-at : Proper trade m (lookup (m .nothing) q x)
     proper-at = lookup-proper q x (k .proper) (has-positive (m .nothing) q x e) (has-number (m .nothing) q x e)
 
     -- under a number that is held stands what was stored
-    pub stands : placeAt (trade .width) s (placeOf (trade .width) s x) ≡ trade .stored x (lookup (m .nothing) q x .goods)
+    pub stands : placeAt (trade .width) s (placeHolding (trade .width) s x) ≡ trade .stored x (lookup (m .nothing) q x .goods)
     stands =
-        ap (part s (trade .width * placeOf (trade .width) s x)) (sym (size (lookup (m .nothing) q x .number) (lookup (m .nothing) q x .goods)))
+        ap (part s (trade .width * placeHolding (trade .width) s x)) (sym (size (lookup (m .nothing) q x .number) (lookup (m .nothing) q x .goods)))
         ∙ k .stores .bytes x e
         ∙ ap (λ (y : ℕ). trade .stored y (lookup (m .nothing) q x .goods)) (has-number (m .nothing) q x e)
 
-module _ {G F O S T : Type 0} {trade : Trade G F O S T} {m : Meaning G F O T} (h : Honest trade m) where
-  abbrev pub Kept : List ℕ → List (Entry G) → Type 0
-  Kept s q = Keeps trade m (h .wide) s q
+module _ {G F O S T : Type 0} {trade : Trade G F O S T} {m : Meaning G F O T} (h : HonestTrade trade m) where
+  abbrev pub KeptPlaces : List ℕ → List (Entry G) → Type 0
+  KeptPlaces s q = KeepsQueue trade m (h .wide) s q
 
-  module _ {s : List ℕ} {q : List (Entry G)} (k : Kept s q) where
+  module _ {s : List ℕ} {q : List (Entry G)} (k : KeptPlaces s q) where
     -- there is no room exactly where eight are held
-    pub same-room : not (ltb (placeOf (trade .width) s 0) places) ≡ leb places (length q)
+    pub same-room : not (ltb (placeHolding (trade .width) s 0) places) ≡ leb places (length q)
     same-room = room-by (trade .width) s ∙ ap (leb places) (k .stores .count)
 
     pub same-add : (x : ℕ) (g : G) → addReply (trade .width) s x (trade .check g) ≡ toldAdd m q x g
@@ -65,7 +65,7 @@ module _ {G F O S T : Type 0} {trade : Trade G F O S T} {m : Meaning G F O T} (h
     same-look x = rw (k .stores .numbers x) (go (has (m .nothing) q x) refl)
       where
         go : (t : Bool) → has (m .nothing) q x ≡ t
-            → (refuseIf (not t) 30 0 then λ _. read (trade .fieldsOf (placeAt (trade .width) s (placeOf (trade .width) s x)))) ≡ (refuseIf (not t) 30 0 then λ _. read (m .fieldsOf (lookup (m .nothing) q x .goods)))
+            → (refuseIf (not t) 30 0 then λ _. read (trade .fieldsOf (placeAt (trade .width) s (placeHolding (trade .width) s x)))) ≡ (refuseIf (not t) 30 0 then λ _. read (m .fieldsOf (lookup (m .nothing) q x .goods)))
         go true e = ap read (ap (trade .fieldsOf) (stands trade m (h .wide) (h .size) k x e) ∙ h .fields x (lookup (m .nothing) q x .goods) (proper-at trade m (h .wide) (h .size) k x e .fine))
         go false e = refl
 
@@ -74,11 +74,11 @@ module _ {G F O S T : Type 0} {trade : Trade G F O S T} {m : Meaning G F O T} (h
     at-most-eight = omega (arith, k .stores .count, taken-most (numberIn (trade .width) s) places)
 
   -- the empty shelf
-  pub keeps-empty : (s : List ℕ) → length s ≡ trade .width * places → ((i : ℕ) → getD s i 0 ≡ 0) → Kept s []
+  pub keeps-empty : (s : List ℕ) → length s ≡ trade .width * places → ((i : ℕ) → getD s i 0 ≡ 0) → KeptPlaces s []
   keeps-empty s size z = record { stores = stores-empty (m .nothing) (trade .width) (h .wide) (stored trade m) s size z; proper = tt }
 
   -- goods are added
-  module _ {s : List ℕ} {q : List (Entry G)} (k : Kept s q) (x : Number) (g : G) (told-fine : toldAdd m q (x .value) g ≡ read tt) where
+  module _ {s : List ℕ} {q : List (Entry G)} (k : KeptPlaces s q) (x : CallNumber) (g : G) (told-fine : toldAdd m q (x .value) g ≡ read tt) where
     abbrev entry : Entry G
     entry = record { number = x .value; goods = g }
 
@@ -109,7 +109,7 @@ module _ {G F O S T : Type 0} {trade : Trade G F O S T} {m : Meaning G F O T} (h
       positive = passes .positive;
     }
 
-    pub keeps-added : Kept (sets s (trade .width * placeOf (trade .width) s 0) (trade .stored (x .value) g)) (record { number = x .value; goods = g } ∷ q)
+    pub keeps-added : KeptPlaces (sets s (trade .width * placeHolding (trade .width) s 0) (trade .stored (x .value) g)) (record { number = x .value; goods = g } ∷ q)
     keeps-added = record {
       stores = stores-added (m .nothing) (trade .width) (h .wide) (stored trade m) (k .stores) entry storable (passes .new) (passes .room);
       proper = (record { positive = passes .positive; small = x .small; fine = passes .fine }, k .proper);
@@ -125,30 +125,30 @@ module _ {G F O S T : Type 0} {trade : Trade G F O S T} {m : Meaning G F O T} (h
       go true more = k .1
       go false more = (k .0, more)
 
-  pub keeps-dropped : {s : List ℕ} {q : List (Entry G)} → Kept s q → (x : ℕ) → has (m .nothing) q x ≡ true → Kept (sets s (trade .width * placeOf (trade .width) s x) noNumber) (without q x)
+  pub keeps-dropped : {s : List ℕ} {q : List (Entry G)} → KeptPlaces s q → (x : ℕ) → has (m .nothing) q x ≡ true → KeptPlaces (sets s (trade .width * placeHolding (trade .width) s x) zeroNumber) (without q x)
   keeps-dropped {s} {q} k x held =
       record { stores = stores-dropped (m .nothing) (trade .width) (h .wide) (stored trade m) (k .stores) x held; proper = proper-without q x (k .proper) }
 
   -- one call
-  module _ {s : List ℕ} {q : List (Entry G)} (k : Kept s q) where
+  module _ {s : List ℕ} {q : List (Entry G)} (k : KeptPlaces s q) where
     pub same-answer : (c : Call G O) → answer trade s c ≡ told m q c
     same-answer (add x g) = ap done (same-add k (x .value) g)
     same-answer (look x) = ap fields (same-look k x)
     same-answer (drop x) = ap done (same-drop k x)
     same-answer (compose o) = ap sheet (h .composed s q k o)
 
-    pub same-left : (c : Call G O) → Kept (after trade s c) (left m q c)
+    pub same-left : (c : Call G O) → KeptPlaces (after trade s c) (left m q c)
     unfolding added dropped toldDrop
     same-left (add x g) = rw (same-add k (x .value) g) (go (toldAdd m q (x .value) g) refl)
       where
         go : (r : Read (Unit {0})) → toldAdd m q (x .value) g ≡ r
-            → Kept (unless r s (sets s (trade .width * placeOf (trade .width) s 0) (trade .stored (x .value) g))) (unless r q (record { number = x .value; goods = g } ∷ q))
+            → KeptPlaces (unless r s (sets s (trade .width * placeHolding (trade .width) s 0) (trade .stored (x .value) g))) (unless r q (record { number = x .value; goods = g } ∷ q))
         go (refused r) e = k
         go (read u) e = keeps-added k x g e
     same-left (look x) = k
     same-left (drop x) = rw (same-drop k x) (go (has (m .nothing) q x) refl)
       where
-        go : (t : Bool) → has (m .nothing) q x ≡ t → Kept (unless (refuseIf (not t) 30 0) s (sets s (trade .width * placeOf (trade .width) s x) noNumber)) (unless (refuseIf (not t) 30 0) q (without q x))
+        go : (t : Bool) → has (m .nothing) q x ≡ t → KeptPlaces (unless (refuseIf (not t) 30 0) s (sets s (trade .width * placeHolding (trade .width) s x) zeroNumber)) (unless (refuseIf (not t) 30 0) q (without q x))
         go true e = keeps-dropped k x e
         go false e = k
     same-left (compose o) = k

@@ -32,16 +32,16 @@ unless (refused r) old new = old
 unless (read a) old new = new
 
 -- of a place that is dropped the number becomes 0
-abbrev pub noNumber : List ℕ
-noNumber = 0 ∷ 0 ∷ []
+abbrev pub zeroNumber : List ℕ
+zeroNumber = 0 ∷ 0 ∷ []
 
 -- places of w bytes
 module _ (w : ℕ) (s : List ℕ) where
   abbrev pub numberIn : ℕ → ℕ
   numberIn k = le16 s (w * k)
 
-  abbrev pub placeOf : ℕ → ℕ
-  placeOf x = placeBy numberIn x
+  abbrev pub placeHolding : ℕ → ℕ
+  placeHolding x = placeBy numberIn x
 
   abbrev pub holds : ℕ → Bool
   holds x = heldBy numberIn x
@@ -51,13 +51,13 @@ module _ (w : ℕ) (s : List ℕ) where
   roomReply x =
       refuseIf (eqb x 0) 14 0 then λ _.
       refuseIf (holds x) 29 0 then λ _.
-      refuseIf (not (ltb (placeOf 0) places)) 28 0
+      refuseIf (not (ltb (placeHolding 0) places)) 28 0
 
   unfoldable pub addReply : ℕ → Read (Unit {0}) → Read (Unit {0})
   addReply x r = r then λ _. roomReply x
 
   unfoldable pub added : ℕ → Read (Unit {0}) → List ℕ → List ℕ
-  added x r new = unless (addReply x r) s (sets s (w * placeOf 0) new)
+  added x r new = unless (addReply x r) s (sets s (w * placeHolding 0) new)
 
   -- the bytes of a place
   abbrev pub placeAt : ℕ → List ℕ
@@ -65,11 +65,11 @@ module _ (w : ℕ) (s : List ℕ) where
 
   -- looking up: 30, then what the bytes of the place say
   unfoldable pub lookReply : {F : Type 0} → (List ℕ → F) → ℕ → Read F
-  lookReply fieldsOf x = refuseIf (not (holds x)) 30 0 then λ _. read (fieldsOf (placeAt (placeOf x)))
+  lookReply fieldsOf x = refuseIf (not (holds x)) 30 0 then λ _. read (fieldsOf (placeAt (placeHolding x)))
 
   -- dropping: 30; the place has number 0 then
   unfoldable pub dropReply : ℕ → Read (Unit {0})
   dropReply x = refuseIf (not (holds x)) 30 0
 
   unfoldable pub dropped : ℕ → List ℕ
-  dropped x = unless (dropReply x) s (sets s (w * placeOf x) noNumber)
+  dropped x = unless (dropReply x) s (sets s (w * placeHolding x) zeroNumber)

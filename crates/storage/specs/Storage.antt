@@ -13,7 +13,7 @@ use lib.Dec.{eqb, ltb}
 use lib.ListN.{length, getD}
 use lib.Seq.{sets, length-sets, take-length}
 use Rattle.records.specs.Bytes.{little, part}
-use Rattle.storage.specs.Shelf.{places, seek, placeBy, heldBy, noNumber, numberIn}
+use Rattle.storage.specs.Shelf.{places, seek, placeBy, heldBy, zeroNumber, numberIn}
 use Rattle.storage.specs.Model.{Entry, lookup, has, without}
 use Rattle.storage.specs.Seeks.{taken, seek-found, seek-least, seek-hit, seek-same, taken-all, taken-more, taken-none}
 use Rattle.storage.specs.Stored.{Outside, little-kept, little-put, part-kept, part-put}
@@ -90,8 +90,8 @@ module _ (w : ℕ) where
   pub place-within : (k : ℕ) → k < places → w * k + w ≤ w * places
   place-within k l = let m : suc k ≤ places = omega arith in omega (arith, mul-le-mul-left w m, step k)
 
-  pub other-number : 2 ≤ w → (s : List ℕ) (p j : ℕ) → (j ≡ p → ⊥) → numberIn w (sets s (w * p) noNumber) j ≡ numberIn w s j
-  other-number wide s p j d = little-kept 2 noNumber s (w * p) (w * j) (⊎-elim (λ o. inl (omega arith)) (λ o. inr (omega arith)) (apart-in j p d))
+  pub other-number : 2 ≤ w → (s : List ℕ) (p j : ℕ) → (j ≡ p → ⊥) → numberIn w (sets s (w * p) zeroNumber) j ≡ numberIn w s j
+  other-number wide s p j d = little-kept 2 zeroNumber s (w * p) (w * j) (⊎-elim (λ o. inl (omega arith)) (λ o. inr (omega arith)) (apart-in j p d))
 
 module _ {G : Type 0} (none : G) (w : ℕ) (wide : 2 ≤ w) (stored : Entry G → List ℕ) where
   -- what is stored of a block fits a place, and begins with its number
@@ -255,7 +255,7 @@ module _ {G : Type 0} (none : G) (w : ℕ) (wide : 2 ≤ w) (stored : Entry G �
     spot-number = held-number (numberIn w s) x on
 
     abbrev noughts : List ℕ
-    noughts = noNumber
+    noughts = zeroNumber
 
     noughts-fit : length noughts ≤ w
     noughts-fit = omega arith
@@ -322,7 +322,7 @@ module _ {G : Type 0} (none : G) (w : ℕ) (wide : 2 ≤ w) (stored : Entry G �
         go (no a) (yes b) = absurd (omega (arith, l, h ∙ ap (numberIn w freed) b ∙ gone))
         go (no a) (no b) = k .once i j p r (rw (rest i a) at l) (sym (rest i a) ∙ h ∙ rest j b)
 
-    pub stores-dropped : Stores (sets s (w * placeBy (numberIn w s) x) (noNumber)) (without q x)
+    pub stores-dropped : Stores (sets s (w * placeBy (numberIn w s) x) (zeroNumber)) (without q x)
     stores-dropped = record {
       size = length-sets s (w * spot) noughts ∙ k .size;
       once = freed-once;

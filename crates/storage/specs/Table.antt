@@ -18,16 +18,16 @@ module _ (w : ℕ) where
   abbrev pub tableBytes : ℕ
   tableBytes = shelfBytes + shelfBytes
 
-  abbrev pub startOf : Queue → ℕ
-  startOf Day = 0
-  startOf Night = shelfBytes
+  abbrev pub shelfStart : Queue → ℕ
+  shelfStart Day = 0
+  shelfStart Night = shelfBytes
 
   -- the shelf of a queue, and the table with another one there
   abbrev pub shelf : Queue → List ℕ → List ℕ
-  shelf q t = part t (startOf q) shelfBytes
+  shelf q t = part t (shelfStart q) shelfBytes
 
   abbrev pub withShelf : Queue → List ℕ → List ℕ → List ℕ
-  withShelf q t s = take (startOf q) t ++ (s ++ drop shelfBytes (drop (startOf q) t))
+  withShelf q t s = take (shelfStart q) t ++ (s ++ drop shelfBytes (drop (shelfStart q) t))
 
   -- 9 for a short table, before all else
   abbrev pub tableReply : List ℕ → Read (Unit {0})

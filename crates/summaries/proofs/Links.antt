@@ -13,18 +13,18 @@ use Rattle.reply.specs.Read.{refused, read, refuseIf, isOutside}
 use Rattle.reply.specs.Chain.{then-read, if-read}
 use Rattle.reply.specs.declared.Refusal.{Refusal}
 use Rattle.block.specs.Faults.{inside}
-use Rattle.assembly.specs.Placements.{mostPlacements, placementCount, placementAt, Sites, joinOf, joinOn, sitesOn, placedReply, shelfReply}
-use Rattle.assembly.specs.Sound.{Joined, Right, right}
+use Rattle.assembly.specs.Placements.{mostPlacements, placementCount, placementAt, Sites, joinOf, joinOn, sitesOn, placementsReply, shelfReply}
+use Rattle.assembly.specs.Sound.{Joined, PlacedRight, right}
 use Rattle.tables.specs.Parts.{Part, sixIn}
 use Rattle.tables.specs.Table.{Fits}
 use Rattle.tables.specs.Same.{six-alike}
-use Rattle.summary.specs.Layout.{atomsOf, keptOf}
+use Rattle.summary.specs.Layout.{storedAtoms, keptOf}
 use Rattle.shelf.specs.Shelf.{summaryAt, placeOf, sitesIn, shelfIn}
 use Rattle.summaries.specs.Composing.{keptOn, composedReply}
-use Rattle.summaries.specs.Ready.{linkOf, Linked, placeIn, keptIn, joinsIn, Lent, Ready}
+use Rattle.summaries.specs.Ready.{linkOf, LinkedUpTo, placeIn, keptIn, joinsIn, LentBytes, ReadyShelf}
 
 -- one link more
-pub linked-more : {b xs : List ℕ} {ls : List (List ℕ)} (k : ℕ) (row : List ℕ) → k < mostPlacements → row ≡ linkOf b (placementAt xs k) → Linked b xs ls k → Linked b xs (set ls k row) (k + 1)
+pub linked-more : {b xs : List ℕ} {ls : List (List ℕ)} (k : ℕ) (row : List ℕ) → k < mostPlacements → row ≡ linkOf b (placementAt xs k) → LinkedUpTo b xs ls k → LinkedUpTo b xs (set ls k row) (k + 1)
 linked-more {b} {xs} {ls} k row n e l = record {
   size = length-set ls k row ∙ l .size;
   rows = λ m h. ⊎-elim (λ q. here m q) (λ q. before m q) (eq-or-lt-of-le {n = m} {m = k} (omega arith));
@@ -36,7 +36,7 @@ linked-more {b} {xs} {ls} k row n e l = record {
     before : (m : ℕ) → m < k → getD (set ls k row) m [] ≡ linkOf b (placementAt xs m)
     before m q = getD-set-other ls k m row [] (λ e. omega arith) ∙ l .rows m q
 
-module _ {b xs : List ℕ} {ls : List (List ℕ)} {n : ℕ} (l : Linked b xs ls n) where
+module _ {b xs : List ℕ} {ls : List (List ℕ)} {n : ℕ} (l : LinkedUpTo b xs ls n) where
   link-join : (m : ℕ) → m < n → joinsIn ls m ≡ joinOn (placementAt xs) m
   unfolding joinOf
   link-join m h = rw (l .rows m h)
@@ -52,19 +52,19 @@ module _ {b xs : List ℕ} {ls : List (List ℕ)} {n : ℕ} (l : Linked b xs ls 
       })
       ∙ ap (λ (m : ℕ). sixIn (keptOn b xs) (joinOn (placementAt xs)) (m - 1)) e
 
-  pub ready : Lent b → Within mostPlacements n → Right (shelfIn b) (placementAt xs) n → Ready b ls n
+  pub ready : LentBytes b → Within mostPlacements n → PlacedRight (shelfIn b) (placementAt xs) n → ReadyShelf b ls n
   ready e w r = record { lent = e; few = w; fits = λ k p h. fit k h (r .joined k p h) }
     where
-      size : (m : ℕ) → m < n → sitesOn (shelfIn b) (placementAt xs) m .atoms ≡ atomsOf (summaryAt b (placeIn ls m))
-      size m h = ap (λ (p : ℕ). atomsOf (summaryAt b p)) (sym (link-place m h))
+      size : (m : ℕ) → m < n → sitesOn (shelfIn b) (placementAt xs) m .atoms ≡ storedAtoms (summaryAt b (placeIn ls m))
+      size m h = ap (λ (p : ℕ). storedAtoms (summaryAt b p)) (sym (link-place m h))
 
-      fit : (k : ℕ) → k < n → Joined (sitesOn (shelfIn b) (placementAt xs)) (joinOn (placementAt xs)) k → Fits (λ m. atomsOf (summaryAt b (placeIn ls m))) (joinsIn ls) k
+      fit : (k : ℕ) → k < n → Joined (sitesOn (shelfIn b) (placementAt xs)) (joinOn (placementAt xs)) k → Fits (λ m. storedAtoms (summaryAt b (placeIn ls m))) (joinsIn ls) k
       fit k h j =
           let e = sym (link-join k h) in
           record {
             parent = subst (λ (x : Join). Within k (x .parent)) e (j .parent);
-            site = subst (λ (x : Join). Within (atomsOf (summaryAt b (placeIn ls (x .parent - 1)))) (x .site)) e (subst (λ (z : ℕ). Within z (joinOn (placementAt xs) k .site)) (size (joinOn (placementAt xs) k .parent - 1) (omega (arith, j .parent))) (j .site));
-            own = subst (λ (x : Join). Within (atomsOf (summaryAt b (placeIn ls k))) (x .own)) e (subst (λ (z : ℕ). Within z (joinOn (placementAt xs) k .own)) (size k h) (j .own));
+            site = subst (λ (x : Join). Within (storedAtoms (summaryAt b (placeIn ls (x .parent - 1)))) (x .site)) e (subst (λ (z : ℕ). Within z (joinOn (placementAt xs) k .site)) (size (joinOn (placementAt xs) k .parent - 1) (omega (arith, j .parent))) (j .site));
+            own = subst (λ (x : Join). Within (storedAtoms (summaryAt b (placeIn ls k))) (x .own)) e (subst (λ (z : ℕ). Within z (joinOn (placementAt xs) k .own)) (size k h) (j .own));
           }
 
 -- what composing replies
@@ -80,5 +80,5 @@ module _ (b xs : List ℕ) where
   pub fine-count : shelfReply (shelfIn b) xs ≡ read tt → Within mostPlacements (placementCount xs)
   fine-count e = let (u, p, f) = then-read (refuseIf (isOutside mostPlacements (placementCount xs)) 15 0) _ e in inside mostPlacements (placementCount xs) (if-read _ 15 0 p)
 
-  pub fine-right : shelfReply (shelfIn b) xs ≡ read tt → Right (shelfIn b) (placementAt xs) (placementCount xs)
+  pub fine-right : shelfReply (shelfIn b) xs ≡ read tt → PlacedRight (shelfIn b) (placementAt xs) (placementCount xs)
   fine-right e = let (u, p, f) = then-read (refuseIf (isOutside mostPlacements (placementCount xs)) 15 0) _ e in right (shelfIn b) (placementAt xs) (placementCount xs) f

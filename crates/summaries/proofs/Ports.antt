@@ -22,18 +22,18 @@ use Rattle.block.specs.declared.Vertex.{Vertex}
 use Rattle.tables.specs.Parts.{farIn, sightIn, sixIn, grow, joinSix}
 use Rattle.tables.specs.Table.{Fits}
 use Rattle.tables.specs.Climb.{far-same, far-later, far-earlier, sight-here, sight-there, six-here}
-use Rattle.tables.specs.Bounds.{Held, Bytes, SixHeld, SixBytes, Kept, far-most, sight-held, six-held, held-bytes}
-use Rattle.joining.specs.Small.{Small, Room}
-use Rattle.summary.specs.Layout.{atomsOf, fieldsOf, seat, vertexAt, farAt, keptOf}
+use Rattle.tables.specs.Bounds.{SmallSight, Bytes, SixHeld, SixBytes, SmallPart, far-most, sight-held, six-held, held-bytes}
+use Rattle.joining.specs.Small.{SmallCounts, SmallFields}
+use Rattle.summary.specs.Layout.{storedAtoms, storedFields, seat, vertexAt, farAt, keptOf}
 use Rattle.shelf.specs.Shelf.{summaryAt}
-use Rattle.summaries.specs.Ready.{placeIn, keptIn, joinsIn, Lent, Ready, between, sightFrom, sightOfRow, coreAt, Known}
+use Rattle.summaries.specs.Ready.{placeIn, keptIn, joinsIn, LentBytes, ReadyShelf, between, sightFrom, sightOfRow, coreAt, Known}
 
 -- the offset of a row of four numbers
 pub row-at : {k : ℕ} → k < mostPlacements → Fit w64 (k * 32)
 row-at {k} l = scaled-fits k mostPlacements 32 l (lit< tt)
 
 -- a part of bytes is of bytes
-pub lent-part : {b : List ℕ} (from n : ℕ) → Lent b → Lent (part b from n)
+pub lent-part : {b : List ℕ} (from n : ℕ) → LentBytes b → LentBytes (part b from n)
 lent-part {b} from n l = record {
   byte = λ i. elim (decLt i n) [
     | yes h ↦ omega (arith, getD-take n (drop from b) i 0 h, getD-drop from b i 0, l .byte (from + i))
@@ -42,7 +42,7 @@ lent-part {b} from n l = record {
 }
 
 -- what a summary says is small
-module _ {s : List ℕ} (lent : Lent s) where
+module _ {s : List ℕ} (lent : LentBytes s) where
   two : (at : ℕ) → le16 s at < 2 ^ 16
   unfolding little
   two at = omega (arith, lent .byte at, lent .byte (at + 1))
@@ -72,14 +72,14 @@ module _ {s : List ℕ} (lent : Lent s) where
     farthest = lent .byte (seat i + 8);
   }
 
-  fields-bytes : SixBytes (fieldsOf s)
-  unfolding fieldsOf
+  fields-bytes : SixBytes (storedFields s)
+  unfolding storedFields
   fields-bytes = record { atoms = omega arith; w = omega (arith, four 4, four 8); even = four 4; odd = four 8; polarity = four 12; largest = lent .byte 3 }
 
-  kept : Kept (keptOf s)
+  kept : SmallPart (keptOf s)
   kept = record { six = fields-bytes; sight = vertex-bytes; far = far-byte }
 
-small-held : {n : ℕ} {v : Vertex} → n ≤ 32 → Held n v → Small v
+small-held : {n : ℕ} {v : Vertex} → n ≤ 32 → SmallSight n v → SmallCounts v
 small-held h p = record {
   sum = omega (arith, p .sum);
   even = omega (arith, p .even);
@@ -91,7 +91,7 @@ small-held h p = record {
   farthest = omega (arith, p .farthest);
 }
 
-room-held : {n : ℕ} {x : Indices} → n ≤ 32 → SixHeld n x → Room x
+room-held : {n : ℕ} {x : Indices} → n ≤ 32 → SixHeld n x → SmallFields x
 room-held h p = record {
   atoms = omega (arith, p .atoms);
   w = omega (arith, p .w);
@@ -101,7 +101,7 @@ room-held h p = record {
   largest = omega (arith, p .largest);
 }
 
-room-bytes : {x : Indices} → SixBytes x → Room x
+room-bytes : {x : Indices} → SixBytes x → SmallFields x
 room-bytes p = record {
   atoms = omega (arith, p .atoms);
   w = omega (arith, p .w);
@@ -111,30 +111,30 @@ room-bytes p = record {
   largest = omega (arith, p .largest);
 }
 
-module _ {b : List ℕ} {ls : List (List ℕ)} {count : ℕ} (r : Ready b ls count) where
-  all : (k : ℕ) → Kept (keptIn b ls k)
+module _ {b : List ℕ} {ls : List (List ℕ)} {count : ℕ} (r : ReadyShelf b ls count) where
+  all : (k : ℕ) → SmallPart (keptIn b ls k)
   all k = kept (lent-part (2672 * placeIn ls k) 2672 (r .lent))
 
-  pub own-small : (p i : ℕ) → Small (vertexAt (summaryAt b p) i)
+  pub own-small : (p i : ℕ) → SmallCounts (vertexAt (summaryAt b p) i)
   own-small p i = small-held (omega arith) (held-bytes (kept (lent-part (2672 * p) 2672 (r .lent)) .sight i))
 
-  pub block-room : (p : ℕ) → Room (fieldsOf (summaryAt b p))
+  pub block-room : (p : ℕ) → SmallFields (storedFields (summaryAt b p))
   block-room p = room-bytes (kept (lent-part (2672 * p) 2672 (r .lent)) .six)
 
   pub far-small : (p i j : ℕ) → farAt (summaryAt b p) i j < 2 ^ 8
   far-small p i j = kept (lent-part (2672 * p) 2672 (r .lent)) .far i j
 
-  pub from-small : (m k : ℕ) → m ≤ mostPlacements → Small (sightFrom b ls m k)
+  pub from-small : (m k : ℕ) → m ≤ mostPlacements → SmallCounts (sightFrom b ls m k)
   from-small m k h = small-held (omega arith) (sight-held (joinsIn ls) all (m - 1) (joinsIn ls k .parent - 1) (joinsIn ls k .site) (omega arith))
 
-  pub six-room : (k : ℕ) → k < mostPlacements → Room (sixIn (keptIn b ls) (joinsIn ls) k)
+  pub six-room : (k : ℕ) → k < mostPlacements → SmallFields (sixIn (keptIn b ls) (joinsIn ls) k)
   six-room k h = room-held (omega arith) (six-held (joinsIn ls) all k (omega arith))
 
   pub between-small : (x y : ℕ) → between b ls x y < 2 ^ 14
   between-small x y = far-most (joinsIn ls) all 31 (joinsIn ls x .parent - 1) (joinsIn ls x .site) (joinsIn ls y .parent - 1) (joinsIn ls y .site)
 
   module _ {x : ℕ} (w : Within (count - 1) x) where
-    fit : Fits (λ k. atomsOf (summaryAt b (placeIn ls k))) (joinsIn ls) x
+    fit : Fits (λ k. storedAtoms (summaryAt b (placeIn ls k))) (joinsIn ls) x
     fit = r .fits x (w .low) (omega (arith, w .high))
 
     pub small : x < mostPlacements
@@ -186,7 +186,7 @@ module _ {b : List ℕ} {ls : List (List ℕ)} {count : ℕ} (r : Ready b ls cou
         sym (rw e (sight-there (keptIn b ls) (joinsIn ls) 31 m (joinsIn ls k .parent - 1) (joinsIn ls k .site) (omega (arith, earlier w)) (omega (arith, small w)) (omega (arith, earlier w)) (earlier u)))
 
     pub six-next : let s = summaryAt b (placeIn ls k) in
-        joinSix (sixIn (keptIn b ls) (joinsIn ls) (k - 1)) (fieldsOf s) (sightFrom b ls k k) (vertexAt s (joinsIn ls k .own)) ≡ sixIn (keptIn b ls) (joinsIn ls) k
+        joinSix (sixIn (keptIn b ls) (joinsIn ls) (k - 1)) (storedFields s) (sightFrom b ls k k) (vertexAt s (joinsIn ls k .own)) ≡ sixIn (keptIn b ls) (joinsIn ls) k
     six-next = sym (six-here (keptIn b ls) (joinsIn ls) k (w .low))
 
 -- what is kept of one join more

@@ -10,14 +10,14 @@ use Rattle.assembly.specs.declared.Placement.{Placement}
 use Rattle.block.specs.declared.Vertex.{Vertex}
 use Rattle.tables.specs.Parts.{Part, farIn, sightIn}
 use Rattle.tables.specs.Table.{Fits}
-use Rattle.summary.specs.Layout.{atomsOf, keptOf}
+use Rattle.summary.specs.Layout.{storedAtoms, keptOf}
 use Rattle.shelf.specs.Shelf.{summaryAt, placeOf}
 
 abbrev pub linkOf : List ℕ → Placement → List ℕ
 linkOf b q = placeOf b (q .block) ∷ q .parent ∷ q .site ∷ q .own ∷ []
 
 -- the links of the first k placements
-pub record Linked (b xs : List ℕ) (ls : List (List ℕ)) (k : ℕ) : Type 0 where
+pub record LinkedUpTo (b xs : List ℕ) (ls : List (List ℕ)) (k : ℕ) : Type 0 where
   pub size : length ls ≡ mostPlacements
   pub rows : (m : ℕ) → m < k → getD ls m [] ≡ linkOf b (placementAt xs m)
 
@@ -31,13 +31,13 @@ abbrev pub joinsIn : List (List ℕ) → ℕ → Join
 joinsIn ls k = record { parent = getD (getD ls k []) 1 0; site = getD (getD ls k []) 2 0; own = getD (getD ls k []) 3 0 }
 
 -- a byte is below 256
-pub record Lent (b : List ℕ) : Type 0 where
+pub record LentBytes (b : List ℕ) : Type 0 where
   pub byte : (i : ℕ) → getD b i 0 < 256
 
-pub record Ready (b : List ℕ) (ls : List (List ℕ)) (count : ℕ) : Type 0 where
-  pub lent : Lent b
+pub record ReadyShelf (b : List ℕ) (ls : List (List ℕ)) (count : ℕ) : Type 0 where
+  pub lent : LentBytes b
   pub few : Within mostPlacements count
-  pub fits : (k : ℕ) → 1 ≤ k → k < count → Fits (λ k. atomsOf (summaryAt b (placeIn ls k))) (joinsIn ls) k
+  pub fits : (k : ℕ) → 1 ≤ k → k < count → Fits (λ k. storedAtoms (summaryAt b (placeIn ls k))) (joinsIn ls) k
 
 -- the numbers of the atoms that the placements at x and y are joined to, and what is counted from the one that k is joined to, in the first m
 abbrev pub between : List ℕ → List (List ℕ) → ℕ → ℕ → ℕ

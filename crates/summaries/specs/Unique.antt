@@ -4,8 +4,8 @@ use mathlib.Core.Path.{_≡_}
 use Prim.Native.Nat.{ℕ}
 use Rattle.reply.specs.Chain.{unique}
 use Rattle.block.specs.Index.{saidIndices}
-use Rattle.block.specs.declared.Measured.{Measured}
+use Rattle.block.specs.declared.IndicesReply.{IndicesReply}
 use Rattle.summaries.specs.Composing.{composedReply}
 
-pub unique-compose : (b xs : List ℕ) (r s : Measured) → r ≡ saidIndices (composedReply b xs) → s ≡ saidIndices (composedReply b xs) → r ≡ s
+pub unique-compose : (b xs : List ℕ) (r s : IndicesReply) → r ≡ saidIndices (composedReply b xs) → s ≡ saidIndices (composedReply b xs) → r ≡ s
 unique-compose b xs r s = unique

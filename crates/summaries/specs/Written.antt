@@ -17,31 +17,31 @@ use Rattle.block.specs.Index.{indicesOf}
 use Rattle.block.specs.Told.{molecule}
 use Rattle.block.specs.declared.Indices.{Indices}
 use Rattle.assembly.specs.Book.{Book}
-use Rattle.assembly.specs.Placements.{placementCount, placementAt, Sites, siteAt, Shelf, shelfOf, sitesOf, graphOn, joinOf, joinOn, joinsOn, firstFault, parentFault, joinFault, sitesOn, laterFault, fault, placedReply, shelfReply, assemblyReply}
-use Rattle.assembly.specs.Sound.{Whole, whole, assembled}
+use Rattle.assembly.specs.Placements.{placementCount, placementAt, Sites, atomSite, Shelf, shelfOf, sitesOf, graphOn, joinOf, joinOn, joinsOn, firstFault, parentFault, joinFault, sitesOn, laterFault, fault, placementsReply, shelfReply, assemblyReply}
+use Rattle.assembly.specs.Sound.{WholeAssembly, whole, assembled}
 use Rattle.assembly.specs.declared.Placement.{Placement}
 use Rattle.tables.specs.Parts.{sixIn}
 use Rattle.tables.specs.Table.{tableOf, sixOf, Told}
 use Rattle.tables.specs.Written.{fields-written}
-use Rattle.summary.specs.Layout.{fieldsOf, endsAt, keptOf}
+use Rattle.summary.specs.Layout.{storedFields, storedDegree, keptOf}
 use Rattle.summary.specs.Summary.{summaryOf}
 use Rattle.summary.specs.Back.{summary-told, ends-told}
 use Rattle.shelf.specs.Shelf.{summaryAt, placeOf, sitesIn, shelfIn}
 use Rattle.summaries.specs.Composing.{keptOn, composedReply}
 
 -- two that say the same of a block, at the atoms that it has
-pub record Alike (p q : Sites) : Type 0 where
+pub record SameSites (p q : Sites) : Type 0 where
   pub atoms : p .atoms ≡ q .atoms
   pub ends : (a : ℕ) → Within (q .atoms) a → p .ends a ≡ q .ends a
 
 -- and two shelves, of each block that they have
-pub record Same (s t : Shelf) : Type 0 where
+pub record SameShelves (s t : Shelf) : Type 0 where
   pub has : (x : ℕ) → s .has x ≡ t .has x
-  pub sites : (x : ℕ) → t .has x ≡ true → Alike (s .sites x) (t .sites x)
+  pub sites : (x : ℕ) → t .has x ≡ true → SameSites (s .sites x) (t .sites x)
 
 -- the same is wrong with a join
-join-same : {p q g h : Sites} (placed : ℕ → Placement) (k : ℕ) → Alike p g → Alike q h
-    → joinFault (siteAt p (placed k .site)) (siteAt q (placed k .own)) (joinOn placed) k ≡ joinFault (siteAt g (placed k .site)) (siteAt h (placed k .own)) (joinOn placed) k
+join-same : {p q g h : Sites} (placed : ℕ → Placement) (k : ℕ) → SameSites p g → SameSites q h
+    → joinFault (atomSite p (placed k .site)) (atomSite q (placed k .own)) (joinOn placed) k ≡ joinFault (atomSite g (placed k .site)) (atomSite h (placed k .own)) (joinOn placed) k
 unfolding joinFault joinOf
 join-same {p} {q} {g} {h} placed k u v =
     rw (u .atoms, v .atoms) (go (isOutside (g .atoms) (placed k .site)) refl (isOutside (h .atoms) (placed k .own)) refl)
@@ -55,14 +55,14 @@ join-same {p} {q} {g} {h} placed k u v =
     go false e true f = rw (e, f)
     go false e false f = rw (u .ends (placed k .site) (inside (g .atoms) (placed k .site) e), v .ends (placed k .own) (inside (h .atoms) (placed k .own) f))
 
-module _ {s t : Shelf} (same : Same s t) (placed : ℕ → Placement) where
+module _ {s t : Shelf} (same : SameShelves s t) (placed : ℕ → Placement) where
   fault-same : (k : ℕ) → ((m : ℕ) → m < k → t .has (placed m .block) ≡ true) → fault s placed k ≡ fault t placed k
   unfolding fault laterFault
   fault-same k before = rw (same .has (placed k .block)) (go (t .has (placed k .block)) refl (eqb k 0) refl (isOutside k (placed k .parent)) refl)
     where
       go : (h : Bool) → t .has (placed k .block) ≡ h → (z : Bool) → eqb k 0 ≡ z → (o : Bool) → isOutside k (placed k .parent) ≡ o
-          → cond {A = ℕ} (not (t .has (placed k .block))) 16 (cond (eqb k 0) (firstFault (placed k)) (cond (isOutside k (placed k .parent)) (parentFault (placed k .parent)) (joinFault (siteAt (sitesOn s placed (placed k .parent - 1)) (placed k .site)) (siteAt (sitesOn s placed k) (placed k .own)) (joinOn placed) k)))
-          ≡ cond {A = ℕ} (not (t .has (placed k .block))) 16 (cond (eqb k 0) (firstFault (placed k)) (cond (isOutside k (placed k .parent)) (parentFault (placed k .parent)) (joinFault (siteAt (sitesOn t placed (placed k .parent - 1)) (placed k .site)) (siteAt (sitesOn t placed k) (placed k .own)) (joinOn placed) k)))
+          → cond {A = ℕ} (not (t .has (placed k .block))) 16 (cond (eqb k 0) (firstFault (placed k)) (cond (isOutside k (placed k .parent)) (parentFault (placed k .parent)) (joinFault (atomSite (sitesOn s placed (placed k .parent - 1)) (placed k .site)) (atomSite (sitesOn s placed k) (placed k .own)) (joinOn placed) k)))
+          ≡ cond {A = ℕ} (not (t .has (placed k .block))) 16 (cond (eqb k 0) (firstFault (placed k)) (cond (isOutside k (placed k .parent)) (parentFault (placed k .parent)) (joinFault (atomSite (sitesOn t placed (placed k .parent - 1)) (placed k .site)) (atomSite (sitesOn t placed k) (placed k .own)) (joinOn placed) k)))
       go false h z e o f = rw h
       go true h true e o f = rw (h, e)
       go true h false e true f = rw (h, e, f)
@@ -78,46 +78,46 @@ module _ {s t : Shelf} (same : Same s t) (placed : ℕ → Placement) where
       go true h = h
       go false h = let z : _≡_ {A = ℕ} 16 0 = rw h at e in absurd (omega arith)
 
-  placed-same : (left k : ℕ) → ((m : ℕ) → m < k → t .has (placed m .block) ≡ true) → placedReply s placed k left ≡ placedReply t placed k left
-  unfolding placedReply
+  placed-same : (left k : ℕ) → ((m : ℕ) → m < k → t .has (placed m .block) ≡ true) → placementsReply s placed k left ≡ placementsReply t placed k left
+  unfolding placementsReply
   placed-same zero k before = refl
   placed-same (suc left) k before = rw (fault-same k before) (go (fault t placed k) refl (placed-same left (suc k)))
     where
-      go : (f : ℕ) → fault t placed k ≡ f → (((m : ℕ) → m < suc k → t .has (placed m .block) ≡ true) → placedReply s placed (suc k) left ≡ placedReply t placed (suc k) left)
-          → (refuseFor (fault t placed k) (suc k) then λ _. placedReply s placed (suc k) left) ≡ (refuseFor (fault t placed k) (suc k) then λ _. placedReply t placed (suc k) left)
+      go : (f : ℕ) → fault t placed k ≡ f → (((m : ℕ) → m < suc k → t .has (placed m .block) ≡ true) → placementsReply s placed (suc k) left ≡ placementsReply t placed (suc k) left)
+          → (refuseFor (fault t placed k) (suc k) then λ _. placementsReply s placed (suc k) left) ≡ (refuseFor (fault t placed k) (suc k) then λ _. placementsReply t placed (suc k) left)
       go zero e more = rw e (more (λ m h. ⊎-elim (λ q. rw q (has-block k e)) (λ q. before m q) (eq-or-lt-of-le {n = m} {m = k} (omega arith))))
       go (suc f) e more = rw e
 
 -- the same is refused over shelves that say the same
-pub shelf-same : {s t : Shelf} → Same s t → (xs : List ℕ) → shelfReply s xs ≡ shelfReply t xs
+pub shelf-same : {s t : Shelf} → SameShelves s t → (xs : List ℕ) → shelfReply s xs ≡ shelfReply t xs
 shelf-same same xs = rw (placed-same same (placementAt xs) (placementCount xs) 0 (λ m h. absurd (omega arith)))
 
 -- the summaries of a book of molecules
-pub record Honest (b : List ℕ) (book : Book) : Type 0 where
+pub record HonestBook (b : List ℕ) (book : Book) : Type 0 where
   pub has : (x : ℕ) → shelfIn b .has x ≡ book .has x
   pub molecules : (x : ℕ) → book .has x ≡ true → Molecule (book .graph x)
   pub told : (x : ℕ) → book .has x ≡ true → Told (keptOf (summaryAt b (placeOf b x))) (tableOf (book .graph x))
-  pub ends : (x a : ℕ) → book .has x ≡ true → Within (book .graph x .atoms) a → endsAt (summaryAt b (placeOf b x)) a ≡ degree (book .graph x .bonds) a
+  pub ends : (x a : ℕ) → book .has x ≡ true → Within (book .graph x .atoms) a → storedDegree (summaryAt b (placeOf b x)) a ≡ degree (book .graph x .bonds) a
 
 -- what a book's assembly describes: its refusal, or the six fields of the molecule written out
 unfoldable pub writtenReply : Book → List ℕ → Read Indices
 writtenReply book xs = assemblyReply book xs then λ _. read (indicesOf (written (graphOn book (placementAt xs)) (joinOn (placementAt xs)) (placementCount xs - 1)))
 
-module _ {b : List ℕ} {book : Book} (h : Honest b book) where
-  same : Same (shelfIn b) (shelfOf book)
-  unfolding fieldsOf sixOf
+module _ {b : List ℕ} {book : Book} (h : HonestBook b book) where
+  same : SameShelves (shelfIn b) (shelfOf book)
+  unfolding storedFields sixOf
   same = record {
     has = h .has;
     sites = λ x e. record { atoms = ap (λ (s : Indices). s .atoms) (h .told x e .six); ends = λ a w. h .ends x a e w };
   }
 
-  written-fields : (xs : List ℕ) → Whole book xs
+  written-fields : (xs : List ℕ) → WholeAssembly book xs
       → sixIn (keptOn b xs) (joinOn (placementAt xs)) (placementCount xs - 1) ≡ indicesOf (written (graphOn book (placementAt xs)) (joinOn (placementAt xs)) (placementCount xs - 1))
   written-fields xs w =
       fields-written (placementCount xs - 1) (assembled book xs (h .molecules) w) (λ k q. h .told (placementAt xs k .block) (w .right .has k (omega (arith, w .count))))
 
 -- COMPOSING OVER SUMMARIES FILLED FROM BLOCKS gives the fields of the molecule written out, or the assembly's refusal
-pub composed-written : (b : List ℕ) (book : Book) (xs : List ℕ) → Honest b book → composedReply b xs ≡ writtenReply book xs
+pub composed-written : (b : List ℕ) (book : Book) (xs : List ℕ) → HonestBook b book → composedReply b xs ≡ writtenReply book xs
 unfolding composedReply writtenReply assemblyReply
 composed-written b book xs h = rw (shelf-same (same h) xs) (go (assemblyReply book xs) refl)
   where
@@ -129,7 +129,7 @@ composed-written b book xs h = rw (shelf-same (same h) xs) (go (assemblyReply bo
 
 -- A BOOK WHOSE PLACES HOLD BLOCKS' SUMMARIES is honest
 pub honest : (b : List ℕ) (sizes : ℕ → ℕ) (bonds : ℕ → List ℕ) → ((x : ℕ) → shelfIn b .has x ≡ true → (blockReply (sizes x) (bonds x) ≡ read tt) × (summaryAt b (placeOf b x) ≡ summaryOf x (graphOf (sizes x) (bonds x))))
-    → Honest b (record { has = shelfIn b .has; graph = λ x. graphOf (sizes x) (bonds x) })
+    → HonestBook b (record { has = shelfIn b .has; graph = λ x. graphOf (sizes x) (bonds x) })
 honest b sizes bonds k = record {
   has = λ x. refl;
   molecules = λ x e. molecule (sizes x) (bonds x) (k x e .0);

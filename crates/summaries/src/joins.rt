@@ -15,9 +15,9 @@ ghost use Prim.Native.Nat.{ℕ, _-_, _≤_, _<_};
 ghost use Rattle.graph.specs.Graph.{Within};
 ghost use Rattle.assembly.specs.Placements.{mostPlacements, placementAt};
 ghost use Rattle.tables.specs.Parts.{sixIn};
-ghost use Rattle.summary.specs.Layout.{fieldsOf, vertexAt, farAt};
+ghost use Rattle.summary.specs.Layout.{storedFields, vertexAt, farAt};
 ghost use Rattle.shelf.specs.Shelf.{summaryAt};
-ghost use Rattle.summaries.specs.Ready.{linkOf, keptIn, joinsIn, between, sightFrom, sightOfRow, coreAt, Linked, Ready, Known};
+ghost use Rattle.summaries.specs.Ready.{linkOf, keptIn, joinsIn, between, sightFrom, sightOfRow, coreAt, LinkedUpTo, ReadyShelf, Known};
 
 // A placement: the place of its summary, its parent's number, the parent's atom, its own atom.
 pub(crate) type Link = [usize; 4];
@@ -52,7 +52,7 @@ fn link_of(book: &[u8], xs: &[u8], k: usize) -> Link
 // The first `count` placements of an assembly's payload.
 pub(crate) fn links_of(book: &[u8], xs: &[u8], count: usize) -> Links
     requires { ⌜ count ≤ mostPlacements ⌝ }
-    ensures { λ r. ⌜ Linked (now (book .entry)) (now (xs .entry)) r count ⌝ }
+    ensures { λ r. ⌜ LinkedUpTo (now (book .entry)) (now (xs .entry)) r count ⌝ }
 {
     let mut links = [[0usize; 4]; PLACEMENTS];
     let mut k = 0;
@@ -97,7 +97,7 @@ fn core_at(rows: &Rows, k: usize) -> Vertex
 
 // What the summary at a place says.
 fn fields_at(book: &[u8], at: usize) -> Indices
-    ensures { λ r. ⌜ r ≡ fieldsOf (summaryAt (now (book .entry)) at) ⌝ }
+    ensures { λ r. ⌜ r ≡ storedFields (summaryAt (now (book .entry)) at) ⌝ }
 {
     fields(summary_at(book, at))
 }
@@ -116,7 +116,7 @@ fn far_at(book: &[u8], at: usize, i: usize, j: usize) -> u64
 
 // How far the atoms are apart that the placements at the indices x and y are joined to: it climbs from the later of their parents.
 fn apart(book: &[u8], links: &Links, count: usize, x: usize, y: usize) -> u64
-    requires { ⌜ Ready (now book) (now links) count × Within (count - 1) x × Within (count - 1) y ⌝ }
+    requires { ⌜ ReadyShelf (now book) (now links) count × Within (count - 1) x × Within (count - 1) y ⌝ }
     ensures { λ r. ⌜ r ≡ between (now (book .entry)) (now (links .entry)) x y ⌝ }
 {
     let mut u = x;
@@ -146,7 +146,7 @@ fn apart(book: &[u8], links: &Links, count: usize, x: usize, y: usize) -> u64
 
 // What is counted from the parent's atom of the placement at index k, as far as the parent.
 fn begun(book: &[u8], links: &Links, count: usize, cores: &Rows, k: usize) -> Vertex
-    requires { ⌜ Ready (now book) (now links) count × Within (count - 1) k × Known (now book) (now links) (now cores) k ⌝ }
+    requires { ⌜ ReadyShelf (now book) (now links) count × Within (count - 1) k × Known (now book) (now links) (now cores) k ⌝ }
     ensures { λ r. ⌜ r ≡ sightFrom (now (book .entry)) (now (links .entry)) (joinsIn (now (links .entry)) k .parent) k ⌝ }
 {
     let q = links[k];
@@ -165,7 +165,7 @@ fn begun(book: &[u8], links: &Links, count: usize, cores: &Rows, k: usize) -> Ve
 
 // And as far as the placement before.
 fn core_of(book: &[u8], links: &Links, count: usize, cores: &Rows, k: usize) -> Vertex
-    requires { ⌜ Ready (now book) (now links) count × Within (count - 1) k × Known (now book) (now links) (now cores) k ⌝ }
+    requires { ⌜ ReadyShelf (now book) (now links) count × Within (count - 1) k × Known (now book) (now links) (now cores) k ⌝ }
     ensures { λ r. ⌜ r ≡ sightFrom (now (book .entry)) (now (links .entry)) k k ⌝ }
 {
     let mut v = begun(book, links, count, cores, k);
@@ -184,7 +184,7 @@ fn core_of(book: &[u8], links: &Links, count: usize, cores: &Rows, k: usize) -> 
 
 // The six fields of the first `count` placements.
 pub(crate) fn composed(book: &[u8], links: &Links, count: usize) -> Indices
-    requires { ⌜ Ready (now book) (now links) count ⌝ }
+    requires { ⌜ ReadyShelf (now book) (now links) count ⌝ }
     ensures { λ r. ⌜ r ≡ sixIn (keptIn (now (book .entry)) (now (links .entry))) (joinsIn (now (links .entry))) (count - 1) ⌝ }
 {
     let mut s = fields_at(book, links[0][AT]);

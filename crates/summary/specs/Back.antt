@@ -28,7 +28,7 @@ use Rattle.records.specs.Bytes.{byteAt, little, le16}
 use Rattle.tables.specs.Table.{tableOf, totalBy, Told}
 use Rattle.tables.specs.Grow.{same-sight, same-six, total-parts}
 use Rattle.tables.specs.Written.{six-is, sight-is, alone-molecule}
-use Rattle.summary.specs.Layout.{numberOf, atomsOf, fieldsOf, seat, vertexAt, endsAt, farAt, keptOf}
+use Rattle.summary.specs.Layout.{storedNumber, storedAtoms, storedFields, seat, vertexAt, storedDegree, farAt, keptOf}
 use Rattle.summary.specs.Summary.{bytes, headOf, seatOf, seatAt, seatsFrom, pairOf, summaryOf}
 
 -- numbers of two and of four bytes read back
@@ -169,19 +169,19 @@ module _ (x n : ℕ) (xs : List ℕ) (fine : blockReply n xs ≡ read tt) where
       (seat-at i 7 (at + 7) w (omega arith) (omega arith))
       (seat-at i 8 (at + 8) w (omega arith) (omega arith))
 
-  pub ends-told : (i : ℕ) → Within n i → endsAt s i ≡ degree (g .bonds) i
+  pub ends-told : (i : ℕ) → Within n i → storedDegree s i ≡ degree (g .bonds) i
   unfolding seatOf bytes
   ends-told i w = seat-at i 9 (seat i + 9) w (omega arith) (omega arith)
 
-  pub fields-told : fieldsOf s ≡ indicesOf g
-  unfolding fieldsOf indicesOf headOf bytes totalBy total
+  pub fields-told : storedFields s ≡ indicesOf g
+  unfolding storedFields indicesOf headOf bytes totalBy total
   fields-told =
       let E = four-at s 4 (total g evenOf) (big _ (total-most mole tame-even)) (head-at 4 (omega arith)) (head-at 5 (omega arith)) (head-at 6 (omega arith)) (head-at 7 (omega arith)) in
       let O = four-at s 8 (total g oddOf) (big _ (total-most mole tame-odd)) (head-at 8 (omega arith)) (head-at 9 (omega arith)) (head-at 10 (omega arith)) (head-at 11 (omega arith)) in
       let P = four-at s 12 (total g (isAt 3)) (big _ (total-most mole (tame-at 3))) (head-at 12 (omega arith)) (head-at 13 (omega arith)) (head-at 14 (omega arith)) (head-at 15 (omega arith)) in
       same-six (omega (arith, head-at 2 (omega arith), few)) (ap₂ _+_ E O ∙ sym (total-parts (tableOf g))) E O P (head-at 3 (omega arith))
 
-  pub number-told : x < 65536 → numberOf s ≡ x
+  pub number-told : x < 65536 → storedNumber s ≡ x
   unfolding headOf bytes
   number-told h = pair-at s 0 x h (head-at 0 (omega arith)) (head-at 1 (omega arith))
 

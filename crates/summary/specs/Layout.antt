@@ -13,16 +13,16 @@ use Rattle.tables.specs.Parts.{Part}
 abbrev pub summaryBytes : ℕ
 summaryBytes = 2672
 
-abbrev pub numberOf : List ℕ → ℕ
-numberOf s = le16 s 0
+abbrev pub storedNumber : List ℕ → ℕ
+storedNumber s = le16 s 0
 
 -- its atoms, at most 64
-abbrev pub atomsOf : List ℕ → ℕ
-atomsOf s = min (byteAt s 2) mostAtoms
+abbrev pub storedAtoms : List ℕ → ℕ
+storedAtoms s = min (byteAt s 2) mostAtoms
 
-unfoldable pub fieldsOf : List ℕ → Indices
-fieldsOf s = record {
-  atoms = atomsOf s;
+unfoldable pub storedFields : List ℕ → Indices
+storedFields s = record {
+  atoms = storedAtoms s;
   w = little 4 s 4 + little 4 s 8;
   even = little 4 s 4;
   odd = little 4 s 8;
@@ -47,12 +47,12 @@ vertexAt s i = record {
 }
 
 -- how many bonds are at an atom
-abbrev pub endsAt : List ℕ → ℕ → ℕ
-endsAt s i = byteAt s (seat i + 9)
+abbrev pub storedDegree : List ℕ → ℕ → ℕ
+storedDegree s i = byteAt s (seat i + 9)
 
 -- either way round, and 0 for no pair
 unfoldable pub farAt : List ℕ → ℕ → ℕ → ℕ
 farAt s i j = cond (noPair i j) 0 (byteAt s (656 + pairPlace i j))
 
 abbrev pub keptOf : List ℕ → Part
-keptOf s = record { six = fieldsOf s; sight = vertexAt s; far = farAt s }
+keptOf s = record { six = storedFields s; sight = vertexAt s; far = farAt s }

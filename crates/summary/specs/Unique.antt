@@ -5,20 +5,20 @@ use mathlib.Core.Path.{_≡_}
 use Rattle.reply.specs.Chain.{unique}
 use Rattle.block.specs.declared.Indices.{Indices}
 use Rattle.block.specs.declared.Vertex.{Vertex}
-use Rattle.summary.specs.Layout.{atomsOf, fieldsOf, vertexAt, endsAt, farAt}
+use Rattle.summary.specs.Layout.{storedAtoms, storedFields, vertexAt, storedDegree, farAt}
 
 module _ (s : List ℕ) where
-  pub unique-atoms : (p q : ℕ) → p ≡ atomsOf s → q ≡ atomsOf s → p ≡ q
+  pub unique-atoms : (p q : ℕ) → p ≡ storedAtoms s → q ≡ storedAtoms s → p ≡ q
   unique-atoms p q = unique
 
-  pub unique-fields : (p q : Indices) → p ≡ fieldsOf s → q ≡ fieldsOf s → p ≡ q
+  pub unique-fields : (p q : Indices) → p ≡ storedFields s → q ≡ storedFields s → p ≡ q
   unique-fields p q = unique
 
   module _ (i : ℕ) where
     pub unique-vertex : (p q : Vertex) → p ≡ vertexAt s i → q ≡ vertexAt s i → p ≡ q
     unique-vertex p q = unique
 
-    pub unique-ends : (p q : ℕ) → p ≡ endsAt s i → q ≡ endsAt s i → p ≡ q
+    pub unique-ends : (p q : ℕ) → p ≡ storedDegree s i → q ≡ storedDegree s i → p ≡ q
     unique-ends p q = unique
 
     pub unique-far : (j p q : ℕ) → p ≡ farAt s i j → q ≡ farAt s i j → p ≡ q

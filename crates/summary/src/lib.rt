@@ -10,7 +10,7 @@ use reply::wide;
 ghost use mathlib.Core.Path.{_≡_};
 ghost use Prim.Native.Nat.{_^_, _<_};
 ghost use Rattle.records.specs.Bytes.{byteAt, little, le16};
-ghost use Rattle.summary.specs.Layout.{atomsOf, fieldsOf, vertexAt, endsAt, farAt};
+ghost use Rattle.summary.specs.Layout.{storedAtoms, storedFields, vertexAt, storedDegree, farAt};
 
 // The bytes of a summary; of the number, counts and fields that it opens with; and of what it keeps of an atom.
 pub const SUMMARY: usize = HEAD + SEAT * ATOMS + PAIRS;
@@ -42,7 +42,7 @@ fn four(s: &[u8], at: usize) -> u64
 
 // Its atoms, at most 64.
 pub fn atoms(s: &[u8]) -> usize
-    ensures { λ r. ⌜ r ≡ atomsOf (now (s .entry)) ⌝ }
+    ensures { λ r. ⌜ r ≡ storedAtoms (now (s .entry)) ⌝ }
 {
     let n = byte_at(s, 2) as usize;
     if n < ATOMS { n } else { ATOMS }
@@ -50,7 +50,7 @@ pub fn atoms(s: &[u8]) -> usize
 
 // The six fields.
 pub fn fields(s: &[u8]) -> Indices
-    ensures { λ r. ⌜ r ≡ fieldsOf (now (s .entry)) ⌝ }
+    ensures { λ r. ⌜ r ≡ storedFields (now (s .entry)) ⌝ }
 {
     let even = four(s, 4);
     let odd = four(s, 8);
@@ -97,7 +97,7 @@ pub fn vertex(s: &[u8], i: usize) -> Vertex
 
 // How many bonds are at atom i.
 pub fn ends(s: &[u8], i: usize) -> usize
-    ensures { λ r. ⌜ r ≡ endsAt (now (s .entry)) i ⌝ }
+    ensures { λ r. ⌜ r ≡ storedDegree (now (s .entry)) i ⌝ }
 {
     if s.len() / SEAT < i {
         return 0;

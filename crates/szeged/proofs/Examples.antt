@@ -7,7 +7,7 @@ use Rattle.graph.specs.Graph.{joins, anyJoins, bonded, anyAtom, reaches, firstF
 use Rattle.reply.specs.Read.{refused, read, refusal}
 use Rattle.block.specs.Block.{bondsOf, bondFault, bondsReply, blockReply}
 use Rattle.szeged.specs.Szeged.{closer, nearer, szegedTerm}
-use Rattle.szeged.specs.Reply.{szegedReply, filled, szegedEntries}
+use Rattle.szeged.specs.Reply.{szegedReply, filledTerms, szegedEntries}
 
 -- a ring of 6 with an atom on it
 unfoldable pub methylcyclohexane : List ℕ
@@ -19,7 +19,7 @@ naphthalene = 1 ∷ 2 ∷ 2 ∷ 3 ∷ 3 ∷ 4 ∷ 4 ∷ 5 ∷ 5 ∷ 6 ∷ 6 ∷ 
 
 pub of-methylcyclohexane : (szegedReply 7 methylcyclohexane 8 ≡ read 78)
     × (szegedEntries 7 methylcyclohexane (replicate 8 5) ≡ 12 ∷ 12 ∷ 12 ∷ 12 ∷ 12 ∷ 12 ∷ 6 ∷ 5 ∷ [])
-unfolding methylcyclohexane joins anyJoins bonded anyAtom reaches firstFrom distance allAtoms connected degree sum bondsOf bondFault bondsReply blockReply closer nearer szegedTerm sumBonds szegedReply filled
+unfolding methylcyclohexane joins anyJoins bonded anyAtom reaches firstFrom distance allAtoms connected degree sum bondsOf bondFault bondsReply blockReply closer nearer szegedTerm sumBonds szegedReply filledTerms
 of-methylcyclohexane = (refl, refl)
 
 pub of-naphthalene : szegedReply 10 naphthalene 11 ≡ read 243
@@ -28,7 +28,7 @@ of-naphthalene = refl
 
 -- a ring of 5: the atom that is as far from both ends of a bond counts for neither
 pub of-ring : szegedEntries 5 (1 ∷ 2 ∷ 2 ∷ 3 ∷ 3 ∷ 4 ∷ 4 ∷ 5 ∷ 5 ∷ 1 ∷ []) (replicate 5 0) ≡ replicate 5 4
-unfolding joins anyJoins bonded anyAtom reaches firstFrom distance allAtoms connected degree sum bondsOf bondFault bondsReply blockReply closer nearer szegedTerm sumBonds szegedReply filled
+unfolding joins anyJoins bonded anyAtom reaches firstFrom distance allAtoms connected degree sum bondsOf bondFault bondsReply blockReply closer nearer szegedTerm sumBonds szegedReply filledTerms
 of-ring = refl
 
 -- a path of 4: W is 10 too

@@ -11,13 +11,13 @@ use Rattle.graph.specs.Graph.{bond, Within, distance, sum, sumBonds}
 use Rattle.graph.specs.Distance.{distance-sym}
 use Rattle.reply.specs.Read.{read}
 use Rattle.block.specs.Block.{mostAtoms, graphOf, blockReply}
-use Rattle.block.specs.Rows.{rowOf, tableOf}
+use Rattle.block.specs.Rows.{rowOf, halfTable}
 use Rattle.block.specs.Told.{few-atoms, molecule, entry-at}
 use Rattle.block.specs.Halved.{table-row}
 use Rattle.block.specs.Numbered.{bondAt, rest, rest-sum, rest-over, bond-within}
-use Rattle.block.specs.Lent.{Filled, filled-none, filled-store}
+use Rattle.block.specs.Lent.{EntriesFilled, filled-none, filled-store}
 use Rattle.szeged.specs.Szeged.{closer, nearer, szegedTerm, szeged}
-use Rattle.szeged.specs.Work.{smaller, termBy, Product, Task, Done}
+use Rattle.szeged.specs.Work.{smaller, termBy, Product, TermsTask, Done}
 
 module _ (n : ℕ) (xs : List ℕ) (fine : blockReply n xs ≡ read tt) where
   -- what is counted over the rows of two atoms
@@ -33,14 +33,14 @@ module _ (n : ℕ) (xs : List ℕ) (fine : blockReply n xs ≡ read tt) where
           let v : Within n (suc k) = omega arith in
           ap (λ (j : ℕ). getD (rowOf (graphOf n xs) c) j 0) e ∙ entry-at n xs fine c v ∙ distance-sym (molecule n xs fine) w v
 
-  term-is : {a b : ℕ} → Within n a → Within n b → termBy n (tableOf n xs) a b ≡ szegedTerm (graphOf n xs) (bond a b)
+  term-is : {a b : ℕ} → Within n a → Within n b → termBy n (halfTable n xs) a b ≡ szegedTerm (graphOf n xs) (bond a b)
   unfolding szegedTerm nearer
   term-is wa wb = rw (table-row n xs fine wa, table-row n xs fine wb, smaller-is wa wb n (omega arith), smaller-is wb wa n (omega arith))
 
 -- the first k entries are put and added up
 pub record Filling (n : ℕ) (xs old new : List ℕ) (total k : ℕ) : Type 0 where
   pub done : k ≤ length xs / 2
-  pub entries : Filled k (λ j. szegedTerm (graphOf n xs) (bondAt xs j)) old new
+  pub entries : EntriesFilled k (λ j. szegedTerm (graphOf n xs) (bondAt xs j)) old new
   pub left : total + sumBonds (rest xs k) (szegedTerm (graphOf n xs)) ≡ szeged (graphOf n xs)
   pub low : total ≤ k * (mostAtoms * mostAtoms)
 
@@ -48,7 +48,7 @@ module _ (n : ℕ) (xs old : List ℕ) where
   pub filling-none : Filling n xs old old 0 0
   filling-none = record { done = omega arith; entries = filled-none; left = omega arith; low = omega arith }
 
-  pub filling-next : {half new : List ℕ} {total k t : ℕ} → Task n xs half old → Filling n xs old new total k → k < length xs / 2
+  pub filling-next : {half new : List ℕ} {total k t : ℕ} → TermsTask n xs half old → Filling n xs old new total k → k < length xs / 2
       → Product n half (getD xs (2 * k) 0) (getD xs (2 * k + 1) 0) t → Filling n xs old (set new k t) (total + t) (k + 1)
   filling-next {half} {new} {total} {k} {t} T F l P =
       let w = bond-within n xs (T .fine) k l in
@@ -63,5 +63,5 @@ module _ (n : ℕ) (xs old : List ℕ) where
   pub filling-done : {new : List ℕ} {total k : ℕ} → Filling n xs old new total k → k ≡ length xs / 2 → Done n xs old new total
   filling-done {new} {total} {k} F e = record {
     is = omega (arith, F .left, rest-over (szegedTerm (graphOf n xs)) xs k (omega arith));
-    entries = subst (λ (j : ℕ). Filled j (λ i. szegedTerm (graphOf n xs) (bondAt xs i)) old new) e (F .entries);
+    entries = subst (λ (j : ℕ). EntriesFilled j (λ i. szegedTerm (graphOf n xs) (bondAt xs i)) old new) e (F .entries);
   }

@@ -17,10 +17,10 @@ use Rattle.block.specs.Numbered.{bonds-length}
 use Rattle.block.specs.Lent.{filled-bonds}
 use Rattle.reply.specs.declared.Refusal.{Refusal}
 use Rattle.szeged.specs.Szeged.{szegedTerm, szegedTerms, szeged}
-use Rattle.szeged.specs.Reply.{szegedReply, saidSzeged, filled, szegedEntries}
+use Rattle.szeged.specs.Reply.{szegedReply, saidSzeged, filledTerms, szegedEntries}
 use Rattle.szeged.specs.Work.{Done}
-use Rattle.szeged.specs.declared.Szeged.{Szeged}
-use Rattle.szeged.specs.declared.Szeged.the-variants.{Index}
+use Rattle.szeged.specs.declared.SzegedReply.{SzegedReply}
+use Rattle.szeged.specs.declared.SzegedReply.the-variants.{Index}
 use Rattle.szeged.proofs.Tree.{szeged-of-tree}
 
 module _ (n : ℕ) (xs : List ℕ) where
@@ -39,15 +39,15 @@ module _ (n : ℕ) (xs : List ℕ) where
 
   -- a refusal leaves the entries as they are
   pub entries-stay : (out : List ℕ) {r : Refusal} → szegedReply n xs (length out) ≡ refused r → out ≡ szegedEntries n xs out
-  unfolding filled
+  unfolding filledTerms
   entries-stay out e = rw e
 
   pub entries-done : {out new : List ℕ} {s r : ℕ} → szegedReply n xs (length out) ≡ read s → length xs / 2 ≤ length out → Done n xs out new r → new ≡ szegedEntries n xs out
-  unfolding filled
+  unfolding filledTerms
   entries-done e room d = filled-bonds (szegedTerm (graphOf n xs)) xs (d .entries) room ∙ rw e
 
 -- THE PROMISE DETERMINES the reply and the entries
-pub one-reply : (n : ℕ) (xs out : List ℕ) (r s : Szeged) (o p : List ℕ) → r ≡ saidSzeged (szegedReply n xs (length out)) → o ≡ szegedEntries n xs out
+pub one-reply : (n : ℕ) (xs out : List ℕ) (r s : SzegedReply) (o p : List ℕ) → r ≡ saidSzeged (szegedReply n xs (length out)) → o ≡ szegedEntries n xs out
     → s ≡ saidSzeged (szegedReply n xs (length out)) → p ≡ szegedEntries n xs out → (r ≡ s) × (o ≡ p)
 one-reply n xs out r s o p a b c d = (a ∙ sym c, b ∙ sym d)
 
@@ -61,7 +61,7 @@ told n xs room s e =
 
 -- THE ENTRIES ADD UP to the index
 pub adds-up : (n : ℕ) (xs out : List ℕ) (s : ℕ) → szegedReply n xs (length out) ≡ read s → added (take (length (bondsOf xs)) (szegedEntries n xs out)) ≡ s
-unfolding filled
+unfolding filledTerms
 adds-up n xs out s e =
     rw e
     (ap added (take-at (szegedTerms (graphOf n xs)) (drop (length (bondsOf xs)) out) (length (bondsOf xs)) (length-map (bondsOf xs) (szegedTerm (graphOf n xs))))
@@ -73,7 +73,7 @@ pub szeged-tree : (n : ℕ) (xs : List ℕ) → blockReply n xs ≡ read tt → 
 szeged-tree n xs fine few = szeged-of-tree (molecule n xs fine) few
 
 -- and so is the index that is told
-pub tree-told : (n : ℕ) (xs : List ℕ) (room : ℕ) (r : Szeged) → r ≡ saidSzeged (szegedReply n xs room)
+pub tree-told : (n : ℕ) (xs : List ℕ) (room : ℕ) (r : SzegedReply) → r ≡ saidSzeged (szegedReply n xs room)
     → (w : ℕ) → r ≡ Index w → length (bondsOf xs) + 1 ≡ n → w ≡ wiener (graphOf n xs)
 tree-told n xs room r e w i few =
     let (fine, is) = told n xs room w (said (szegedReply n xs room) (sym i ∙ e)) in

@@ -7,8 +7,8 @@ use Rattle.graph.specs.Graph.{Graph}
 use Rattle.reply.specs.Read.{Read, refused, read, _then_, refuseIf}
 use Rattle.block.specs.Block.{bondsOf, graphOf, blockReply}
 use Rattle.szeged.specs.Szeged.{szegedTerms, szeged}
-use Rattle.szeged.specs.declared.Szeged.{Szeged}
-use Rattle.szeged.specs.declared.Szeged.the-variants.{Refused, Index}
+use Rattle.szeged.specs.declared.SzegedReply.{SzegedReply}
+use Rattle.szeged.specs.declared.SzegedReply.the-variants.{Refused, Index}
 
 -- 9 where there are fewer entries than bonds
 unfoldable pub szegedReply : ℕ → List ℕ → ℕ → Read ℕ
@@ -18,14 +18,14 @@ szegedReply n xs room =
     read (szeged (graphOf n xs))
 
 -- how the code says it
-abbrev pub saidSzeged : Read ℕ → Szeged
+abbrev pub saidSzeged : Read ℕ → SzegedReply
 saidSzeged (refused r) = Refused r
 saidSzeged (read s) = Index s
 
 -- the lent entries afterwards: the term of each bond in list order, and later entries as they were; a refusal changes none
-unfoldable pub filled : Read ℕ → Graph → List ℕ → List ℕ
-filled (refused r) g out = out
-filled (read s) g out = szegedTerms g ++ drop (length (g .bonds)) out
+unfoldable pub filledTerms : Read ℕ → Graph → List ℕ → List ℕ
+filledTerms (refused r) g out = out
+filledTerms (read s) g out = szegedTerms g ++ drop (length (g .bonds)) out
 
 abbrev pub szegedEntries : ℕ → List ℕ → List ℕ → List ℕ
-szegedEntries n xs out = filled (szegedReply n xs (length out)) (graphOf n xs) out
+szegedEntries n xs out = filledTerms (szegedReply n xs (length out)) (graphOf n xs) out

@@ -1,13 +1,13 @@
-// The Szeged index of a block, with the term of each bond.
+// The SzegedReply index of a block, with the term of each bond.
 ghost use mathlib.Core.Path.{_≡_};
 ghost use Prim.Native.Nat.{ℕ, _+_, _≤_};
 ghost use lib.ListN.{length};
 ghost use Rattle.graph.specs.Graph.{Within, wiener};
 ghost use Rattle.reply.specs.Read.{read, refusal};
 ghost use Rattle.block.specs.Block.{mostAtoms, bondsOf, graphOf, blockReply};
-ghost use Rattle.block.specs.Rows.{tableOf};
+ghost use Rattle.block.specs.Rows.{halfTable};
 ghost use Rattle.szeged.specs.Reply.{szegedReply, saidSzeged, szegedEntries};
-ghost use Rattle.szeged.specs.Work.{Counted, Product, Task, Done};
+ghost use Rattle.szeged.specs.Work.{CloserCounted, Product, TermsTask, Done};
 use block::ATOMS;
 use block::DistanceRow;
 use half::Half;
@@ -17,7 +17,7 @@ use reply::Reply;
 use reply::wide;
 
 // The index, or a refusal.
-pub enum Szeged {
+pub enum SzegedReply {
     Refused(Refusal),
     Index(u64),
 }
@@ -25,7 +25,7 @@ pub enum Szeged {
 // How many of the first n atoms have a smaller entry in the row one than in the row two.
 fn nearer(n: usize, one: &DistanceRow, two: &DistanceRow) -> u64
     requires { ⌜ n ≤ mostAtoms ⌝ }
-    ensures { λ r. ⌜ Counted n (now (one .entry)) (now (two .entry)) r ⌝ }
+    ensures { λ r. ⌜ CloserCounted n (now (one .entry)) (now (two .entry)) r ⌝ }
 {
     let mut count: u8 = 0;
     let mut x = 0;
@@ -50,7 +50,7 @@ fn term(n: usize, half: &Half, a: u8, b: u8) -> u64
 
 // Puts the term of each bond into the lent entries, and adds them up.
 fn fill(n: usize, bonds: &[u8], half: &Half, out: &mut [u64]) -> u64
-    requires { ⌜ Task n (now bonds) (now half) (now out) ⌝ }
+    requires { ⌜ TermsTask n (now bonds) (now half) (now out) ⌝ }
     ensures { λ r. ⌜ Done n (now (bonds .entry)) (now (out .entry)) (now (out .exit)) r ⌝ }
 {
     let m = bonds.len() / 2;
@@ -66,28 +66,28 @@ fn fill(n: usize, bonds: &[u8], half: &Half, out: &mut [u64]) -> u64
 }
 
 // The answer for a block that is not refused, by half of its distances.
-fn answered(n: usize, bonds: &[u8], half: &Half, out: &mut [u64]) -> Szeged
-    requires { ⌜ (blockReply n (now bonds) ≡ read tt) × (now half ≡ tableOf n (now bonds)) ⌝ }
+fn answered(n: usize, bonds: &[u8], half: &Half, out: &mut [u64]) -> SzegedReply
+    requires { ⌜ (blockReply n (now bonds) ≡ read tt) × (now half ≡ halfTable n (now bonds)) ⌝ }
     ensures reply { λ r. ⌜ r ≡ saidSzeged (szegedReply n (now (bonds .entry)) (length (now (out .entry)))) ⌝ }
     ensures entries { λ _. ⌜ now (out .exit) ≡ szegedEntries n (now (bonds .entry)) (now (out .entry)) ⌝ }
 {
     if out.len() < bonds.len() / 2 {
-        return Szeged::Refused(Refusal {
+        return SzegedReply::Refused(Refusal {
             number: 9,
             place: 0,
         });
     }
     let s = fill(n, bonds, half, out);
-    Szeged::Index(s)
+    SzegedReply::Index(s)
 }
 
-// The Szeged index of a block. The reply is the index; the entry of each bond, in list order, is its term, and later entries stay. Or it is a
+// The SzegedReply index of a block. The reply is the index; the entry of each bond, in list order, is its term, and later entries stay. Or it is a
 // refusal, and no entry changes: the block's, then 9 where there are fewer entries than bonds. Where there is one bond fewer than atoms, the index is W.
-pub fn terms(n: usize, bonds: &[u8], out: &mut [u64]) -> Szeged
+pub fn terms(n: usize, bonds: &[u8], out: &mut [u64]) -> SzegedReply
     ensures reply { λ r. ⌜ r ≡ saidSzeged (szegedReply n (now (bonds .entry)) (length (now (out .entry)))) ⌝ }
     ensures entries { λ _. ⌜ now (out .exit) ≡ szegedEntries n (now (bonds .entry)) (now (out .entry)) ⌝ }
     ensures tree { λ r. ⌜
-        ((w : ℕ) → r ≡ Szeged.Index w → length (bondsOf (now (bonds .entry))) + 1 ≡ n → w ≡ wiener (graphOf n (now (bonds .entry))))
+        ((w : ℕ) → r ≡ SzegedReply.Index w → length (bondsOf (now (bonds .entry))) + 1 ≡ n → w ≡ wiener (graphOf n (now (bonds .entry))))
         ⌝ }
 {
     let mut half = [0u8; PAIRS];
@@ -95,7 +95,7 @@ pub fn terms(n: usize, bonds: &[u8], out: &mut [u64]) -> Szeged
     let opened = block::table(n, bonds, &mut half, &mut far);
     let reply = opened.reply;
     match reply {
-        Reply::Refused(refusal) => Szeged::Refused(refusal),
+        Reply::Refused(refusal) => SzegedReply::Refused(refusal),
         Reply::Fine => answered(n, bonds, &half, out),
     }
 }

@@ -14,7 +14,7 @@ use Rattle.block.specs.declared.Indices.{Indices}
 use Rattle.block.specs.declared.Vertex.{Vertex}
 
 -- what an atom of n placements counts is small
-pub record Held (n : ℕ) (v : Vertex) : Type 0 where
+pub record SmallSight (n : ℕ) (v : Vertex) : Type 0 where
   pub sum : v .sum < 2 ^ 24 * n
   pub even : v .even < 2 ^ 23 * n
   pub odd : v .odd < 2 ^ 23 * n
@@ -51,7 +51,7 @@ pub record SixBytes (x : Indices) : Type 0 where
   pub polarity : x .polarity < 2 ^ 32
   pub largest : x .largest < 2 ^ 8
 
-pub record Kept (p : Part) : Type 0 where
+pub record SmallPart (p : Part) : Type 0 where
   pub six : SixBytes (p .six)
   pub sight : (i : ℕ) → Bytes (p .sight i)
   pub far : (i j : ℕ) → p .far i j < 2 ^ 8
@@ -75,7 +75,7 @@ at-times d x = omega (arith, mul-le-mul (at-most 0 d) (le x))
     le x = omega arith
 
 -- a placement more that is seen from its own atoms, and from those that were there
-held-new : {n d : ℕ} {v o : Vertex} → Within 31 n → d < 2 ^ 8 → Bytes v → Held n o → Held (suc n) (grow v d o)
+held-new : {n d : ℕ} {v o : Vertex} → Within 31 n → d < 2 ^ 8 → Bytes v → SmallSight n o → SmallSight (suc n) (grow v d o)
 unfolding grow both beyond evenBeyond oddBeyond
 held-new {n} {d} {v} {o} w h b q =
     let x : d + 1 ≤ 2 ^ 8 = omega arith in
@@ -96,7 +96,7 @@ held-new {n} {d} {v} {o} w h b q =
       farthest = omega (arith, b .farthest, q .farthest);
     }
 
-held-old : {n d : ℕ} {v o : Vertex} → Within 31 n → d < 2 ^ 9 * n → Held n v → Bytes o → Held (suc n) (grow v d o)
+held-old : {n d : ℕ} {v o : Vertex} → Within 31 n → d < 2 ^ 9 * n → SmallSight n v → Bytes o → SmallSight (suc n) (grow v d o)
 unfolding grow both beyond evenBeyond oddBeyond
 held-old {n} {d} {v} {o} w h q b =
     let x : d + 1 ≤ 2 ^ 14 = omega arith in
@@ -117,14 +117,14 @@ held-old {n} {d} {v} {o} w h q b =
       farthest = omega (arith, q .farthest, b .farthest);
     }
 
-pub held-bytes : {v : Vertex} → Bytes v → Held 1 v
+pub held-bytes : {v : Vertex} → Bytes v → SmallSight 1 v
 held-bytes b = record { sum = omega (arith, b .sum); even = omega (arith, b .even); odd = omega (arith, b .odd); evens = omega (arith, b .evens); odds = omega (arith, b .odds); ones = omega (arith, b .ones); twos = omega (arith, b .twos); farthest = omega (arith, b .farthest) }
 
 times : (x y a b : ℕ) → x < a → y < b → x * y ≤ a * b
 times x y a b p q = mul-le-mul (omega arith) (omega arith)
 
 -- the fields of a join
-even-most : {c o : Vertex} → Held 32 c → Bytes o → evenAcross c o < 2 ^ 44
+even-most : {c o : Vertex} → SmallSight 32 c → Bytes o → evenAcross c o < 2 ^ 44
 unfolding evenAcross
 even-most {c} {o} p q =
     omega (
@@ -137,7 +137,7 @@ even-most {c} {o} p q =
       times (c .odds) (o .even) (2 ^ 13) (2 ^ 16) (p .odds) (q .even),
     )
 
-odd-most : {c o : Vertex} → Held 32 c → Bytes o → oddAcross c o < 2 ^ 44
+odd-most : {c o : Vertex} → SmallSight 32 c → Bytes o → oddAcross c o < 2 ^ 44
 unfolding oddAcross
 odd-most {c} {o} p q =
     omega (
@@ -150,10 +150,10 @@ odd-most {c} {o} p q =
       times (c .odds) (o .odd) (2 ^ 13) (2 ^ 16) (p .odds) (q .odd),
     )
 
-pub held-more : {n : ℕ} {v : Vertex} (m : ℕ) → n ≤ m → Held n v → Held m v
+pub held-more : {n : ℕ} {v : Vertex} (m : ℕ) → n ≤ m → SmallSight n v → SmallSight m v
 held-more m h p = record { sum = omega (arith, p .sum); even = omega (arith, p .even); odd = omega (arith, p .odd); evens = omega (arith, p .evens); odds = omega (arith, p .odds); ones = omega (arith, p .ones); twos = omega (arith, p .twos); farthest = omega (arith, p .farthest) }
 
-held-six : {n : ℕ} {x y : Indices} {c o : Vertex} → Within 31 n → SixHeld n x → SixBytes y → Held n c → Bytes o → SixHeld (suc n) (joinSix x y c o)
+held-six : {n : ℕ} {x y : Indices} {c o : Vertex} → Within 31 n → SixHeld n x → SixBytes y → SmallSight n c → Bytes o → SixHeld (suc n) (joinSix x y c o)
 unfolding joinSix
 held-six {n} {x} {y} {c} {o} w p q h b =
     let k = held-more 32 (omega arith) h in
@@ -168,7 +168,7 @@ held-six {n} {x} {y} {c} {o} w p q h b =
       largest = omega (arith, p .largest, q .largest, h .farthest, b .farthest);
     }
 
-module _ {parts : ℕ → Part} (joins : ℕ → Join) (kept : (k : ℕ) → Kept (parts k)) where
+module _ {parts : ℕ → Part} (joins : ℕ → Join) (kept : (k : ℕ) → SmallPart (parts k)) where
   pub far-most : (m k i l j : ℕ) → farIn parts joins m k i l j < 2 ^ 9 * suc m
   unfolding farIn
   far-most zero k i l j = omega (arith, kept 0 .far i j)
@@ -181,12 +181,12 @@ module _ {parts : ℕ → Part} (joins : ℕ → Join) (kept : (k : ℕ) → Kep
       go h false e true g = rw (e, farIn) (rw g (omega (arith, kept (suc m) .far (joins (suc m) .own) j, h (joins (suc m) .parent - 1) (joins (suc m) .site) k i)))
       go h false e false g = rw (e, farIn) (rw g (omega (arith, h k i l j)))
 
-  pub sight-held : (m k i : ℕ) → m ≤ 31 → Held (suc m) (sightIn parts joins m k i)
+  pub sight-held : (m k i : ℕ) → m ≤ 31 → SmallSight (suc m) (sightIn parts joins m k i)
   unfolding sightIn
   sight-held zero k i p = held-bytes (kept 0 .sight i)
   sight-held (suc m) k i p = go (λ k i. sight-held m k i (omega arith)) (eqb k (suc m)) refl
     where
-      go : ((k i : ℕ) → Held (suc m) (sightIn parts joins m k i)) → (x : Bool) → eqb k (suc m) ≡ x → Held (suc (suc m)) (sightIn parts joins (suc m) k i)
+      go : ((k i : ℕ) → SmallSight (suc m) (sightIn parts joins m k i)) → (x : Bool) → eqb k (suc m) ≡ x → SmallSight (suc (suc m)) (sightIn parts joins (suc m) k i)
       go h true e = rw (e, sightIn) (held-new (omega arith) (kept (suc m) .far (joins (suc m) .own) i) (kept (suc m) .sight i) (h (joins (suc m) .parent - 1) (joins (suc m) .site)))
       go h false e = rw (e, sightIn) (held-old (omega arith) (far-most m (joins (suc m) .parent - 1) (joins (suc m) .site) k i) (h k i) (kept (suc m) .sight (joins (suc m) .own)))
 

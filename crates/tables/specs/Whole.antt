@@ -66,7 +66,7 @@ module _ (tables : ℕ → Table) (joins : ℕ → Join) where
   placed-by m k i h w = omega (arith, size-by m, start-most k m h, start-next k)
 
 -- what composing up to an index gives is what the table of all says
-pub record Whole (parts : ℕ → Part) (tables : ℕ → Table) (joins : ℕ → Join) (m : ℕ) : Type 0 where
+pub record WholeTable (parts : ℕ → Part) (tables : ℕ → Table) (joins : ℕ → Join) (m : ℕ) : Type 0 where
   pub six : sixIn parts joins m ≡ sixOf (writtenBy tables joins m)
   pub sight : (k i : ℕ) → k ≤ m → Within (tables k .atoms) i → sightIn parts joins m k i ≡ sightOf (writtenBy tables joins m) (startBy tables k + i)
   pub far : (k i l j : ℕ) → k ≤ m → Within (tables k .atoms) i → l ≤ m → Within (tables l .atoms) j
@@ -74,7 +74,7 @@ pub record Whole (parts : ℕ → Part) (tables : ℕ → Table) (joins : ℕ �
   pub alone : (k i : ℕ) → k ≤ m → Within (tables k .atoms) i → seenBy (writtenBy tables joins m) (startBy tables k + i) (isAt 0) ≡ 1
 
 module _ {parts : ℕ → Part} {tables : ℕ → Table} {joins : ℕ → Join} where
-  whole-first : Told (parts 0) (tables 0) → Whole parts tables joins 0
+  whole-first : Told (parts 0) (tables 0) → WholeTable parts tables joins 0
   unfolding sixIn sightIn farIn writtenBy startBy
   whole-first t = record {
     six = t .six;
@@ -83,7 +83,7 @@ module _ {parts : ℕ → Part} {tables : ℕ → Table} {joins : ℕ → Join} 
     alone = λ k i h w. let e : k ≡ 0 = omega arith in rw (e, zero-add i) (t .alone i (rw e at w));
   }
 
-  module _ (m : ℕ) (w : Whole parts tables joins m) (t : Told (parts (suc m)) (tables (suc m))) (f : Fits (λ k. tables k .atoms) joins (suc m)) where
+  module _ (m : ℕ) (w : WholeTable parts tables joins m) (t : Told (parts (suc m)) (tables (suc m))) (f : Fits (λ k. tables k .atoms) joins (suc m)) where
     abbrev s : Table
     s = writtenBy tables joins m
 
@@ -159,11 +159,11 @@ module _ {parts : ℕ → Part} {tables : ℕ → Table} {joins : ℕ → Join} 
         (λ g. far-old parts joins m k i l j e g
         ∙ rw (w .far k i l j e v g u) (sym (far-first s h a b (startBy tables k + i) (startBy tables l + j) (before k i e v) (before l j g u)))))
 
-    whole-next : Whole parts tables joins (suc m)
+    whole-next : WholeTable parts tables joins (suc m)
     whole-next = record { six = next-six; sight = next-sight; far = next-far; alone = next-alone }
 
   -- THE FIELDS BY TABLES: composing by what is kept is summing over all pairs of placed atoms
-  pub whole : (m : ℕ) → ((k : ℕ) → k ≤ m → Told (parts k) (tables k)) → ((k : ℕ) → 1 ≤ k → k ≤ m → Fits (λ k. tables k .atoms) joins k) → Whole parts tables joins m
+  pub whole : (m : ℕ) → ((k : ℕ) → k ≤ m → Told (parts k) (tables k)) → ((k : ℕ) → 1 ≤ k → k ≤ m → Fits (λ k. tables k .atoms) joins k) → WholeTable parts tables joins m
   whole zero t f = whole-first (t 0 (omega arith))
   whole (suc m) t f =
       whole-next m (whole m (λ k h. t k (omega arith)) (λ k h q. f k h (omega arith))) (t (suc m) (omega arith)) (f (suc m) (omega arith) (omega arith))

@@ -10,7 +10,7 @@ use borrow.Author.Count.{below-more}
 use lib.Dec.{eqb, ltb}
 use lib.ListN.{length, getD, drop, drop-of-length-le}
 use lib.Seq.{drop-cons}
-use Rattle.text.specs.Text.{feed, carriage, byteAt, untilFeed, lineEnd, hasCarriage, lineChars, nextLine}
+use Rattle.text.specs.Text.{feed, carriage, characterAt, untilFeed, lineEnd, hasCarriage, lineChars, nextLine}
 use Rattle.text.specs.Said.{lineAt}
 use Rattle.text.specs.Clear.{Clear}
 use Rattle.text.specs.declared.Line.{Line}
@@ -50,16 +50,16 @@ module _ (d : List ℕ) (at e : ℕ) (is : e ≡ lineEnd d at) where
         (line (e - at) (e + 1) (e - at - 0) (min (e + 1) (length d)) (omega arith) (omega arith))
 
     module _ (z : e - at ≡ 0 → ⊥) where
-      pub line-carriage : byteAt d (e - 1) ≡ carriage → record { chars = e - at - 1; next = e + 1 } ≡ lineAt d at
+      pub line-carriage : characterAt d (e - 1) ≡ carriage → record { chars = e - at - 1; next = e + 1 } ≡ lineAt d at
       unfolding lineAt lineChars hasCarriage nextLine
       line-carriage c =
-          rw (← is, lt-ltb e (length d) h, lt-ltb at e (omega arith), eq-eqb (byteAt d (e - 1)) carriage c)
+          rw (← is, lt-ltb e (length d) h, lt-ltb at e (omega arith), eq-eqb (characterAt d (e - 1)) carriage c)
           (line (e - at - 1) (e + 1) (e - at - 1) (min (e + 1) (length d)) refl (omega arith))
 
-      pub line-plain : (byteAt d (e - 1) ≡ carriage → ⊥) → record { chars = e - at; next = e + 1 } ≡ lineAt d at
+      pub line-plain : (characterAt d (e - 1) ≡ carriage → ⊥) → record { chars = e - at; next = e + 1 } ≡ lineAt d at
       unfolding lineAt lineChars hasCarriage nextLine
       line-plain c =
-          rw (← is, lt-ltb e (length d) h, lt-ltb at e (omega arith), ne-eqb (byteAt d (e - 1)) carriage c)
+          rw (← is, lt-ltb e (length d) h, lt-ltb at e (omega arith), ne-eqb (characterAt d (e - 1)) carriage c)
           (line (e - at) (e + 1) (e - at - 0) (min (e + 1) (length d)) (omega arith) (omega arith))
 
 -- a line goes on past bytes none of which is a line feed

@@ -10,7 +10,8 @@ use borrow.Author.Tests.{eq-eqb, ne-eqb}
 use lib.Dec.{eqb}
 use lib.ListN.{length, getD, drop, drop-of-length-le}
 use lib.Seq.{drop-cons, drop-drop, drop-length}
-use Rattle.text.specs.Text.{feed, ifElse, untilFeed, lineEnd, nextLine, startsWith, lineStarts}
+use Rattle.reply.specs.Read.{ifElse}
+use Rattle.text.specs.Text.{feed, untilFeed, lineEnd, nextLine, startsWith, lineStarts}
 use Rattle.text.specs.Laws.{end-from, end-within}
 
 -- byte by byte

@@ -2,7 +2,8 @@
 use mathlib.Core.Bool.{true, false}
 use mathlib.Core.Path.{_≡_, refl}
 use Prim.Native.Nat.{ℕ}
-use Rattle.text.specs.Text.{ascii, ifElse, allDigits, isNumber, valueFrom, numberOf, decimalIn, decimal, three, untilFeed, lineEnd, hasCarriage, lineChars, nextLine}
+use Rattle.reply.specs.Read.{ifElse}
+use Rattle.text.specs.Text.{ascii, allDigits, isNumber, valueFrom, numberOf, decimalIn, decimal, three, untilFeed, lineEnd, hasCarriage, lineChars, nextLine}
 
 -- a CR before a line feed is no character of its line; one at the end of the file is
 pub carriage-left-out : lineChars (ascii "ab\r\ncd\r") 0 ≡ 2

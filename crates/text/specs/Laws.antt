@@ -8,7 +8,8 @@ use native.Mathlib.Numerals.{add-one}
 use borrow.Author.Tests.{leb-true}
 use lib.Dec.{eqb, leb}
 use lib.ListN.{length, drop, length-drop}
-use Rattle.text.specs.Text.{feed, ifElse, isBlank, isDigit, digit, allDigits, isNumber, valueFrom, numberOf, untilFeed, lineEnd, hasCarriage, lineChars, nextLine, laterLine}
+use Rattle.reply.specs.Read.{ifElse}
+use Rattle.text.specs.Text.{feed, isBlank, isDigit, digit, allDigits, isNumber, valueFrom, numberOf, untilFeed, lineEnd, hasCarriage, lineChars, nextLine, laterLine}
 use Rattle.text.specs.Said.{noNumber, saidNumber, lineAt}
 use Rattle.text.specs.declared.Line.{Line}
 

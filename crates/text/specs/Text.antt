@@ -7,6 +7,7 @@ use mathlib.Core.Bool.{Bool, true, false, _&&_, not, cond}
 use mathlib.Core.List.{List, [], _∷_, _++_}
 use lib.Dec.{eqb, leb, ltb}
 use lib.ListN.{length, getD, drop}
+use Rattle.reply.specs.Read.{ifElse}
 
 -- the bytes of a text in ASCII
 abbrev pub ascii : String → List ℕ
@@ -34,13 +35,8 @@ abbrev pub digit : ℕ → ℕ
 digit b = b - 48
 
 -- the byte at a place, 0 past the end
-abbrev pub byteAt : List ℕ → ℕ → ℕ
-byteAt d at = getD d at 0
-
--- the first where a test holds, else the second; the other is not computed
-abbrev pub ifElse : {A : Type 0} → Bool → (Unit {0} → A) → (Unit {0} → A) → A
-ifElse true f g = f tt
-ifElse false f g = g tt
+abbrev pub characterAt : List ℕ → ℕ → ℕ
+characterAt d at = getD d at 0
 
 -- Decimal numbers.
 unfoldable pub allDigits : List ℕ → Bool
@@ -84,7 +80,7 @@ three n = cond (ltb n 100) blank (shown (n / 100)) ∷ cond (ltb n 10) blank (sh
 
 -- the three characters from a place on
 abbrev pub threeAt : List ℕ → ℕ → List ℕ
-threeAt d at = byteAt d at ∷ byteAt d (at + 1) ∷ byteAt d (at + 2) ∷ []
+threeAt d at = characterAt d at ∷ characterAt d (at + 1) ∷ characterAt d (at + 2) ∷ []
 
 -- Lines. One ends at a line feed or at the end of the file.
 unfoldable pub untilFeed : List ℕ → ℕ
@@ -97,7 +93,7 @@ lineEnd d at = at + untilFeed (drop at d)
 
 -- whether a carriage return stands directly before its line feed
 unfoldable pub hasCarriage : List ℕ → ℕ → Bool
-hasCarriage d at = ltb (lineEnd d at) (length d) && ltb at (lineEnd d at) && eqb (byteAt d (lineEnd d at - 1)) carriage
+hasCarriage d at = ltb (lineEnd d at) (length d) && ltb at (lineEnd d at) && eqb (characterAt d (lineEnd d at - 1)) carriage
 
 -- how many characters it has: that carriage return is none
 unfoldable pub lineChars : List ℕ → ℕ → ℕ

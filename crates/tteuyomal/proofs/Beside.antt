@@ -9,7 +9,7 @@ use lib.ListN.{length, set}
 use Rattle.reply.specs.Read.{Read, refused, read, _then_, refuseIf, refusal}
 use Rattle.reply.specs.declared.Refusal.{Refusal}
 use Rattle.block.specs.Block.{blockReply}
-use Rattle.tteuyomal.specs.Convention.{code, coded, over, after}
+use Rattle.tteuyomal.specs.Convention.{code, coded, over, outAfter}
 use Rattle.tteuyomal.specs.Replies.{thenNine, unlentReply}
 use Rattle.tteuyomal.specs.Beside.{besideReply, Beside}
 
@@ -41,11 +41,11 @@ module _ (n : ℕ) (bonds : List ℕ) (R : Read ℕ) (numbers each one : List �
         go (refused r) e = sym (stops r e)
         go (read u) e = refl
 
-    pub beside-refused : {each′ : List ℕ} (r : Refusal) (x : ℕ) → R ≡ refused r → each′ ≡ after (R then λ _. read numbers) each → x ≡ code r
+    pub beside-refused : {each′ : List ℕ} (r : Refusal) (x : ℕ) → R ≡ refused r → each′ ≡ outAfter (R then λ _. read numbers) each → x ≡ code r
         → Beside (besideReply n bonds (length one) R) numbers each one x each′ one
     beside-refused r x e s q = record { replied = rw (same, e) q; bonds = s ∙ rw same refl; single = rw (same, e) refl }
 
-    pub beside-fine : {each′ : List ℕ} (d : ℕ) → R ≡ read d → each′ ≡ after (R then λ _. read numbers) each
+    pub beside-fine : {each′ : List ℕ} (d : ℕ) → R ≡ read d → each′ ≡ outAfter (R then λ _. read numbers) each
         → Beside (besideReply n bonds (length one) R) numbers each one 0 each′ (set one 0 d)
     beside-fine d e s = record { replied = rw (same, e) refl; bonds = s ∙ rw same refl; single = rw (same, e) (first-put d one room) }
 

@@ -11,23 +11,23 @@ use Rattle.reply.specs.declared.Refusal.{Refusal}
 use Rattle.reply.specs.declared.Reply.{Reply}
 use Rattle.reply.specs.declared.Reply.the-variants as reply
 use Rattle.block.specs.declared.Indices.{Indices}
-use Rattle.block.specs.declared.Measured.{Measured}
-use Rattle.block.specs.declared.Measured.the-variants as measured
+use Rattle.block.specs.declared.IndicesReply.{IndicesReply}
+use Rattle.block.specs.declared.IndicesReply.the-variants as measured
 use Rattle.block.specs.Rows.{saidRow}
 use Rattle.block.specs.declared.OneRow.{OneRow}
 use Rattle.block.specs.declared.Vertex.{Vertex}
-use Rattle.block.specs.declared.Around.{Around}
-use Rattle.block.specs.declared.Around.the-variants as around
-use Rattle.block.specs.declared.Apart.{Apart}
-use Rattle.block.specs.declared.Apart.the-variants as apart
-use Rattle.molecule.specs.declared.Verdict.{Verdict}
-use Rattle.molecule.specs.declared.Written.{Written}
-use Rattle.molecule.specs.declared.Written.the-variants as written
-use Rattle.molecule.specs.Molecule.{saidWritten}
+use Rattle.block.specs.declared.VertexReply.{VertexReply}
+use Rattle.block.specs.declared.VertexReply.the-variants as around
+use Rattle.block.specs.declared.DistanceReply.{DistanceReply}
+use Rattle.block.specs.declared.DistanceReply.the-variants as apart
+use Rattle.judging.specs.declared.Verdict.{Verdict}
+use Rattle.judging.specs.declared.SheetWritten.{SheetWritten}
+use Rattle.judging.specs.declared.SheetWritten.the-variants as written
+use Rattle.judging.specs.Judging.{saidSheetWritten}
 use Rattle.poly.specs.Poly.{saidPolynomial}
 use Rattle.poly.specs.declared.Values.{Values}
-use Rattle.poly.specs.declared.Answer.{Answer}
-use Rattle.poly.specs.declared.Answer.the-variants as answer
+use Rattle.poly.specs.declared.ValuesReply.{ValuesReply}
+use Rattle.poly.specs.declared.ValuesReply.the-variants as answer
 use Rattle.tteuyomal.specs.Convention.{code, coded, verdictCode, over, Lent}
 
 -- what a reply of the code says, as a refusal or a value
@@ -35,7 +35,7 @@ abbrev pub toldBlock : Reply → Read (Unit {0})
 toldBlock (reply.Refused r) = refused r
 toldBlock reply.Fine = read tt
 
-abbrev pub toldIndices : Measured → Read Indices
+abbrev pub toldIndices : IndicesReply → Read Indices
 toldIndices (measured.Refused r) = refused r
 toldIndices (measured.Of x) = read x
 
@@ -46,19 +46,19 @@ rowSaid reply.Fine row far = read (row, far)
 abbrev pub toldRow : OneRow → Read (List ℕ × ℕ)
 toldRow v = rowSaid (v .reply) (v .row) (v .largest)
 
-abbrev pub toldVertex : Around → Read Vertex
+abbrev pub toldVertex : VertexReply → Read Vertex
 toldVertex (around.Refused r) = refused r
 toldVertex (around.Of v) = read v
 
-abbrev pub toldValues : Answer → Read Values
+abbrev pub toldValues : ValuesReply → Read Values
 toldValues (answer.Refused r) = refused r
 toldValues (answer.Values v) = read v
 
-abbrev pub toldDistance : Apart → Read ℕ
+abbrev pub toldDistance : DistanceReply → Read ℕ
 toldDistance (apart.Refused r) = refused r
 toldDistance (apart.Of d) = read d
 
-abbrev pub writtenCode : Written → ℕ
+abbrev pub writtenCode : SheetWritten → ℕ
 writtenCode (written.Refused r) = code r
 writtenCode written.Sheet = 0
 
@@ -66,7 +66,7 @@ pub block-told : (a : Reply) (R : Read (Unit {0})) → a ≡ saidReply R → tol
 block-told a (refused r) e = ap toldBlock e
 block-told a (read tt) e = ap toldBlock e
 
-pub indices-told : (a : Measured) (R : Read Indices) → a ≡ saidIndices R → toldIndices a ≡ R
+pub indices-told : (a : IndicesReply) (R : Read Indices) → a ≡ saidIndices R → toldIndices a ≡ R
 indices-told a (refused r) e = ap toldIndices e
 indices-told a (read x) e = ap toldIndices e
 
@@ -74,19 +74,19 @@ pub row-told : (a : OneRow) (R : Read (List ℕ × ℕ)) → a ≡ saidRow R →
 row-told a (refused r) e = ap toldRow e
 row-told a (read x) e = ap toldRow e
 
-pub vertex-told : (a : Around) (R : Read Vertex) → a ≡ saidVertex R → toldVertex a ≡ R
+pub vertex-told : (a : VertexReply) (R : Read Vertex) → a ≡ saidVertex R → toldVertex a ≡ R
 vertex-told a (refused r) e = ap toldVertex e
 vertex-told a (read v) e = ap toldVertex e
 
-pub values-told : (a : Answer) (R : Read Values) → a ≡ saidPolynomial R → toldValues a ≡ R
+pub values-told : (a : ValuesReply) (R : Read Values) → a ≡ saidPolynomial R → toldValues a ≡ R
 values-told a (refused r) e = ap toldValues e
 values-told a (read v) e = ap toldValues e
 
-pub distance-told : (a : Apart) (R : Read ℕ) → a ≡ saidDistance R → toldDistance a ≡ R
+pub distance-told : (a : DistanceReply) (R : Read ℕ) → a ≡ saidDistance R → toldDistance a ≡ R
 distance-told a (refused r) e = ap toldDistance e
 distance-told a (read d) e = ap toldDistance e
 
-pub written-coded : (a : Written) (R : Read Indices) → a ≡ saidWritten R → writtenCode a ≡ coded R
+pub written-coded : (a : SheetWritten) (R : Read Indices) → a ≡ saidSheetWritten R → writtenCode a ≡ coded R
 written-coded a (refused r) e = ap writtenCode e
 written-coded a (read x) e = ap writtenCode e
 

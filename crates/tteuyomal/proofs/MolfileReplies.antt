@@ -10,23 +10,23 @@ use lib.ListN.{length, set}
 use Rattle.reply.specs.Read.{Read, refused, read, _then_, refuseIf, refusal}
 use Rattle.reply.specs.declared.Refusal.{Refusal}
 use Rattle.block.specs.Block.{bondsOf, blockReply}
-use Rattle.molfile.specs.Molfile.{atomsOf, bytesOf, linesReply, molfileReply}
-use Rattle.molfile.specs.Said.{filled}
+use Rattle.molfile.specs.Molfile.{keptAtoms, bytesOf, linesReply, molfileReply}
+use Rattle.molfile.specs.Said.{filledBonds}
 use Rattle.molfile.specs.declared.Counts.{Counts}
-use Rattle.molwriter.specs.Written.{molfileText, writeReply, written, saidWritten}
+use Rattle.molwriter.specs.Written.{molfileText, molfileWriteReply, filledText, saidMolfileWritten}
 use Rattle.molwriter.specs.declared.MolWritten.the-variants as text
-use Rattle.tteuyomal.specs.Convention.{code, coded, over, after}
+use Rattle.tteuyomal.specs.Convention.{code, coded, over, outAfter}
 use Rattle.tteuyomal.specs.Replies.{thenNine, unlentReply}
 use Rattle.tteuyomal.specs.Molfiles.{readReply, unlentMolfile, MolfileRead, writtenReply, MolfileWritten}
 use Rattle.tteuyomal.proofs.Laws.{both-put}
 use Rattle.tteuyomal.proofs.Beside.{first-put}
 
 -- what a reply of the code says of the definition
-pub text-refused : (R : Read ℕ) {r : Refusal} → saidWritten R ≡ text.Refused r → R ≡ refused r
+pub text-refused : (R : Read ℕ) {r : Refusal} → saidMolfileWritten R ≡ text.Refused r → R ≡ refused r
 text-refused (refused s) e = ap refused (cc)
 text-refused (read k) e = let z : _≡_ {A = ℕ} 0 1 = cc in absurd (omega arith)
 
-pub text-bytes : (R : Read ℕ) {k : ℕ} → saidWritten R ≡ text.Bytes k → R ≡ read k
+pub text-bytes : (R : Read ℕ) {k : ℕ} → saidMolfileWritten R ≡ text.Bytes k → R ≡ read k
 text-bytes (refused s) e = let z : _≡_ {A = ℕ} 0 1 = cc in absurd (omega arith)
 text-bytes (read j) e = ap read (cc)
 
@@ -41,7 +41,7 @@ nine-either (read u) (read v) false false = refl
 
 any-room : (d : List ℕ) (room : ℕ) → unlentMolfile d ≡ thenNine (molfileReply d room)
 unfolding molfileReply
-any-room d room = nine-either (linesReply d) (blockReply (atomsOf d) (bytesOf d)) (ltb 1 (length (bytesOf d))) (ltb room (length (bytesOf d)))
+any-room d room = nine-either (linesReply d) (blockReply (keptAtoms d) (bytesOf d)) (ltb 1 (length (bytesOf d))) (ltb room (length (bytesOf d)))
 
 nine-after : (R : Read (Unit {0})) → (r : Refusal) × (thenNine R ≡ refused r) × ((R then λ _. refuseIf true 9 0) ≡ refused r)
 nine-after (refused r) = (r, refl, refl)
@@ -63,15 +63,15 @@ lent-counts : (d : List ℕ) (room entries : ℕ) → 2 ≤ entries → readRepl
 lent-counts d room entries h = rw (le-ltb entries 2 h) (and-on (molfileReply d room))
 
 pub read-refused : (d bonds counts bonds′ : List ℕ) (r : Refusal) (x : ℕ) → 2 ≤ length counts → molfileReply d (length bonds) ≡ refused r
-    → bonds′ ≡ filled (molfileReply d (length bonds)) (bytesOf d) bonds → x ≡ code r → MolfileRead d bonds counts x bonds′ counts
-unfolding filled
+    → bonds′ ≡ filledBonds (molfileReply d (length bonds)) (bytesOf d) bonds → x ≡ code r → MolfileRead d bonds counts x bonds′ counts
+unfolding filledBonds
 read-refused d bonds counts bonds′ r x h e b q =
     let same = lent-counts d (length bonds) (length counts) h in
     record { replied = rw (same, e) q; bonded = b ∙ rw (same, e) refl; counted = rw (same, e) refl }
 
-pub read-fine : (d bonds counts bonds′ : List ℕ) (c : Counts) → 2 ≤ length counts → molfileReply d (length bonds) ≡ read tt → atomsOf d ≡ c .atoms → length (bytesOf d) / 2 ≡ c .bonds
-    → bonds′ ≡ filled (molfileReply d (length bonds)) (bytesOf d) bonds → MolfileRead d bonds counts 0 bonds′ (set (set counts 0 (c .atoms)) 1 (c .bonds))
-unfolding filled
+pub read-fine : (d bonds counts bonds′ : List ℕ) (c : Counts) → 2 ≤ length counts → molfileReply d (length bonds) ≡ read tt → keptAtoms d ≡ c .atoms → length (bytesOf d) / 2 ≡ c .bonds
+    → bonds′ ≡ filledBonds (molfileReply d (length bonds)) (bytesOf d) bonds → MolfileRead d bonds counts 0 bonds′ (set (set counts 0 (c .atoms)) 1 (c .bonds))
+unfolding filledBonds
 read-fine d bonds counts bonds′ c h e n m b =
     let same = lent-counts d (length bonds) (length counts) h in
     record { replied = rw (same, e) refl; bonded = b ∙ rw (same, e) refl; counted = both-put (c .atoms) (c .bonds) counts h ∙ rw (same, e, n, m) refl }
@@ -87,7 +87,7 @@ nine-behind (read u) true k = (refusal 9 0, refl, refl)
 nine-behind (read u) false k = (refusal 9 0, refl, refl)
 
 pub write-lacking : (n : ℕ) (xs out told : List ℕ) (x : ℕ) → length told < 1 → x ≡ coded (unlentReply n xs) → MolfileWritten n xs out told x out told
-unfolding writeReply
+unfolding molfileWriteReply
 write-lacking n xs out told x h q =
     let k = length (molfileText n (bondsOf xs)) in
     let (r, e, f) = nine-behind (blockReply n xs) (ltb (length out) k) k in
@@ -97,19 +97,19 @@ and-so : (R : Read ℕ) → (R then λ k. read k) ≡ R
 and-so (refused r) = refl
 and-so (read k) = refl
 
-lent-length : (n : ℕ) (xs : List ℕ) (room entries : ℕ) → 1 ≤ entries → writtenReply n xs room entries ≡ writeReply n xs room
-lent-length n xs room entries h = rw (le-ltb entries 1 h) (and-so (writeReply n xs room))
+lent-length : (n : ℕ) (xs : List ℕ) (room entries : ℕ) → 1 ≤ entries → writtenReply n xs room entries ≡ molfileWriteReply n xs room
+lent-length n xs room entries h = rw (le-ltb entries 1 h) (and-so (molfileWriteReply n xs room))
 
-pub write-refused : (n : ℕ) (xs out told out′ : List ℕ) (r : Refusal) (x : ℕ) → 1 ≤ length told → writeReply n xs (length out) ≡ refused r
-    → out′ ≡ written (writeReply n xs (length out)) (molfileText n (bondsOf xs)) out → x ≡ code r → MolfileWritten n xs out told x out′ told
-unfolding written
+pub write-refused : (n : ℕ) (xs out told out′ : List ℕ) (r : Refusal) (x : ℕ) → 1 ≤ length told → molfileWriteReply n xs (length out) ≡ refused r
+    → out′ ≡ filledText (molfileWriteReply n xs (length out)) (molfileText n (bondsOf xs)) out → x ≡ code r → MolfileWritten n xs out told x out′ told
+unfolding filledText
 write-refused n xs out told out′ r x h e b q =
     let same = lent-length n xs (length out) (length told) h in
     record { replied = rw (same, e) q; texted = b ∙ rw (same, e) refl; lengthed = rw (same, e) refl }
 
-pub write-fine : (n : ℕ) (xs out told out′ : List ℕ) (k : ℕ) → 1 ≤ length told → writeReply n xs (length out) ≡ read k
-    → out′ ≡ written (writeReply n xs (length out)) (molfileText n (bondsOf xs)) out → MolfileWritten n xs out told 0 out′ (set told 0 k)
-unfolding written
+pub write-fine : (n : ℕ) (xs out told out′ : List ℕ) (k : ℕ) → 1 ≤ length told → molfileWriteReply n xs (length out) ≡ read k
+    → out′ ≡ filledText (molfileWriteReply n xs (length out)) (molfileText n (bondsOf xs)) out → MolfileWritten n xs out told 0 out′ (set told 0 k)
+unfolding filledText
 write-fine n xs out told out′ k h e b =
     let same = lent-length n xs (length out) (length told) h in
     record { replied = rw (same, e) refl; texted = b ∙ rw (same, e) refl; lengthed = rw (same, e) (first-put k told h) }

@@ -7,16 +7,16 @@ use Rattle.reply.specs.Read.{Read, refused, read, _then_}
 use Rattle.reply.specs.declared.Refusal.{Refusal}
 use Rattle.block.specs.Block.{graphOf, bondsOf, blockReply}
 use Rattle.paths.specs.Paths.{share}
-use Rattle.shares.specs.declared.Shares.{Shares}
-use Rattle.shares.specs.declared.Shares.the-variants as shares
-use Rattle.shares.specs.Reply.{sharesReply, saidShares, filled, sharesEntries}
-use Rattle.tteuyomal.specs.Convention.{after}
+use Rattle.shares.specs.declared.SharesReply.{SharesReply}
+use Rattle.shares.specs.declared.SharesReply.the-variants as shares
+use Rattle.shares.specs.Reply.{sharesReply, saidShares, filledShares, sharesEntries}
+use Rattle.tteuyomal.specs.Convention.{outAfter}
 
-abbrev pub toldShares : Shares → Read ℕ
+abbrev pub toldShares : SharesReply → Read ℕ
 toldShares (shares.Refused r) = refused r
 toldShares (shares.Denominator d) = read d
 
-pub shares-told : (a : Shares) (R : Read ℕ) → a ≡ saidShares R → toldShares a ≡ R
+pub shares-told : (a : SharesReply) (R : Read ℕ) → a ≡ saidShares R → toldShares a ≡ R
 shares-told a (refused r) e = ap toldShares e
 shares-told a (read d) e = ap toldShares e
 
@@ -26,10 +26,10 @@ unfolding sharesReply
 shares-stop n bonds room r e = rw e refl
 
 -- the lent entries, as the convention has them
-pub shares-lent : (n : ℕ) (bonds out : List ℕ) → sharesEntries n bonds out ≡ after (sharesReply n bonds (length out) then λ _. read (map (share (graphOf n bonds)) (bondsOf bonds))) out
-unfolding filled
+pub shares-lent : (n : ℕ) (bonds out : List ℕ) → sharesEntries n bonds out ≡ outAfter (sharesReply n bonds (length out) then λ _. read (map (share (graphOf n bonds)) (bondsOf bonds))) out
+unfolding filledShares
 shares-lent n bonds out = go (sharesReply n bonds (length out))
   where
-    go : (R : Read ℕ) → filled R (graphOf n bonds) out ≡ after (R then λ _. read (map (share (graphOf n bonds)) (bondsOf bonds))) out
+    go : (R : Read ℕ) → filledShares R (graphOf n bonds) out ≡ outAfter (R then λ _. read (map (share (graphOf n bonds)) (bondsOf bonds))) out
     go (refused r) = refl
     go (read d) = ap (λ (k : ℕ). map (share (graphOf n bonds)) (bondsOf bonds) ++ drop k out) (sym (length-map (bondsOf bonds) (share (graphOf n bonds))))

@@ -10,11 +10,11 @@ use Rattle.graph.specs.Graph.{Graph, connected}
 use Rattle.reply.specs.Read.{Read, refused, read, _then_, refuseIf, refusal, isOutside}
 use Rattle.reply.specs.declared.Refusal.{Refusal}
 use Rattle.block.specs.Block.{mostAtoms, mostBytes, bondsOf, blockReply}
-use Rattle.adjacency.specs.Neighbours.{Counted, numbers, bytesReply, countReply, Step, steps, bondsIn, stepsReply, bondsLength, bondBytes, molecule, blockOf, neighboursReply, bytesAfter}
-use Rattle.adjacency.specs.Written.{writtenText, writeReply, textAfter}
+use Rattle.adjacency.specs.Neighbours.{CountRead, numbers, bytesReply, atomCountReply, Step, steps, bondsIn, stepsReply, bondsLength, bondListBytes, molecule, blockOf, neighboursReply, bytesAfter}
+use Rattle.adjacency.specs.Written.{writtenText, neighboursWriteReply, textAfter}
 use Rattle.adjacency.specs.Blocks.{bytes-length}
 use Rattle.neighbours.specs.declared.Counts.{Counts}
-use Rattle.tteuyomal.specs.Convention.{code, coded, over, after}
+use Rattle.tteuyomal.specs.Convention.{code, coded, over, outAfter}
 use Rattle.tteuyomal.specs.Replies.{thenNine, unlentReply}
 use Rattle.tteuyomal.specs.Texts.{textReply, unlentText, TextRead, toldReply, TextWritten}
 use Rattle.tteuyomal.proofs.Laws.{both-put}
@@ -41,9 +41,9 @@ block-nine n ss room =
 
 any-room : (t : List ℕ) (room : ℕ) → unlentText t ≡ thenNine (neighboursReply t room then λ _. read tt)
 unfolding neighboursReply
-any-room t room = go (bytesReply t) (countReply (length t) (numbers t))
+any-room t room = go (bytesReply t) (atomCountReply (length t) (numbers t))
   where
-    go : (A : Read (Unit {0})) (B : Read Counted)
+    go : (A : Read (Unit {0})) (B : Read CountRead)
         → thenNine ((A then λ _. B then λ c. blockOf (c .count) (steps (c .rest)) 1) then λ _. read tt)
         ≡ thenNine ((A then λ _. B then λ c. blockOf (c .count) (steps (c .rest)) room) then λ _. read tt)
     go (refused r) B = refl
@@ -103,23 +103,23 @@ nine-behind (read u) true t = (refusal 9 0, refl, refl)
 nine-behind (read u) false t = (refusal 9 0, refl, refl)
 
 pub write-lacking : (n : ℕ) (xs out told : List ℕ) (x : ℕ) → length told < 1 → x ≡ coded (unlentReply n xs) → TextWritten n xs out told x out told
-unfolding writeReply
+unfolding neighboursWriteReply
 write-lacking n xs out told x h q =
     let t = writtenText n (bondsOf xs) in
     let (r, e, f) = nine-behind (blockReply n xs) (ltb (length out) (length t)) t in
     write-refusal n xs out told r x (rw (lt-ltb (length told) 1 h) f) (q ∙ ap coded e)
 
-lent-length : (n : ℕ) (xs : List ℕ) (room entries : ℕ) → 1 ≤ entries → toldReply n xs room entries ≡ writeReply n xs room
-lent-length n xs room entries h = rw (le-ltb entries 1 h) (and-on (writeReply n xs room))
+lent-length : (n : ℕ) (xs : List ℕ) (room entries : ℕ) → 1 ≤ entries → toldReply n xs room entries ≡ neighboursWriteReply n xs room
+lent-length n xs room entries h = rw (le-ltb entries 1 h) (and-on (neighboursWriteReply n xs room))
 
-pub write-refused : (n : ℕ) (xs out told out′ : List ℕ) (r : Refusal) (x : ℕ) → 1 ≤ length told → writeReply n xs (length out) ≡ refused r
-    → out′ ≡ textAfter (writeReply n xs (length out)) out → x ≡ code r → TextWritten n xs out told x out′ told
+pub write-refused : (n : ℕ) (xs out told out′ : List ℕ) (r : Refusal) (x : ℕ) → 1 ≤ length told → neighboursWriteReply n xs (length out) ≡ refused r
+    → out′ ≡ textAfter (neighboursWriteReply n xs (length out)) out → x ≡ code r → TextWritten n xs out told x out′ told
 write-refused n xs out told out′ r x h e b q =
     let same = lent-length n xs (length out) (length told) h in
     record { replied = rw (same, e) q; texted = b ∙ rw (same, e) refl; lengthed = rw (same, e) refl }
 
-pub write-fine : (n : ℕ) (xs out told out′ t : List ℕ) (k : ℕ) → 1 ≤ length told → writeReply n xs (length out) ≡ read t → length t ≡ k
-    → out′ ≡ textAfter (writeReply n xs (length out)) out → TextWritten n xs out told 0 out′ (set told 0 k)
+pub write-fine : (n : ℕ) (xs out told out′ t : List ℕ) (k : ℕ) → 1 ≤ length told → neighboursWriteReply n xs (length out) ≡ read t → length t ≡ k
+    → out′ ≡ textAfter (neighboursWriteReply n xs (length out)) out → TextWritten n xs out told 0 out′ (set told 0 k)
 write-fine n xs out told out′ t k h e m b =
     let same = lent-length n xs (length out) (length told) h in
     record { replied = rw (same, e) refl; texted = b ∙ rw (same, e) refl; lengthed = first-put k told h ∙ rw (same, e, ← m) refl }

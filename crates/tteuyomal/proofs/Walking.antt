@@ -12,11 +12,11 @@ use Rattle.records.specs.declared.Sheet.the-variants.{Five, Six}
 use Rattle.block.specs.declared.Indices.{Indices}
 use Rattle.products.specs.Products.{countReply, Product, done, made}
 use Rattle.catalogue.specs.Said.{saidCount}
-use Rattle.catalogue.specs.declared.Counted.{Counted}
-use Rattle.catalogue.specs.declared.Counted.the-variants as counted
+use Rattle.catalogue.specs.declared.CountReply.{CountReply}
+use Rattle.catalogue.specs.declared.CountReply.the-variants as counted
 use Rattle.library.specs.Steps.{Ran, stepReply, stepOut, saidStep, runOf}
 use Rattle.library.specs.Running.{run-stops, run-ends}
-use Rattle.library.specs.declared.Stepped.{Stepped}
+use Rattle.library.specs.declared.StepReply.{StepReply}
 use Rattle.tteuyomal.specs.Convention.{code, over}
 use Rattle.tteuyomal.specs.Libraries.{sheetFor, withNext, stepCode, madeOut, steppedCode, steppedNext, Walked}
 
@@ -27,11 +27,11 @@ pub sheet-five : (kind : ℕ) → (kind ≡ 4 → ⊥) → Five ≡ sheetFor kin
 sheet-five kind e = rw (ne-eqb kind 4 e)
 
 -- how many products
-abbrev pub toldCount : Counted → Read ℕ
+abbrev pub toldCount : CountReply → Read ℕ
 toldCount (counted.Refused r) = refused r
 toldCount (counted.Of n) = read n
 
-pub count-told : (a : Counted) (R : Read ℕ) → a ≡ saidCount R → toldCount a ≡ R
+pub count-told : (a : CountReply) (R : Read ℕ) → a ≡ saidCount R → toldCount a ≡ R
 count-told a (refused r) e = ap toldCount e
 count-told a (read n) e = ap toldCount e
 
@@ -72,14 +72,14 @@ module _ (answer : Read Product) (wrote : List ℕ) (position : ℕ) (out next :
         told = rw z (sym (stays answer (over (position ∷ []) next) next));
       }
 
-  pub walked-told : 1 ≤ length next → (told : Stepped) (r : ℕ) (out′ next′ : List ℕ) → told ≡ saidStep position answer → r ≡ steppedCode told → next′ ≡ steppedNext told next
+  pub walked-told : 1 ≤ length next → (told : StepReply) (r : ℕ) (out′ next′ : List ℕ) → told ≡ saidStep position answer → r ≡ steppedCode told → next′ ≡ steppedNext told next
       → out′ ≡ wrote → wrote ≡ madeOut wrote answer out → Walked answer wrote position out next r out′ next′
   walked-told h told r out′ next′ e f g o w =
       let z = room-next (length next) answer h in
       record {
         replied = f ∙ ap steppedCode e ∙ said-code position answer ∙ ap stepCode (sym z);
         written = o ∙ w ∙ ap (λ (y : Read Product). madeOut wrote y out) (sym z);
-        told = g ∙ ap (λ (y : Stepped). steppedNext y next) e ∙ said-next position answer next ∙ ap (λ (y : Read Product). madeOut (over (position ∷ []) next) y next) (sym z);
+        told = g ∙ ap (λ (y : StepReply). steppedNext y next) e ∙ said-next position answer next ∙ ap (λ (y : Read Product). madeOut (over (position ∷ []) next) y next) (sym z);
       }
 
 -- what a step writes, and a run

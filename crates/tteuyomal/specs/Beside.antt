@@ -5,7 +5,7 @@ use mathlib.Core.List.{List, [], _∷_}
 use lib.Dec.{ltb}
 use Rattle.reply.specs.Read.{Read, read, _then_, refuseIf}
 use Rattle.block.specs.Block.{blockReply}
-use Rattle.tteuyomal.specs.Convention.{coded, after}
+use Rattle.tteuyomal.specs.Convention.{coded, outAfter}
 
 -- the block's refusal, then 9 where there is no entry for the one number, then the library's answer
 abbrev pub besideReply : ℕ → List ℕ → ℕ → Read ℕ → Read ℕ
@@ -14,5 +14,5 @@ besideReply n bonds entries answer = blockReply n bonds then λ _. refuseIf (ltb
 -- the reply, and both outputs after the call
 pub record Beside (answer : Read ℕ) (numbers each one : List ℕ) (reply : ℕ) (each′ one′ : List ℕ) : Type 0 where
   pub replied : reply ≡ coded answer
-  pub bonds : each′ ≡ after (answer then λ _. read numbers) each
-  pub single : one′ ≡ after (answer then λ x. read (x ∷ [])) one
+  pub bonds : each′ ≡ outAfter (answer then λ _. read numbers) each
+  pub single : one′ ≡ outAfter (answer then λ x. read (x ∷ [])) one

@@ -9,7 +9,7 @@ use lib.Dec.{eqb, leb, ltb}
 use lib.ListN.{length}
 use Rattle.graph.specs.Graph.{Bond, connected, degree, anyJoins}
 use Rattle.graph.specs.Assembly.{Join}
-use Rattle.reply.specs.Read.{Read, refused, read, _then_, refuseIf, refuseFor, refusal, isOutside}
+use Rattle.reply.specs.Read.{Read, refused, read, _then_, refuseIf, refuseFor, refusal, isOutside, ifElse}
 use Rattle.reply.specs.Chain.{if-read, neither}
 use Rattle.reply.specs.declared.Refusal.{Refusal}
 use Rattle.block.specs.Block.{mostAtoms, mostBytes, limit, bondsOf, graphOf, bondFault, bondsReply, blockReply}
@@ -17,35 +17,35 @@ use Rattle.records.specs.Records.{blockKind, assemblyKind, kindAt, endAt, paylo
 use Rattle.records.specs.Taken.{taken}
 use Rattle.records.specs.declared.Kind.{Kind}
 use Rattle.assembly.specs.Book.{Book, used, bondBytes, bookOf, mostBlocks}
-use Rattle.assembly.specs.Placements.{mostPlacements, placementCount, placementAt, Shelf, shelfOf, isFull, firstFault, parentFault, joinFault, laterFault, fault, placedReply, assemblyReply}
+use Rattle.assembly.specs.Placements.{mostPlacements, placementCount, placementAt, Shelf, shelfOf, isFull, firstFault, parentFault, joinFault, laterFault, fault, placementsReply, assemblyReply}
 use Rattle.assembly.specs.declared.Placement.{Placement}
-use Rattle.assembly.specs.declared.Site.{Site}
+use Rattle.assembly.specs.declared.JoinSite.{JoinSite}
 use Rattle.assembly.specs.declared.BlockAt.{BlockAt}
-use Rattle.deck.specs.Deck.{longestDeck, kindsAfter, sheetKinds, Deck, blockAt, moved, bondPlace, blockPlace, placementPlace, blockReplyAt, deckAt, ifElse, blocksFrom, blocksReply, assemblyReplyAt, endReply, sheetReply, deckReply}
+use Rattle.deck.specs.Deck.{longestDeck, kindsAfter, sheetKinds, Deck, blockAt, moved, bondPlace, blockPlace, placementPlace, blockReplyAt, deckAt, blocksFrom, blocksReply, assemblyReplyAt, endReply, sheetReply, deckReply}
 use Rattle.deck.specs.Kept.{kept}
 use Rattle.deck.specs.declared.Form.{Form}
 use Rattle.deck.specs.declared.Form.the-variants.{Composed, Judged}
-use Rattle.tteuyomal.specs.Convention.{places}
+use Rattle.tteuyomal.specs.Convention.{mostPlace}
 
 -- the largest number of a refusal: 254 and 255 say something else
 abbrev pub mostNumber : ℕ
 mostNumber = 253
 
-pub record Small (bound : ℕ) (r : Refusal) : Type 0 where
+pub record SmallRefusal (bound : ℕ) (r : Refusal) : Type 0 where
   pub low : 1 ≤ r .number
   pub high : r .number ≤ mostNumber
   pub place : r .place < bound
 
 -- every refusal that an answer can be is small
 abbrev pub Bounded : {A : Type 0} → ℕ → Read A → Type 0
-Bounded c (refused r) = Small c r
+Bounded c (refused r) = SmallRefusal c r
 Bounded c (read x) = Unit {0}
 
 pub then-bounded : {A B : Type 0} (c : ℕ) (m : Read A) (f : A → Read B) → Bounded c m → ((a : A) → m ≡ read a → Bounded c (f a)) → Bounded c (m then f)
 then-bounded c (refused r) f h k = h
 then-bounded c (read a) f h k = k a refl
 
-pub if-bounded : (c : ℕ) (t : Bool) (n p : ℕ) → Small c (refusal n p) → Bounded c (refuseIf t n p)
+pub if-bounded : (c : ℕ) (t : Bool) (n p : ℕ) → SmallRefusal c (refusal n p) → Bounded c (refuseIf t n p)
 if-bounded c true n p s = s
 if-bounded c false n p s = tt
 
@@ -130,7 +130,7 @@ parent-number : (p : ℕ) → parentFault p ≤ mostNumber
 unfolding parentFault
 parent-number p = either (eqb p 0) 23 24 (omega arith) (omega arith)
 
-join-number : (g h : Site) (joins : ℕ → Join) (k : ℕ) → joinFault g h joins k ≤ mostNumber
+join-number : (g h : JoinSite) (joins : ℕ → Join) (k : ℕ) → joinFault g h joins k ≤ mostNumber
 unfolding joinFault
 join-number g h joins k =
     let j = joins k in
@@ -145,8 +145,8 @@ module _ (shelf : Shelf) (placed : ℕ → Placement) where
       (either (eqb k 0) (firstFault (placed k)) _ (first-number (placed k))
       (either (isOutside k (placed k .parent)) (parentFault (placed k .parent)) _ (parent-number (placed k .parent)) (join-number _ _ _ k)))
 
-  placed-bounded : (c k left : ℕ) → k + left < c → Bounded c (placedReply shelf placed k left)
-  unfolding placedReply
+  placed-bounded : (c k left : ℕ) → k + left < c → Bounded c (placementsReply shelf placed k left)
+  unfolding placementsReply
   placed-bounded c k zero h = tt
   placed-bounded c k (suc left) h =
       then-bounded c (refuseFor (fault shelf placed k) (suc k)) _ (for-bounded c (fault shelf placed k) (suc k) (fault-number k) (omega arith))
@@ -170,46 +170,46 @@ moved-bounded b c place (refused r) h s = record { low = s .low; high = s .high;
 moved-bounded b c place (read u) h s = tt
 
 module _ (d : List ℕ) (l : length d ≤ longestDeck) where
-  at-bounded : (at : ℕ) (done : List BlockAt) → at ≤ length d → Bounded places (blockReplyAt d at done)
+  at-bounded : (at : ℕ) (done : List BlockAt) → at ≤ length d → Bounded mostPlace (blockReplyAt d at done)
   unfolding blockReplyAt
   at-bounded at done h =
       let b = blockAt d at in
       let t = eqb (b .number) 0 || used done (b .number) || leb mostBlocks (length done) in
-      then-bounded places (refuseIf t 14 at) _ (if-bounded places t 14 at (omega arith)) (λ u e.
-      moved-bounded (suc mostBytes) places (blockPlace at) (blockReply (b .atoms) (bondBytes d b)) (λ r s. first-or-bond at places (eqb (r .place) 0) (r .place) (omega arith) (omega (arith, s, h, l))) (block-bounded (b .atoms) (bondBytes d b)))
+      then-bounded mostPlace (refuseIf t 14 at) _ (if-bounded mostPlace t 14 at (omega arith)) (λ u e.
+      moved-bounded (suc mostBytes) mostPlace (blockPlace at) (blockReply (b .atoms) (bondBytes d b)) (λ r s. first-or-bond at mostPlace (eqb (r .place) 0) (r .place) (omega arith) (omega (arith, s, h, l))) (block-bounded (b .atoms) (bondBytes d b)))
 
-  from-bounded : (last : Kind) (fuel at : ℕ) (done : List BlockAt) → at ≤ length d → Bounded places (blocksFrom fuel last d at done)
+  from-bounded : (last : Kind) (fuel at : ℕ) (done : List BlockAt) → at ≤ length d → Bounded mostPlace (blocksFrom fuel last d at done)
   unfolding blocksFrom
   from-bounded last zero at done h = omega arith
   from-bounded last (suc fuel) at done h =
-      then-bounded places (recordReply (kindsAfter done last) d at) _ (record-bounded places (kindsAfter done last) d at (omega arith)) (λ u e.
+      then-bounded mostPlace (recordReply (kindsAfter done last) d at) _ (record-bounded mostPlace (kindsAfter done last) d at (omega arith)) (λ u e.
       go (eqb (kindAt d at) (blockKind .number))
-      (then-bounded places (blockReplyAt d at done) _ (at-bounded at done h) (λ v f. from-bounded last fuel (endAt d at) (done ++ blockAt d at ∷ []) (taken d at (kindsAfter done last) e .whole))))
+      (then-bounded mostPlace (blockReplyAt d at done) _ (at-bounded at done h) (λ v f. from-bounded last fuel (endAt d at) (done ++ blockAt d at ∷ []) (taken d at (kindsAfter done last) e .whole))))
     where
-      go : (t : Bool) → Bounded places (blockReplyAt d at done then λ _. blocksFrom fuel last d (endAt d at) (done ++ blockAt d at ∷ []))
-          → Bounded places (ifElse t (λ _. blockReplyAt d at done then λ _. blocksFrom fuel last d (endAt d at) (done ++ blockAt d at ∷ [])) (λ _. read (deckAt d done at)))
+      go : (t : Bool) → Bounded mostPlace (blockReplyAt d at done then λ _. blocksFrom fuel last d (endAt d at) (done ++ blockAt d at ∷ []))
+          → Bounded mostPlace (ifElse t (λ _. blockReplyAt d at done then λ _. blocksFrom fuel last d (endAt d at) (done ++ blockAt d at ∷ [])) (λ _. read (deckAt d done at)))
       go true r = r
       go false r = tt
 
-  end-bounded : (at : ℕ) → at ≤ length d → Bounded places (endReply d at)
+  end-bounded : (at : ℕ) → at ≤ length d → Bounded mostPlace (endReply d at)
   unfolding endReply
-  end-bounded at h = if-bounded places (ltb at (length d)) 11 at (omega arith)
+  end-bounded at h = if-bounded mostPlace (ltb at (length d)) 11 at (omega arith)
 
-  sheet-bounded : (form : Form) (at : ℕ) → at ≤ length d → Bounded places (sheetReply form d at)
+  sheet-bounded : (form : Form) (at : ℕ) → at ≤ length d → Bounded mostPlace (sheetReply form d at)
   unfolding sheetReply
   sheet-bounded Composed at h = end-bounded at h
   sheet-bounded Judged at h =
-      then-bounded places (recordReply sheetKinds d at) _ (record-bounded places sheetKinds d at (omega arith)) (λ u e. end-bounded (endAt d at) (taken d at sheetKinds e .whole))
+      then-bounded mostPlace (recordReply sheetKinds d at) _ (record-bounded mostPlace sheetKinds d at (omega arith)) (λ u e. end-bounded (endAt d at) (taken d at sheetKinds e .whole))
 
-pub deck-bounded : (form : Form) (d : List ℕ) → Bounded places (deckReply form d)
+pub deck-bounded : (form : Form) (d : List ℕ) → Bounded mostPlace (deckReply form d)
 unfolding deckReply blocksReply assemblyReplyAt
 deck-bounded form d =
-    then-bounded places (refuseIf (ltb longestDeck (length d)) 20 0) _ (if-bounded places (ltb longestDeck (length d)) 20 0 (omega arith)) (λ u e.
+    then-bounded mostPlace (refuseIf (ltb longestDeck (length d)) 20 0) _ (if-bounded mostPlace (ltb longestDeck (length d)) 20 0 (omega arith)) (λ u e.
     let l : length d ≤ longestDeck = ltb-false longestDeck (length d) (if-read _ 20 0 e) in
-    then-bounded places (blocksReply assemblyKind d) _ (from-bounded d l assemblyKind (suc mostBlocks) 0 [] (omega arith)) (λ k f.
+    then-bounded mostPlace (blocksReply assemblyKind d) _ (from-bounded d l assemblyKind (suc mostBlocks) 0 [] (omega arith)) (λ k f.
     let q = kept assemblyKind d f in
     let w = taken d (k .assembly) (assemblyKind ∷ []) (q .after) .whole in
-    then-bounded places (assemblyReplyAt d (k .blocks) (k .assembly)) _
-    (moved-bounded (suc mostPlacements) places (placementPlace (k .assembly)) (assemblyReply (bookOf d (k .blocks)) (payloadAt d (k .assembly))) (λ r s. omega (arith, w, l, s))
+    then-bounded mostPlace (assemblyReplyAt d (k .blocks) (k .assembly)) _
+    (moved-bounded (suc mostPlacements) mostPlace (placementPlace (k .assembly)) (assemblyReply (bookOf d (k .blocks)) (payloadAt d (k .assembly))) (λ r s. omega (arith, w, l, s))
     (assembly-bounded (bookOf d (k .blocks)) (payloadAt d (k .assembly)))) (λ v g.
-    then-bounded places (sheetReply form d (k .sheet)) (λ _. read k) (sheet-bounded d l form (k .sheet) (omega (arith, w, ap (λ (x : Deck). x .sheet) (q .places)))) (λ x h. tt))))
+    then-bounded mostPlace (sheetReply form d (k .sheet)) (λ _. read k) (sheet-bounded d l form (k .sheet) (omega (arith, w, ap (λ (x : Deck). x .sheet) (q .places)))) (λ x h. tt))))

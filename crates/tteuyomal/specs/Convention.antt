@@ -7,15 +7,15 @@ use lib.Dec.{ltb}
 use lib.ListN.{length, drop}
 use Rattle.reply.specs.Read.{Read, refused, read, _then_, refuseIf}
 use Rattle.reply.specs.declared.Refusal.{Refusal}
-use Rattle.molecule.specs.declared.Verdict.{Verdict}
-use Rattle.molecule.specs.declared.Verdict.the-variants as verdict
+use Rattle.judging.specs.declared.Verdict.{Verdict}
+use Rattle.judging.specs.declared.Verdict.the-variants as verdict
 
 -- the most that is kept of a place
-abbrev pub places : ℕ
-places = 2 ^ 56
+abbrev pub mostPlace : ℕ
+mostPlace = 2 ^ 56
 
 abbrev pub code : Refusal → ℕ
-code r = r .number % 256 + 256 * (r .place % places)
+code r = r .number % 256 + 256 * (r .place % mostPlace)
 
 abbrev pub coded : {A : Type 0} → Read A → ℕ
 coded (refused r) = code r
@@ -25,7 +25,7 @@ coded (read x) = 0
 abbrev pub verdictCode : Verdict → ℕ
 verdictCode (verdict.Refused r) = code r
 verdictCode verdict.Accepted = 0
-verdictCode (verdict.Differs k) = 255 + 256 * (k % places)
+verdictCode (verdict.Differs k) = 255 + 256 * (k % mostPlace)
 
 -- 9 at place 0 where the answer has more entries than are lent
 abbrev pub fitting : {A : Type 0} → ℕ → Read (List A) → Read (List A)
@@ -36,11 +36,11 @@ abbrev pub over : {A : Type 0} → List A → List A → List A
 over new old = new ++ drop (length new) old
 
 -- a lent output after the call: a refusal changes nothing
-abbrev pub after : {A : Type 0} → Read (List A) → List A → List A
-after (refused r) old = old
-after (read xs) old = over xs old
+abbrev pub outAfter : {A : Type 0} → Read (List A) → List A → List A
+outAfter (refused r) old = old
+outAfter (read xs) old = over xs old
 
 -- what a function that lends its answer out promises: its reply, and the output after the call
 pub record Lent {A : Type 0} (answer : Read (List A)) (old : List A) (reply : ℕ) (new : List A) : Type 0 where
   pub replied : reply ≡ coded (fitting (length old) answer)
-  pub lent : new ≡ after (fitting (length old) answer) old
+  pub lent : new ≡ outAfter (fitting (length old) answer) old

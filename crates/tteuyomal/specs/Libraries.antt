@@ -9,8 +9,8 @@ use Rattle.reply.specs.Read.{Read, refused, read, _then_, refuseIf}
 use Rattle.records.specs.declared.Sheet.{Sheet}
 use Rattle.records.specs.declared.Sheet.the-variants.{Five, Six}
 use Rattle.products.specs.Products.{countReply, Product, done, made}
-use Rattle.library.specs.declared.Stepped.{Stepped}
-use Rattle.library.specs.declared.Stepped.the-variants as stepped
+use Rattle.library.specs.declared.StepReply.{StepReply}
+use Rattle.library.specs.declared.StepReply.the-variants as stepped
 use Rattle.tteuyomal.specs.Convention.{code, over}
 
 -- kind 4 has six fields, anything else counts as 3
@@ -39,12 +39,12 @@ madeOut new (read done) old = old
 madeOut new (read (made x)) old = new
 
 -- the same of what the library says
-abbrev pub steppedCode : Stepped → ℕ
+abbrev pub steppedCode : StepReply → ℕ
 steppedCode (stepped.Refused r) = code r
 steppedCode stepped.Done = 254
 steppedCode (stepped.Next n) = 0
 
-abbrev pub steppedNext : Stepped → List ℕ → List ℕ
+abbrev pub steppedNext : StepReply → List ℕ → List ℕ
 steppedNext (stepped.Refused r) old = old
 steppedNext stepped.Done old = old
 steppedNext (stepped.Next n) old = over (n ∷ []) old

@@ -6,9 +6,9 @@ use lib.Dec.{ltb}
 use lib.ListN.{length}
 use Rattle.reply.specs.Read.{Read, read, _then_, refuseIf}
 use Rattle.block.specs.Block.{bondsOf}
-use Rattle.molfile.specs.Molfile.{atomsOf, bytesOf, molfileReply}
-use Rattle.molwriter.specs.Written.{molfileText, writeReply}
-use Rattle.tteuyomal.specs.Convention.{coded, after}
+use Rattle.molfile.specs.Molfile.{keptAtoms, bytesOf, molfileReply}
+use Rattle.molwriter.specs.Written.{molfileText, molfileWriteReply}
+use Rattle.tteuyomal.specs.Convention.{coded, outAfter}
 use Rattle.tteuyomal.specs.Replies.{thenNine}
 
 -- reading: the bonds go out, and the numbers of atoms and of bonds
@@ -17,8 +17,8 @@ readReply d room entries = molfileReply d room then λ _. refuseIf (ltb entries 
 
 pub record MolfileRead (d bonds counts : List ℕ) (reply : ℕ) (bonds′ counts′ : List ℕ) : Type 0 where
   pub replied : reply ≡ coded (readReply d (length bonds) (length counts))
-  pub bonded : bonds′ ≡ after (readReply d (length bonds) (length counts) then λ _. read (bytesOf d)) bonds
-  pub counted : counts′ ≡ after (readReply d (length bonds) (length counts) then λ _. read (atomsOf d ∷ length (bytesOf d) / 2 ∷ [])) counts
+  pub bonded : bonds′ ≡ outAfter (readReply d (length bonds) (length counts) then λ _. read (bytesOf d)) bonds
+  pub counted : counts′ ≡ outAfter (readReply d (length bonds) (length counts) then λ _. read (keptAtoms d ∷ length (bytesOf d) / 2 ∷ [])) counts
 
 -- the file's refusal and the block's, then 9: no bond takes one byte
 abbrev pub unlentMolfile : List ℕ → Read ℕ
@@ -26,9 +26,9 @@ unlentMolfile d = thenNine (molfileReply d 1)
 
 -- writing: the text goes out, and its length
 abbrev pub writtenReply : ℕ → List ℕ → ℕ → ℕ → Read ℕ
-writtenReply n xs room entries = writeReply n xs room then λ k. refuseIf (ltb entries 1) 9 0 then λ _. read k
+writtenReply n xs room entries = molfileWriteReply n xs room then λ k. refuseIf (ltb entries 1) 9 0 then λ _. read k
 
 pub record MolfileWritten (n : ℕ) (xs text told : List ℕ) (reply : ℕ) (text′ told′ : List ℕ) : Type 0 where
   pub replied : reply ≡ coded (writtenReply n xs (length text) (length told))
-  pub texted : text′ ≡ after (writtenReply n xs (length text) (length told) then λ _. read (molfileText n (bondsOf xs))) text
-  pub lengthed : told′ ≡ after (writtenReply n xs (length text) (length told) then λ k. read (k ∷ [])) told
+  pub texted : text′ ≡ outAfter (writtenReply n xs (length text) (length told) then λ _. read (molfileText n (bondsOf xs))) text
+  pub lengthed : told′ ≡ outAfter (writtenReply n xs (length text) (length told) then λ k. read (k ∷ [])) told

@@ -14,7 +14,7 @@ use Rattle.records.specs.declared.Sheet.the-variants.{Five}
 use Rattle.sheets.specs.Sheets.{fieldsOf}
 use Rattle.deck.specs.declared.Form.the-variants.{Composed}
 use Rattle.compose.specs.Fields.{fieldsReply}
-use Rattle.climb.specs.Placed.{placedReply}
+use Rattle.climb.specs.Placed.{placedDistanceReply}
 use Rattle.poly.specs.declared.Values.{Values}
 use Rattle.poly.specs.Poly.{polynomialReply}
 use lib.Ieee.{Float}
@@ -29,7 +29,7 @@ composedList s d = fieldsReply Composed d then λ x. read (fieldsOf s x)
 
 -- the distance of two placed atoms
 abbrev pub placedList : List ℕ → ℕ → ℕ → ℕ → ℕ → Read (List ℕ)
-placedList d k i l j = placedReply d k i l j then λ n. read (n ∷ [])
+placedList d k i l j = placedDistanceReply d k i l j then λ n. read (n ∷ [])
 
 -- sum, even part, odd part, even count, odd count, f(1), f(2)
 abbrev pub sumsOf : Vertex → List ℕ

@@ -8,35 +8,35 @@ use borrow.Author.Tests.{ltb-true, ltb-false}
 use lib.Dec.{eqb, ltb}
 use lib.ListN.{length}
 use Rattle.graph.specs.Graph.{Graph, Bond, connected}
-use Rattle.reply.specs.Read.{Read, read, _then_, refuseIf, refuseFor, isOutside}
+use Rattle.reply.specs.Read.{Read, read, _then_, refuseIf, refuseFor, isOutside, ifElse}
 use Rattle.reply.specs.Chain.{if-read}
-use Rattle.text.specs.Text.{isDigit, ifElse}
+use Rattle.text.specs.Text.{isDigit}
 use Rattle.block.specs.Block.{mostAtoms, mostBytes, bondsOf, bondFault, blockReply}
-use Rattle.adjacency.specs.Neighbours.{Number, Run, none, run, longer, ended, numbersFrom, numbers, faultAt, bytesReply, isLast, labelAfter, lastReply, shapeFrom, countReply, Step, described, bonded, steps, bondsIn, stepsReply, bondsLength, molecule, blockOf, neighboursReply}
-use Rattle.adjacency.specs.Written.{writtenText, writeReply}
-use Rattle.tteuyomal.specs.Convention.{places}
+use Rattle.adjacency.specs.Neighbours.{TextNumber, Run, none, run, longer, ended, numbersFrom, numbers, faultAt, bytesReply, isLast, labelAfter, lastReply, shapeFrom, atomCountReply, Step, described, bonded, steps, bondsIn, stepsReply, bondsLength, molecule, blockOf, neighboursReply}
+use Rattle.adjacency.specs.Written.{writtenText, neighboursWriteReply}
+use Rattle.tteuyomal.specs.Convention.{mostPlace}
 use Rattle.tteuyomal.specs.Bounded.{Bounded, then-bounded, if-bounded, for-bounded, wider, bond-number, block-bounded}
 use Rattle.tteuyomal.specs.Texts.{textReply, toldReply}
 use Rattle.tteuyomal.specs.Recovered.{Tells, tells}
 
 -- the numbers of a text stand in it
-data Low : List Number → Type 0 where
+data Low : List TextNumber → Type 0 where
   nothing : Low []
-  before : {x : Number} {xs : List Number} → x .place < places → Low xs → Low (x ∷ xs)
+  before : {x : TextNumber} {xs : List TextNumber} → x .place < mostPlace → Low xs → Low (x ∷ xs)
 
 abbrev LowRun : Run → Type 0
 LowRun none = Unit {0}
-LowRun (run x) = x .place < places
+LowRun (run x) = x .place < mostPlace
 
-longer-low : (r : Run) (at b : ℕ) → LowRun r → at < places → LowRun (longer r at b)
+longer-low : (r : Run) (at b : ℕ) → LowRun r → at < mostPlace → LowRun (longer r at b)
 longer-low none at b h l = l
 longer-low (run x) at b h l = h
 
-ended-low : (r : Run) {xs : List Number} → LowRun r → Low xs → Low (ended r xs)
+ended-low : (r : Run) {xs : List TextNumber} → LowRun r → Low xs → Low (ended r xs)
 ended-low none h l = l
 ended-low (run x) h l = before h l
 
-numbers-low : (r : Run) (at : ℕ) (bs : List ℕ) → LowRun r → at + length bs ≤ places → Low (numbersFrom r at bs)
+numbers-low : (r : Run) (at : ℕ) (bs : List ℕ) → LowRun r → at + length bs ≤ mostPlace → Low (numbersFrom r at bs)
 unfolding numbersFrom
 numbers-low r at [] h l = ended-low r h nothing
 numbers-low r at (b ∷ bs) h l =
@@ -48,67 +48,67 @@ numbers-low r at (b ∷ bs) h l =
     go false p q = ended-low r h q
 
 -- 22
-shape-bounded : (end label : ℕ) (xs : List Number) → end < places → Low xs → Bounded places (shapeFrom end label xs)
+shape-bounded : (end label : ℕ) (xs : List TextNumber) → end < mostPlace → Low xs → Bounded mostPlace (shapeFrom end label xs)
 unfolding shapeFrom
 shape-bounded end label [] l h = record { low = omega arith; high = omega arith; place = l }
 shape-bounded end label (x ∷ xs) l (before p h) = go (isLast label (x .value)) (shape-bounded end (labelAfter label (x .value)) xs l h) xs h
   where
-    go : (t : Bool) → Bounded places (shapeFrom end (labelAfter label (x .value)) xs) → (ys : List Number) → Low ys
-        → Bounded places (ifElse t (λ _. lastReply ys) (λ _. shapeFrom end (labelAfter label (x .value)) xs))
+    go : (t : Bool) → Bounded mostPlace (shapeFrom end (labelAfter label (x .value)) xs) → (ys : List TextNumber) → Low ys
+        → Bounded mostPlace (ifElse t (λ _. lastReply ys) (λ _. shapeFrom end (labelAfter label (x .value)) xs))
     go true b [] q = tt
     go true b (y ∷ ys) (before q r) = record { low = omega arith; high = omega arith; place = q }
     go false b ys q = b
 
-count-bounded : (end : ℕ) (xs : List Number) → end < places → Low xs → Bounded places (countReply end xs)
+count-bounded : (end : ℕ) (xs : List TextNumber) → end < mostPlace → Low xs → Bounded mostPlace (atomCountReply end xs)
 count-bounded end [] l h = record { low = omega arith; high = omega arith; place = l }
-count-bounded end (x ∷ xs) l (before p h) = then-bounded places (shapeFrom end 0 xs) _ (shape-bounded end 0 xs l h) (λ u e. tt)
+count-bounded end (x ∷ xs) l (before p h) = then-bounded mostPlace (shapeFrom end 0 xs) _ (shape-bounded end 0 xs l h) (λ u e. tt)
 
 -- 3 to 6 have the number of the next bond
-steps-bounded : (n : ℕ) (done : List Bond) (ss : List Step) → suc (length done + length (bondsIn ss)) < places → Bounded places (stepsReply n done ss)
+steps-bounded : (n : ℕ) (done : List Bond) (ss : List Step) → suc (length done + length (bondsIn ss)) < mostPlace → Bounded mostPlace (stepsReply n done ss)
 unfolding stepsReply bondsIn
 steps-bounded n done [] l = tt
 steps-bounded n done (described x ∷ ss) l =
-    then-bounded places (refuseIf (ltb n x) 3 (suc (length done))) _ (if-bounded places (ltb n x) 3 (suc (length done)) (omega (arith, l))) (λ u e. steps-bounded n done ss l)
+    then-bounded mostPlace (refuseIf (ltb n x) 3 (suc (length done))) _ (if-bounded mostPlace (ltb n x) 3 (suc (length done)) (omega (arith, l))) (λ u e. steps-bounded n done ss l)
 steps-bounded n done (bonded b ∷ ss) l =
-    then-bounded places (refuseFor (bondFault n done b) (suc (length done))) _ (for-bounded places (bondFault n done b) (suc (length done)) (bond-number n done b) (omega (arith, l))) (λ u e. steps-bounded n (b ∷ done) ss (omega (arith, l)))
+    then-bounded mostPlace (refuseFor (bondFault n done b) (suc (length done))) _ (for-bounded mostPlace (bondFault n done b) (suc (length done)) (bond-number n done b) (omega (arith, l))) (λ u e. steps-bounded n (b ∷ done) ss (omega (arith, l)))
 
-read-bounded : (n : ℕ) (ss : List Step) (room : ℕ) → Bounded places (blockOf n ss room)
+read-bounded : (n : ℕ) (ss : List Step) (room : ℕ) → Bounded mostPlace (blockOf n ss room)
 unfolding blockOf
 read-bounded n ss room =
     let bytes = bondsLength (bondsIn ss) in
-    then-bounded places (refuseIf (isOutside mostAtoms n) 1 0) _ (if-bounded places (isOutside mostAtoms n) 1 0 (omega arith)) (λ u e.
-    then-bounded places (refuseIf (ltb mostBytes bytes) 2 0) _ (if-bounded places (ltb mostBytes bytes) 2 0 (omega arith)) (λ v f.
-    then-bounded places (stepsReply n [] ss) _ (steps-bounded n [] ss (omega (arith, ltb-false mostBytes bytes (if-read (ltb mostBytes bytes) 2 0 f)))) (λ w g.
-    then-bounded places (refuseIf (not (connected (molecule n ss))) 7 0) _ (if-bounded places (not (connected (molecule n ss))) 7 0 (omega arith)) (λ x h.
-    then-bounded places (refuseIf (ltb room bytes) 9 0) _ (if-bounded places (ltb room bytes) 9 0 (omega arith)) (λ y i. tt)))))
+    then-bounded mostPlace (refuseIf (isOutside mostAtoms n) 1 0) _ (if-bounded mostPlace (isOutside mostAtoms n) 1 0 (omega arith)) (λ u e.
+    then-bounded mostPlace (refuseIf (ltb mostBytes bytes) 2 0) _ (if-bounded mostPlace (ltb mostBytes bytes) 2 0 (omega arith)) (λ v f.
+    then-bounded mostPlace (stepsReply n [] ss) _ (steps-bounded n [] ss (omega (arith, ltb-false mostBytes bytes (if-read (ltb mostBytes bytes) 2 0 f)))) (λ w g.
+    then-bounded mostPlace (refuseIf (not (connected (molecule n ss))) 7 0) _ (if-bounded mostPlace (not (connected (molecule n ss))) 7 0 (omega arith)) (λ x h.
+    then-bounded mostPlace (refuseIf (ltb room bytes) 9 0) _ (if-bounded mostPlace (ltb room bytes) 9 0 (omega arith)) (λ y i. tt)))))
 
-module _ (t : List ℕ) (l : length t < places) where
-  fault-bounded : Bounded places (bytesReply t)
+module _ (t : List ℕ) (l : length t < mostPlace) where
+  fault-bounded : Bounded mostPlace (bytesReply t)
   fault-bounded = go (ltb (faultAt t) (length t)) (ltb-true (faultAt t) (length t))
     where
-      go : (b : Bool) → (b ≡ true → faultAt t < length t) → Bounded places (refuseIf b 21 (faultAt t))
+      go : (b : Bool) → (b ≡ true → faultAt t < length t) → Bounded mostPlace (refuseIf b 21 (faultAt t))
       go true h = record { low = omega arith; high = omega arith; place = omega (arith, h refl) }
       go false h = tt
 
-  text-bounded : (room : ℕ) → Bounded places (neighboursReply t room)
+  text-bounded : (room : ℕ) → Bounded mostPlace (neighboursReply t room)
   unfolding neighboursReply
   text-bounded room =
-      then-bounded places (bytesReply t) _ fault-bounded (λ u e.
-      then-bounded places (countReply (length t) (numbers t)) _ (count-bounded (length t) (numbers t) l (numbers-low none 0 t tt (omega (arith, l)))) (λ c f.
+      then-bounded mostPlace (bytesReply t) _ fault-bounded (λ u e.
+      then-bounded mostPlace (atomCountReply (length t) (numbers t)) _ (count-bounded (length t) (numbers t) l (numbers-low none 0 t tt (omega (arith, l)))) (λ c f.
       read-bounded (c .count) (steps (c .rest)) room))
 
   pub neighbours-read-tells : (room entries : ℕ) → Tells (textReply t room entries)
   neighbours-read-tells room entries =
       tells (textReply t room entries)
-      (then-bounded places (neighboursReply t room) _ (text-bounded room) (λ g e.
-      then-bounded places (refuseIf (ltb entries 2) 9 0) (λ _. read g) (if-bounded places (ltb entries 2) 9 0 (omega arith)) (λ v f. tt)))
+      (then-bounded mostPlace (neighboursReply t room) _ (text-bounded room) (λ g e.
+      then-bounded mostPlace (refuseIf (ltb entries 2) 9 0) (λ _. read g) (if-bounded mostPlace (ltb entries 2) 9 0 (omega arith)) (λ v f. tt)))
 
 pub neighbours-written-tells : (n : ℕ) (xs : List ℕ) (room entries : ℕ) → Tells (toldReply n xs room entries)
-unfolding writeReply
+unfolding neighboursWriteReply
 neighbours-written-tells n xs room entries =
     let size = length (writtenText n (bondsOf xs)) in
     tells (toldReply n xs room entries)
-    (then-bounded places (writeReply n xs room) _
-    (then-bounded places (blockReply n xs) _ (wider (suc mostBytes) places (blockReply n xs) (omega arith) (block-bounded n xs)) (λ u e.
-    then-bounded places (refuseIf (ltb room size) 9 0) _ (if-bounded places (ltb room size) 9 0 (omega arith)) (λ v f. tt)))
-    (λ t e. then-bounded places (refuseIf (ltb entries 1) 9 0) (λ _. read t) (if-bounded places (ltb entries 1) 9 0 (omega arith)) (λ v f. tt)))
+    (then-bounded mostPlace (neighboursWriteReply n xs room) _
+    (then-bounded mostPlace (blockReply n xs) _ (wider (suc mostBytes) mostPlace (blockReply n xs) (omega arith) (block-bounded n xs)) (λ u e.
+    then-bounded mostPlace (refuseIf (ltb room size) 9 0) _ (if-bounded mostPlace (ltb room size) 9 0 (omega arith)) (λ v f. tt)))
+    (λ t e. then-bounded mostPlace (refuseIf (ltb entries 1) 9 0) (λ _. read t) (if-bounded mostPlace (ltb entries 1) 9 0 (omega arith)) (λ v f. tt)))

@@ -1,7 +1,7 @@
-// Balaban's J of a block as C calls it.
+// BalabanReply's J of a block as C calls it.
 use super::code_of;
 use super::give;
-use balaban::Balaban;
+use balaban::BalabanReply;
 ghost use Rattle.tteuyomal.specs.Convention.{Lent};
 ghost use Rattle.tteuyomal.specs.Balaban.{balabanList};
 
@@ -11,8 +11,8 @@ pub extern "C" fn tteuyomal_balaban(atoms: usize, bonds: &[u8], value: &mut [u64
 {
     let answer = balaban::index(atoms, bonds);
     match answer {
-        Balaban::Refused(r) => code_of(r),
-        Balaban::Of(j) => {
+        BalabanReply::Refused(r) => code_of(r),
+        BalabanReply::Of(j) => {
             let numbers = [j];
             give(value, &numbers)
         }

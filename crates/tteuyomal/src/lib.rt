@@ -6,21 +6,21 @@ ghost use Rattle.reply.specs.Read.{read};
 ghost use Rattle.block.specs.Block.{blockReply};
 ghost use Rattle.records.specs.declared.Sheet.the-variants.{Five, Six};
 ghost use Rattle.sheets.specs.Sheets.{fieldsOf};
-ghost use Rattle.molecule.specs.Molecule.{judgeReply, saidVerdict, writeReply, sheetOut};
-ghost use Rattle.tteuyomal.specs.Convention.{places, code, coded, verdictCode, over, Lent};
+ghost use Rattle.judging.specs.Judging.{judgeReply, saidVerdict, sheetWriteReply, sheetOut};
+ghost use Rattle.tteuyomal.specs.Convention.{mostPlace, code, coded, verdictCode, over, Lent};
 ghost use Rattle.tteuyomal.specs.Replies.{indicesList, composedList, placedList, vertexList, valuesList, polynomialList, unlentReply, Contributed};
-use block::Apart;
-use block::Around;
+use block::DistanceReply;
+use block::VertexReply;
 use block::Indices;
-use block::Measured;
-use molecule::Verdict;
-use molecule::Written;
-use poly::Answer;
+use block::IndicesReply;
+use judging::Verdict;
+use judging::SheetWritten;
+use poly::ValuesReply;
 use poly::Values;
 use records::Sheet;
 use reply::Refusal;
 use reply::Reply;
-use shares::Shares;
+use shares::SharesReply;
 use sheets::field_count;
 use sheets::fields_of;
 
@@ -91,8 +91,8 @@ pub extern "C" fn tteuyomal_indices(atoms: usize, bonds: &[u8], fields: &mut [u6
 {
     let answer = block::measure(atoms, bonds);
     match answer {
-        Measured::Refused(r) => code_of(r),
-        Measured::Of(x) => give_fields(fields, Sheet::Five, x),
+        IndicesReply::Refused(r) => code_of(r),
+        IndicesReply::Of(x) => give_fields(fields, Sheet::Five, x),
     }
 }
 
@@ -102,8 +102,8 @@ pub extern "C" fn tteuyomal_vertex(atoms: usize, bonds: &[u8], atom: usize, sums
 {
     let answer = block::vertex_sums(atoms, bonds, atom);
     match answer {
-        Around::Refused(r) => code_of(r),
-        Around::Of(v) => {
+        VertexReply::Refused(r) => code_of(r),
+        VertexReply::Of(v) => {
             let numbers = [v.sum, v.even, v.odd, v.evens, v.odds, v.ones, v.twos];
             give(sums, &numbers)
         }
@@ -133,8 +133,8 @@ pub extern "C" fn tteuyomal_polynomial(
 {
     let answer = poly::polynomial(atoms, bonds, x);
     match answer {
-        Answer::Refused(r) => code_of(r),
-        Answer::Values(v) => give_values(values, v),
+        ValuesReply::Refused(r) => code_of(r),
+        ValuesReply::Values(v) => give_values(values, v),
     }
 }
 
@@ -163,8 +163,8 @@ pub extern "C" fn tteuyomal_contributions(
     }
     let answer = shares::contributions(atoms, bonds, shares);
     match answer {
-        Shares::Refused(r) => code_of(r),
-        Shares::Denominator(d) => {
+        SharesReply::Refused(r) => code_of(r),
+        SharesReply::Denominator(d) => {
             denominator[0] = d;
             0
         }
@@ -173,7 +173,7 @@ pub extern "C" fn tteuyomal_contributions(
 
 // The first wrong field as one number.
 fn field_of(k: usize) -> u64
-    ensures { λ x. ⌜ x ≡ 255 + 256 * (k % places) ⌝ }
+    ensures { λ x. ⌜ x ≡ 255 + 256 * (k % mostPlace) ⌝ }
 {
     255 + 256 * ((k % PLACES) as u64)
 }
@@ -182,7 +182,7 @@ fn field_of(k: usize) -> u64
 pub extern "C" fn tteuyomal_judge(deck: &[u8]) -> u64
     ensures { λ r. ⌜ r ≡ verdictCode (saidVerdict (judgeReply (now (deck .entry)))) ⌝ }
 {
-    let verdict = molecule::judge(deck);
+    let verdict = judging::judge(deck);
     match verdict {
         Verdict::Refused(r) => code_of(r),
         Verdict::Accepted => 0,
@@ -192,28 +192,28 @@ pub extern "C" fn tteuyomal_judge(deck: &[u8]) -> u64
 
 // A sheet of either kind written.
 fn write_either(deck: &[u8], sheet: Sheet, out: &mut [u8]) -> u64
-    ensures reply { λ r. ⌜ r ≡ coded (writeReply sheet (now (deck .entry)) (length (now (out .entry)))) ⌝ }
-    ensures bytes { λ _. ⌜ now (out .exit) ≡ sheetOut sheet (now (out .entry)) (writeReply sheet (now (deck .entry)) (length (now (out .entry)))) ⌝ }
+    ensures reply { λ r. ⌜ r ≡ coded (sheetWriteReply sheet (now (deck .entry)) (length (now (out .entry)))) ⌝ }
+    ensures bytes { λ _. ⌜ now (out .exit) ≡ sheetOut sheet (now (out .entry)) (sheetWriteReply sheet (now (deck .entry)) (length (now (out .entry)))) ⌝ }
 {
-    let written = molecule::write_sheet(deck, sheet, out);
+    let written = judging::write_sheet(deck, sheet, out);
     match written {
-        Written::Refused(r) => code_of(r),
-        Written::Sheet => 0,
+        SheetWritten::Refused(r) => code_of(r),
+        SheetWritten::Sheet => 0,
     }
 }
 
 #[no_mangle]
 pub extern "C" fn tteuyomal_write_sheet(deck: &[u8], out: &mut [u8]) -> u64
-    ensures reply { λ r. ⌜ r ≡ coded (writeReply Five (now (deck .entry)) (length (now (out .entry)))) ⌝ }
-    ensures bytes { λ _. ⌜ now (out .exit) ≡ sheetOut Five (now (out .entry)) (writeReply Five (now (deck .entry)) (length (now (out .entry)))) ⌝ }
+    ensures reply { λ r. ⌜ r ≡ coded (sheetWriteReply Five (now (deck .entry)) (length (now (out .entry)))) ⌝ }
+    ensures bytes { λ _. ⌜ now (out .exit) ≡ sheetOut Five (now (out .entry)) (sheetWriteReply Five (now (deck .entry)) (length (now (out .entry)))) ⌝ }
 {
     write_either(deck, Sheet::Five, out)
 }
 
 #[no_mangle]
 pub extern "C" fn tteuyomal_write_six(deck: &[u8], out: &mut [u8]) -> u64
-    ensures reply { λ r. ⌜ r ≡ coded (writeReply Six (now (deck .entry)) (length (now (out .entry)))) ⌝ }
-    ensures bytes { λ _. ⌜ now (out .exit) ≡ sheetOut Six (now (out .entry)) (writeReply Six (now (deck .entry)) (length (now (out .entry)))) ⌝ }
+    ensures reply { λ r. ⌜ r ≡ coded (sheetWriteReply Six (now (deck .entry)) (length (now (out .entry)))) ⌝ }
+    ensures bytes { λ _. ⌜ now (out .exit) ≡ sheetOut Six (now (out .entry)) (sheetWriteReply Six (now (deck .entry)) (length (now (out .entry)))) ⌝ }
 {
     write_either(deck, Sheet::Six, out)
 }
@@ -222,10 +222,10 @@ pub extern "C" fn tteuyomal_write_six(deck: &[u8], out: &mut [u8]) -> u64
 fn compose_either(deck: &[u8], sheet: Sheet, fields: &mut [u64]) -> u64
     ensures { λ r. ⌜ Lent (composedList sheet (now (deck .entry))) (now (fields .entry)) r (now (fields .exit)) ⌝ }
 {
-    let answer = molecule::compose(deck);
+    let answer = judging::compose(deck);
     match answer {
-        Measured::Refused(r) => code_of(r),
-        Measured::Of(x) => give_fields(fields, sheet, x),
+        IndicesReply::Refused(r) => code_of(r),
+        IndicesReply::Of(x) => give_fields(fields, sheet, x),
     }
 }
 
@@ -256,8 +256,8 @@ pub extern "C" fn tteuyomal_placed_distance(
 {
     let answer = climb::placed_distance(deck, k, i, l, j);
     match answer {
-        Apart::Refused(r) => code_of(r),
-        Apart::Of(n) => {
+        DistanceReply::Refused(r) => code_of(r),
+        DistanceReply::Of(n) => {
             let numbers = [n];
             give(distance, &numbers)
         }

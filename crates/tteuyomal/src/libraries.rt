@@ -1,10 +1,10 @@
 // The products of a library as C asks for them.
 use super::code_of;
 use super::give;
-use catalogue::Counted;
+use catalogue::CountReply;
 use deck::LONGEST;
-use library::Made;
-use library::Stepped;
+use library::ProductReply;
+use library::StepReply;
 use records::Sheet;
 use sheets::bytes_of;
 ghost use mathlib.Core.Path.{_≡_};
@@ -33,8 +33,8 @@ pub extern "C" fn tteuyomal_library_count(deck: &[u8], count: &mut [u64]) -> u64
 {
     let answer = catalogue::count(deck);
     match answer {
-        Counted::Refused(r) => code_of(r),
-        Counted::Of(n) => {
+        CountReply::Refused(r) => code_of(r),
+        CountReply::Of(n) => {
             let numbers = [n as u64];
             give(count, &numbers)
         }
@@ -53,22 +53,22 @@ fn unlent_step(deck: &[u8], sheet: Sheet, position: usize, room: usize) -> u64
     }
     let answer = library::product(deck, position);
     match answer {
-        Made::Refused(r) => code_of(r),
-        Made::Done => DONE,
-        Made::Of(_) => 9,
+        ProductReply::Refused(r) => code_of(r),
+        ProductReply::Done => DONE,
+        ProductReply::Of(_) => 9,
     }
 }
 
 // The reply to a step or a run, and the next position.
-fn tell(told: Stepped, next: &mut [u64]) -> u64
+fn tell(told: StepReply, next: &mut [u64]) -> u64
     requires { ⌜ 1 ≤ length (now next) ⌝ }
     ensures reply { λ r. ⌜ r ≡ steppedCode told ⌝ }
     ensures next { λ _. ⌜ now (next .exit) ≡ steppedNext told (now (next .entry)) ⌝ }
 {
     match told {
-        Stepped::Refused(r) => code_of(r),
-        Stepped::Done => DONE,
-        Stepped::Next(n) => {
+        StepReply::Refused(r) => code_of(r),
+        StepReply::Done => DONE,
+        StepReply::Next(n) => {
             next[0] = n as u64;
             0
         }

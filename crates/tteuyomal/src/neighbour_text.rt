@@ -4,8 +4,8 @@ ghost use Rattle.tteuyomal.specs.Convention.{coded};
 ghost use Rattle.tteuyomal.specs.Texts.{unlentText, TextRead, TextWritten};
 use super::code_of;
 use super::unlent;
-use neighbours::Found;
-use neighbours::Written;
+use neighbours::NeighboursRead;
+use neighbours::NeighboursWritten;
 
 // The refusal of a text, and 9 where it has none.
 fn unlent_text(text: &[u8]) -> u64
@@ -14,8 +14,8 @@ fn unlent_text(text: &[u8]) -> u64
     let mut none = [0u8; 1];
     let answer = neighbours::read(text, &mut none);
     match answer {
-        Found::Refused(r) => code_of(r),
-        Found::Block(_) => 9,
+        NeighboursRead::Refused(r) => code_of(r),
+        NeighboursRead::Block(_) => 9,
     }
 }
 
@@ -32,8 +32,8 @@ pub extern "C" fn tteuyomal_read_neighbours(
     }
     let answer = neighbours::read(text, bonds);
     match answer {
-        Found::Refused(r) => code_of(r),
-        Found::Block(x) => {
+        NeighboursRead::Refused(r) => code_of(r),
+        NeighboursRead::Block(x) => {
             counts[0] = x.atoms as u64;
             counts[1] = x.bonds as u64;
             0
@@ -55,8 +55,8 @@ pub extern "C" fn tteuyomal_write_neighbours(
     }
     let answer = neighbours::write(atoms, bonds, text);
     match answer {
-        Written::Refused(r) => code_of(r),
-        Written::Bytes(k) => {
+        NeighboursWritten::Refused(r) => code_of(r),
+        NeighboursWritten::Bytes(k) => {
             length[0] = k as u64;
             0
         }

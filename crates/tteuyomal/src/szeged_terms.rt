@@ -1,7 +1,7 @@
-// The Szeged index of a block as C calls it.
+// The SzegedReply index of a block as C calls it.
 use super::code_of;
 use super::unlent;
-use szeged::Szeged;
+use szeged::SzegedReply;
 ghost use Rattle.tteuyomal.specs.Szeged.{SzegedLent};
 
 #[no_mangle]
@@ -18,8 +18,8 @@ pub extern "C" fn tteuyomal_szeged(
     }
     let answer = szeged::terms(atoms, bonds, terms);
     match answer {
-        Szeged::Refused(r) => code_of(r),
-        Szeged::Index(x) => {
+        SzegedReply::Refused(r) => code_of(r),
+        SzegedReply::Index(x) => {
             index[0] = x;
             0
         }

@@ -8,13 +8,13 @@ use lib.ListN.{take}
 use Rattle.reply.specs.Read.{refusal, isOutside, saidReply}
 use Rattle.reply.specs.declared.Reply.the-variants.{Refused}
 use Rattle.assembly.specs.Book.{Book, bookOf}
-use Rattle.assembly.specs.Placements.{mostPlacements, placementCount, placementAt, shelfOf, placedReply, assemblyReply}
+use Rattle.assembly.specs.Placements.{mostPlacements, placementCount, placementAt, shelfOf, placementsReply, assemblyReply}
 use Rattle.assembly.proofs.Faults.{faulty, faultless, none-left, count-outside, count-within}
 use Rattle.assembly.proofs.check.Statement.{statement}
 use Rattle.assembly.proofs.check.Tie as tie
 
 abbrev Inv-loop : tie.InvT-loop
-Inv-loop d blocks count xs p k₀ k = (k ≤ p) × (assemblyReply (bookOf d (take count blocks)) xs ≡ placedReply (shelfOf (bookOf d (take count blocks))) (placementAt xs) k (p - k))
+Inv-loop d blocks count xs p k₀ k = (k ≤ p) × (assemblyReply (bookOf d (take count blocks)) xs ≡ placementsReply (shelfOf (bookOf d (take count blocks))) (placementAt xs) k (p - k))
 
 abbrev μ-loop : tie.MeasureT-loop
 μ-loop d blocks count xs p k₀ k = p - k
@@ -28,10 +28,10 @@ outside-is c = c .is-outside .ensures ∙ ap (isOutside mostPlacements) (c .befo
 
 -- what is left to do, one placement at least
 left : (c : tie.In-loop Inv-loop μ-loop) → let l = c .before in let s = l .before .before .before .before .before .before in let k = l .loop .k in
-    assemblyReply (book s) (s .args .xs .now) ≡ placedReply (shelfOf (book s)) (placementAt (s .args .xs .now)) k (suc (l .before .before .before .le16-at .result - (k + 1)))
+    assemblyReply (book s) (s .args .xs .now) ≡ placementsReply (shelfOf (book s)) (placementAt (s .args .xs .now)) k (suc (l .before .before .before .le16-at .result - (k + 1)))
 left c = let l = c .before in let s = l .before .before .before .before .before .before in let k = l .loop .k in let p = l .before .before .before .le16-at .result in
     let e : p - k ≡ suc (p - (k + 1)) = omega arith in
-    l .loop .inv .1 ∙ ap (placedReply (shelfOf (book s)) (placementAt (s .args .xs .now)) k) e
+    l .loop .inv .1 ∙ ap (placementsReply (shelfOf (book s)) (placementAt (s .args .xs .now)) k) e
 
 le16-at-requires : tie.Need-le16-at-requires Inv-loop μ-loop
 le16-at-requires c κs = search needs
@@ -48,7 +48,7 @@ returns c = let s = c .before .before .before .before .before in ap saidReply (s
 loop-holds : tie.Need-loop-holds Inv-loop μ-loop
 loop-holds c = let s = c .before .before .before .before .before in
     let e : c .before .before .le16-at .result - 0 ≡ c .before .before .le16-at .result = omega arith in
-    (omega arith, count-within (book s) (s .args .xs .now) (sym (outside-is (c .before)) ∙ c .if1 .left) ∙ ap (placedReply (shelfOf (book s)) (placementAt (s .args .xs .now)) 0) (sym (e ∙ c .before .before .le16-at .ensures)))
+    (omega arith, count-within (book s) (s .args .xs .now) (sym (outside-is (c .before)) ∙ c .if1 .left) ∙ ap (placementsReply (shelfOf (book s)) (placementAt (s .args .xs .now)) 0) (sym (e ∙ c .before .before .le16-at .ensures)))
 
 fault-of-requires : tie.Need-fault-of-requires Inv-loop μ-loop
 fault-of-requires c κs = search needs
@@ -70,12 +70,12 @@ loop-again : tie.Need-loop-again Inv-loop μ-loop
 loop-again c = let l = c .before .before .before in let s = l .before .before .before .before .before .before in let k = l .loop .k in
     let placed = placementAt (s .args .xs .now) in
     let n = l .before .before .before .le16-at .result - (k + 1) in
-    (omega arith, left (c .before .before) ∙ faultless (shelfOf (book s)) placed k n (sym (c .before .fault-of .ensures) ∙ c .if2 .left) ∙ ap (λ (j : ℕ). placedReply (shelfOf (book s)) placed j n) (sym (add-one k)))
+    (omega arith, left (c .before .before) ∙ faultless (shelfOf (book s)) placed k n (sym (c .before .fault-of .ensures) ∙ c .if2 .left) ∙ ap (λ (j : ℕ). placementsReply (shelfOf (book s)) placed j n) (sym (add-one k)))
 
 returns-3 : tie.Need-returns-3 Inv-loop μ-loop
 returns-3 c = let l = c .before in let s = l .before .before .before .before .before .before in let k = l .loop .k in
     let e : l .before .before .before .le16-at .result - k ≡ 0 = omega arith in
-    ap saidReply (sym (l .loop .inv .1 ∙ ap (placedReply (shelfOf (book s)) (placementAt (s .args .xs .now)) k) e ∙ none-left (shelfOf (book s)) (placementAt (s .args .xs .now)) k))
+    ap saidReply (sym (l .loop .inv .1 ∙ ap (placementsReply (shelfOf (book s)) (placementAt (s .args .xs .now)) k) e ∙ none-left (shelfOf (book s)) (placementAt (s .args .xs .now)) k))
 
 pub check-spec : {M : Type 1} → statement M
 check-spec =

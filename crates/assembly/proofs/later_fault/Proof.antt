@@ -5,11 +5,11 @@ use mathlib.Core.Path.{_≡_, sym, ap, ap₂, _∙_}
 use lib.ListN.{take}
 use Rattle.reply.specs.Read.{isOutside}
 use Rattle.assembly.specs.Book.{find, blockGraph, bookOf}
-use Rattle.assembly.specs.Placements.{placementAt, sitesOf, siteAt, shelfOf, joinOn, parentFault, joinFault}
+use Rattle.assembly.specs.Placements.{placementAt, sitesOf, atomSite, shelfOf, joinOn, parentFault, joinFault}
 use Rattle.block.specs.Faults.{inside}
 use Rattle.assembly.specs.declared.BlockAt.{BlockAt}
 use Rattle.assembly.specs.declared.Placement.{Placement}
-use Rattle.assembly.specs.declared.Site.{Site}
+use Rattle.assembly.specs.declared.JoinSite.{JoinSite}
 use Rattle.assembly.proofs.Faults.{no-parent, has-parent}
 use borrow.Author.Needs.{needs}
 use Rattle.assembly.proofs.later_fault.Statement.{statement}
@@ -35,16 +35,16 @@ here-is c = let s = c .before .before .before .before .before .before .before .b
 
 -- what is asked of both blocks
 there-site : (c : tie.After-site-of) → let s = c .before .before .before .before .before .before .before .before .before .before .before .before in let q = placed s (s .args .k) in
-    c .site-of .result ≡ siteAt (sitesOf (blockGraph (s .args .d .now) (find (blocks s) (placed s (q .parent - 1) .block)))) (q .site)
+    c .site-of .result ≡ atomSite (sitesOf (blockGraph (s .args .d .now) (find (blocks s) (placed s (q .parent - 1) .block)))) (q .site)
 there-site c = let s = c .before .before .before .before .before .before .before .before .before .before .before .before in
     c .site-of .ensures
-    ∙ ap₂ (λ (b : BlockAt) (q : Placement). siteAt (sitesOf (blockGraph (s .args .d .now) b)) (q .site)) (there-is (c .before .before .before)) (c .before .before .before .before .before .before .before .before .before .placement-at .ensures)
+    ∙ ap₂ (λ (b : BlockAt) (q : Placement). atomSite (sitesOf (blockGraph (s .args .d .now) b)) (q .site)) (there-is (c .before .before .before)) (c .before .before .before .before .before .before .before .before .before .placement-at .ensures)
 
 here-site : (c : tie.After-site-of2) → let s = c .before .before .before .before .before .before .before .before .before .before .before .before .before in let q = placed s (s .args .k) in
-    c .site-of2 .result ≡ siteAt (sitesOf (blockGraph (s .args .d .now) (find (blocks s) (q .block)))) (q .own)
+    c .site-of2 .result ≡ atomSite (sitesOf (blockGraph (s .args .d .now) (find (blocks s) (q .block)))) (q .own)
 here-site c = let s = c .before .before .before .before .before .before .before .before .before .before .before .before .before in
     c .site-of2 .ensures
-    ∙ ap₂ (λ (b : BlockAt) (q : Placement). siteAt (sitesOf (blockGraph (s .args .d .now) b)) (q .own)) (here-is (c .before .before)) (c .before .before .before .before .before .before .before .before .before .before .placement-at .ensures)
+    ∙ ap₂ (λ (b : BlockAt) (q : Placement). atomSite (sitesOf (blockGraph (s .args .d .now) b)) (q .own)) (here-is (c .before .before)) (c .before .before .before .before .before .before .before .before .before .before .placement-at .ensures)
 
 placement-at-requires : tie.Need-placement-at-requires
 placement-at-requires c κs = search needs
@@ -95,7 +95,7 @@ returns-2 : tie.Need-returns-2
 unfolding bookOf
 returns-2 c = let s = c .before .before .before .before .before .before .before .before .before .before .before .before .before .before in
     c .join-fault .ensures
-    ∙ ap₂ (λ (t h : Site). joinFault t h (joinOn (placed s)) (s .args .k)) (there-site (c .before .before)) (here-site (c .before))
+    ∙ ap₂ (λ (t h : JoinSite). joinFault t h (joinOn (placed s)) (s .args .k)) (there-site (c .before .before)) (here-site (c .before))
     ∙ sym (has-parent (shelfOf (bookOf (s .args .d .now) (blocks s))) (placed s) (s .args .k) (sym (outside-is (c .before .before .before .before .before .before .before .before .before)) ∙ c .before .before .before .before .before .before .before .before .if1 .left))
 
 pub later-fault-spec : {M : Type 1} → statement M

@@ -4,7 +4,7 @@ use mathlib.Core.List.{List}
 use mathlib.Core.Path.{ap, _∙_}
 use Rattle.graph.specs.Graph.{degree}
 use Rattle.block.specs.Block.{bondsOf}
-use Rattle.assembly.specs.declared.Site.{Site}
+use Rattle.assembly.specs.declared.JoinSite.{JoinSite}
 use borrow.Author.Needs.{needs}
 use Rattle.assembly.proofs.site_of.Statement.{statement}
 use Rattle.assembly.proofs.site_of.Tie as tie

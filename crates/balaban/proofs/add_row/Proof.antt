@@ -1,7 +1,7 @@
 use Prim.Native.Nat.{_+_, _-_, _≤_, _<_}
 use mathlib.Core.Path.{_≡_}
 use native.Mathlib.Omega.{arith}
-use Rattle.half.specs.Half.{placeOf}
+use Rattle.half.specs.Half.{abovePlace}
 use Rattle.half.specs.Places.{Pair, place-below}
 use Rattle.balaban.specs.Work.{Within-row}
 use Rattle.balaban.proofs.Blocks.{row-place, row-first, row-more, row-last}
@@ -32,7 +32,7 @@ sub-wide c = omega arith
 sub-wide-2 : tie.Need-sub-wide-2 Inv-loop μ-loop
 sub-wide-2 c = omega arith
 
-at : (c : tie.In-loop Inv-loop μ-loop) → let a = c .before .before .args in let j = c .before .loop .j in Pair (a .i + 1) (j + 1) × (a .from + (j - a .i - 1) ≡ placeOf (a .i + 1) (j + 1))
+at : (c : tie.In-loop Inv-loop μ-loop) → let a = c .before .before .args in let j = c .before .loop .j in Pair (a .i + 1) (j + 1) × (a .from + (j - a .i - 1) ≡ abovePlace (a .i + 1) (j + 1))
 at c = let p = c .before .before .pre in row-place _ _ _ _ (c .before .loop .inv .0) (c .loop-test .taken) (p .1) (p .2)
 
 add-wide : tie.Need-add-wide Inv-loop μ-loop

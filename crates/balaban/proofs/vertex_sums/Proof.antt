@@ -1,7 +1,7 @@
 use Prim.Native.Nat.{suc, _-_, _≤_}
 use mathlib.Core.Path.{_≡_, sym}
 use native.Mathlib.Omega.{arith}
-use Rattle.half.specs.Half.{startOf}
+use Rattle.half.specs.Half.{rowStart}
 use Rattle.half.specs.Places.{start-first}
 use Rattle.block.proofs.Summing.{from-next}
 use Rattle.balaban.specs.Work.{Sums}
@@ -10,7 +10,7 @@ use Rattle.balaban.proofs.vertex_sums.Statement.{statement}
 use Rattle.balaban.proofs.vertex_sums.Tie as tie
 
 abbrev Inv-loop : tie.InvT-loop
-Inv-loop n half sums₀ from₀ i₀ sums from i = (i ≤ n) × (from ≡ startOf (suc i)) × Sums n half sums i
+Inv-loop n half sums₀ from₀ i₀ sums from i = (i ≤ n) × (from ≡ rowStart (suc i)) × Sums n half sums i
 
 abbrev μ-loop : tie.MeasureT-loop
 μ-loop n half sums₀ from₀ i₀ sums from i = n - i

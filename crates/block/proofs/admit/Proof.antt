@@ -10,7 +10,7 @@ use borrow.Author.Tests.{eq-eqb, ne-eqb, lt-ltb, le-ltb}
 use Rattle.graph.specs.Graph.{Within}
 use Rattle.reply.specs.Read.{isOutside, saidReply}
 use Rattle.block.specs.Block.{mostAtoms, mostBytes, graphOf, bondsOf, bondsReply}
-use Rattle.block.specs.Found.{Task}
+use Rattle.block.specs.Found.{SearchTask}
 use Rattle.block.specs.Faults.{inside}
 use Rattle.reply.specs.declared.Reply.the-variants.{Fine}
 use Rattle.block.proofs.Replies.{said-fine, reply-one, reply-odd, reply-long, reply-fault, reply-fine, reply-apart, admit-refused}
@@ -67,7 +67,7 @@ returns-4 c =
 fine : (c : tie.After-enum-told) → let s = c .before .before .before .before .before .before .before .before .args in Fine ≡ saidReply (bondsReply (s .n) [] (bondsOf (s .bonds .now)))
 fine c = sym (c .enum-told .given .1) ∙ c .before .before .build .ensures .replied
 
-task : (c : tie.After-enum-told) → let s = c .before .before .before .before .before .before .before .before .args in Task (graphOf (s .n) (s .bonds .now)) (c .before .before .build .result .near) (s .n) 1
+task : (c : tie.After-enum-told) → let s = c .before .before .before .before .before .before .before .before .args in SearchTask (graphOf (s .n) (s .bonds .now)) (c .before .before .build .result .near) (s .n) 1
 task c =
     let d = c .before .before .before in
     let w : Within mostAtoms (d .before .before .before .before .before .args .n) = inside mostAtoms _ (sized (d .before .before)) in

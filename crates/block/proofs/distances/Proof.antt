@@ -1,7 +1,7 @@
 -- `block::distances` meets its contract. Assumes nothing.
 use mathlib.Core.Path.{sym, _∙_}
 use borrow.Author.Needs.{needs}
-use Rattle.block.specs.Near.{Ready}
+use Rattle.block.specs.Near.{ReadyBlock}
 use Rattle.block.specs.Halved.{table-refused}
 use Rattle.block.proofs.Filling.{refused-far}
 use Rattle.block.proofs.Replies.{said-refused}
@@ -23,7 +23,7 @@ returns c =
     let b = said-refused _ _ (sym (d .enum-told2 .given .1) ∙ d .before .before .admit .ensures .replied) in
     (table-refused _ _ _ b, refused-far _ _ _ b)
 
-ready : (c : tie.After-enum-told) → let s = c .before .before .before .before .args in Ready (s .n) (s .bonds .now) (c .before .before .admit .result .near)
+ready : (c : tie.After-enum-told) → let s = c .before .before .before .before .args in ReadyBlock (s .n) (s .bonds .now) (c .before .before .admit .result .near)
 ready c = c .before .before .admit .ensures .ready (c .enum-told .given .1)
 
 from-all-requires : tie.Need-from-all-requires

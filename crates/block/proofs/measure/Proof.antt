@@ -1,6 +1,6 @@
 use mathlib.Core.Path.{sym, _∙_}
 use borrow.Author.Needs.{needs}
-use Rattle.block.specs.Near.{Ready}
+use Rattle.block.specs.Near.{ReadyBlock}
 use Rattle.block.proofs.Answers.{measure-refused, measure-fine}
 use Rattle.block.proofs.Replies.{said-refused}
 use Rattle.block.proofs.measure.Statement.{statement}
@@ -15,7 +15,7 @@ enum-known-reply c = search needs
 enum-told : tie.Need-enum-told
 enum-told c = search needs
 
-ready : (c : tie.After-enum-told) → let s = c .before .before .before .before .args in Ready (s .n) (s .bonds .now) (c .before .before .admit .result .near)
+ready : (c : tie.After-enum-told) → let s = c .before .before .before .before .args in ReadyBlock (s .n) (s .bonds .now) (c .before .before .admit .result .near)
 ready c = c .before .before .admit .ensures .ready (c .enum-told .given .1)
 
 from-all-requires : tie.Need-from-all-requires

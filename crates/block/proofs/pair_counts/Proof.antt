@@ -1,6 +1,6 @@
 use mathlib.Core.Path.{refl, sym, _∙_}
 use borrow.Author.Needs.{needs}
-use Rattle.block.specs.Near.{Ready}
+use Rattle.block.specs.Near.{ReadyBlock}
 use Rattle.block.proofs.Answers.{pairs-refused, pairs-fine}
 use Rattle.block.proofs.Replies.{said-refused}
 use Rattle.block.proofs.pair_counts.Statement.{statement}
@@ -20,7 +20,7 @@ returns c =
     let e = c .enum-told2 .given .1 in
     pairs-refused _ _ _ _ (said-refused _ _ (sym e ∙ c .before .before .admit .ensures .replied)) e refl
 
-ready : (c : tie.After-enum-told) → let s = c .before .before .before .before .args in Ready (s .n) (s .bonds .now) (c .before .before .admit .result .near)
+ready : (c : tie.After-enum-told) → let s = c .before .before .before .before .args in ReadyBlock (s .n) (s .bonds .now) (c .before .before .admit .result .near)
 ready c = c .before .before .admit .ensures .ready (c .enum-told .given .1)
 
 from-all-requires : tie.Need-from-all-requires

@@ -2,8 +2,8 @@ use mathlib.Core.Path.{refl, sym, _∙_}
 use borrow.Author.Needs.{needs}
 use Rattle.graph.specs.Graph.{Within}
 use Rattle.block.specs.Block.{graphOf}
-use Rattle.block.specs.Near.{Ready}
-use Rattle.block.specs.Found.{Task}
+use Rattle.block.specs.Near.{ReadyBlock}
+use Rattle.block.specs.Found.{SearchTask}
 use Rattle.block.specs.Faults.{inside}
 use Rattle.block.specs.Told.{passed}
 use Rattle.block.proofs.Filling.{row-refused, row-outside, row-fine}
@@ -29,7 +29,7 @@ is-outside-requires : tie.Need-is-outside-requires
 is-outside-requires c κs = search needs
 
 -- the block is fine, and i is one of its atoms
-ready : (c : tie.After-enum-told) → let s = c .before .before .before .before .args in Ready (s .n) (s .bonds .now) (c .before .before .admit .result .near)
+ready : (c : tie.After-enum-told) → let s = c .before .before .before .before .args in ReadyBlock (s .n) (s .bonds .now) (c .before .before .admit .result .near)
 ready c = c .before .before .admit .ensures .ready (c .enum-told .given .1)
 
 returns-2 : tie.Need-returns-2
@@ -38,7 +38,7 @@ returns-2 c = row-outside _ _ _ _ (ready (c .before .before) .fine) (sym (c .bef
 atom : (c : tie.Else1) → let s = c .before .before .before .before .before .before .args in Within (s .n) (s .i)
 atom c = inside _ _ (sym (c .before .is-outside .ensures) ∙ c .if1 .left)
 
-task : (c : tie.Else1) → let s = c .before .before .before .before .before .before .args in Task (graphOf (s .n) (s .bonds .now)) (c .before .before .before .before .admit .result .near) (s .n) (s .i)
+task : (c : tie.Else1) → let s = c .before .before .before .before .before .before .args in SearchTask (graphOf (s .n) (s .bonds .now)) (c .before .before .before .before .admit .result .near) (s .n) (s .i)
 task c = record { shown = ready (c .before .before) .shown; size = refl; start = atom c }
 
 slice-aggregate-from-atom : tie.Need-slice-aggregate-from-atom

@@ -1,7 +1,7 @@
 use Prim.Native.Nat.{ℕ, suc, _≤_, _-_}
 use mathlib.Core.Path.{_≡_, sym, ap, _∙_}
 use native.Mathlib.Omega.{arith}
-use Rattle.half.specs.Half.{startOf, halfAt}
+use Rattle.half.specs.Half.{rowStart, halfAt}
 use Rattle.half.specs.Places.{start-first}
 use Rattle.block.specs.Block.{mostAtoms}
 use Rattle.block.specs.Sums.{entry, indicesBy}
@@ -10,7 +10,7 @@ use Rattle.block.proofs.sums.Statement.{statement}
 use Rattle.block.proofs.sums.Tie as tie
 
 abbrev Inv-loop : tie.InvT-loop
-Inv-loop half far n m w₀ odd₀ threes₀ largest₀ from₀ i₀ w odd threes largest from i = (i ≤ m) × (m ≤ mostAtoms) × (from ≡ startOf (suc i)) × Summed half far m i w odd threes largest
+Inv-loop half far n m w₀ odd₀ threes₀ largest₀ from₀ i₀ w odd threes largest from i = (i ≤ m) × (m ≤ mostAtoms) × (from ≡ rowStart (suc i)) × Summed half far m i w odd threes largest
 
 abbrev μ-loop : tie.MeasureT-loop
 μ-loop half far n m w₀ odd₀ threes₀ largest₀ from₀ i₀ w odd threes largest from i = m - i

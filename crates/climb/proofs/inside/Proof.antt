@@ -7,7 +7,7 @@ use borrow.Author.Needs.{needs}
 use denote.Ref.{now}
 use Rattle.graph.specs.Graph.{distance}
 use Rattle.block.specs.Index.{distanceReply, saidDistance}
-use Rattle.block.specs.declared.Apart.the-variants as apart
+use Rattle.block.specs.declared.DistanceReply.the-variants as apart
 use Rattle.deck.specs.Molecule.{graphAt}
 use Rattle.climb.specs.Pairs.{deckOf}
 use Rattle.climb.proofs.Reading.{told-inside}

@@ -7,8 +7,8 @@ use native.Mathlib.Omega.{arith}
 use lib.ListN.{length}
 use lib.Dec.{lit<}
 use Rattle.assembly.specs.Placements.{mostPlacements}
-use Rattle.compose.specs.Joints.{ends, Task}
-use Rattle.compose.specs.Ready.{placedGraph, Ready}
+use Rattle.compose.specs.Joints.{ends, JoinTask}
+use Rattle.compose.specs.Ready.{placedGraph, ReadyDeck}
 use Rattle.compose.proofs.Stored.{row-at}
 use Rattle.compose.proofs.Filling.{Filled, ranged, fill-start, fill-one, fill-none, fill-end}
 use Rattle.compose.proofs.filled.Statement.{statement}
@@ -16,7 +16,7 @@ use Rattle.compose.proofs.filled.Tie as tie
 
 abbrev Inv-loop : tie.InvT-loop
 Inv-loop d xs blocks count placements links numbers₀ ends₀ counts₀ f₀ numbers ends counts f =
-    (f ≤ placements) × ((r : Ready d xs blocks count placements links) → Filled r f ends counts numbers)
+    (f ≤ placements) × ((r : ReadyDeck d xs blocks count placements links) → Filled r f ends counts numbers)
 
 abbrev μ-loop : tie.MeasureT-loop
 μ-loop d xs blocks count placements links numbers₀ ends₀ counts₀ f₀ numbers ends counts f = placements - f
@@ -78,7 +78,7 @@ loop-again c =
     )
 
 -- once all blocks are done
-task : (c : tie.After-loop Inv-loop μ-loop) → let a = c .before .before .before .before .args in Task (placedGraph (a .d .now) (a .xs .now) (a .blocks) (a .count)) (a .placements - 1) (a .links .now) (c .before .loop .ends) (c .before .loop .counts) (c .before .loop .numbers)
+task : (c : tie.After-loop Inv-loop μ-loop) → let a = c .before .before .before .before .args in JoinTask (placedGraph (a .d .now) (a .xs .now) (a .blocks) (a .count)) (a .placements - 1) (a .links .now) (c .before .loop .ends) (c .before .loop .counts) (c .before .loop .numbers)
 task c =
     let r = c .before .before .before .before .pre in
     let e : c .before .loop .f ≡ c .before .before .before .before .args .placements = omega arith in

@@ -1,7 +1,7 @@
 -- `compose::take_block` meets its contract. Assumes nothing.
 use mathlib.Core.Path.{_∙_, ap}
 use borrow.Author.Needs.{needs}
-use Rattle.block.specs.Rows.{tableOf, farOf}
+use Rattle.block.specs.Rows.{halfTable, farOf}
 use Rattle.compose.proofs.take_block.Statement.{statement}
 use Rattle.compose.proofs.take_block.Tie as tie
 
@@ -36,7 +36,7 @@ returns c =
     let t = o .before .before .before .before .before in
     let a = t .before .before .before .before .before .args in
     let e = t .before .before .bonds-part .ensures .bytes in
-    let half = t .distances .ensures .0 ∙ ap (tableOf (a .b .atoms)) e in
+    let half = t .distances .ensures .0 ∙ ap (halfTable (a .b .atoms)) e in
     let far = t .distances .ensures .1 ∙ ap (farOf (a .b .atoms)) e in
     (c .number-row .ensures ∙ c .before .sums .ensures ∙ rw (half, far), (rw half at (o .copy-ends .ensures .0), rw (half, far) at (o .copy-ends .ensures .1)))
 

@@ -1,14 +1,14 @@
 use Prim.Native.Nat.{_-_, _≤_}
 use mathlib.Core.Path.{_≡_}
 use native.Mathlib.Omega.{arith}
-use Rattle.half.specs.Half.{mostAtoms, startOf}
+use Rattle.half.specs.Half.{mostAtoms, rowStart}
 use Rattle.half.specs.Work.{Upto}
 use Rattle.half.proofs.Lines.{along-place, along-next}
 use Rattle.half.proofs.along.Statement.{statement}
 use Rattle.half.proofs.along.Tie as tie
 
 abbrev Inv-loop : tie.InvT-loop
-Inv-loop half i line₀ from j₀ line j = (1 ≤ i) × (i ≤ j) × (j ≤ mostAtoms) × (from ≡ startOf i) × Upto half i j line
+Inv-loop half i line₀ from j₀ line j = (1 ≤ i) × (i ≤ j) × (j ≤ mostAtoms) × (from ≡ rowStart i) × Upto half i j line
 
 abbrev μ-loop : tie.MeasureT-loop
 μ-loop half i line₀ from j₀ line j = mostAtoms - j

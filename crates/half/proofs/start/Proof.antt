@@ -1,7 +1,7 @@
 use mathlib.Core.Path.{refl}
 use native.Mathlib.Omega.{arith}
 use borrow.Author.Needs.{needs}
-use Rattle.half.specs.Half.{startOf}
+use Rattle.half.specs.Half.{rowStart}
 use Rattle.half.proofs.Pairs.{corner, start-low}
 use Rattle.half.proofs.start.Statement.{statement}
 use Rattle.half.proofs.start.Tie as tie
@@ -19,7 +19,7 @@ mul-result-2 : tie.Need-mul-result-2
 mul-result-2 c = omega (arith, corner (c .args .i) (c .pre .0) (c .pre .1))
 
 returns : tie.Need-returns
-unfolding startOf
+unfolding rowStart
 returns c = (refl, start-low (c .args .i) (c .pre .0) (c .pre .1))
 
 pub start-spec : {M : Type 1} → statement M

@@ -1,6 +1,6 @@
 -- `joining::cut` meets its contract. Assumes nothing.
 use mathlib.Core.Path.{_≡_, refl, subst, sym}
-use Rattle.joining.specs.Joining.{counted}
+use Rattle.joining.specs.Joining.{cutCounts}
 use Rattle.joining.specs.Small.{counted-small}
 use borrow.Author.Needs.{needs}
 use Rattle.joining.proofs.cut.Statement.{statement}
@@ -31,7 +31,7 @@ smaller-requires-8 : tie.Need-smaller-requires-8
 smaller-requires-8 c κs = search needs
 
 returns : tie.Need-returns
-unfolding counted
+unfolding cutCounts
 returns c = rw (c .smaller8 .ensures, c .before .smaller7 .ensures, c .before .before .smaller6 .ensures, c .before .before .before .smaller5 .ensures, c .before .before .before .before .smaller4 .ensures, c .before .before .before .before .before .smaller3 .ensures, c .before .before .before .before .before .before .smaller2 .ensures, c .before .before .before .before .before .before .before .smaller .ensures) (refl, counted-small _)
 
 pub cut-spec : {M : Type 1} → statement M

@@ -1,6 +1,6 @@
 -- `joining::cut_fields` meets its contract. Assumes nothing.
 use mathlib.Core.Path.{_≡_, refl}
-use Rattle.joining.specs.Joining.{held}
+use Rattle.joining.specs.Joining.{cutFields}
 use Rattle.joining.specs.Small.{held-room}
 use borrow.Author.Needs.{needs}
 use Rattle.joining.proofs.cut_fields.Statement.{statement}
@@ -25,7 +25,7 @@ smaller-requires-6 : tie.Need-smaller-requires-6
 smaller-requires-6 c κs = search needs
 
 returns : tie.Need-returns
-unfolding held
+unfolding cutFields
 returns c = rw (c .smaller6 .ensures, c .before .smaller5 .ensures, c .before .before .smaller4 .ensures, c .before .before .before .smaller3 .ensures, c .before .before .before .before .smaller2 .ensures, c .before .before .before .before .before .smaller .ensures) (refl, held-room _)
 
 pub cut-fields-spec : {M : Type 1} → statement M

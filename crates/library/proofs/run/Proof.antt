@@ -13,7 +13,7 @@ use Rattle.catalogue.specs.declared.LibraryRead.{LibraryRead}
 use Rattle.catalogue.proofs.Reading.{library-stops, library-ends}
 use Rattle.library.specs.Steps.{Ran, saidStep}
 use Rattle.library.specs.Running.{step-long, step-short, step-product, product-stops, run-stops, run-ends, made-step, done-step}
-use Rattle.library.specs.declared.Stepped.the-variants as stepped
+use Rattle.library.specs.declared.StepReply.the-variants as stepped
 use Rattle.library.proofs.run.Statement.{statement}
 use Rattle.library.proofs.run.Tie as tie
 

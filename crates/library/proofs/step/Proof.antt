@@ -7,7 +7,7 @@ use lib.ListN.{length}
 use borrow.Author.Needs.{needs}
 use Rattle.library.specs.Steps.{stepOut, saidStep}
 use Rattle.library.specs.Running.{step-long, step-short, step-product}
-use Rattle.library.specs.declared.Stepped.the-variants as stepped
+use Rattle.library.specs.declared.StepReply.the-variants as stepped
 use Rattle.library.proofs.Stepping.{made-low, said-refused, said-done, said-of}
 use Rattle.library.proofs.step.Statement.{statement}
 use Rattle.library.proofs.step.Tie as tie

@@ -1,7 +1,7 @@
 -- `line::deck_line` meets its contract: each form's line is that of what molecule answers.
 use mathlib.Core.Path.{_∙_, ap}
-use Rattle.block.specs.declared.Measured.{Measured}
-use Rattle.molecule.specs.declared.Verdict.{Verdict}
+use Rattle.block.specs.declared.IndicesReply.{IndicesReply}
+use Rattle.judging.specs.declared.Verdict.{Verdict}
 use Rattle.deck.specs.declared.Form.{Form}
 use Rattle.deck.specs.declared.Form.the-variants.{Composed, Judged}
 use Rattle.line.specs.Text.{measuredText, verdictText, deckText, lined}
@@ -33,7 +33,7 @@ returns : tie.Need-returns
 returns c =
     let a = c .before .before .before .before .before .args in
     let d = a .d .now in
-    let is = c .measured-line .ensures .0 ∙ ap (λ (m : Measured). lined (measuredText m)) (c .before .compose .ensures) in
+    let is = c .measured-line .ensures .0 ∙ ap (λ (m : IndicesReply). lined (measuredText m)) (c .before .compose .ensures) in
     case (λ (f : Form). deckText f d) (a .form) Composed (c .measured-line .result) (deck-fit (a .form) d) (c .before .before .enum-told .given .1) is
 
 returns-2 : tie.Need-returns-2

@@ -1,5 +1,5 @@
 -- `line::measured_line` meets its contract: each case is its function's line.
-use Rattle.block.specs.declared.Measured.the-variants as measured
+use Rattle.block.specs.declared.IndicesReply.the-variants as measured
 use Rattle.line.specs.Text.{measuredText}
 use Rattle.line.proofs.Lines.{case}
 use Rattle.line.proofs.Fits.{measured-fit}

@@ -1,6 +1,6 @@
 -- `line::verdict_line` meets its contract: each case is its line.
 use lib.Dec.{lit≤}
-use Rattle.molecule.specs.declared.Verdict.the-variants as verdict
+use Rattle.judging.specs.declared.Verdict.the-variants as verdict
 use Rattle.line.specs.Text.{verdictText}
 use Rattle.line.proofs.Lines.{made, case}
 use Rattle.line.proofs.Fits.{verdict-fit}

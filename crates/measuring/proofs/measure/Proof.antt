@@ -8,7 +8,7 @@ use lib.Seq.{length-take-le}
 use Rattle.reply.specs.Read.{read}
 use Rattle.block.specs.Block.{mostBytes}
 use Rattle.block.specs.Index.{indicesReply, saidIndices}
-use Rattle.molfile.specs.Molfile.{atomsOf, bytesOf, molfileReply}
+use Rattle.molfile.specs.Molfile.{keptAtoms, bytesOf, molfileReply}
 use Rattle.molfile.proofs.Replies.{mol-refused, mol-block}
 use Rattle.measuring.proofs.Fits.{measure-refused, measure-read, cut-to}
 use borrow.Author.Needs.{needs}
@@ -16,10 +16,10 @@ use Rattle.measuring.proofs.measure.Statement.{statement}
 use Rattle.measuring.proofs.measure.Tie as tie
 
 there : (c : tie.After-known-told2) → let d = c .before .before .before .before .before .before .before .args .text .now in
-    (molfileReply d mostBytes ≡ read tt) × (atomsOf d ≡ c .before .seen2 .given .0 .0 .atoms) × (length (bytesOf d) / 2 ≡ c .before .seen2 .given .0 .0 .bonds)
+    (molfileReply d mostBytes ≡ read tt) × (keptAtoms d ≡ c .before .seen2 .given .0 .0 .atoms) × (length (bytesOf d) / 2 ≡ c .before .seen2 .given .0 .0 .bonds)
 there c =
     let d = c .before .before .before .before .before .before .before .args .text .now in
-    mol-block (atomsOf d) (bytesOf d) (molfileReply d mostBytes) (sym (c .before .before .before .before .read .ensures .0) ∙ c .before .seen2 .given .1)
+    mol-block (keptAtoms d) (bytesOf d) (molfileReply d mostBytes) (sym (c .before .before .before .before .read .ensures .0) ∙ c .before .seen2 .given .1)
 
 same-block : {n m : ℕ} {xs ys : List ℕ} → n ≡ m → xs ≡ ys → indicesReply n xs ≡ indicesReply m ys
 same-block p q = rw (p, q)
@@ -61,7 +61,7 @@ returns : tie.Need-returns
 returns c =
     let d = c .before .before .before .before .before .before .before .args .text .now in
     let g = c .before .seen .given in
-    sym (ap saidIndices (measure-refused d (g .0 .0) (mol-refused (atomsOf d) (bytesOf d) (molfileReply d mostBytes) (sym (c .before .before .before .before .read .ensures .0) ∙ g .1))))
+    sym (ap saidIndices (measure-refused d (g .0 .0) (mol-refused (keptAtoms d) (bytesOf d) (molfileReply d mostBytes) (sym (c .before .before .before .before .read .ensures .0) ∙ g .1))))
 
 returns-2 : tie.Need-returns-2
 returns-2 c =

@@ -3,7 +3,7 @@ use mathlib.Core.Path.{_≡_, refl, sym, ap, _∙_}
 use lib.ListN.{length}
 use Rattle.reply.specs.Read.{read}
 use Rattle.block.specs.Block.{blockReply}
-use Rattle.molfile.specs.Said.{saidAnswer, filled}
+use Rattle.molfile.specs.Said.{saidAnswer, filledBonds}
 use Rattle.molfile.proofs.Chains.{answer-refused, answer-short, answer-fine, stays, fills}
 use Rattle.text.proofs.Putting.{at-front}
 use Rattle.reply.specs.Chain.{fine-read, refused-read}

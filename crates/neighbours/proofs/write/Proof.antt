@@ -4,7 +4,7 @@ use lib.ListN.{length}
 use Rattle.block.specs.Told.{few-atoms}
 use Rattle.adjacency.specs.Writing.{opened-refused, opened-fine, by-sets, write-given, write-refused, text-stays}
 use Rattle.adjacency.specs.RoundTrip.{text-fits}
-use Rattle.neighbours.specs.Said.{saidWritten}
+use Rattle.neighbours.specs.Said.{saidNeighboursWritten}
 use borrow.Author.Needs.{needs}
 use Rattle.neighbours.proofs.write.Statement.{statement}
 use Rattle.neighbours.proofs.write.Tie as tie
@@ -29,7 +29,7 @@ returns c =
     let a = c .before .before .before .before .before .before .args in
     let e = opened-refused (a .n) (a .bonds .now) (c .before .before .before .neighbours .result) (c .before .before .before .neighbours .ensures) _ (sym (c .before .reply .given .1)) in
     let w = write-refused (a .n) (a .bonds .now) (length (a .out .now)) _ e in
-    (sym (ap saidWritten w), text-stays (a .out .now) w)
+    (sym (ap saidNeighboursWritten w), text-stays (a .out .now) w)
 
 same-length : tie.Need-same-length
 same-length c = search needs
@@ -39,7 +39,7 @@ returns-2 c =
     let a = c .before .before .before .before .before .before .before .before .before .before .before .args in
     let f = opened-fine (a .n) (a .bonds .now) (c .before .before .before .before .before .before .before .before .neighbours .result) (c .before .before .before .before .before .before .before .before .neighbours .ensures) (sym (c .before .before .before .before .before .before .enum-told .given .1)) in
     let e = rw (sym (by-sets (a .n) (a .bonds .now) (f .0) _ (f .1))) at (write-given (a .n) (a .bonds .now) (f .0) (length (a .out .now))) in
-    (c .before .before .write-fine .ensures .0 ∙ sym (ap saidWritten e), c .before .before .write-fine .ensures .1 ∙ rw e)
+    (c .before .before .write-fine .ensures .0 ∙ sym (ap saidNeighboursWritten e), c .before .before .write-fine .ensures .1 ∙ rw e)
 
 pub write-spec : {M : Type 1} → statement M
 write-spec = tie.close (tie.spec neighbours-requires enum-known-reply enum-told write-fine-requires returns same-length returns-2)

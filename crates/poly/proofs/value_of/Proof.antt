@@ -9,7 +9,7 @@ use lib.Dec.{lit≤}
 use lib.IntN.{pos}
 use lib.Ieee.{Float, binary64, add, mul, ofInt, ofBits}
 use borrow.Author.Needs.{needs}
-use Rattle.poly.specs.Poly.{counted, ofParity, turn, horner, mostDistance, value}
+use Rattle.poly.specs.Poly.{pairsCounted, ofParity, turn, horner, mostDistance, value}
 use Rattle.poly.proofs.value_of.Statement.{statement}
 use Rattle.poly.proofs.value_of.Tie as tie
 
@@ -39,7 +39,7 @@ unfolding ofBits ofInt
 nought = refl
 
 abbrev Inv-loop : tie.InvT-loop
-Inv-loop parity x counts v₀ k₀ v k = (k ≤ mostDistance) × (horner (ofParity parity (counted counts)) x k v ≡ value parity (counted counts) x)
+Inv-loop parity x counts v₀ k₀ v k = (k ≤ mostDistance) × (horner (ofParity parity (pairsCounted counts)) x k v ≡ value parity (pairsCounted counts) x)
 
 abbrev μ-loop : tie.MeasureT-loop
 μ-loop parity x counts v₀ k₀ v k = k
@@ -67,7 +67,7 @@ loop-again : tie.Need-loop-again Inv-loop μ-loop
 loop-again c =
     let at = c .before .before in
     let p = at .before .args .parity in
-    let n = counted (at .before .args .t1) in
+    let n = pairsCounted (at .before .args .t1) in
     let x = at .before .args .x in
     let k = at .loop .k in
     let v = at .loop .v in

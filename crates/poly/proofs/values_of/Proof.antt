@@ -5,8 +5,8 @@ use mathlib.Core.Bool.{Bool, true, false, not, _&&_}
 use lib.Ieee.{Float, ofBits, lt, le}
 use borrow.Author.Needs.{needs}
 use Rattle.reply.specs.Read.{read, _then_, refuseIf}
-use Rattle.poly.specs.declared.Answer.{Answer}
-use Rattle.poly.specs.Poly.{zeroF, oneF, counted, valuesOf, valuesReply, saidPolynomial}
+use Rattle.poly.specs.declared.ValuesReply.{ValuesReply}
+use Rattle.poly.specs.Poly.{zeroF, oneF, pairsCounted, valuesOf, valuesReply, saidPolynomial}
 use Rattle.poly.proofs.Usable.{two-tests}
 use Rattle.poly.proofs.values_of.Statement.{statement}
 use Rattle.poly.proofs.values_of.Tie as tie
@@ -28,16 +28,16 @@ unfolding ofBits valuesOf
 returns c =
     let tests = c .before .before in
     let start = tests .before .before in
-    ap₂ (λ (e o : Float). Answer.Values (record { even = e; odd = o })) (c .before .value-of .ensures) (c .value-of2 .ensures)
-    ∙ chosen (counted (start .args .counts)) (start .args .x) true true (tests .before .if1 .taken) (tests .if2 .taken)
+    ap₂ (λ (e o : Float). ValuesReply.Values (record { even = e; odd = o })) (c .before .value-of .ensures) (c .value-of2 .ensures)
+    ∙ chosen (pairsCounted (start .args .counts)) (start .args .x) true true (tests .before .if1 .taken) (tests .if2 .taken)
 
 returns-2 : tie.Need-returns-2
 unfolding ofBits
-returns-2 c = let start = c .before .before in chosen (counted (start .args .counts)) (start .args .x) true false (c .before .if1 .taken) (c .if2 .left)
+returns-2 c = let start = c .before .before in chosen (pairsCounted (start .args .counts)) (start .args .x) true false (c .before .if1 .taken) (c .if2 .left)
 
 returns-3 : tie.Need-returns-3
 unfolding ofBits
-returns-3 c = let start = c .before in chosen (counted (start .args .counts)) (start .args .x) false (le (start .args .x) oneF) (c .if1 .left) refl
+returns-3 c = let start = c .before in chosen (pairsCounted (start .args .counts)) (start .args .x) false (le (start .args .x) oneF) (c .if1 .left) refl
 
 pub values-of-spec : {M : Type 1} → statement M
 values-of-spec =

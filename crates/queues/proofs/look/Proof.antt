@@ -6,14 +6,14 @@ use Prim.Native.Nat.{ℕ}
 use Rattle.block.specs.Index.{saidIndices}
 use Rattle.storage.specs.Shelf.{lookReply}
 use Rattle.storage.specs.Table.{shelf}
-use Rattle.summary.specs.Layout.{summaryBytes, fieldsOf}
+use Rattle.summary.specs.Layout.{summaryBytes, storedFields}
 use Rattle.queues.proofs.Answers.{short-reply, reply-on}
 use borrow.Author.Needs.{needs}
 use Rattle.queues.proofs.look.Statement.{statement}
 use Rattle.queues.proofs.look.Tie as tie
 
 returns : tie.Need-returns
-returns c = let a = c .before .before .args in sym (ap saidIndices (short-reply (a .table .now) (lookReply summaryBytes (shelf summaryBytes (a .queue) (a .table .now)) fieldsOf (a .number)) (c .if1 .taken)))
+returns c = let a = c .before .before .args in sym (ap saidIndices (short-reply (a .table .now) (lookReply summaryBytes (shelf summaryBytes (a .queue) (a .table .now)) storedFields (a .number)) (c .if1 .taken)))
 
 start-of-requires : tie.Need-start-of-requires
 start-of-requires c κs = search needs
@@ -38,7 +38,7 @@ returns-2 c =
     let a = c .before .before .before .before .before .args in
     let s = c .before .before .start-of in
     let l = c .before .before .before .if1 .left in
-    reply-on (a .queue) (a .table .now) (s .result) (s .ensures .0) (omega (arith, l)) saidIndices (λ (t : List ℕ). lookReply summaryBytes t fieldsOf (a .number)) (c .look-in .result) (c .look-in .ensures)
+    reply-on (a .queue) (a .table .now) (s .result) (s .ensures .0) (omega (arith, l)) saidIndices (λ (t : List ℕ). lookReply summaryBytes t storedFields (a .number)) (c .look-in .result) (c .look-in .ensures)
 
 pub look-spec : {M : Type 1} → statement M
 look-spec =

@@ -5,8 +5,8 @@ use native.Mathlib.Omega.{arith}
 use borrow.Author.Needs.{needs}
 use Rattle.paths.specs.Paths.{denominator}
 use Rattle.block.specs.Block.{graphOf}
-use Rattle.shares.specs.Reply.{most, saidShares}
-use Rattle.shares.specs.declared.Shares.the-variants.{Denominator}
+use Rattle.shares.specs.Reply.{mostDenominator, saidShares}
+use Rattle.shares.specs.declared.SharesReply.the-variants.{Denominator}
 use Rattle.shares.proofs.Blocks.{few-bonds, given, whole, nothing}
 use Rattle.block.specs.Lent.{filled-as}
 use Rattle.shares.proofs.Reply.{reply-short, reply-large, reply-done, entries-stay, entries-done}
@@ -50,7 +50,7 @@ returns-3 : tie.Need-returns-3
 returns-3 c =
     let a = c .before .before .before .before .before .before .before .before .before .before .before .before .args in
     let f = c .before .before .before .before .before .before .before .fill in
-    let low : f .result ≤ most = omega (arith, c .before .before .before .before .before .if2 .left) in
+    let low : f .result ≤ mostDenominator = omega (arith, c .before .before .before .before .before .if2 .left) in
     let is : f .result ≡ denominator (graphOf (a .n) (a .bonds .now)) = omega (arith, f .ensures .0) in
     let r = c .before .before .before .before .before .before .before .before .before .if1 .left in
     let e = reply-done (a .n) (a .bonds .now) (c .before .before .before .before .before .before .before .before .before .before .before .before .pre .0) _ r (omega arith) in

@@ -6,7 +6,7 @@ use native.Mathlib.Omega.{arith}
 use Prim.Native.Nat.{ℕ}
 use denote.Ref.{now}
 use Rattle.sheets.specs.Sheets.{allWidths, fieldsAt}
-use Rattle.sheets.specs.Along.{total, Narrow}
+use Rattle.sheets.specs.Along.{widthsTotal, Narrow}
 use Rattle.sheets.proofs.Puts.{fields-past}
 use borrow.Author.Needs.{needs}
 use Rattle.sheets.proofs.claimed.Statement.{statement}
@@ -34,7 +34,7 @@ slice-aggregate-read-fields-2 c = search needs
 
 -- src/lib.rt:77:5
 read-fields-requires : tie.Need-read-fields-requires
-unfolding total Narrow
+unfolding widthsTotal Narrow
 read-fields-requires c κs = rw (c .before .before .widths .ensures) (refl, (omega arith, (omega arith, (omega arith, (omega arith, (omega arith, (omega arith, tt)))))), omega arith)
 
 -- src/lib.rt:69:1

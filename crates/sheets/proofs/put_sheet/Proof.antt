@@ -5,7 +5,7 @@ use denote.Ref.{now}
 use lib.ListN.{length, take}
 use borrow.Author.Needs.{needs}
 use Rattle.sheets.specs.Sheets.{allWidths, fieldCount, widths, fieldsOf}
-use Rattle.sheets.specs.Along.{total}
+use Rattle.sheets.specs.Along.{widthsTotal}
 use Rattle.sheets.specs.Back.{widths-fill, one-each}
 use Rattle.sheets.proofs.Puts.{there, lent, length-all, widths-taken, fields-taken, head-and-fields, too-short}
 use Rattle.sheets.proofs.put_sheet.Statement.{statement}
@@ -49,7 +49,7 @@ slice-aggregate-put-fields-2 : tie.Need-slice-aggregate-put-fields-2
 slice-aggregate-put-fields-2 c = search needs
 
 put-fields-requires : tie.Need-put-fields-requires
-unfolding total
+unfolding widthsTotal
 put-fields-requires c κs = (refl, omega (arith, c .before .before .before .before .before .before .if1 .left, c .before .before .before .before .before .before .before .bytes-of .ensures))
 
 field-count-requires : tie.Need-field-count-requires

@@ -4,13 +4,13 @@ use mathlib.Core.Path.{_≡_}
 use native.Mathlib.Omega.{arith}
 use borrow.Author.Needs.{needs}
 use lib.ListN.{length}
-use Rattle.sheets.specs.Along.{total}
+use Rattle.sheets.specs.Along.{widthsTotal}
 use Rattle.sheets.proofs.Puts.{Reading, read-none, read-room, read-one, read-all}
 use Rattle.sheets.proofs.read_fields.Statement.{statement}
 use Rattle.sheets.proofs.read_fields.Tie as tie
 
 abbrev Inv-loop : tie.InvT-loop
-Inv-loop d from widths fields₀ at₀ i₀ fields at i = (length fields₀ ≡ length widths) × (from + total widths < 2 ^ 64) × Reading widths d fields₀ from i at fields
+Inv-loop d from widths fields₀ at₀ i₀ fields at i = (length fields₀ ≡ length widths) × (from + widthsTotal widths < 2 ^ 64) × Reading widths d fields₀ from i at fields
 
 abbrev μ-loop : tie.MeasureT-loop
 μ-loop d from widths fields₀ at₀ i₀ fields at i = length widths - i

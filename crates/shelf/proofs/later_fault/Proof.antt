@@ -3,9 +3,9 @@ use Prim.Native.Nat.{ℕ, _-_}
 use mathlib.Core.Path.{_≡_, sym, ap, ap₂, _∙_}
 use Rattle.reply.specs.Read.{isOutside}
 use Rattle.block.specs.Faults.{inside}
-use Rattle.assembly.specs.Placements.{placementAt, siteAt, Shelf, joinOn, sitesOn, parentFault, joinFault}
+use Rattle.assembly.specs.Placements.{placementAt, atomSite, Shelf, joinOn, sitesOn, parentFault, joinFault}
 use Rattle.assembly.specs.declared.Placement.{Placement}
-use Rattle.assembly.specs.declared.Site.{Site}
+use Rattle.assembly.specs.declared.JoinSite.{JoinSite}
 use Rattle.assembly.proofs.Faults.{no-parent, has-parent}
 use Rattle.shelf.specs.Shelf.{shelfIn}
 use borrow.Author.Needs.{needs}
@@ -25,13 +25,13 @@ onto-is : (c : tie.After-placement-at2) → let s = c .before .before .before .b
 onto-is c = let s = c .before .before .before .before .before .before .before in c .placement-at2 .ensures ∙ ap (λ (q : Placement). placed s (q .parent - 1)) (c .before .before .before .before .placement-at .ensures)
 
 -- what is asked of both blocks
-there-site : (c : tie.After-site-of) → let s = c .before .before .before .before .before .before .before .before in let q = placed s (s .args .k) in c .site-of .result ≡ siteAt (sitesOn (shelf s) (placed s) (q .parent - 1)) (q .site)
+there-site : (c : tie.After-site-of) → let s = c .before .before .before .before .before .before .before .before in let q = placed s (s .args .k) in c .site-of .result ≡ atomSite (sitesOn (shelf s) (placed s) (q .parent - 1)) (q .site)
 there-site c = let s = c .before .before .before .before .before .before .before .before in
-    c .site-of .ensures ∙ ap₂ (λ (o q : Placement). siteAt (shelf s .sites (o .block)) (q .site)) (onto-is (c .before)) (c .before .before .before .before .before .placement-at .ensures)
+    c .site-of .ensures ∙ ap₂ (λ (o q : Placement). atomSite (shelf s .sites (o .block)) (q .site)) (onto-is (c .before)) (c .before .before .before .before .before .placement-at .ensures)
 
-here-site : (c : tie.After-site-of2) → let s = c .before .before .before .before .before .before .before .before .before in let q = placed s (s .args .k) in c .site-of2 .result ≡ siteAt (sitesOn (shelf s) (placed s) (s .args .k)) (q .own)
+here-site : (c : tie.After-site-of2) → let s = c .before .before .before .before .before .before .before .before .before in let q = placed s (s .args .k) in c .site-of2 .result ≡ atomSite (sitesOn (shelf s) (placed s) (s .args .k)) (q .own)
 here-site c = let s = c .before .before .before .before .before .before .before .before .before in
-    c .site-of2 .ensures ∙ ap (λ (q : Placement). siteAt (shelf s .sites (q .block)) (q .own)) (c .before .before .before .before .before .before .placement-at .ensures)
+    c .site-of2 .ensures ∙ ap (λ (q : Placement). atomSite (shelf s .sites (q .block)) (q .own)) (c .before .before .before .before .before .before .placement-at .ensures)
 
 placement-at-requires : tie.Need-placement-at-requires
 placement-at-requires c κs = search needs
@@ -69,7 +69,7 @@ join-fault-requires c κs = search needs
 returns-2 : tie.Need-returns-2
 returns-2 c = let s = c .before .before .before .before .before .before .before .before .before .before in
     c .join-fault .ensures
-    ∙ ap₂ (λ (t h : Site). joinFault t h (joinOn (placed s)) (s .args .k)) (there-site (c .before .before)) (here-site (c .before))
+    ∙ ap₂ (λ (t h : JoinSite). joinFault t h (joinOn (placed s)) (s .args .k)) (there-site (c .before .before)) (here-site (c .before))
     ∙ sym (has-parent (shelf s) (placed s) (s .args .k) (sym (outside-is (c .before .before .before .before .before)) ∙ c .before .before .before .before .if1 .left))
 
 pub later-fault-spec : {M : Type 1} → statement M

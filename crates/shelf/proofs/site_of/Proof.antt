@@ -2,9 +2,9 @@
 use Prim.Native.Nat.{ℕ}
 use mathlib.Core.List.{List}
 use mathlib.Core.Path.{_≡_, refl, ap, _∙_}
-use Rattle.assembly.specs.Placements.{siteAt}
-use Rattle.assembly.specs.declared.Site.{Site}
-use Rattle.summary.specs.Layout.{atomsOf, endsAt}
+use Rattle.assembly.specs.Placements.{atomSite}
+use Rattle.assembly.specs.declared.JoinSite.{JoinSite}
+use Rattle.summary.specs.Layout.{storedAtoms, storedDegree}
 use Rattle.shelf.specs.Shelf.{sitesIn, summaryAt}
 use borrow.Author.Needs.{needs}
 use Rattle.shelf.proofs.site_of.Statement.{statement}
@@ -26,8 +26,8 @@ returns : tie.Need-returns
 returns c =
     let a = c .before .before .before .before .before .args in
     let r = c .before .before .summary-at .result in
-    let both : _≡_ {A = Site} (record { atoms = c .before .atoms .result; ends = c .ends .result }) (siteAt (sitesIn (r .now)) (a .a)) = rw (c .before .atoms .ensures, c .ends .ensures) refl in
-    both ∙ ap (λ (l : List ℕ). siteAt (sitesIn l) (a .a)) (c .before .before .summary-at .ensures .bytes ∙ ap (summaryAt (a .book .now)) (c .before .before .before .place-of .ensures))
+    let both : _≡_ {A = JoinSite} (record { atoms = c .before .atoms .result; ends = c .ends .result }) (atomSite (sitesIn (r .now)) (a .a)) = rw (c .before .atoms .ensures, c .ends .ensures) refl in
+    both ∙ ap (λ (l : List ℕ). atomSite (sitesIn l) (a .a)) (c .before .before .summary-at .ensures .bytes ∙ ap (summaryAt (a .book .now)) (c .before .before .before .place-of .ensures))
 
 pub site-of-spec : {M : Type 1} → statement M
 site-of-spec =

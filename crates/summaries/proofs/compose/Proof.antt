@@ -7,17 +7,17 @@ use borrow.Author.Needs.{needs}
 use Rattle.graph.specs.Graph.{Within}
 use Rattle.reply.specs.Read.{read}
 use Rattle.block.specs.Index.{saidIndices}
-use Rattle.block.specs.declared.Measured.the-variants as measured
+use Rattle.block.specs.declared.IndicesReply.the-variants as measured
 use Rattle.block.proofs.Replies.{said-fine, said-refused}
 use Rattle.assembly.specs.Placements.{mostPlacements, placementCount, placementAt, shelfReply}
-use Rattle.assembly.specs.Sound.{Right}
+use Rattle.assembly.specs.Sound.{PlacedRight}
 use Rattle.shelf.specs.Shelf.{shelfIn}
-use Rattle.summaries.specs.Ready.{Lent}
+use Rattle.summaries.specs.Ready.{LentBytes}
 use Rattle.summaries.proofs.Links.{six-linked, ready, reply-refused, reply-read, fine-count, fine-right}
 use Rattle.summaries.proofs.compose.Statement.{statement}
 use Rattle.summaries.proofs.compose.Tie as tie
 
-lent : (c : tie.After-shared-slice-known) → Lent (c .before .args .book .now)
+lent : (c : tie.After-shared-slice-known) → LentBytes (c .before .args .book .now)
 lent c = record { byte = λ i. omega (arith, c .shared-slice-known .given i) }
 
 -- nothing is refused
@@ -52,7 +52,7 @@ composed-requires c κs =
     let l = c .before .before in
     let s = l .before .before .before .before .before .before in
     ready (c .before .links-of .ensures) (lent (l .before .before .before .before .before)) (few l)
-    (subst (Right (shelfIn (s .args .book .now)) (placementAt (s .args .xs .now))) (sym (l .le16-at .ensures)) (fine-right (s .args .book .now) (s .args .xs .now) (fine (l .before))))
+    (subst (PlacedRight (shelfIn (s .args .book .now)) (placementAt (s .args .xs .now))) (sym (l .le16-at .ensures)) (fine-right (s .args .book .now) (s .args .xs .now) (fine (l .before))))
 
 returns : tie.Need-returns
 returns c =

@@ -1,6 +1,6 @@
 -- `summary::fields` meets its contract. Assumes nothing.
 use mathlib.Core.Path.{refl}
-use Rattle.summary.specs.Layout.{fieldsOf}
+use Rattle.summary.specs.Layout.{storedFields}
 use borrow.Author.Needs.{needs}
 use Rattle.summary.proofs.fields.Statement.{statement}
 use Rattle.summary.proofs.fields.Tie as tie
@@ -24,7 +24,7 @@ byte-requires : tie.Need-byte-requires
 byte-requires c κs = search needs
 
 returns : tie.Need-returns
-unfolding fieldsOf
+unfolding storedFields
 returns c = rw (c .byte .ensures, c .before .four3 .ensures .0, c .before .before .atoms .ensures, c .before .before .before .four2 .ensures .0, c .before .before .before .before .four .ensures .0) refl
 
 pub fields-spec : {M : Type 1} → statement M

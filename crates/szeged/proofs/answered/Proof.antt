@@ -1,7 +1,7 @@
 -- `answered` meets its contract: each return is one way through the definition.
 use mathlib.Core.Path.{sym, _∙_, ap}
 use Rattle.szeged.specs.Reply.{saidSzeged}
-use Rattle.szeged.specs.declared.Szeged.the-variants.{Index}
+use Rattle.szeged.specs.declared.SzegedReply.the-variants.{Index}
 use Rattle.szeged.proofs.Reply.{reply-short, reply-done, entries-stay, entries-done}
 use borrow.Author.Needs.{needs}
 use Rattle.szeged.proofs.answered.Statement.{statement}

@@ -1,7 +1,7 @@
 -- `tteuyomal::tteuyomal_placed_distance` meets its contract.
 use Prim.Native.Nat.{ℕ}
 use mathlib.Core.List.{[], _∷_}
-use Rattle.climb.specs.Placed.{placedReply}
+use Rattle.climb.specs.Placed.{placedDistanceReply}
 use mathlib.Core.Path.{sym, _∙_, ap}
 use denote.Ref.{now}
 use borrow.Author.Needs.{needs}
@@ -33,7 +33,7 @@ returns c =
     let s = c .before .before .before .before .before .before .before in
     let m = c .before .before .before .before in
     lent-refused _ (now (s .args .distance)) (c .code-of .result)
-    (ap (λ (R : Read ℕ). R then λ x. read (x ∷ [])) (sym (distance-told _ (placedReply (now (s .args .deck)) (s .args .k) (s .args .i) (s .args .l) (s .args .j)) (m .placed-distance .ensures)) ∙ ap toldDistance (c .before .before .answer .given .1)))
+    (ap (λ (R : Read ℕ). R then λ x. read (x ∷ [])) (sym (distance-told _ (placedDistanceReply (now (s .args .deck)) (s .args .k) (s .args .i) (s .args .l) (s .args .j)) (m .placed-distance .ensures)) ∙ ap toldDistance (c .before .before .answer .given .1)))
     (c .code-of .ensures)
 
 same-length : tie.Need-same-length
@@ -46,7 +46,7 @@ returns-2 c =
     let m = a .before .before in
     let s = m .before .before .before in
     lent-read _ (now (s .args .distance)) (g .give .result) _
-    (ap (λ (R : Read ℕ). R then λ x. read (x ∷ [])) (sym (distance-told _ (placedReply (now (s .args .deck)) (s .args .k) (s .args .i) (s .args .l) (s .args .j)) (m .placed-distance .ensures)) ∙ ap toldDistance (a .answer2 .given .1)))
+    (ap (λ (R : Read ℕ). R then λ x. read (x ∷ [])) (sym (distance-told _ (placedDistanceReply (now (s .args .deck)) (s .args .k) (s .args .i) (s .args .l) (s .args .j)) (m .placed-distance .ensures)) ∙ ap toldDistance (a .answer2 .given .1)))
     (g .give .ensures)
 
 pub tteuyomal-placed-distance-spec : {M : Type 1} → statement M

@@ -8,7 +8,7 @@ use borrow.Author.Tests.{eq-eqb, ne-eqb}
 use Rattle.graph.specs.Graph.{Bond, Within, anyJoins}
 use Rattle.graph.specs.Sets.{has-yes, has-not}
 use Rattle.reply.specs.Read.{isOutside}
-use Rattle.block.specs.Near.{Holds}
+use Rattle.block.specs.Near.{HoldsBonds}
 use Rattle.block.specs.Faults.{inside, three, three′, four, five, six, six′, none}
 use Rattle.block.proofs.Listing.{full, room}
 use Rattle.block.proofs.bonding.fault.Statement.{statement}
@@ -66,7 +66,7 @@ returns-4 c bs H =
     five _ _ _ _ (one (d .before .before .before)) (two (d .before)) (differ d)
     (sym (H .draws .drawn _ _ (one-in (d .before)) (two-in (d .before))) ∙ has-yes _ _ (c .if4 .taken))
 
-new : (c : tie.Else4) (bs : List Bond) → let s = c .before .before .before .before .before .before .before .args in Holds (s .n) bs (s .near .now) (s .count .now) → anyJoins bs (s .a) (s .b) ≡ false
+new : (c : tie.Else4) (bs : List Bond) → let s = c .before .before .before .before .before .before .before .args in HoldsBonds (s .n) bs (s .near .now) (s .count .now) → anyJoins bs (s .a) (s .b) ≡ false
 new c bs H =
     let d = c .before .before in
     sym (H .draws .drawn _ _ (one-in (d .before)) (two-in (d .before))) ∙ has-not _ _ (c .if4 .left)

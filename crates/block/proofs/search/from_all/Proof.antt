@@ -5,14 +5,14 @@ use native.Mathlib.Numerals.{add-one}
 use native.Mathlib.Omega.{arith}
 use borrow.Author.Needs.{needs}
 use Rattle.block.specs.Block.{graphOf, mostAtoms}
-use Rattle.block.specs.Near.{Ready}
+use Rattle.block.specs.Near.{ReadyBlock}
 use Rattle.block.specs.Told.{passed}
 use Rattle.block.proofs.Filling.{Rows, rows-start, rows-next, rows-end}
 use Rattle.block.proofs.search.from_all.Statement.{statement}
 use Rattle.block.proofs.search.from_all.Tie as tie
 
 abbrev Inv-loop : tie.InvT-loop
-Inv-loop near n far all₀ deep₀ i₀ all deep i = (i ≤ n) × (n ≤ mostAtoms) × ((xs : List ℕ) → Ready n xs near → Rows n xs all deep i)
+Inv-loop near n far all₀ deep₀ i₀ all deep i = (i ≤ n) × (n ≤ mostAtoms) × ((xs : List ℕ) → ReadyBlock n xs near → Rows n xs all deep i)
 
 abbrev μ-loop : tie.MeasureT-loop
 μ-loop near n far all₀ deep₀ i₀ all deep i = n - i

@@ -7,13 +7,13 @@ use lib.Pow.{pow-pos}
 use Rattle.graph.specs.Graph.{Graph, Within}
 use Rattle.graph.specs.Sets.{shifted, taken-some, lowest-dropped}
 use Rattle.block.specs.Block.{mostAtoms}
-use Rattle.block.specs.Found.{Task}
+use Rattle.block.specs.Found.{SearchTask}
 use Rattle.block.proofs.Meeting.{Running, Over, first, fits-level, run-start, small, shallow, less, run-looked, looked-at, run-deeper, run-over, run-end}
 use Rattle.block.proofs.search.from_atom.Statement.{statement}
 use Rattle.block.proofs.search.from_atom.Tie as tie
 
 abbrev Inv-loop : tie.InvT-loop
-Inv-loop near n i row₀ level₀ rest₀ next₀ d₀ row level rest next d = (g : Graph) → Task g near n i → Running g near i row rest level next d × (level ≡ 0 → Over g near i next d)
+Inv-loop near n i row₀ level₀ rest₀ next₀ d₀ row level rest next d = (g : Graph) → SearchTask g near n i → Running g near i row rest level next d × (level ≡ 0 → Over g near i next d)
 
 abbrev μ-loop : tie.MeasureT-loop
 μ-loop near n i row₀ level₀ rest₀ next₀ d₀ row level rest next d = rest + level

@@ -1,7 +1,7 @@
 use Prim.Native.Nat.{ℕ, suc, _≤_, _-_}
 use mathlib.Core.Path.{_≡_, sym, ap, _∙_}
 use native.Mathlib.Omega.{arith}
-use Rattle.half.specs.Half.{startOf, halfAt}
+use Rattle.half.specs.Half.{rowStart, halfAt}
 use Rattle.half.specs.Places.{start-first}
 use Rattle.block.specs.Block.{mostAtoms}
 use Rattle.block.specs.Sums.{countsBy}
@@ -11,7 +11,7 @@ use Rattle.block.proofs.totals.count_pairs.Statement.{statement}
 use Rattle.block.proofs.totals.count_pairs.Tie as tie
 
 abbrev Inv-loop : tie.InvT-loop
-Inv-loop half n m at₀ from₀ i₀ at from i = (i ≤ m) × (m ≤ mostAtoms) × (from ≡ startOf (suc i)) × PairsCounted half m i at
+Inv-loop half n m at₀ from₀ i₀ at from i = (i ≤ m) × (m ≤ mostAtoms) × (from ≡ rowStart (suc i)) × PairsCounted half m i at
 
 abbrev μ-loop : tie.MeasureT-loop
 μ-loop half n m at₀ from₀ i₀ at from i = m - i

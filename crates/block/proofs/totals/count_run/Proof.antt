@@ -3,14 +3,14 @@ use Prim.Native.Nat.{_≤_, _-_}
 use mathlib.Core.Path.{_≡_, _∙_}
 use native.Mathlib.Omega.{arith}
 use borrow.Author.Needs.{needs}
-use Rattle.block.specs.Tally.{runAt, Counted}
+use Rattle.block.specs.Tally.{runAt, CountsAdded}
 use Rattle.block.proofs.Tallies.{run-here}
 use Rattle.block.proofs.Counting.{count-none, count-low, count-in, count-out}
 use Rattle.block.proofs.totals.count_run.Statement.{statement}
 use Rattle.block.proofs.totals.count_run.Tie as tie
 
 abbrev Inv-loop : tie.InvT-loop
-Inv-loop half from k counts₀ j₀ counts j = (j ≤ k) × Counted counts₀ (runAt half from) j counts
+Inv-loop half from k counts₀ j₀ counts j = (j ≤ k) × CountsAdded counts₀ (runAt half from) j counts
 
 abbrev μ-loop : tie.MeasureT-loop
 μ-loop half from k counts₀ j₀ counts j = k - j

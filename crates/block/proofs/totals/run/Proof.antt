@@ -3,13 +3,13 @@ use mathlib.Core.Path.{_≡_}
 use native.Mathlib.Omega.{arith}
 use borrow.Author.Needs.{needs}
 use lib.Dec.{eqb}
-use Rattle.block.specs.Tally.{Ran}
+use Rattle.block.specs.Tally.{RunOf}
 use Rattle.block.proofs.Tallies.{bit-low, odd-low, run-none, run-more}
 use Rattle.block.proofs.totals.run.Statement.{statement}
 use Rattle.block.proofs.totals.run.Tie as tie
 
 abbrev Inv-loop : tie.InvT-loop
-Inv-loop half from k all₀ odd₀ threes₀ j₀ all odd threes j = (j ≤ k) × Ran half from j (record { all = all; odd = odd; threes = threes })
+Inv-loop half from k all₀ odd₀ threes₀ j₀ all odd threes j = (j ≤ k) × RunOf half from j (record { all = all; odd = odd; threes = threes })
 
 abbrev μ-loop : tie.MeasureT-loop
 μ-loop half from k all₀ odd₀ threes₀ j₀ all odd threes j = k - j

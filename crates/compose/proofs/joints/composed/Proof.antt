@@ -9,7 +9,7 @@ use Rattle.graph.specs.Graph.{Graph, Within}
 use Rattle.graph.specs.Assembly.{written}
 use Rattle.block.specs.Index.{indicesOf}
 use Rattle.assembly.specs.Placements.{mostPlacements}
-use Rattle.compose.specs.Joints.{ends, joinsOf, Counted, Task, Turn}
+use Rattle.compose.specs.Joints.{ends, joinsOf, JoinsCounted, JoinTask, Turn}
 use Rattle.compose.proofs.Steps.{joined-next, counted-next, first-numbers}
 use Rattle.compose.proofs.Stored.{row-at}
 use Rattle.compose.proofs.joints.composed.Statement.{statement}
@@ -18,8 +18,8 @@ use Rattle.compose.proofs.joints.composed.Tie as tie
 abbrev Inv-loop : tie.InvT-loop
 Inv-loop links rows numbers counts₀ count s₀ k₀ counts s k =
     (1 ≤ k) × (k - 1 ≤ count - 1) × (length counts ≡ ends)
-    × ((blocks : ℕ → Graph) → Task blocks (count - 1) links rows counts₀ numbers
-    → (s .fields ≡ indicesOf (written blocks (joinsOf links) (k - 1))) × Counted blocks (count - 1) links counts k)
+    × ((blocks : ℕ → Graph) → JoinTask blocks (count - 1) links rows counts₀ numbers
+    → (s .fields ≡ indicesOf (written blocks (joinsOf links) (k - 1))) × JoinsCounted blocks (count - 1) links counts k)
 
 abbrev μ-loop : tie.MeasureT-loop
 μ-loop links rows numbers counts₀ count s₀ k₀ counts s k = count - k
@@ -44,7 +44,7 @@ module _ (c : tie.In-loop Inv-loop μ-loop) where
   small : c .before .loop .k < mostPlacements
   small = omega (arith, index, c .before .before .before .before .pre .1 .laid .few)
 
-  turn : {blocks : ℕ → Graph} → let a = c .before .before .before .before .args in Task blocks (a .count - 1) (a .links .now) (a .rows .now) (a .counts .now) (a .numbers .now)
+  turn : {blocks : ℕ → Graph} → let a = c .before .before .before .before .args in JoinTask blocks (a .count - 1) (a .links .now) (a .rows .now) (a .counts .now) (a .numbers .now)
       → Turn blocks (a .count - 1) (a .links .now) (a .rows .now) (c .before .loop .counts) (c .before .loop .k)
   turn t = record { laid = t .laid; index = index; counted = c .before .loop .inv .3 _ t .1 }
 

@@ -6,7 +6,7 @@ use borrow.Author.Needs.{needs}
 use native.Mathlib.Omega.{arith}
 use lib.ListN.{length, length-set}
 use Rattle.assembly.specs.Placements.{mostPlacements, placementAt}
-use Rattle.compose.specs.Links.{Linked}
+use Rattle.compose.specs.Links.{PlacementLinked}
 use Rattle.compose.specs.Joints.{linkOf, link}
 use Rattle.compose.proofs.Stored.{stored-more}
 use Rattle.compose.proofs.links.fill_links.Statement.{statement}
@@ -14,7 +14,7 @@ use Rattle.compose.proofs.links.fill_links.Tie as tie
 
 abbrev Inv-loop : tie.InvT-loop
 Inv-loop xs count links₀ k₀ links k =
-    (k ≤ count) × (length links ≡ mostPlacements) × ((m : ℕ) → m < k → Linked (placementAt xs) m (link links m))
+    (k ≤ count) × (length links ≡ mostPlacements) × ((m : ℕ) → m < k → PlacementLinked (placementAt xs) m (link links m))
 
 abbrev μ-loop : tie.MeasureT-loop
 μ-loop xs count links₀ k₀ links k = count - k
@@ -42,7 +42,7 @@ loop-again c =
     let s = c .before .before in (
       omega arith,
       length-set (s .loop .links) (s .loop .k) (c .link-of .result) ∙ s .loop .inv .1,
-      stored-more (λ m l. Linked (placementAt (s .before .before .args .xs .now)) m (linkOf l)) [] (s .loop .links) (s .loop .k) (c .link-of .result) (omega (arith, s .loop .inv .1)) (s .loop .inv .2) (c .link-of .ensures),
+      stored-more (λ m l. PlacementLinked (placementAt (s .before .before .args .xs .now)) m (linkOf l)) [] (s .loop .links) (s .loop .k) (c .link-of .result) (omega (arith, s .loop .inv .1)) (s .loop .inv .2) (c .link-of .ensures),
     )
 
 same-length : tie.Need-same-length Inv-loop μ-loop

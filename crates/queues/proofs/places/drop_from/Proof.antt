@@ -4,7 +4,7 @@ use mathlib.Core.Path.{sym, _∙_, ap}
 use native.Mathlib.Omega.{arith}
 use lib.Seq.{sets}
 use Rattle.reply.specs.Read.{saidReply}
-use Rattle.storage.specs.Shelf.{numberIn, noNumber}
+use Rattle.storage.specs.Shelf.{numberIn, zeroNumber}
 use Rattle.storage.specs.Storage.{held-place}
 use Rattle.summary.specs.Layout.{summaryBytes}
 use Rattle.queues.proofs.Answers.{held-is, drop-none, drop-held, dropped-none, dropped-held}
@@ -49,7 +49,7 @@ returns-2 c =
     let a = c .before .before .before .before .before .before .before .before .before .args in
     let k = c .before .before .before .before .before .before .place-of .ensures .0 in
     let h = held-is (a .s .now) (a .number) _ _ (c .before .before .before .before .before .is-held .ensures) k ∙ not-false _ (c .before .before .before .before .if1 .left) in
-    (sym (ap saidReply (drop-held _ _ h)), c .before .before .free .ensures ∙ ap (λ (i : ℕ). sets (a .s .now) (summaryBytes * i) noNumber) k ∙ sym (dropped-held _ _ h))
+    (sym (ap saidReply (drop-held _ _ h)), c .before .before .free .ensures ∙ ap (λ (i : ℕ). sets (a .s .now) (summaryBytes * i) zeroNumber) k ∙ sym (dropped-held _ _ h))
 
 pub drop-from-spec : {M : Type 1} → statement M
 drop-from-spec =

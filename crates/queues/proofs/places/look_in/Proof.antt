@@ -2,10 +2,10 @@
 use mathlib.Core.Path.{sym, _∙_, ap}
 use native.Mathlib.Omega.{arith}
 use Rattle.block.specs.Index.{saidIndices}
-use Rattle.block.specs.declared.Measured.the-variants as measured
+use Rattle.block.specs.declared.IndicesReply.the-variants as measured
 use Rattle.storage.specs.Shelf.{numberIn}
 use Rattle.storage.specs.Storage.{held-place}
-use Rattle.summary.specs.Layout.{summaryBytes, fieldsOf}
+use Rattle.summary.specs.Layout.{summaryBytes, storedFields}
 use Rattle.queues.proofs.Answers.{held-is, look-none, look-held}
 use borrow.Author.Needs.{needs}
 use borrow.Author.Tests.{not-true, not-false}
@@ -21,7 +21,7 @@ is-held-requires c κs = search needs
 returns : tie.Need-returns
 returns c =
     let h = held-is _ _ _ _ (c .before .is-held .ensures) (c .before .before .place-of .ensures .0) ∙ not-true _ (c .if1 .taken) in
-    sym (ap saidIndices (look-none _ _ fieldsOf h))
+    sym (ap saidIndices (look-none _ _ storedFields h))
 
 mul-start : tie.Need-mul-start
 mul-start c = search needs
@@ -51,7 +51,7 @@ returns-2 c =
     let a = c .before .before .before .before .before .before .args in
     let k = c .before .before .before .before .place-of .ensures .0 in
     let h = held-is (a .s .now) (a .number) _ _ (c .before .before .before .is-held .ensures) k ∙ not-false _ (c .before .before .if1 .left) in
-    ap measured.Of (c .fields .ensures) ∙ sym (ap saidIndices (look-held (a .s .now) (a .number) fieldsOf _ h k))
+    ap measured.Of (c .fields .ensures) ∙ sym (ap saidIndices (look-held (a .s .now) (a .number) storedFields _ h k))
 
 pub look-in-spec : {M : Type 1} → statement M
 look-in-spec =

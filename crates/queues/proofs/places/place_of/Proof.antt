@@ -2,7 +2,7 @@
 use Prim.Native.Nat.{_-_, _≤_}
 use mathlib.Core.Path.{_≡_, refl, sym, _∙_}
 use native.Mathlib.Omega.{arith}
-use Rattle.storage.specs.Shelf.{places, numberIn, placeOf, seek}
+use Rattle.storage.specs.Shelf.{places, numberIn, placeHolding, seek}
 use Rattle.summary.specs.Layout.{summaryBytes}
 use Rattle.queues.proofs.Steps.{seek-here, seek-on, seek-over}
 use borrow.Author.Needs.{needs}
@@ -10,7 +10,7 @@ use Rattle.queues.proofs.places.place_of.Statement.{statement}
 use Rattle.queues.proofs.places.place_of.Tie as tie
 
 abbrev Inv-loop : tie.InvT-loop
-Inv-loop s number k₀ k = (k ≤ places) × (placeOf summaryBytes s number ≡ seek (numberIn summaryBytes s) number k (places - k))
+Inv-loop s number k₀ k = (k ≤ places) × (placeHolding summaryBytes s number ≡ seek (numberIn summaryBytes s) number k (places - k))
 
 abbrev μ-loop : tie.MeasureT-loop
 μ-loop s number k₀ k = places - k

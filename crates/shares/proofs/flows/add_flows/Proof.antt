@@ -6,14 +6,14 @@ use native.Mathlib.Omega.{arith}
 use lib.ListN.{length, getD}
 use Rattle.block.specs.Block.{graphOf}
 use Rattle.block.specs.Numbered.{bondAt}
-use Rattle.block.specs.Lent.{Filled, filled-none, filled-store}
-use Rattle.shares.specs.Work.{full, at, carried, Ready}
+use Rattle.block.specs.Lent.{EntriesFilled, filled-none, filled-store}
+use Rattle.shares.specs.Work.{full, at, carried, StartRows}
 use Rattle.shares.proofs.Flowing.{carried-low, there-fits, back-fits, flows}
 use Rattle.shares.proofs.flows.add_flows.Statement.{statement}
 use Rattle.shares.proofs.flows.add_flows.Tie as tie
 
 abbrev Inv-loop : tie.InvT-loop
-Inv-loop bonds row c t out₀ m k₀ out k = (k ≤ m) × ((n i d : ℕ) → Ready n bonds row c t i d → Filled k (λ j. getD out₀ j 0 + carried (graphOf n bonds) i d (bondAt bonds j)) out₀ out)
+Inv-loop bonds row c t out₀ m k₀ out k = (k ≤ m) × ((n i d : ℕ) → StartRows n bonds row c t i d → EntriesFilled k (λ j. getD out₀ j 0 + carried (graphOf n bonds) i d (bondAt bonds j)) out₀ out)
 
 abbrev μ-loop : tie.MeasureT-loop
 μ-loop bonds row c t out₀ m k₀ out k = m - k
@@ -55,7 +55,7 @@ passed-requires-2 c κs =
 -- what is added, and what it is added to
 adds : (c : tie.After-passed2 Inv-loop μ-loop) (n i d : ℕ)
     → let a = c .before .before .before .before .before .before .before .before .before .before .args in
-    Ready n (a .bonds .now) (a .row .now) (a .c .now) (a .t .now) i d
+    StartRows n (a .bonds .now) (a .row .now) (a .c .now) (a .t .now) i d
     → c .before .passed .result + c .passed2 .result ≡ carried (graphOf n (a .bonds .now)) i d (bondAt (a .bonds .now) (c .before .before .before .before .before .before .before .loop .k))
 adds c n i d R =
     flows R (c .before .before .before .before .before .before .before .loop .k) (c .before .before .before .before .before .before .loop-test .taken) (c .before .before .before .before .wide .result) (c .before .before .wide2 .result) (c .before .before .before .before .wide .ensures .0)

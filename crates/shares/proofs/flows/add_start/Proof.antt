@@ -7,7 +7,7 @@ use Rattle.graph.specs.Graph.{Within}
 use Rattle.paths.specs.Paths.{pathCount}
 use Rattle.paths.specs.Notions.{weight, gathered, lcmStarts}
 use Rattle.block.specs.Block.{graphOf}
-use Rattle.shares.specs.Work.{cap, full, at, Holds, Tally, Whole, Ready}
+use Rattle.shares.specs.Work.{cap, full, at, CappedRow, Tally, WholeBlock, StartRows}
 use Rattle.shares.proofs.Tallying.{tally-of, start-next}
 use Rattle.shares.proofs.Starting.{counts-pos, weighs, ready, whole-pos, whole-at, sofar-room, raise-fits, raised, added}
 use borrow.Author.Needs.{needs}
@@ -37,7 +37,7 @@ found c = start-next (c .before .before .before .before .before .pre .1 .molecul
 returns : tie.Need-returns
 returns c = (found (c .before), λ l. absurd (omega (arith, c .if1 .taken)))
 
-next : (c : tie.Else1) → let a = c .before .before .before .before .before .before .args in Whole (a .n) (a .bonds .now) (a .i + 1) (c .before .common-start .result)
+next : (c : tie.Else1) → let a = c .before .before .before .before .before .before .args in WholeBlock (a .n) (a .bonds .now) (a .i + 1) (c .before .common-start .result)
 next c = whole-at (c .before .before .before .before .before .before .pre .1) (c .before .before .before .before .before .before .args .i + 1) (c .before .common-start .result) (found (c .before)) (omega (arith, c .if1 .left))
 
 few : (c : tie.Else1) → c .before .before .before .before .before .before .args .i ≤ c .before .before .before .before .before .before .args .n
@@ -68,8 +68,8 @@ weighed c =
     weighs (next (c .before .before .before .before .before .before .before .before)) (p .0 .start) (c .before .before .before .before .before .before .before .before .before .before .before .counts .ensures _ _ _ (p .0)) (c .before .before .weights .ensures .0)
 
 rows : (c : tie.After-onward) {t : List ℕ} → let a = c .before .before .before .before .before .before .before .before .before .before .before .before .before .before .args in
-    Holds (a .n) full (gathered (graphOf (a .n) (a .bonds .now)) (a .i + 1) (weight (graphOf (a .n) (a .bonds .now)) (c .before .before .before .before .before .before .before .before .before .common-start .result) (a .i + 1))) t
-    → Ready (a .n) (a .bonds .now) (a .row .now) (c .before .before .before .before .before .before .before .before .before .before .before .counts .result) t (a .i + 1) (c .before .before .before .before .before .before .before .before .before .common-start .result)
+    CappedRow (a .n) full (gathered (graphOf (a .n) (a .bonds .now)) (a .i + 1) (weight (graphOf (a .n) (a .bonds .now)) (c .before .before .before .before .before .before .before .before .before .common-start .result) (a .i + 1))) t
+    → StartRows (a .n) (a .bonds .now) (a .row .now) (c .before .before .before .before .before .before .before .before .before .before .before .counts .result) t (a .i + 1) (c .before .before .before .before .before .before .before .before .before .common-start .result)
 rows c h =
     let p = c .before .before .before .before .before .before .before .before .before .before .before .before .before .before .pre in
     ready (next (c .before .before .before .before .before .before .before .before)) (p .0 .start) (c .before .before .before .before .before .before .before .before .before .before .before .counts .ensures _ _ _ (p .0)) (p .0) h

@@ -7,7 +7,7 @@ use lib.ListN.{length}
 use Rattle.paths.specs.Paths.{pathCount}
 use Rattle.paths.specs.Notions.{lcmStarts}
 use Rattle.block.specs.Block.{graphOf}
-use Rattle.shares.specs.Reply.{most}
+use Rattle.shares.specs.Reply.{mostDenominator}
 use Rattle.shares.specs.Work.{cap, Sofar}
 use Rattle.shares.proofs.Tallying.{start-below, start-of, stops-early, starts-done}
 use Rattle.shares.proofs.Starting.{whole-at, sofar-all}
@@ -16,7 +16,7 @@ use Rattle.shares.proofs.flows.fill.Tie as tie
 
 abbrev Inv-loop : tie.InvT-loop
 Inv-loop n bonds near half far out₀ d₀ i₀ out d i =
-    (i ≤ n) × (length out ≡ length out₀) × (d ≡ min cap (lcmStarts n (pathCount (graphOf n bonds)) i)) × (d ≤ most → Sofar n bonds i d out)
+    (i ≤ n) × (length out ≡ length out₀) × (d ≡ min cap (lcmStarts n (pathCount (graphOf n bonds)) i)) × (d ≤ mostDenominator → Sofar n bonds i d out)
 
 abbrev μ-loop : tie.MeasureT-loop
 μ-loop n bonds near half far out₀ d₀ i₀ out d i = n - i
@@ -55,7 +55,7 @@ add-start-requires c κs =
     let r = w .before .before .before .before in
     let l = r .before .before .before .loop in
     let p = r .before .before .before .before .before .before .pre in
-    let low : l .d ≤ most = omega (arith, r .before .if1 .left) in
+    let low : l .d ≤ mostDenominator = omega (arith, r .before .if1 .left) in
     (start-of (p .1) (l .i) (r .before .before .loop-test .taken) _ (r .row .ensures) (w .wide .ensures .0) (w .before .before .by-level .ensures), whole-at (p .0) (l .i) (l .d) (l .inv .2) low, l .inv .3 low)
 
 add-i : tie.Need-add-i Inv-loop μ-loop

@@ -3,12 +3,12 @@ use Prim.Native.Nat.{_-_, _≤_}
 use mathlib.Core.Path.{_≡_, refl}
 use native.Mathlib.Omega.{arith}
 use lib.ListN.{getD}
-use Rattle.block.specs.Lent.{Filled, filled-none, filled-store}
+use Rattle.block.specs.Lent.{EntriesFilled, filled-none, filled-store}
 use Rattle.shares.proofs.flows.put.Statement.{statement}
 use Rattle.shares.proofs.flows.put.Tie as tie
 
 abbrev Inv-loop : tie.InvT-loop
-Inv-loop m entries out₀ j₀ out j = (j ≤ m) × Filled j (λ k. getD entries k 0) out₀ out
+Inv-loop m entries out₀ j₀ out j = (j ≤ m) × EntriesFilled j (λ k. getD entries k 0) out₀ out
 
 abbrev μ-loop : tie.MeasureT-loop
 μ-loop m entries out₀ j₀ out j = m - j

@@ -4,12 +4,12 @@ use mathlib.Core.Path.{_≡_, ap}
 use native.Mathlib.Nat.{le-refl}
 use native.Mathlib.Omega.{arith}
 use lib.ListN.{getD}
-use Rattle.block.specs.Lent.{Filled, filled-none, filled-same, filled-store}
+use Rattle.block.specs.Lent.{EntriesFilled, filled-none, filled-same, filled-store}
 use Rattle.shares.proofs.flows.raise.Statement.{statement}
 use Rattle.shares.proofs.flows.raise.Tie as tie
 
 abbrev Inv-loop : tie.InvT-loop
-Inv-loop m f out₀ k₀ out k = (k ≤ m) × Filled k (λ j. getD out₀ j 0 * f) out₀ out
+Inv-loop m f out₀ k₀ out k = (k ≤ m) × EntriesFilled k (λ j. getD out₀ j 0 * f) out₀ out
 
 abbrev μ-loop : tie.MeasureT-loop
 μ-loop m f out₀ k₀ out k = m - k

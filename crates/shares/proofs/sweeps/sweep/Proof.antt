@@ -8,7 +8,7 @@ use lib.ListN.{length, length-set}
 use lib.Pow.{pow-pos}
 use Rattle.graph.specs.Sets.{lowest-dropped}
 use Rattle.block.specs.Block.{mostAtoms}
-use Rattle.shares.specs.Work.{at, Near, Levels, Rule}
+use Rattle.shares.specs.Work.{at, NearSets, Levels, Rule}
 use Rattle.shares.proofs.Rows.{store-low}
 use Rattle.shares.proofs.Sweeping.{first, less, first-low, less-sum, wide-set, taken, asked-fits, Sweeping, sweeping-start, sweeping-level, sweeping-take, sweeping-done}
 use Rattle.shares.proofs.sweeps.sweep.Statement.{statement}
@@ -18,7 +18,7 @@ abbrev Inv-loop : tie.InvT-loop
 Inv-loop near sets top row₀ cap below₀ rest₀ d₀ row below rest d =
     (d ≤ top + 1) × (length row ≡ suc mostAtoms) × ((w : ℕ) → at row w ≤ cap)
     × ((n : ℕ) (key : ℕ → ℕ) → Levels n key sets top → rest < 2 ^ n)
-    × ((n : ℕ) (B : ℕ → ℕ → Bool) (key F : ℕ → ℕ) → Near n B near → Levels n key sets top → Rule n B key (at row₀) F → Sweeping n key (at row₀) F top cap d below rest row)
+    × ((n : ℕ) (B : ℕ → ℕ → Bool) (key F : ℕ → ℕ) → NearSets n B near → Levels n key sets top → Rule n B key (at row₀) F → Sweeping n key (at row₀) F top cap d below rest row)
 
 abbrev μ-loop : tie.MeasureT-loop
 μ-loop near sets top row₀ cap below₀ rest₀ d₀ row below rest d = (top + 1 - d) * 2 ^ mostAtoms + rest

@@ -5,13 +5,13 @@ use mathlib.Core.Path.{_≡_, subst}
 use native.Mathlib.Omega.{arith}
 use borrow.Author.Needs.{needs}
 use Rattle.assembly.specs.Placements.{mostPlacements}
-use Rattle.summaries.specs.Ready.{Linked}
+use Rattle.summaries.specs.Ready.{LinkedUpTo}
 use Rattle.summaries.proofs.Links.{linked-more}
 use Rattle.summaries.proofs.joins.links_of.Statement.{statement}
 use Rattle.summaries.proofs.joins.links_of.Tie as tie
 
 abbrev Inv-loop : tie.InvT-loop
-Inv-loop book xs count links₀ k₀ links k = (k ≤ count) × Linked book xs links k
+Inv-loop book xs count links₀ k₀ links k = (k ≤ count) × LinkedUpTo book xs links k
 
 abbrev μ-loop : tie.MeasureT-loop
 μ-loop book xs count links₀ k₀ links k = count - k
@@ -42,7 +42,7 @@ returns : tie.Need-returns Inv-loop μ-loop
 returns c =
     let a = c .before .before .before .before .args in
     let e : c .before .loop .k ≡ a .count = omega (arith, c .before .loop .inv .0) in
-    subst (λ (n : ℕ). Linked (a .book .now) (a .xs .now) (c .before .loop .links) n) e (c .before .loop .inv .1)
+    subst (λ (n : ℕ). LinkedUpTo (a .book .now) (a .xs .now) (c .before .loop .links) n) e (c .before .loop .inv .1)
 
 pub links-of-spec : {M : Type 1} → statement M
 links-of-spec =

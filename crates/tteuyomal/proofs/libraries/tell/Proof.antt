@@ -1,7 +1,7 @@
 -- `tteuyomal::libraries::tell` meets its contract. Assumes nothing.
 use mathlib.Core.Path.{sym, _∙_, ap}
 use borrow.Author.Needs.{needs}
-use Rattle.library.specs.declared.Stepped.{Stepped}
+use Rattle.library.specs.declared.StepReply.{StepReply}
 use Rattle.tteuyomal.specs.Libraries.{steppedCode, steppedNext}
 use Rattle.tteuyomal.proofs.Walking.{one-set}
 use Rattle.tteuyomal.proofs.libraries.tell.Statement.{statement}
@@ -23,7 +23,7 @@ slice-write-next : tie.Need-slice-write-next
 slice-write-next c = search needs
 
 returns : tie.Need-returns
-returns c = let e = sym (c .before .before .told .given .1) in (c .code-of .ensures ∙ ap steppedCode e, ap (λ (t : Stepped). steppedNext t (c .before .before .before .before .before .args .next .now)) e)
+returns c = let e = sym (c .before .before .told .given .1) in (c .code-of .ensures ∙ ap steppedCode e, ap (λ (t : StepReply). steppedNext t (c .before .before .before .before .before .args .next .now)) e)
 
 returns-2 : tie.Need-returns-2
 returns-2 c = search needs
@@ -32,7 +32,7 @@ same-length : tie.Need-same-length
 same-length c = search needs
 
 returns-3 : tie.Need-returns-3
-returns-3 c = let e = sym (c .before .told2 .given .1) in (ap steppedCode e, one-set (c .before .before .before .before .args .next .now) _ (c .before .before .before .before .pre) ∙ ap (λ (t : Stepped). steppedNext t (c .before .before .before .before .args .next .now)) e)
+returns-3 c = let e = sym (c .before .told2 .given .1) in (ap steppedCode e, one-set (c .before .before .before .before .args .next .now) _ (c .before .before .before .before .pre) ∙ ap (λ (t : StepReply). steppedNext t (c .before .before .before .before .args .next .now)) e)
 
 pub tell-spec : {M : Type 1} → statement M
 tell-spec =

@@ -3,7 +3,7 @@ use mathlib.Core.Path.{sym, _∙_}
 use native.Mathlib.Omega.{arith}
 use denote.Ref.{now}
 use lib.ListN.{length}
-use Rattle.molfile.specs.Molfile.{atomsOf, bytesOf, molfileReply}
+use Rattle.molfile.specs.Molfile.{keptAtoms, bytesOf, molfileReply}
 use Rattle.molfile.proofs.Replies.{mol-refused, mol-block}
 use Rattle.tteuyomal.proofs.MolfileReplies.{read-lacking, read-refused, read-fine}
 use borrow.Author.Needs.{needs}
@@ -46,7 +46,7 @@ returns-2 c =
     let d = now (s .args .text) in
     let out = now (s .args .bonds) in
     read-refused d out (now (s .args .counts)) _ _ (c .code-of .result) (omega arith)
-    (mol-refused (atomsOf d) (bytesOf d) (molfileReply d (length out)) (sym (m .read .ensures .0) ∙ c .before .before .answer .given .1)) (m .read .ensures .1) (c .code-of .ensures)
+    (mol-refused (keptAtoms d) (bytesOf d) (molfileReply d (length out)) (sym (m .read .ensures .0) ∙ c .before .before .answer .given .1)) (m .read .ensures .1) (c .code-of .ensures)
 
 same-length-2 : tie.Need-same-length-2
 same-length-2 c = search needs
@@ -61,7 +61,7 @@ returns-3 c =
     let d = now (s .args .text) in
     let out = now (s .args .bonds) in
     let g = c .before .answer2 .given in
-    let r = mol-block (atomsOf d) (bytesOf d) (molfileReply d (length out)) (sym (m .read .ensures .0) ∙ g .1) in
+    let r = mol-block (keptAtoms d) (bytesOf d) (molfileReply d (length out)) (sym (m .read .ensures .0) ∙ g .1) in
     read-fine d out (now (s .args .counts)) _ (g .0 .0) (omega arith) (r .0) (r .1) (r .2) (m .read .ensures .1)
 
 pub tteuyomal-read-molfile-spec : {M : Type 1} → statement M

@@ -2,7 +2,7 @@
 use mathlib.Core.Path.{sym, _∙_, ap}
 use denote.Ref.{now}
 use Rattle.reply.specs.Read.{Read}
-use Rattle.molfile.specs.Molfile.{atomsOf, bytesOf, molfileReply}
+use Rattle.molfile.specs.Molfile.{keptAtoms, bytesOf, molfileReply}
 use Rattle.molfile.proofs.Replies.{mol-refused, mol-block}
 use Rattle.tteuyomal.specs.Convention.{coded}
 use Rattle.tteuyomal.specs.Replies.{thenNine}
@@ -29,12 +29,12 @@ returns : tie.Need-returns
 returns c =
     let d = now (c .before .before .before .before .before .before .before .before .args .text) in
     c .code-of .ensures
-    ∙ ap (λ (R : Read (Unit {0})). coded (thenNine R)) (sym (mol-refused (atomsOf d) (bytesOf d) (molfileReply d 1) (sym (c .before .before .before .before .before .read .ensures .0) ∙ c .before .before .answer .given .1)))
+    ∙ ap (λ (R : Read (Unit {0})). coded (thenNine R)) (sym (mol-refused (keptAtoms d) (bytesOf d) (molfileReply d 1) (sym (c .before .before .before .before .before .read .ensures .0) ∙ c .before .before .answer .given .1)))
 
 returns-2 : tie.Need-returns-2
 returns-2 c =
     let d = now (c .before .before .before .before .before .before .args .text) in
-    ap (λ (R : Read (Unit {0})). coded (thenNine R)) (sym (mol-block (atomsOf d) (bytesOf d) (molfileReply d 1) (sym (c .before .before .before .read .ensures .0) ∙ c .enum-told .given .1) .0))
+    ap (λ (R : Read (Unit {0})). coded (thenNine R)) (sym (mol-block (keptAtoms d) (bytesOf d) (molfileReply d 1) (sym (c .before .before .before .read .ensures .0) ∙ c .enum-told .given .1) .0))
 
 pub unlent-molfile-spec : {M : Type 1} → statement M
 unlent-molfile-spec =

@@ -4,7 +4,7 @@ use native.Mathlib.Omega.{arith}
 use denote.Ref.{now}
 use lib.ListN.{length}
 use borrow.Author.Needs.{needs}
-use Rattle.adjacency.specs.Written.{writeReply}
+use Rattle.adjacency.specs.Written.{neighboursWriteReply}
 use Rattle.neighbours.specs.Told.{text-refused, text-bytes}
 use Rattle.tteuyomal.proofs.Texts.{write-lacking, write-refused, write-fine}
 use Rattle.tteuyomal.proofs.neighbour_text.tteuyomal_write_neighbours.Statement.{statement}
@@ -53,7 +53,7 @@ returns-3 : tie.Need-returns-3
 returns-3 c =
     let m = c .before .before .before .before .before in
     let s = m .before .before .before .before .before .before in
-    let (t, e, k) = text-bytes (writeReply (s .args .atoms) (now (s .args .bonds)) (length (now (s .args .text)))) (sym (m .write .ensures .0) ∙ c .before .answer2 .given .1) in
+    let (t, e, k) = text-bytes (neighboursWriteReply (s .args .atoms) (now (s .args .bonds)) (length (now (s .args .text)))) (sym (m .write .ensures .0) ∙ c .before .answer2 .given .1) in
     write-fine (s .args .atoms) (now (s .args .bonds)) (now (s .args .text)) (now (s .args .length)) _ t _ (omega arith) e k (m .write .ensures .1)
 
 pub tteuyomal-write-neighbours-spec : {M : Type 1} → statement M

@@ -12,7 +12,7 @@ use Rattle.reply.specs.Read.{Read, refused, read, refuseIf}
 use Rattle.reply.specs.Chain.{then-read, if-read}
 use Rattle.block.specs.Index.{indicesOf, saidIndices}
 use Rattle.block.specs.declared.Indices.{Indices}
-use Rattle.block.specs.declared.Measured.{Measured}
+use Rattle.block.specs.declared.IndicesReply.{IndicesReply}
 use Rattle.deck.specs.Deck.{longestDeck, Deck, deckReply}
 use Rattle.deck.specs.Molecule.{moleculeOf}
 use Rattle.deck.specs.Sized.{longestComposed, composed-short, atoms-few, totals-small, largest-small}
@@ -23,16 +23,16 @@ use Rattle.records.specs.Records.{headBytes, sheetAt}
 use Rattle.records.specs.declared.Sheet.{Sheet}
 use Rattle.records.specs.declared.Sheet.the-variants.{Five, Six}
 use Rattle.sheets.specs.Sheets.{allFields, allWidths, fieldsOf, widths, fieldsAt, sheetOf, claimedAt, sheetBytes, sheetRecord, sheetPut}
-use Rattle.sheets.specs.Back.{Fit, fit-of, length-sheet, read-whole, fields-behind, none-wrong}
+use Rattle.sheets.specs.Back.{FitWidths, fit-of, length-sheet, read-whole, fields-behind, none-wrong}
 use Rattle.compose.specs.Fields.{fieldsReply}
-use Rattle.molecule.specs.Molecule.{judgeReply, saidVerdict, writeReply, saidWritten, sheetOut}
-use Rattle.molecule.specs.declared.Verdict.{Verdict}
-use Rattle.molecule.specs.declared.Verdict.the-variants as verdict
-use Rattle.molecule.specs.declared.Written.{Written}
-use Rattle.molecule.specs.declared.Written.the-variants as written
+use Rattle.judging.specs.Judging.{judgeReply, saidVerdict, sheetWriteReply, saidSheetWritten, sheetOut}
+use Rattle.judging.specs.declared.Verdict.{Verdict}
+use Rattle.judging.specs.declared.Verdict.the-variants as verdict
+use Rattle.judging.specs.declared.SheetWritten.{SheetWritten}
+use Rattle.judging.specs.declared.SheetWritten.the-variants as written
 
 -- all fields of a deck's molecule fit their widths
-fields-fit : (form : Form) (d : List ℕ) (k : Deck) → deckReply form d ≡ read k → Fit allWidths (allFields (indicesOf (moleculeOf d k)))
+fields-fit : (form : Form) (d : List ℕ) (k : Deck) → deckReply form d ≡ read k → FitWidths allWidths (allFields (indicesOf (moleculeOf d k)))
 unfolding allFields indicesOf
 fields-fit form d k e = (
   omega (arith, atoms-few form d k e),
@@ -55,7 +55,7 @@ fields-fit form d k e = (
 )
 
 -- The record of a sheet whose fields fit is one; behind a deck that composes it is taken, and claims its fields.
-module _ (s : Sheet) (x : Indices) (fit : Fit (widths s) (fieldsOf s x)) where
+module _ (s : Sheet) (x : Indices) (fit : FitWidths (widths s) (fieldsOf s x)) where
   abbrev claim : List ℕ
   claim = sheetRecord s (fieldsOf s x)
 
@@ -107,12 +107,12 @@ unfolding sheetPut
 put-record s out x h = rw (le-ltb (length out) (sheetBytes s) h) (take-at (sheetRecord s (fieldsOf s x)) _ (sheetBytes s) (length-sheet s x))
 
 -- a sheet that was written is that of the deck's molecule, and the buffer was long enough
-sheet-made : (y : Read Indices) → saidWritten y ≡ written.Sheet → (x : Indices) × (y ≡ read x)
+sheet-made : (y : Read Indices) → saidSheetWritten y ≡ written.Sheet → (x : Indices) × (y ≡ read x)
 sheet-made (refused r) e = absurd (let z : _≡_ {A = ℕ} 0 1 = cc in omega arith)
 sheet-made (read x) e = (x, refl)
 
-made : (s : Sheet) (d : List ℕ) (n : ℕ) (x : Indices) → writeReply s d n ≡ read x → (k : Deck) × (deckReply Composed d ≡ read k) × (x ≡ indicesOf (moleculeOf d k)) × (sheetBytes s ≤ n)
-unfolding writeReply fieldsReply
+made : (s : Sheet) (d : List ℕ) (n : ℕ) (x : Indices) → sheetWriteReply s d n ≡ read x → (k : Deck) × (deckReply Composed d ≡ read k) × (x ≡ indicesOf (moleculeOf d k)) × (sheetBytes s ≤ n)
+unfolding sheetWriteReply fieldsReply
 made s d n x p =
     let (u, a, f) = then-read (refuseIf (ltb longestDeck (length d)) 20 0) _ p in
     let (v, b, g) = then-read (refuseIf (ltb n (sheetBytes s)) 9 0) _ f in
@@ -120,25 +120,25 @@ made s d n x p =
     (k, e, cc, ltb-false n (sheetBytes s) (if-read _ 9 0 b))
 
 -- (b) the record that `write_sheet` writes, of either kind, put behind the same deck, is accepted
-pub written-accepted : (s : Sheet) (d out : List ℕ) → saidWritten (writeReply s d (length out)) ≡ written.Sheet
-    → saidVerdict (judgeReply (d ++ take (sheetBytes s) (sheetOut s out (writeReply s d (length out))))) ≡ verdict.Accepted
+pub written-accepted : (s : Sheet) (d out : List ℕ) → saidSheetWritten (sheetWriteReply s d (length out)) ≡ written.Sheet
+    → saidVerdict (judgeReply (d ++ take (sheetBytes s) (sheetOut s out (sheetWriteReply s d (length out))))) ≡ verdict.Accepted
 unfolding sheetOf
 written-accepted s d out h =
-    let (x, p) = sheet-made (writeReply s d (length out)) h in
+    let (x, p) = sheet-made (sheetWriteReply s d (length out)) h in
     let (k, e, q, l) = made s d (length out) x p in
-    let b : take (sheetBytes s) (sheetOut s out (writeReply s d (length out))) ≡ sheetRecord s (sheetOf s (moleculeOf d k)) =
+    let b : take (sheetBytes s) (sheetOut s out (sheetWriteReply s d (length out))) ≡ sheetRecord s (sheetOf s (moleculeOf d k)) =
     ap (λ (y : Read Indices). take (sheetBytes s) (sheetOut s out y)) p ∙ put-record s out x l ∙ ap (λ (y : Indices). sheetRecord s (fieldsOf s y)) q in
     ap (λ (r : List ℕ). saidVerdict (judgeReply (d ++ r))) b ∙ ap saidVerdict (sheet-accepted s d k e)
 
 -- (c) two replies, and two buffers, that satisfy a promise are equal
-pub unique-compose : (d : List ℕ) (r s : Measured) → r ≡ saidIndices (fieldsReply Composed d) → s ≡ saidIndices (fieldsReply Composed d) → r ≡ s
+pub unique-compose : (d : List ℕ) (r s : IndicesReply) → r ≡ saidIndices (fieldsReply Composed d) → s ≡ saidIndices (fieldsReply Composed d) → r ≡ s
 unique-compose d r s p q = p ∙ sym q
 
 pub unique-judge : (d : List ℕ) (r s : Verdict) → r ≡ saidVerdict (judgeReply d) → s ≡ saidVerdict (judgeReply d) → r ≡ s
 unique-judge d r s p q = p ∙ sym q
 
-pub unique-written : (k : Sheet) (d : List ℕ) (n : ℕ) (r s : Written) → r ≡ saidWritten (writeReply k d n) → s ≡ saidWritten (writeReply k d n) → r ≡ s
+pub unique-written : (k : Sheet) (d : List ℕ) (n : ℕ) (r s : SheetWritten) → r ≡ saidSheetWritten (sheetWriteReply k d n) → s ≡ saidSheetWritten (sheetWriteReply k d n) → r ≡ s
 unique-written k d n r s p q = p ∙ sym q
 
-pub unique-bytes : (k : Sheet) (d out a b : List ℕ) → a ≡ sheetOut k out (writeReply k d (length out)) → b ≡ sheetOut k out (writeReply k d (length out)) → a ≡ b
+pub unique-bytes : (k : Sheet) (d out a b : List ℕ) → a ≡ sheetOut k out (sheetWriteReply k d (length out)) → b ≡ sheetOut k out (sheetWriteReply k d (length out)) → a ≡ b
 unique-bytes k d out a b p q = p ∙ sym q

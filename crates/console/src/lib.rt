@@ -3,7 +3,7 @@ ghost use mathlib.Core.Path.{_≡_};
 ghost use Prim.Native.Nat.{_≤_};
 ghost use lib.ListN.{length};
 ghost use Rattle.io.specs.Counts.{Counts};
-use block::Measured;
+use block::IndicesReply;
 use deck::Form;
 use libc::STDIN_FILENO;
 use libc::STDOUT_FILENO;
@@ -82,7 +82,7 @@ fn deck_line(form: Form, fd: i32) -> Line
 }
 
 // What is measured of a text.
-fn measured(kind: Kind, text: &[u8]) -> Measured {
+fn measured(kind: Kind, text: &[u8]) -> IndicesReply {
     match kind {
         Kind::Molfile => measuring::measure(text),
         Kind::Neighbours => measuring::measure_neighbours(text),

@@ -18,8 +18,8 @@ use Rattle.records.specs.Records.{sheetAt}
 use Rattle.records.specs.declared.Sheet.the-variants.{Five, Six}
 use Rattle.sheets.specs.Sheets.{allFields, fieldsOf, sheetOf, claimedAt, firstWrong}
 use Rattle.sheets.specs.Back.{none-wrong, wrong-none}
-use Rattle.molecule.specs.Molecule.{judgeReply, saidVerdict}
-use Rattle.molecule.specs.declared.Verdict.the-variants as verdict
+use Rattle.judging.specs.Judging.{judgeReply, saidVerdict}
+use Rattle.judging.specs.declared.Verdict.the-variants as verdict
 
 -- `judge` promises `r ≡ saidVerdict (judgeReply d)`: the deck's refusal, or the first field of the claimed sheet that is not the molecule's, 0 for none
 pub judged : (d : List ℕ) → judgeReply d ≡ (deckReply Judged d then λ k. read (firstWrong 1 (sheetOf (sheetAt d (k .sheet)) (moleculeOf d k)) (claimedAt d (k .sheet))))

@@ -1,14 +1,14 @@
--- `molecule::write_sheet` meets its contract. Assumes nothing.
+-- `judging::write_sheet` meets its contract. Assumes nothing.
 use mathlib.Core.Path.{sym, _∙_, ap}
 use native.Mathlib.Omega.{arith}
 use denote.Ref.{now}
 use lib.ListN.{length}
 use borrow.Author.Needs.{needs}
 use Rattle.reply.specs.Read.{refused, read}
-use Rattle.molecule.specs.Molecule.{saidWritten, sheetOut}
-use Rattle.molecule.proofs.Judging.{write-long, write-short, write-told}
-use Rattle.molecule.proofs.write_sheet.Statement.{statement}
-use Rattle.molecule.proofs.write_sheet.Tie as tie
+use Rattle.judging.specs.Judging.{saidSheetWritten, sheetOut}
+use Rattle.judging.proofs.Judging.{write-long, write-short, write-told}
+use Rattle.judging.proofs.write_sheet.Statement.{statement}
+use Rattle.judging.proofs.write_sheet.Tie as tie
 
 bytes-of-requires : tie.Need-bytes-of-requires
 bytes-of-requires c κs = search needs
@@ -17,13 +17,13 @@ returns : tie.Need-returns
 returns c =
     let a = c .before .before .before .before .args in
     let e = write-long (a .sheet) (now (a .d)) (length (now (a .out))) (c .if1 .taken) in
-    (sym (ap saidWritten e), sym (ap (sheetOut (a .sheet) _) e))
+    (sym (ap saidSheetWritten e), sym (ap (sheetOut (a .sheet) _) e))
 
 returns-2 : tie.Need-returns-2
 returns-2 c =
     let a = c .before .before .before .before .before .args in
     let e = write-short (a .sheet) (now (a .d)) (length (now (a .out))) (c .before .if1 .left) (omega (arith, c .if2 .taken, c .before .before .bytes-of .ensures)) in
-    (sym (ap saidWritten e), sym (ap (sheetOut (a .sheet) _) e))
+    (sym (ap saidSheetWritten e), sym (ap (sheetOut (a .sheet) _) e))
 
 compose-requires : tie.Need-compose-requires
 compose-requires c κs = search needs
@@ -42,7 +42,7 @@ returns-3 c =
     let t = c .before .before .before .before in
     let a = t .before .before .before .before .before .args in
     let e = write-told (a .sheet) (now (a .d)) (length (now (a .out))) (refused _) (t .before .if1 .left) (omega (arith, t .if2 .left, t .before .before .bytes-of .ensures)) (sym (c .before .told .given .1) ∙ c .before .before .before .compose .ensures) in
-    (sym (ap saidWritten e), sym (ap (sheetOut (a .sheet) _) e))
+    (sym (ap saidSheetWritten e), sym (ap (sheetOut (a .sheet) _) e))
 
 same-length : tie.Need-same-length
 same-length c = search needs
@@ -53,7 +53,7 @@ returns-4 c =
     let t = m .before .before .before in
     let a = t .before .before .before .before .before .args in
     let e = write-told (a .sheet) (now (a .d)) (length (now (a .out))) (read _) (t .before .if1 .left) (omega (arith, t .if2 .left, t .before .before .bytes-of .ensures)) (sym (m .told2 .given .1) ∙ m .before .before .compose .ensures) in
-    (sym (ap saidWritten e), c .before .before .put-sheet .ensures ∙ sym (ap (sheetOut (a .sheet) _) e))
+    (sym (ap saidSheetWritten e), c .before .before .put-sheet .ensures ∙ sym (ap (sheetOut (a .sheet) _) e))
 
 pub write-sheet-spec : {M : Type 1} → statement M
 write-sheet-spec =

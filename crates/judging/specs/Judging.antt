@@ -12,10 +12,10 @@ use Rattle.deck.specs.Molecule.{moleculeOf}
 use Rattle.deck.specs.declared.Form.the-variants.{Composed, Judged}
 use Rattle.sheets.specs.Sheets.{fieldsOf, sheetOf, claimedAt, sheetBytes, sheetPut, firstWrong}
 use Rattle.compose.specs.Fields.{fieldsReply}
-use Rattle.molecule.specs.declared.Verdict.{Verdict}
-use Rattle.molecule.specs.declared.Verdict.the-variants as verdict
-use Rattle.molecule.specs.declared.Written.{Written}
-use Rattle.molecule.specs.declared.Written.the-variants as written
+use Rattle.judging.specs.declared.Verdict.{Verdict}
+use Rattle.judging.specs.declared.Verdict.the-variants as verdict
+use Rattle.judging.specs.declared.SheetWritten.{SheetWritten}
+use Rattle.judging.specs.declared.SheetWritten.the-variants as written
 
 -- the first field of the claimed sheet that is not the molecule's, from 1 to as many as its kind has, or 0 for none
 unfoldable pub judgeReply : List ℕ → Read ℕ
@@ -27,15 +27,15 @@ saidVerdict (read zero) = verdict.Accepted
 saidVerdict (read (suc n)) = verdict.Differs (suc n)
 
 -- 20, then 9 where the buffer of n bytes is too short for a sheet of that kind, then the deck's refusals
-unfoldable pub writeReply : Sheet → List ℕ → ℕ → Read Indices
-writeReply s d n =
+unfoldable pub sheetWriteReply : Sheet → List ℕ → ℕ → Read Indices
+sheetWriteReply s d n =
     refuseIf (ltb longestDeck (length d)) 20 0 then λ _.
     refuseIf (ltb n (sheetBytes s)) 9 0 then λ _.
     fieldsReply Composed d
 
-abbrev pub saidWritten : Read Indices → Written
-saidWritten (refused r) = written.Refused r
-saidWritten (read x) = written.Sheet
+abbrev pub saidSheetWritten : Read Indices → SheetWritten
+saidSheetWritten (refused r) = written.Refused r
+saidSheetWritten (read x) = written.Sheet
 
 -- the buffer afterwards
 abbrev pub sheetOut : Sheet → List ℕ → Read Indices → List ℕ

@@ -1,10 +1,10 @@
--- `molecule::compose` meets its contract. Assumes nothing.
+-- `judging::compose` meets its contract. Assumes nothing.
 use mathlib.Core.Path.{sym, _∙_}
 use Rattle.deck.specs.declared.Form.the-variants.{Composed}
-use Rattle.molecule.proofs.Judging.{composed-refused, composed-read, fields-refused, fields-read}
+use Rattle.judging.proofs.Judging.{composed-refused, composed-read, fields-refused, fields-read}
 use borrow.Author.Needs.{needs}
-use Rattle.molecule.proofs.compose.Statement.{statement}
-use Rattle.molecule.proofs.compose.Tie as tie
+use Rattle.judging.proofs.compose.Statement.{statement}
+use Rattle.judging.proofs.compose.Tie as tie
 
 fields-requires : tie.Need-fields-requires
 fields-requires c κs = search needs

@@ -1,5 +1,5 @@
 // The judge: composing a deck's sheet, writing it, and judging one that somebody else wrote.
-use block::Measured;
+use block::IndicesReply;
 use compose::ComposeReply;
 use compose::fields;
 use deck::Form;
@@ -15,7 +15,7 @@ ghost use Rattle.reply.specs.Read.{read};
 ghost use Rattle.block.specs.Index.{saidIndices};
 ghost use Rattle.deck.specs.declared.Form.the-variants.{Composed};
 ghost use Rattle.compose.specs.Fields.{fieldsReply};
-ghost use Rattle.molecule.specs.Molecule.{judgeReply, saidVerdict, writeReply, saidWritten, sheetOut};
+ghost use Rattle.judging.specs.Judging.{judgeReply, saidVerdict, sheetWriteReply, saidSheetWritten, sheetOut};
 
 // What a judged deck is told: it differs in the first wrong field, 1 to 5 or, with a sheet of six, 1 to 6.
 pub enum Verdict {
@@ -25,49 +25,49 @@ pub enum Verdict {
 }
 
 // What came of writing a sheet.
-pub enum Written {
+pub enum SheetWritten {
     Refused(Refusal),
     Sheet,
 }
 
 // The fields of a deck without a sheet, or its refusal.
-pub fn compose(d: &[u8]) -> Measured
+pub fn compose(d: &[u8]) -> IndicesReply
     ensures { λ r. ⌜ r ≡ saidIndices (fieldsReply Composed (now (d .entry))) ⌝ }
 {
     let told = fields(d, Form::Composed);
     match told {
-        ComposeReply::Refused(refusal) => Measured::Refused(refusal),
+        ComposeReply::Refused(refusal) => IndicesReply::Refused(refusal),
         ComposeReply::Composed(x) => {
             let all = x.fields;
-            Measured::Of(all)
+            IndicesReply::Of(all)
         }
     }
 }
 
 // Writes a sheet of a deck without one, a whole record of 40 or 44 bytes, into the first bytes of a buffer. A refusal writes nothing.
-pub fn write_sheet(d: &[u8], sheet: Sheet, out: &mut [u8]) -> Written
-    ensures reply { λ r. ⌜ r ≡ saidWritten (writeReply sheet (now (d .entry)) (length (now (out .entry)))) ⌝ }
-    ensures bytes { λ r. ⌜ now (out .exit) ≡ sheetOut sheet (now (out .entry)) (writeReply sheet (now (d .entry)) (length (now (out .entry)))) ⌝ }
+pub fn write_sheet(d: &[u8], sheet: Sheet, out: &mut [u8]) -> SheetWritten
+    ensures reply { λ r. ⌜ r ≡ saidSheetWritten (sheetWriteReply sheet (now (d .entry)) (length (now (out .entry)))) ⌝ }
+    ensures bytes { λ r. ⌜ now (out .exit) ≡ sheetOut sheet (now (out .entry)) (sheetWriteReply sheet (now (d .entry)) (length (now (out .entry)))) ⌝ }
 {
     let bytes = bytes_of(sheet);
     if LONGEST < d.len() {
-        return Written::Refused(Refusal {
+        return SheetWritten::Refused(Refusal {
             number: 20,
             place: 0,
         });
     }
     if out.len() < bytes {
-        return Written::Refused(Refusal {
+        return SheetWritten::Refused(Refusal {
             number: 9,
             place: 0,
         });
     }
     let told = compose(d);
     match told {
-        Measured::Refused(refusal) => Written::Refused(refusal),
-        Measured::Of(all) => {
+        IndicesReply::Refused(refusal) => SheetWritten::Refused(refusal),
+        IndicesReply::Of(all) => {
             put_sheet(out, sheet, all);
-            Written::Sheet
+            SheetWritten::Sheet
         }
     }
 }

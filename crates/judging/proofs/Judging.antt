@@ -9,7 +9,7 @@ use Rattle.reply.specs.Read.{Read, refused, read, _then_, refusal}
 use Rattle.block.specs.Index.{indicesOf, saidIndices}
 use Rattle.block.specs.declared.Indices.{Indices}
 use Rattle.reply.specs.declared.Refusal.{Refusal}
-use Rattle.block.specs.declared.Measured.the-variants as measured
+use Rattle.block.specs.declared.IndicesReply.the-variants as measured
 use Rattle.records.specs.Records.{sheetAt}
 use Rattle.records.specs.declared.Sheet.{Sheet}
 use Rattle.deck.specs.Deck.{longestDeck, Deck, deckReply}
@@ -20,9 +20,9 @@ use Rattle.sheets.specs.Sheets.{fieldsOf, sheetOf, claimedAt, sheetBytes, first
 use Rattle.compose.specs.Fields.{composeReply, saidComposed, fieldsReply}
 use Rattle.compose.specs.declared.Composed.{Composed as DeckFields}
 use Rattle.compose.specs.declared.ComposeReply.the-variants as composed
-use Rattle.molecule.specs.Molecule.{judgeReply, saidVerdict, writeReply}
-use Rattle.molecule.specs.declared.Verdict.{Verdict}
-use Rattle.molecule.specs.declared.Verdict.the-variants as verdict
+use Rattle.judging.specs.Judging.{judgeReply, saidVerdict, sheetWriteReply}
+use Rattle.judging.specs.declared.Verdict.{Verdict}
+use Rattle.judging.specs.declared.Verdict.the-variants as verdict
 
 -- what is composed, taken apart
 pub composed-refused : (form : Form) (d : List ℕ) (r : Refusal) → composed.Refused r ≡ saidComposed (composeReply form d) → deckReply form d ≡ refused r
@@ -80,17 +80,17 @@ differs (suc n) h = refl
 
 -- the three ways of writing
 module _ (s : Sheet) (d : List ℕ) (n : ℕ) where
-  pub write-long : longestDeck < length d → writeReply s d n ≡ refused (refusal 20 0)
-  unfolding writeReply
+  pub write-long : longestDeck < length d → sheetWriteReply s d n ≡ refused (refusal 20 0)
+  unfolding sheetWriteReply
   write-long h = rw (lt-ltb longestDeck (length d) h)
 
-  pub write-short : length d ≤ longestDeck → n < sheetBytes s → writeReply s d n ≡ refused (refusal 9 0)
-  unfolding writeReply
+  pub write-short : length d ≤ longestDeck → n < sheetBytes s → sheetWriteReply s d n ≡ refused (refusal 9 0)
+  unfolding sheetWriteReply
   write-short h l = rw (le-ltb longestDeck (length d) h, lt-ltb n (sheetBytes s) l)
 
-  write-fields : length d ≤ longestDeck → sheetBytes s ≤ n → writeReply s d n ≡ fieldsReply Composed d
-  unfolding writeReply
+  write-fields : length d ≤ longestDeck → sheetBytes s ≤ n → sheetWriteReply s d n ≡ fieldsReply Composed d
+  unfolding sheetWriteReply
   write-fields h l = rw (le-ltb longestDeck (length d) h, le-ltb n (sheetBytes s) l)
 
-  pub write-told : (x : Read Indices) → length d ≤ longestDeck → sheetBytes s ≤ n → saidIndices x ≡ saidIndices (fieldsReply Composed d) → writeReply s d n ≡ x
+  pub write-told : (x : Read Indices) → length d ≤ longestDeck → sheetBytes s ≤ n → saidIndices x ≡ saidIndices (fieldsReply Composed d) → sheetWriteReply s d n ≡ x
   write-told x h l e = write-fields h l ∙ sym (fields-told Composed d x e)

@@ -1,8 +1,8 @@
--- `desk::answer_files` meets its contract, which says that it ends: the measure is how many files are left.
+-- `console::answer_files` meets its contract, which says that it ends: the measure is how many files are left.
 use Prim.Native.Nat.{_-_}
 use borrow.Author.Needs.{needs}
-use Rattle.desk.proofs.answer_files.Statement.{statement}
-use Rattle.desk.proofs.answer_files.Tie as tie
+use Rattle.console.proofs.answer_files.Statement.{statement}
+use Rattle.console.proofs.answer_files.Tie as tie
 
 abbrev Inv-loop : tie.InvT-loop
 Inv-loop asked count i₀ i = Unit {0}

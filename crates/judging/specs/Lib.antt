@@ -4,6 +4,6 @@
 -- | `judgeReply d`           | the deck's refusal, or the first field that is not the molecule's | `accepted-exactly`: accepted if and only if all fields are right |
 -- | `moleculeOf` (deck)      | the molecule with every atom and bond written out                 | `written-molecule` (graph)                                       |
 -- | `writeReply`, `sheetOut` | 20, 9 by the kind, the deck's refusal; the buffer afterwards      | `written-accepted`: what is written is accepted                  |
-pub mod Molecule
+pub mod Judging
 pub mod Headline
 pub mod Theorems

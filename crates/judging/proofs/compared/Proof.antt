@@ -1,8 +1,8 @@
--- `molecule::compared` meets its contract. Assumes nothing.
+-- `judging::compared` meets its contract. Assumes nothing.
 use native.Mathlib.Omega.{arith}
-use Rattle.molecule.proofs.Judging.{accepts, differs}
-use Rattle.molecule.proofs.compared.Statement.{statement}
-use Rattle.molecule.proofs.compared.Tie as tie
+use Rattle.judging.proofs.Judging.{accepts, differs}
+use Rattle.judging.proofs.compared.Statement.{statement}
+use Rattle.judging.proofs.compared.Tie as tie
 
 returns : tie.Need-returns
 returns c = accepts (c .before .args .n) (omega (arith, c .if1 .taken))

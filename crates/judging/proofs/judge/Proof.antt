@@ -1,11 +1,11 @@
--- `molecule::judge` meets its contract. Assumes nothing.
+-- `judging::judge` meets its contract. Assumes nothing.
 use mathlib.Core.Path.{sym, _∙_}
 use borrow.Author.Needs.{needs}
 use denote.Ref.{now}
 use Rattle.deck.specs.declared.Form.the-variants.{Judged}
-use Rattle.molecule.proofs.Judging.{composed-refused, composed-read, judge-refused, judge-read}
-use Rattle.molecule.proofs.judge.Statement.{statement}
-use Rattle.molecule.proofs.judge.Tie as tie
+use Rattle.judging.proofs.Judging.{composed-refused, composed-read, judge-refused, judge-read}
+use Rattle.judging.proofs.judge.Statement.{statement}
+use Rattle.judging.proofs.judge.Tie as tie
 
 fields-requires : tie.Need-fields-requires
 fields-requires c κs = search needs

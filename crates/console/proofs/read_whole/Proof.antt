@@ -1,11 +1,11 @@
--- `desk::read_whole` meets its contract. The loop's invariant: what was read lies within the buffer. The measure is the room that is left.
+-- `console::read_whole` meets its contract. The loop's invariant: what was read lies within the buffer. The measure is the room that is left.
 use Prim.Native.Nat.{_-_, _≤_}
 use mathlib.Core.Path.{_≡_}
 use lib.ListN.{length}
 use borrow.Author.Needs.{needs}
 use Rattle.io.proofs.Counting.{counts}
-use Rattle.desk.proofs.read_whole.Statement.{statement}
-use Rattle.desk.proofs.read_whole.Tie as tie
+use Rattle.console.proofs.read_whole.Statement.{statement}
+use Rattle.console.proofs.read_whole.Tie as tie
 
 abbrev Inv-loop : tie.InvT-loop
 Inv-loop fd deck₀ n₀ deck n = (length deck ≡ length deck₀) × (n ≤ length deck)
