@@ -9,7 +9,7 @@ use Rattle.reply.specs.Read.{Read, refused, read, _then_, refuseIf, refusal, is
 use Rattle.half.specs.Half.{halfAt}
 use Rattle.reply.specs.Chain.{not-read}
 use Rattle.block.specs.Block.{mostAtoms, graphOf, blockReply}
-use Rattle.block.specs.Rows.{rowOf, halfTable, farOf, emptyRow, rowReply, saidRow}
+use Rattle.block.specs.Rows.{rowOf, halfTable, farOf, noRow, rowReply, saidRow}
 use Rattle.block.specs.Index.{indicesReply, saidIndices, vertexOf, vertexReply, saidVertex, distanceReply, saidDistance, pairsOf, pairsReply, saidPairs}
 use Rattle.block.specs.Sums.{entry, indicesBy, countsBy, vertexBy}
 use Rattle.block.specs.Faults.{inside}
@@ -24,7 +24,6 @@ use Rattle.block.specs.declared.VertexReply.the-variants as around
 use Rattle.block.specs.declared.DistanceReply.the-variants as apart
 use Rattle.block.specs.declared.Pairs.{Pairs}
 use Rattle.block.specs.declared.OneRow.{OneRow}
-use Rattle.block.proofs.Filling.{no-row}
 use Rattle.block.proofs.Replies.{not-fine}
 
 said-out : (m : Read (List ℕ × ℕ)) (r : Refusal) → reply.Refused r ≡ saidRow m .reply → m ≡ refused r
@@ -59,9 +58,9 @@ module _ (n : ℕ) (xs : List ℕ) where
   unfolding indicesReply
   measure-fine e half q far f x p = rw (e, p, q, f, all-atoms n xs e, indices-are n xs e)
 
-  pub pairs-refused : (p : Pairs) (r : Refusal) → blockReply n xs ≡ refused r → p .reply ≡ reply.Refused r → p .at ≡ emptyRow → p ≡ saidPairs (pairsReply n xs)
+  pub pairs-refused : (p : Pairs) (r : Refusal) → blockReply n xs ≡ refused r → p .reply ≡ reply.Refused r → p .at ≡ noRow → p ≡ saidPairs (pairsReply n xs)
   unfolding pairsReply
-  pairs-refused p r e q a = rw e (λ i. record { reply = q i; at = (a ∙ no-row) i })
+  pairs-refused p r e q a = rw e (λ i. record { reply = q i; at = a i })
 
   pub pairs-fine : blockReply n xs ≡ read tt → (half : List ℕ) → half ≡ halfTable n xs → (p : Pairs) → p .reply ≡ reply.Fine → p .at ≡ countsBy (min n mostAtoms) (halfAt half) → p ≡ saidPairs (pairsReply n xs)
   unfolding pairsReply

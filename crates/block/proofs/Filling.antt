@@ -16,7 +16,7 @@ use Rattle.half.specs.Half.{allPairs, abovePlace, halfWithRow}
 use Rattle.half.specs.Places.{Pair}
 use Rattle.half.specs.Rows.{row-size, row-same, row-past, row-other}
 use Rattle.block.specs.Block.{mostAtoms, graphOf, blockReply}
-use Rattle.block.specs.Rows.{table, rowOf, noRow, emptyRow, saidRow, rowReply, farOf, halfTable}
+use Rattle.block.specs.Rows.{table, rowOf, noRow, saidRow, rowReply, farOf, halfTable}
 use Rattle.block.specs.Tables.{length-table, getD-table}
 use Rattle.block.specs.Opened.{neighboursOf, openedReply, saidOpened}
 use Rattle.block.specs.Near.{ReadyBlock}
@@ -62,10 +62,6 @@ module _ {A : Type 0} {F : ℕ → A} {none d : A} where
       at i l (yes h) = P .done i h ∙ first i h
       at i l (no h) = P .rest i (omega arith) l ∙ behind i (omega arith) l
 
-pub no-row : emptyRow ≡ noRow
-unfolding noRow table
-no-row = refl
-
 module _ (n : ℕ) (xs : List ℕ) where
   -- the rows of the first i atoms are stored, and the largest of each
   pub record Rows (h far : List ℕ) (i : ℕ) : Type 0 where
@@ -74,7 +70,7 @@ module _ (n : ℕ) (xs : List ℕ) where
     pub rest : (k l : ℕ) → Pair k l → i < k → getD h (abovePlace k l) 0 ≡ 0
     pub largest : Filled (λ k. farthest (graphOf n xs) (suc k)) 0 0 far i
 
-  pub rows-start : Rows (replicate allPairs 0) emptyRow 0
+  pub rows-start : Rows (replicate allPairs 0) noRow 0
   rows-start = record {
     size = length-replicate {A = ℕ} allPairs 0;
     done = λ k l p m. absurd (omega (arith, p .low));
@@ -120,28 +116,28 @@ module _ (n : ℕ) (xs : List ℕ) where
       fill-end (λ k. saidRow (rowReply n xs (suc k)) .largest) n (λ k l. sym (within k l)) (λ k l m. sym (beyond k l)) far (P .largest),
     )
 
-  pub refused-far : (r : Refusal) → blockReply n xs ≡ refused r → emptyRow ≡ farOf n xs
+  pub refused-far : (r : Refusal) → blockReply n xs ≡ refused r → noRow ≡ farOf n xs
   unfolding farOf rowReply table
   refused-far r e = rw e
 
   module _ (i : ℕ) (v : OneRow) where
-    pub row-refused : (r : Refusal) → blockReply n xs ≡ refused r → v .reply ≡ Refused r → v .row ≡ emptyRow → v .largest ≡ 0 → v ≡ saidRow (rowReply n xs i)
+    pub row-refused : (r : Refusal) → blockReply n xs ≡ refused r → v .reply ≡ Refused r → v .row ≡ noRow → v .largest ≡ 0 → v ≡ saidRow (rowReply n xs i)
     unfolding rowReply
-    row-refused r b p q l = rw b (λ j. record { reply = p j; row = (q ∙ no-row) j; largest = l j })
+    row-refused r b p q l = rw b (λ j. record { reply = p j; row = q j; largest = l j })
 
     module _ (fine : blockReply n xs ≡ read tt) where
-      pub row-outside : isOutside n i ≡ true → v .reply ≡ Refused (refusal 18 0) → v .row ≡ emptyRow → v .largest ≡ 0 → v ≡ saidRow (rowReply n xs i)
+      pub row-outside : isOutside n i ≡ true → v .reply ≡ Refused (refusal 18 0) → v .row ≡ noRow → v .largest ≡ 0 → v ≡ saidRow (rowReply n xs i)
       unfolding rowReply
-      row-outside o p q l = rw (fine, o) (λ j. record { reply = p j; row = (q ∙ no-row) j; largest = l j })
+      row-outside o p q l = rw (fine, o) (λ j. record { reply = p j; row = q j; largest = l j })
 
       pub row-fine : Within n i → v .reply ≡ Fine → v .row ≡ rowOf (graphOf n xs) i → v .largest ≡ farthest (graphOf n xs) i → v ≡ saidRow (rowReply n xs i)
       row-fine w p q l = rw (row-read n xs fine w) (λ j. record { reply = p j; row = q j; largest = l j })
 
   -- a block that was read
   module _ (v : Opened) where
-    pub opened-refused : (r : Refusal) → blockReply n xs ≡ refused r → v .reply ≡ Refused r → v .near ≡ emptyRow → v ≡ saidOpened (openedReply n xs)
+    pub opened-refused : (r : Refusal) → blockReply n xs ≡ refused r → v .reply ≡ Refused r → v .near ≡ noRow → v ≡ saidOpened (openedReply n xs)
     unfolding openedReply
-    opened-refused r b p q = rw b (λ j. record { reply = p j; near = (q ∙ no-row) j })
+    opened-refused r b p q = rw b (λ j. record { reply = p j; near = q j })
 
     pub opened-fine : ReadyBlock n xs (v .near) → v .reply ≡ Fine → v ≡ saidOpened (openedReply n xs)
     unfolding openedReply

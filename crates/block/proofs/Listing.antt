@@ -14,7 +14,8 @@ use lib.Pow.{pow-lt}
 use lib.Seq.{getD-set-same, getD-set-other}
 use Rattle.graph.specs.Graph.{Bond, bond, Within, anyJoins, degree}
 use Rattle.graph.specs.Bonds.{both, both-true, one-of, first-of, second-of, same-test, any-out, any-head, any-tail}
-use Rattle.graph.specs.Sets.{has, alone, has-or, has-alone}
+use Rattle.graph.specs.Sets.{has, alone}
+use Rattle.graph.specs.SetLaws.{has-or, has-alone}
 use Rattle.block.specs.Block.{limit}
 use Rattle.block.specs.Near.{around, counted, putting, counting, Draws, HoldsBonds}
 use Rattle.block.specs.Faults.{Faultless}

@@ -17,7 +17,8 @@ use borrow.Author.Tests.{eq-eqb, ne-eqb, lt-ltb, le-ltb}
 use Rattle.graph.specs.Graph.{Graph, Within, Sound, Walk, bonded, connected, distance}
 use Rattle.graph.specs.Farthest.{farthest}
 use Rattle.graph.specs.Connected.{connected-from, unconnected, connected-molecule}
-use Rattle.graph.specs.Sets.{has, alone, firsts, has-and, has-or, has-xor, has-none, has-alone, has-firsts, beyond, lowest, taken-one, taken-some}
+use Rattle.graph.specs.Sets.{has, alone, firsts}
+use Rattle.graph.specs.SetLaws.{has-and, has-or, has-xor, has-none, has-alone, has-firsts, none-above, lowest, taken-one, taken-some}
 use Rattle.graph.specs.Search.{State, Seen, Deepens, begin, depth-below, looked, deepened, met-distance, unmet-walk, last-level}
 use Rattle.block.specs.Block.{mostAtoms}
 use Rattle.block.specs.Rows.{table, rowOf}
@@ -101,7 +102,7 @@ module _ (g : Graph) (near : List ℕ) (i : ℕ) where
 
         u-atom : Within (g .atoms) u
         u-atom = elim (decLt (g .atoms) u) [
-          | yes h ↦ absurd (false≢true (sym (beyond (g .atoms) level u (omega (arith, R .fits)) h) ∙ low .1))
+          | yes h ↦ absurd (false≢true (sym (none-above (g .atoms) level u (omega (arith, R .fits)) h) ∙ low .1))
           | no h ↦ omega arith
         ]
 
@@ -212,7 +213,7 @@ module _ (g : Graph) (near : List ℕ) (i : ℕ) where
           where
             inside : has rest (suc (first rest)) ≡ true → Within (g .atoms) (suc (first rest))
             inside h = elim (decLt (g .atoms) (suc (first rest))) [
-              | yes l ↦ absurd (false≢true (sym (beyond (g .atoms) rest (suc (first rest)) (omega (arith, R .fits)) l) ∙ h))
+              | yes l ↦ absurd (false≢true (sym (none-above (g .atoms) rest (suc (first rest)) (omega (arith, R .fits)) l) ∙ h))
               | no l ↦ omega arith
             ]
 

@@ -9,7 +9,8 @@ use native.Mathlib.Numerals.{add-one}
 use lib.ListN.{length, getD, replicate}
 use lib.Pow.{pow-pos}
 use Rattle.graph.specs.Graph.{Bond, bond, Within, anyJoins, bonded, degree}
-use Rattle.graph.specs.Sets.{has, has-none}
+use Rattle.graph.specs.Sets.{has}
+use Rattle.graph.specs.SetLaws.{has-none}
 use Rattle.graph.specs.Bonds.{same-test, any-out, any-head, any-tail, any-none}
 use Rattle.reply.specs.Read.{refused, read, _then_, refuseFor, refusal}
 use Rattle.block.specs.Block.{limit, mostAtoms, bondsOf, graphOf, bondFault, bondsReply}

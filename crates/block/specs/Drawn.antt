@@ -15,7 +15,8 @@ use lib.Seq.{ext-getD}
 use Rattle.graph.specs.Graph.{Graph, Within, bonded, sum}
 use Rattle.graph.specs.Sums.{wider, last, sum-cong, sum-none}
 use Rattle.graph.specs.Distance.{not-true}
-use Rattle.graph.specs.Sets.{has, alone, has-or, has-xor, has-alone, beyond, taken-one}
+use Rattle.graph.specs.Sets.{has, alone}
+use Rattle.graph.specs.SetLaws.{has-or, has-xor, has-alone, none-above, taken-one}
 use Rattle.reply.specs.Read.{Read, refused, read, _then_, saidReply}
 use Rattle.block.specs.Block.{mostAtoms, graphOf, blockReply}
 use Rattle.block.specs.Rows.{table}
@@ -58,7 +59,7 @@ has-set (suc n) p v w = go (p (suc n)) refl (ℕ-discrete v (suc n)) (λ q. has-
         ap (λ (x : ℕ). has x v) (set-more n p e) ∙ has-or (1 * 2 ^ n) (setOf n p) v ∙ rw (alone-last n v (w .low), eq-eqb v (suc n) q) (sym (ap p q ∙ e))
     go true e (no q) rec =
         ap (λ (x : ℕ). has x v) (set-more n p e) ∙ has-or (1 * 2 ^ n) (setOf n p) v ∙ rw (alone-last n v (w .low), ne-eqb v (suc n) q) (rec (omega arith))
-    go false e (yes q) rec = ap (λ (x : ℕ). has x v) (set-same n p e) ∙ beyond n (setOf n p) v (set-fits n p) (omega arith) ∙ sym (ap p q ∙ e)
+    go false e (yes q) rec = ap (λ (x : ℕ). has x v) (set-same n p e) ∙ none-above n (setOf n p) v (set-fits n p) (omega arith) ∙ sym (ap p q ∙ e)
     go false e (no q) rec = ap (λ (x : ℕ). has x v) (set-same n p e) ∙ rec (omega arith)
 
 -- a number that has no digit at n is less than 2 ^ n

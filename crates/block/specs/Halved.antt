@@ -7,7 +7,7 @@ use native.Mathlib.Decide.{decLt}
 use native.Mathlib.Omega.{arith}
 use borrow.Author.Tests.{lt-ltb, le-ltb, ne-eqb, eqb-true, ltb-true}
 use lib.Dec.{eqb, ltb}
-use lib.ListN.{length, getD, replicate, length-replicate}
+use lib.ListN.{length, getD, replicate, length-replicate, getD-replicate}
 use lib.Seq.{ext-getD}
 use Rattle.graph.specs.Graph.{Within, distance}
 use Rattle.graph.specs.Farthest.{farthest}
@@ -57,8 +57,7 @@ module _ (n : ℕ) (xs : List ℕ) where
       distance-found (rowsOf n xs) i j v w ∙ ap (λ (row : List ℕ). getD row (j - 1) 0) e
 
   none-at : {j : ℕ} → Within mostAtoms j → getD noRow (j - 1) 0 ≡ 0
-  unfolding noRow
-  none-at {j} w = getD-table mostAtoms (λ j. 0) (j - 1) 0 (omega arith)
+  none-at {j} w = getD-replicate mostAtoms (j - 1) 0 0 (omega arith)
 
   -- a block that is refused
   at-refused : (r : Refusal) → blockReply n xs ≡ refused r → {i j : ℕ} → Within mostAtoms i → Within mostAtoms j → at i j ≡ 0
@@ -126,7 +125,7 @@ module _ (n : ℕ) (xs : List ℕ) where
   table-is-rows i j = half-is-rows (distanceAt (rowsOf n xs)) halved i j
 
   said-long : (i : ℕ) → length (saidRow (rowReply n xs i) .row) ≡ mostAtoms
-  unfolding rowReply noRow rowOf
+  unfolding rowReply rowOf
   said-long i = go (blockReply n xs) (isOutside n i)
     where
       go : (m : Read (Unit {0})) (t : Bool) → length (saidRow (m then λ _. refuseIf t 18 0 then λ _. read (rowOf (graphOf n xs) i, farthest (graphOf n xs) i)) .row) ≡ mostAtoms

@@ -17,11 +17,8 @@ use Rattle.reply.specs.declared.Reply.the-variants.{Fine, Refused}
 unfoldable pub rowOf : Graph → ℕ → List ℕ
 rowOf g i = table mostAtoms (λ j. cond (ltb j (g .atoms)) (distance g i (suc j)) 0)
 
-unfoldable pub noRow : List ℕ
-noRow = table mostAtoms (λ j. 0)
-
-abbrev pub emptyRow : List ℕ
-emptyRow = replicate mostAtoms 0
+abbrev pub noRow : List ℕ
+noRow = replicate mostAtoms 0
 
 -- the row of one atom, and the largest distance from it: 18 at place 0 where there is no such atom
 unfoldable pub rowReply : ℕ → List ℕ → ℕ → Read (List ℕ × ℕ)

@@ -11,7 +11,7 @@ ghost use Prim.Native.Nat.{ℕ};
 ghost use Rattle.graph.specs.Graph.{Graph, Within, connected as isConnected};
 ghost use Rattle.graph.specs.Sets.{firsts};
 ghost use Rattle.block.specs.Block.{mostAtoms, graphOf};
-ghost use Rattle.block.specs.Rows.{emptyRow, halfTable, farOf};
+ghost use Rattle.block.specs.Rows.{noRow, halfTable, farOf};
 ghost use Rattle.block.specs.Near.{ReadyBlock};
 ghost use Rattle.block.specs.Found.{SearchTask, Searched};
 
@@ -32,7 +32,7 @@ pub(crate) struct Ended {
 // The search from atom i: it fills an empty row with the distances. The atoms of level wait until their neighbours were looked at, which go into
 // next; rest is not met yet.
 pub(crate) fn from_atom(near: &Neighbours, n: usize, i: usize, row: &mut [u8]) -> Ended
-    requires { ⌜ ((g : Graph) × SearchTask g (now near) n i) × (now row ≡ emptyRow) ⌝ }
+    requires { ⌜ ((g : Graph) × SearchTask g (now near) n i) × (now row ≡ noRow) ⌝ }
     ensures { λ r. ⌜ ((g : Graph) → SearchTask g (now (near .entry)) n i → Searched g i (now (row .exit)) (r .rest) (r .last)) ⌝ }
 {
     let mut level = 1u64 << (i - 1);

@@ -9,7 +9,7 @@
 -- | `Matching n m`              | the numbers 1 to n and 1 to m in pairs                           | `sum-same`, `pairs-same`, `most-same`                    |
 -- | `joined`, `written`         | two graphs joined by a bond; an assembly written out             | `written-molecule`, `wiener-joined` .. `polarity-joined` |
 -- | `atomOf`                    | a placed atom's number in the molecule written out               | `apart-later`, `apart-earlier`                           |
--- | sets of atoms               | one number of 64 bits, atom v at the digit v - 1                 | Sets; a search's levels are the distances: Search        |
+-- | sets of atoms               | one number of 64 bits, atom v at the digit v - 1                 | SetLaws; a search's levels are the distances: Search     |
 pub mod Graph
 pub mod Farthest
 pub mod Matching
@@ -17,6 +17,7 @@ pub mod Assembly
 pub mod Sets
 pub mod Examples
 pub mod Bonds
+pub mod SetLaws
 pub mod Walk
 pub mod Distance
 pub mod Search

@@ -21,7 +21,7 @@ use Rattle.summary.specs.Summary.{bytes, headOf, seatsFrom, pairOf, summaryOf}
 use Rattle.summary.specs.Back.{length-head, length-seats, fields-told, summary-told, ends-told}
 use Rattle.shelf.specs.Shelf.{placeFrom, shelfIn, placeOf as placeIn}
 use Rattle.summaries.specs.Composing.{composedReply}
-use Rattle.summaries.specs.Written.{writtenReply, composed-written, HonestBook as HonestBook}
+use Rattle.summaries.specs.Written.{writtenReply, composed-written, HonestBook}
 use Rattle.storage.specs.Shelf.{places, numberIn, seek, heldBy, holds, placeHolding, lookReply}
 use Rattle.storage.specs.Table.{tableBytes, shelf, emptied}
 use Rattle.storage.specs.Calls.{Sent, own, answersTo, tableAll}

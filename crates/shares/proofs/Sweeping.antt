@@ -15,7 +15,8 @@ use lib.ListN.{length, getD, set}
 use lib.Pow.{pow-mono}
 use lib.Seq.{getD-set-same, getD-set-other}
 use Rattle.graph.specs.Graph.{Within, sum}
-use Rattle.graph.specs.Sets.{has, alone, has-and, has-xor, has-none, has-alone, beyond, lowest, taken-one}
+use Rattle.graph.specs.Sets.{has, alone}
+use Rattle.graph.specs.SetLaws.{has-and, has-xor, has-none, has-alone, none-above, lowest, taken-one}
 use Rattle.graph.specs.Sums.{sum-cong, sum-add, sum-none, sum-split, sum-min, sum-pick}
 use Rattle.block.specs.Block.{mostAtoms}
 use Rattle.block.specs.Drawn.{has-set}
@@ -105,7 +106,7 @@ module _ {n : ℕ} (small : n ≤ mostAtoms) (rest : ℕ) (waits : rest < 2 ^ n)
 
   pub taken : Within n (suc (first rest))
   taken = elim (decLt n (suc (first rest))) [
-    | yes h ↦ absurd (false≢true (sym (beyond n rest (suc (first rest)) waits h) ∙ its-first))
+    | yes h ↦ absurd (false≢true (sym (none-above n rest (suc (first rest)) waits h) ∙ its-first))
     | no h ↦ omega arith
   ]
 
@@ -193,7 +194,7 @@ module _ {n : ℕ} {B : ℕ → ℕ → Bool} {near : List ℕ} {key own F : ℕ
           let e : mostAtoms ≡ n + (mostAtoms - n) = omega (arith, L .small) in
           ap (λ (k : ℕ). sum k (λ w. cond (has from w) (at row w) 0)) e
           ∙ sum-split n (mostAtoms - n) (λ w. cond (has from w) (at row w) 0)
-          ∙ omega (arith, sum-cong (mostAtoms - n) {f = λ j. cond (has from (n + j)) (at row (n + j)) 0} {h = λ j. 0} (λ j h. rw (beyond n from (n + j) from-fits (omega arith)) refl), sum-none (mostAtoms - n))
+          ∙ omega (arith, sum-cong (mostAtoms - n) {f = λ j. cond (has from (n + j)) (at row (n + j)) 0} {h = λ j. 0} (λ j h. rw (none-above n from (n + j) from-fits (omega arith)) refl), sum-none (mostAtoms - n))
 
       module _ (s x : ℕ) (pulls : s ≡ overSet from (at row)) (adds : x ≡ min cap (s + at row (first rest + 1))) where
         right : x ≡ min cap (F v)

@@ -6,13 +6,13 @@ use borrow.Author.Needs.{needs}
 use native.Mathlib.Numerals.{add-one}
 use Rattle.half.specs.Half.{halfRow}
 use Rattle.block.specs.Block.{mostAtoms}
-use Rattle.block.specs.Rows.{emptyRow}
+use Rattle.block.specs.Rows.{noRow}
 use Rattle.block.proofs.Filling.{Filled, fill-start, fill-next, fill-end}
 use Rattle.block.proofs.square.Statement.{statement}
 use Rattle.block.proofs.square.Tie as tie
 
 abbrev Inv-loop : tie.InvT-loop
-Inv-loop half rows₀ i₀ rows i = (i ≤ mostAtoms) × Filled (λ k. halfRow half (suc k)) emptyRow [] rows i
+Inv-loop half rows₀ i₀ rows i = (i ≤ mostAtoms) × Filled (λ k. halfRow half (suc k)) noRow [] rows i
 
 abbrev μ-loop : tie.MeasureT-loop
 μ-loop half rows₀ i₀ rows i = mostAtoms - i

@@ -3,7 +3,7 @@ use mathlib.Core.Path.{_≡_, sym, ap, _∙_}
 use native.Mathlib.Numerals.{add-one}
 use native.Mathlib.Omega.{arith}
 use Rattle.graph.specs.Graph.{Within}
-use Rattle.graph.specs.Sets.{shifted}
+use Rattle.graph.specs.SetLaws.{shifted-one}
 use Rattle.reply.specs.Read.{saidReply}
 use Rattle.block.specs.Block.{limit, mostAtoms, bondFault}
 use Rattle.block.specs.Near.{counted, counting}
@@ -128,7 +128,7 @@ loop-less c = omega arith
 loop-again : tie.Need-loop-again Inv-loop μ-loop
 loop-again c = (
   omega arith,
-  rw (add-one (c .before .before .before .before .before .before .before .loop .k), shifted mostAtoms _ (shl-near c), shifted mostAtoms _ (shl-near-2 c))
+  rw (add-one (c .before .before .before .before .before .before .before .loop .k), shifted-one mostAtoms _ (shl-near c), shifted-one mostAtoms _ (shl-near-2 c))
       (reads-next _ _ _ _ _ (c .before .before .before .before .before .before .before .loop .inv .1) (omega arith) (free c)),
 )
 

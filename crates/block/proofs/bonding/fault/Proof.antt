@@ -6,7 +6,7 @@ use native.Mathlib.Omega.{arith}
 use borrow.Author.Needs.{needs}
 use borrow.Author.Tests.{eq-eqb, ne-eqb}
 use Rattle.graph.specs.Graph.{Bond, Within, anyJoins}
-use Rattle.graph.specs.Sets.{has-yes, has-not}
+use Rattle.graph.specs.SetLaws.{has-yes, has-not}
 use Rattle.reply.specs.Read.{isOutside}
 use Rattle.block.specs.Near.{HoldsBonds}
 use Rattle.block.specs.Faults.{inside, three, three′, four, five, six, six′, none}

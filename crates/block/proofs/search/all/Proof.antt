@@ -1,5 +1,5 @@
 use borrow.Author.Needs.{needs}
-use Rattle.graph.specs.Sets.{shifted-down}
+use Rattle.graph.specs.SetLaws.{shifted-down}
 use Rattle.block.specs.Block.{mostAtoms}
 use Rattle.block.proofs.search.all.Statement.{statement}
 use Rattle.block.proofs.search.all.Tie as tie

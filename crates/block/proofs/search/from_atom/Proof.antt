@@ -5,7 +5,7 @@ use lib.Bits.{bitAnd, bitOr, bitXor}
 use lib.ListN.{length, getD}
 use lib.Pow.{pow-pos}
 use Rattle.graph.specs.Graph.{Graph, Within}
-use Rattle.graph.specs.Sets.{shifted, taken-some, lowest-dropped}
+use Rattle.graph.specs.SetLaws.{shifted-one, taken-some, lowest-dropped}
 use Rattle.block.specs.Block.{mostAtoms}
 use Rattle.block.specs.Found.{SearchTask}
 use Rattle.block.proofs.Meeting.{Running, Over, first, fits-level, run-start, small, shallow, less, run-looked, looked-at, run-deeper, run-over, run-end}
@@ -36,7 +36,7 @@ all-requires : tie.Need-all-requires Inv-loop μ-loop
 all-requires c κs = begins (c .before) .0
 
 loop-holds : tie.Need-loop-holds Inv-loop μ-loop
-loop-holds c g T = (rw (c .before .before .pre .1, shifted mostAtoms _ (shl-level (c .before)), c .all .ensures, T .size) (run-start g _ _ (T .shown) (T .start)), λ e. absurd (omega (arith, e, shifted mostAtoms _ (shl-level (c .before)), pow-pos (c .before .before .args .i - 1))))
+loop-holds c g T = (rw (c .before .before .pre .1, shifted-one mostAtoms _ (shl-level (c .before)), c .all .ensures, T .size) (run-start g _ _ (T .shown) (T .start)), λ e. absurd (omega (arith, e, shifted-one mostAtoms _ (shl-level (c .before)), pow-pos (c .before .before .args .i - 1))))
 
 -- in a turn some atom waits
 small-in : (c : tie.In-loop Inv-loop μ-loop) → (first (c .before .loop .level) < mostAtoms) × (c .before .loop .d < mostAtoms)

@@ -3,7 +3,7 @@ use Prim.Native.Nat.{suc, _-_, _≤_, _<_}
 use mathlib.Core.Path.{_≡_, refl}
 use native.Mathlib.Numerals.{add-one}
 use native.Mathlib.Omega.{arith}
-use Rattle.graph.specs.Sets.{shifted}
+use Rattle.graph.specs.SetLaws.{shifted-one}
 use Rattle.block.specs.Block.{mostAtoms}
 use Rattle.block.specs.Lent.{zeros}
 use Rattle.shares.proofs.Layering.{Layered, layered-start, layered-next, layered-end}
@@ -53,7 +53,7 @@ loop-less c = omega arith
 loop-again : tie.Need-loop-again Inv-loop μ-loop
 loop-again c =
     let l = c .before .before .before .loop in
-    (omega arith, rw (add-one (l .j), shifted mostAtoms (l .j) (shl-sets c)) (layered-next (l .j) _ _ (l .inv .1) (c .wide .result) (c .wide .ensures .0) (near c)))
+    (omega arith, rw (add-one (l .j), shifted-one mostAtoms (l .j) (shl-sets c)) (layered-next (l .j) _ _ (l .inv .1) (c .wide .result) (c .wide .ensures .0) (near c)))
 
 returns : tie.Need-returns Inv-loop μ-loop
 returns c =

@@ -6,7 +6,8 @@ use mathlib.Core.Bool.{Bool, true, false, cond}
 use native.Mathlib.Omega.{arith}
 use lib.Bits.{bitAnd}
 use lib.Pow.{pow-pos}
-use Rattle.graph.specs.Sets.{has, lowest-dropped}
+use Rattle.graph.specs.Sets.{has}
+use Rattle.graph.specs.SetLaws.{lowest-dropped}
 use Rattle.graph.specs.Sums.{sum-le}
 use Rattle.block.specs.Block.{mostAtoms}
 use Rattle.shares.specs.Work.{full, at, overSet}

@@ -6,7 +6,7 @@ use native.Mathlib.Omega.{arith}
 use lib.Bits.{bitAnd}
 use lib.ListN.{length, length-set}
 use lib.Pow.{pow-pos}
-use Rattle.graph.specs.Sets.{lowest-dropped}
+use Rattle.graph.specs.SetLaws.{lowest-dropped}
 use Rattle.block.specs.Block.{mostAtoms}
 use Rattle.shares.specs.Work.{at, NearSets, Levels, Rule}
 use Rattle.shares.proofs.Rows.{store-low}
