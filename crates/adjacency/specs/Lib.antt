@@ -1,14 +1,14 @@
 -- The neighbour text: what it says, its refusals, the text of a block, and that the one undoes the other.
 --
--- | notion                      | meaning                                                           | the law that matters                                  |
--- | `numbers text`              | the longest runs of digits: what each says, and where it begins   | `capped`: the decimal value, however long             |
--- | `faultAt text`              | 21: the first byte that may not stand there, or number above 999  | `looking-next`, `looking-end`                         |
--- | `shapeFrom`                 | 22: descriptions up to the last 0, and nothing after it           | `shaped-more`, `shaped-last`                          |
--- | `steps`                     | what the numbers ask for in turn: an atom described, or a bond    | `steps-until`                                         |
--- | `neighboursReply text room` | the block of a text, or its refusal                               | `read-fine`: what is read is a block                  |
--- | `writtenText n bs`          | the text of a block                                               | `text-fits`: how long it is                           |
--- | `writeReply n xs room`      | the same, or its refusal                                          | `writes-again`: what was read is written as it was    |
--- | `canonical n bs`            | a block's bonds in the order of its text, smaller end first       | `reads-back`: what was written is read in that order  |
+-- | notion                           | meaning                                                          | the law that matters                                 |
+-- | `numbers text`                   | the longest runs of digits: what each says, and where it begins  | `capped`: the decimal value, however long            |
+-- | `faultAt text`                   | 21: the first byte that may not stand there, or number above 999 | `looking-next`, `looking-end`                        |
+-- | `shapeFrom`                      | 22: descriptions up to the last 0, and nothing after it          | `shaped-more`, `shaped-last`                         |
+-- | `steps`                          | what the numbers ask for in turn: an atom described, or a bond   | `steps-until`                                        |
+-- | `neighboursReply text room`      | the block of a text, or its refusal                              | `read-fine`: what is read is a block                 |
+-- | `writtenText n bs`               | the text of a block                                              | `text-fits`: how long it is                          |
+-- | `neighboursWriteReply n xs room` | the same, or its refusal                                         | `writes-again`: what was read is written as it was   |
+-- | `canonical n bs`                 | a block's bonds in the order of its text, smaller end first      | `reads-back`: what was written is read in that order |
 -- Definitions
 pub mod Neighbours
 pub mod Written

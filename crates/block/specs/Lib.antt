@@ -1,13 +1,13 @@
 -- What a block is told.
 --
--- | notion                                                       | meaning                                             | the law that matters                                         |
--- | `graphOf n xs`                                               | the graph that an atom count and bond bytes say     | `molecule`: of a block that is not refused                   |
--- | `blockReply`                                                 | refusals 1 to 7, in order                           | `passed`: the tests that a fine block passed; `place-within` |
--- | `rowReply`, `rowsOf`, `farOf`                                | the distances from one atom, from all; the largest  | `row-at`, `distance-at`, `farthest-at`                       |
--- | `tableOf`                                                    | half of the distances from all                      | `table-is-rows`, `table-distance`, `table-row`               |
--- | `indicesReply`, `vertexReply`, `distanceReply`, `pairsReply` | the six numbers, one atom's sums, a distance, n(k)  | `indices-are`, `vertex-is`, `counts-are`                     |
--- | `indicesBy`, `vertexBy`                                      | the same sums over any table of numbers             | `unique-sums`, `unique-around-row`                           |
--- | `limit`, `mostAtoms`, `mostBytes`                            | the limits of a block                               | `few-bonds`, `few-atoms`                                     |
+-- | notion                                                       | meaning                                            | the law that matters                                         |
+-- | `graphOf n xs`                                               | the graph that an atom count and bond bytes say    | `judging`: of a block that is not refused                   |
+-- | `blockReply`                                                 | refusals 1 to 7, in order                          | `passed`: the tests that a fine block passed; `place-within` |
+-- | `rowReply`, `rowsOf`, `farOf`                                | the distances from one atom, from all; the largest | `row-at`, `distance-at`, `farthest-at`                       |
+-- | `halfTable`                                                  | half of the distances from all                     | `table-is-rows`, `table-distance`, `table-row`               |
+-- | `indicesReply`, `vertexReply`, `distanceReply`, `pairsReply` | the six numbers, one atom's sums, a distance, n(k) | `indices-are`, `vertex-is`, `counts-are`                     |
+-- | `indicesBy`, `vertexBy`                                      | the same sums over any table of numbers            | `unique-sums`, `unique-around-row`                           |
+-- | `limit`, `mostAtoms`, `mostBytes`                            | the limits of a block                              | `few-bonds`, `few-atoms`                                     |
 pub mod Block
 pub mod Rows
 pub mod Opened

@@ -1,8 +1,8 @@
 -- What is measured of a molfile, and of a neighbour text.
 --
--- | notion         | meaning                                                                 | the law that matters                                         |
--- | `measureReply` | the indices of a molfile's block, or the lines' and the block's refusal | `measure-read`, `measure-refused`: never 9; `unique-measure` |
--- | `textReply`    | the same of a neighbour text                                            | `unique-measure-neighbours`                                  |
+-- | notion              | meaning                                                                 | the law that matters                                         |
+-- | `measureReply`      | the indices of a molfile's block, or the lines' and the block's refusal | `measure-read`, `measure-refused`: never 9; `unique-measure` |
+-- | `measuredTextReply` | the same of a neighbour text                                            | `unique-measure-neighbours`                                  |
 pub mod Measuring
 pub mod Texts
 pub mod Unique

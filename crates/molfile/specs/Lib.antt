@@ -1,7 +1,7 @@
 -- What a molfile says.
 --
 -- | notion         | meaning                                                      | the law that matters                |
--- | `linesReply`   | refusals 25, 26 and 27 in file order                         | `unique-read`   |
+-- | `linesReply`   | refusals 25, 26 and 27 in file order                         | `unique-read`                       |
 -- | `hydrogenAt`   | whether the symbol of an atom line is H                      | `h-none`                            |
 -- | `isDropped`    | a hydrogen with exactly one bond, to an atom that is none    | `number-is`: by weights of one pass |
 -- | `newNumber`    | an atom's number among those that are kept                   | `number-few`                        |

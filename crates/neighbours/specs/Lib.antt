@@ -1,8 +1,8 @@
 -- How the code says what a neighbour text gives and what a block's text is.
 --
--- | notion        | meaning                                              | the law that matters                |
--- | `saidFound`   | a block's counts, or its refusal, in the code's enum | `unique-read`, `unique-read-bytes`  |
--- | `saidWritten` | a text's length, or the refusal, in the code's enum  | `unique-write`, `unique-write-bytes` |
+-- | notion                  | meaning                                              | the law that matters                 |
+-- | `saidNeighboursRead`    | a block's counts, or its refusal, in the code's enum | `unique-read`, `unique-read-bytes`   |
+-- | `saidNeighboursWritten` | a text's length, or the refusal, in the code's enum  | `unique-write`, `unique-write-bytes` |
 -- Definitions
 pub mod Said
 -- Laws

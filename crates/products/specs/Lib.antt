@@ -1,12 +1,12 @@
 -- The products of a library.
 --
--- | notion                | meaning                                                             | the law that matters                                       |
--- | `libraryReply d`      | a library deck's refusals in order, or where everything stands      | `whole`: what a library that is read keeps to              |
--- | `products sites`      | how many products there are                                         | `few-products`: 1 to 4,096                                 |
--- | `choiceAt sites p`    | the candidates at a position, the last site turning fastest         | `each-choice-once`: positions and choices are one to one   |
--- | `assemblyAt d l p`    | the assembly of a product, written out                              | `product-fine`: it is never refused                        |
--- | `productAt d l p`     | the fields of its molecule                                          | `product-deck`: those of the deck with that assembly       |
--- | `moleculeOver book x` | the molecule of an assembly over a book of blocks                   | `product-grows`: one candidate joined to the earlier ones  |
+-- | notion                | meaning                                                        | the law that matters                                      |
+-- | `libraryReply d`      | a library deck's refusals in order, or where everything stands | `whole`: what a library that is read keeps to             |
+-- | `products sites`      | how many products there are                                    | `few-products`: 1 to 4,096                                |
+-- | `choiceAt sites p`    | the candidates at a position, the last site turning fastest    | `each-choice-once`: positions and choices are one to one  |
+-- | `assemblyAt d l p`    | the assembly of a product, written out                         | `product-fine`: it is never refused                       |
+-- | `productAt d l p`     | the fields of its molecule                                     | `product-deck`: those of the deck with that assembly      |
+-- | `moleculeOver book x` | the molecule of an assembly over a book of blocks              | `product-grows`: one candidate joined to the earlier ones |
 -- Definitions
 pub mod Library
 pub mod Products

@@ -1,14 +1,14 @@
 -- Two queues at one table, whatever is stored there.
 --
--- | notion                       | meaning                                                                          | the law that matters                                           |
--- | `seek`, `holds`, `placeOf`   | the first place that has a number                                                | `seek-found`, `seek-least`                                     |
--- | `addReply`, `added`          | what adding is told, and the shelf's bytes after it                              | `room-exactly`: 28 exactly when eight are held                 |
--- | `dropReply`, `dropped`       | the same for dropping                                                            | `same-place-again`: a dropped place is used again              |
--- | `lookReply`                  | what looking up is told                                                          | `same-look`: the fields of what was added                      |
--- | `shelf`, `tableAfter`        | a queue's half of the table; the table after a call                              | `other-after`: no call changes the other queue's places        |
--- | `Trade`, `Call`, `answersTo` | what is stored, the calls, and what a queue is told while both call              | `alone`: on any bytes, what its own calls are told by its half |
--- | `Meaning`, `toldAll`         | a queue with no bytes, and what its calls are told                               | `own-calls-only`                                               |
--- | `Honest`                     | the bytes say what the goods mean                                                | `own-calls-only`, `keeps-own`                                  |
+-- | notion                          | meaning                                                             | the law that matters                                           |
+-- | `seek`, `holds`, `placeHolding` | the first place that has a number                                   | `seek-found`, `seek-least`                                     |
+-- | `addReply`, `added`             | what adding is told, and the shelf's bytes after it                 | `room-exactly`: 28 exactly when eight are held                 |
+-- | `dropReply`, `dropped`          | the same for dropping                                               | `same-place-again`: a dropped place is used again              |
+-- | `lookReply`                     | what looking up is told                                             | `same-look`: the fields of what was added                      |
+-- | `shelf`, `tableAfter`           | a queue's half of the table; the table after a call                 | `other-after`: no call changes the other queue's places        |
+-- | `Trade`, `Call`, `answersTo`    | what is stored, the calls, and what a queue is told while both call | `alone`: on any bytes, what its own calls are told by its half |
+-- | `Meaning`, `toldAll`            | a queue with no bytes, and what its calls are told                  | `own-calls-only`                                               |
+-- | `HonestTrade`                   | the bytes say what the goods mean                                   | `own-calls-only`, `keeps-own`                                  |
 pub mod Shelf
 pub mod Table
 pub mod Calls

@@ -1,11 +1,11 @@
 -- Tables of distances joined by single bonds: whatever the tables hold, and where they hold the distances of molecules.
 --
--- | notion                         | meaning                                                                        | the law that matters                       |
--- | `Part`, `grow`, `joinSix`      | what is kept of a block; how what an atom counts and the six fields grow       | `first-molecules`, `six-molecules`         |
--- | `farIn`, `sightIn`, `sixIn`    | the same of an assembly, one placement after the other                         | `fields-written`: of the molecule          |
--- | `Table`, `joinedBy`            | an atom count and a number for each two atoms; two joined by a bond            | `seen-first`, `total-joined`               |
--- | `Told`, `Fits`                 | what is kept is what a table says; a placement is joined to an earlier one     | `whole`: composing sums over all pairs     |
--- | `Held`, `Kept`                 | numbers of a byte or two, composed, stay small                                 | `sight-held`, `six-held`                   |
+-- | notion                      | meaning                                                                    | the law that matters                   |
+-- | `Part`, `grow`, `joinSix`   | what is kept of a block; how what an atom counts and the six fields grow   | `first-molecules`, `six-molecules`     |
+-- | `farIn`, `sightIn`, `sixIn` | the same of an assembly, one placement after the other                     | `fields-written`: of the molecule      |
+-- | `Table`, `joinedBy`         | an atom count and a number for each two atoms; two joined by a bond        | `seen-first`, `total-joined`           |
+-- | `Told`, `Fits`              | what is kept is what a table says; a placement is joined to an earlier one | `whole`: composing sums over all pairs |
+-- | `SmallSight`, `SmallPart`   | numbers of a byte or two, composed, stay small                             | `sight-held`, `six-held`               |
 pub mod Parts
 pub mod Table
 pub mod Examples

@@ -2,7 +2,7 @@
 --
 -- | notion                         | meaning                                                     | the law that matters                                           |
 -- | `code`, `coded`, `verdictCode` | a refusal, an answer, a verdict as one number               | `Tells`, `Judges`: what the number tells, with nothing assumed |
--- | `fitting`, `after`, `Lent`     | 9 where the answer does not fit; the lent output afterwards | `lent-once`                                                    |
+-- | `fitting`, `outAfter`, `Lent`  | 9 where the answer does not fit; the lent output afterwards | `lent-once`                                                    |
 -- | `Beside`, `Contributed`        | a number for each bond, and one number beside them          | `beside-once`                                                  |
 pub mod Convention
 pub mod Beside
