@@ -129,8 +129,8 @@ module _ (n : ℕ) (xs : List ℕ) where
   said-long i = go (blockReply n xs) (isOutside n i)
     where
       go : (m : Read (Unit {0})) (t : Bool) → length (saidRow (m then λ _. refuseIf t 18 0 then λ _. read (rowOf (graphOf n xs) i, farthest (graphOf n xs) i)) .row) ≡ mostAtoms
-      go (refused r) t = length-table mostAtoms (λ j. 0)
-      go (read u) true = length-table mostAtoms (λ j. 0)
+      go (refused r) t = length-replicate {A = ℕ} mostAtoms 0
+      go (read u) true = length-replicate {A = ℕ} mostAtoms 0
       go (read u) false = length-table mostAtoms (λ j. cond (ltb j n) (distance (graphOf n xs) i (suc j)) 0)
 
   row-said : {i : ℕ} → Within mostAtoms i → halfRow (halfTable n xs) i ≡ saidRow (rowReply n xs i) .row
