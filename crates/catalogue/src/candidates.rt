@@ -37,7 +37,9 @@ fn candidate_fault(
     p: usize,
 ) -> usize
     requires { ⌜ p ≤ length (now xs) ⌝ }
-    ensures { λ r. ⌜ r ≡ candidateFault (bookOf (now (d .entry)) (take count blocks)) (blockGraph (now (d .entry)) core) (now (xs .entry)) atom p ⌝ }
+    ensures { λ r. ⌜
+        r ≡ candidateFault (bookOf (now (d .entry)) (take count blocks)) (blockGraph (now (d .entry)) core) (now (xs .entry)) atom p
+        ⌝ }
 {
     if xs.len() < p + CANDIDATE {
         return 13;
@@ -72,7 +74,10 @@ pub(crate) fn candidates_fault(
     first: usize,
 ) -> usize
     requires { ⌜ first ≤ length (now xs) ⌝ }
-    ensures { λ r. ⌜ r ≡ candidatesFault (bookOf (now (d .entry)) (take count blocks)) (blockGraph (now (d .entry)) core) (now (xs .entry)) atom many first ⌝ }
+    ensures { λ r. ⌜
+        r ≡ candidatesFault (bookOf (now (d .entry)) (take count blocks)) (blockGraph (now (d .entry)) core)
+        (now (xs .entry)) atom many first
+        ⌝ }
 {
     let mut left = many;
     let mut p = first;

@@ -112,7 +112,10 @@ fn site_fault(
     p: usize,
 ) -> usize
     requires { ⌜ (p ≤ length (now xs)) × (n ≤ mostSites) ⌝ }
-    ensures { λ r. ⌜ r ≡ siteFault (bookOf (now (d .entry)) (take count blocks)) (blockGraph (now (d .entry)) core) (now (xs .entry)) (sitesIn sites n) p ⌝ }
+    ensures { λ r. ⌜
+        r ≡ siteFault (bookOf (now (d .entry)) (take count blocks)) (blockGraph (now (d .entry)) core) (now (xs .entry))
+        (sitesIn sites n) p
+        ⌝ }
 {
     if xs.len() < p + SITE_HEAD {
         return 13;
@@ -141,7 +144,10 @@ fn sites_from(
     total: usize,
 ) -> SitesRead
     requires { ⌜ (total ≤ mostSites) × (libraryKind .fixed ≤ length (now xs)) ⌝ }
-    ensures { λ r. ⌜ r ≡ saidSites (sitesFrom (bookOf (now (d .entry)) (take count blocks)) (blockGraph (now (d .entry)) core) (now (xs .entry)) at total (libraryKind .fixed) []) ⌝ }
+    ensures { λ r. ⌜
+        r ≡ saidSites (sitesFrom (bookOf (now (d .entry)) (take count blocks)) (blockGraph (now (d .entry)) core)
+        (now (xs .entry)) at total (libraryKind .fixed) [])
+        ⌝ }
 {
     let mut sites = [NO_SITE; SITES];
     let mut n = 0;

@@ -56,7 +56,10 @@ pub(crate) fn copy_ends(
 )
     requires { ⌜ Ranged (now links) count × (length (now rows) ≡ ends) × (length (now counts) ≡ ends) ⌝ }
     ensures rows { λ _. ⌜ Copied (now (links .entry)) count f (halfRow (now (half .entry))) (now (rows .entry)) (now (rows .exit)) ⌝ }
-    ensures counts { λ _. ⌜ Copied (now (links .entry)) count f (countsIn atoms (now (half .entry)) (now (far .entry))) (now (counts .entry)) (now (counts .exit)) ⌝ }
+    ensures counts { λ _. ⌜
+        Copied (now (links .entry)) count f (countsIn atoms (now (half .entry)) (now (far .entry))) (now (counts .entry))
+        (now (counts .exit))
+        ⌝ }
 {
     let n = 2 * count;
     let mut e: usize = 2;

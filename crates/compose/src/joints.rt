@@ -45,7 +45,10 @@ fn climbed(rows: &[[u8; ATOMS]; ENDS], parent: usize, site: usize) -> u64
 // The distance of the atoms that the placements at the indices x and y are joined to: it climbs from the later of their parents.
 fn apart(links: &Links, rows: &[[u8; ATOMS]; ENDS], x: usize, y: usize) -> u64
     requires { ⌜ ((blocks : ℕ → Graph) × (last : ℕ) × Laid blocks last (now links) (now rows) × Within last x × Within last y) ⌝ }
-    ensures { λ r. ⌜ ((blocks : ℕ → Graph) (last : ℕ) → Laid blocks last (now (links .entry)) (now (rows .entry)) → Within last x → Within last y → r ≡ between blocks (now (links .entry)) last x y) ⌝ }
+    ensures { λ r. ⌜
+        ((blocks : ℕ → Graph) (last : ℕ) → Laid blocks last (now (links .entry)) (now (rows .entry)) → Within last x → Within last y
+        → r ≡ between blocks (now (links .entry)) last x y)
+        ⌝ }
 {
     let mut u = x;
     let mut v = y;
@@ -99,9 +102,13 @@ pub(crate) fn since(
     k: usize,
     begun: Vertex,
 ) -> Vertex
-    requires { ⌜ ((blocks : ℕ → Graph) × (last : ℕ) × Turn blocks last (now links) (now rows) (now counts) k × (begun ≡ sightAt blocks (now links) (link (now links) k .parent) k)) ⌝ }
+    requires { ⌜
+        ((blocks : ℕ → Graph) × (last : ℕ) × Turn blocks last (now links) (now rows) (now counts) k
+        × (begun ≡ sightAt blocks (now links) (link (now links) k .parent) k))
+        ⌝ }
     ensures { λ r. ⌜ ((blocks : ℕ → Graph) (last : ℕ) → Turn blocks last (now (links .entry)) (now (rows .entry)) (now (counts .entry)) k
-        → begun ≡ sightAt blocks (now (links .entry)) (link (now (links .entry)) k .parent) k → r ≡ sightAt blocks (now (links .entry)) k k) ⌝ }
+        → begun ≡ sightAt blocks (now (links .entry)) (link (now (links .entry)) k .parent) k
+        → r ≡ sightAt blocks (now (links .entry)) k k) ⌝ }
 {
     let mut v = begun;
     let mut m = links[k][PARENT];
@@ -137,7 +144,10 @@ pub(crate) fn composed(
     count: usize,
 ) -> Indices
     requires { ⌜ ((blocks : ℕ → Graph) × JoinTask blocks (count - 1) (now links) (now rows) (now counts) (now numbers)) ⌝ }
-    ensures { λ r. ⌜ ((blocks : ℕ → Graph) → JoinTask blocks (count - 1) (now (links .entry)) (now (rows .entry)) (now (counts .entry)) (now (numbers .entry)) → r ≡ indicesOf (written blocks (joinsOf (now (links .entry))) (count - 1))) ⌝ }
+    ensures { λ r. ⌜
+        ((blocks : ℕ → Graph) → JoinTask blocks (count - 1) (now (links .entry)) (now (rows .entry)) (now (counts .entry))
+        (now (numbers .entry)) → r ≡ indicesOf (written blocks (joinsOf (now (links .entry))) (count - 1)))
+        ⌝ }
 {
     let mut s = Summary {
         fields: numbers_at(numbers, links[0][FIRST]),

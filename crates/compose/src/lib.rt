@@ -77,8 +77,13 @@ fn take_block(
 ) -> NumberRow
     requires { ⌜ Ranged (now links) placements × (length (now out) ≡ ends) × (length (now counts) ≡ ends) ⌝ }
     ensures numbers { λ r. ⌜ numbersOf r ≡ numbersFrom (b .atoms) (bondBytes (now (d .entry)) b) ⌝ }
-    ensures rows { λ _. ⌜ Copied (now (links .entry)) placements f (rowFrom (b .atoms) (bondBytes (now (d .entry)) b)) (now (out .entry)) (now (out .exit)) ⌝ }
-    ensures counts { λ _. ⌜ Copied (now (links .entry)) placements f (countsFrom (b .atoms) (bondBytes (now (d .entry)) b)) (now (counts .entry)) (now (counts .exit)) ⌝ }
+    ensures rows { λ _. ⌜
+        Copied (now (links .entry)) placements f (rowFrom (b .atoms) (bondBytes (now (d .entry)) b)) (now (out .entry)) (now (out .exit))
+        ⌝ }
+    ensures counts { λ _. ⌜
+        Copied (now (links .entry)) placements f (countsFrom (b .atoms) (bondBytes (now (d .entry)) b)) (now (counts .entry))
+        (now (counts .exit))
+        ⌝ }
 {
     let n = b.atoms as usize;
     let mut far = [0u8; ATOMS];
@@ -97,7 +102,10 @@ fn filled(
     links: &Links,
 ) -> Indices
     requires { ⌜ ReadyDeck (now d) (now xs) blocks count placements (now links) ⌝ }
-    ensures { λ r. ⌜ r ≡ indicesOf (written (placedGraph (now (d .entry)) (now (xs .entry)) blocks count) (joinsOf (now (links .entry))) (placements - 1)) ⌝ }
+    ensures { λ r. ⌜
+        r ≡ indicesOf (written (placedGraph (now (d .entry)) (now (xs .entry)) blocks count) (joinsOf (now (links .entry)))
+        (placements - 1))
+        ⌝ }
 {
     let mut numbers = [[0u64; 6]; PLACEMENTS];
     let mut ends = [[0u8; ATOMS]; ENDS];
@@ -116,7 +124,10 @@ fn filled(
 // The six numbers of the molecule that a layout of the deck describes.
 fn laid_out(d: &[u8], layout: Layout) -> Indices
     requires { ⌜ ((form : Form) × (k : Deck) × (deckReply form (now d) ≡ read k) × (layout ≡ layoutOf k)) ⌝ }
-    ensures { λ r. ⌜ ((form : Form) (k : Deck) → deckReply form (now (d .entry)) ≡ read k → layout ≡ layoutOf k → r ≡ indicesOf (moleculeOf (now (d .entry)) k)) ⌝ }
+    ensures { λ r. ⌜
+        ((form : Form) (k : Deck) → deckReply form (now (d .entry)) ≡ read k → layout ≡ layoutOf k
+        → r ≡ indicesOf (moleculeOf (now (d .entry)) k))
+        ⌝ }
 {
     let blocks = layout.blocks;
     let placements = layout.placements;

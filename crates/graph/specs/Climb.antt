@@ -1,15 +1,14 @@
--- Laws. An assembly written out is one molecule. The distance of two placed atoms climbs from the later placement to its parent, and what is counted
--- from a placed atom grows with each placement more. Assumes nothing.
+-- Laws. An assembly written out is one molecule. The distance of two placed atoms climbs from the later placement to its
+-- parent. Assumes nothing.
 use Prim.Native.Nat.{ℕ, zero, suc, _+_, _-_, _≤_, _<_}
 use mathlib.Core.Logic.{⊎-elim}
 use mathlib.Core.Path.{_≡_, refl, sym, _∙_, ap, ap₂, subst}
 use native.Mathlib.Nat.{le-suc-iff, le-of-eq, zero-add}
 use native.Mathlib.Omega.{arith}
-use Rattle.graph.specs.Graph.{Graph, Within, Molecule, distance, vertex}
+use Rattle.graph.specs.Graph.{Graph, Within, Molecule, distance}
 use Rattle.graph.specs.Assembly.{Join, joined, startAt, atomOf, written, Assembled, Placed}
 use Rattle.graph.specs.Distance.{distance-sym}
 use Rattle.graph.specs.Join.{joined-molecule, distance-first, distance-second, distance-cross}
-use Rattle.graph.specs.Rules.{Grown, grown-first, grown-second}
 
 -- the atom of the whole molecule that the placement at index k is joined to
 abbrev pub siteOf : (ℕ → Graph) → (ℕ → Join) → ℕ → ℕ
@@ -18,10 +17,6 @@ siteOf blocks joins k = atomOf blocks (joins k .parent) (joins k .site)
 -- the distance of atom i of placement number k and atom j of placement number l
 abbrev pub apart : (ℕ → Graph) → (ℕ → Join) → ℕ → ℕ → ℕ → ℕ → ℕ → ℕ
 apart blocks joins last k i l j = distance (written blocks joins last) (atomOf blocks k i) (atomOf blocks l j)
-
--- what is counted from atom i of placement number k
-abbrev pub seen : (ℕ → Graph) → (ℕ → Join) → ℕ → ℕ → ℕ → (ℕ → ℕ) → ℕ
-seen blocks joins last k i = vertex (written blocks joins last) (atomOf blocks k i)
 
 module _ (blocks : ℕ → Graph) (joins : ℕ → Join) where
   pub size-written : (m : ℕ) → startAt blocks (suc m) ≡ written blocks joins m .atoms
@@ -100,19 +95,6 @@ module _ {blocks : ℕ → Graph} {joins : ℕ → Join} (m : ℕ) (a : Assemble
       → apart blocks joins (suc m) k i l j ≡ apart blocks joins m k i (joins (suc m) .parent) (joins (suc m) .site) + 1 + distance (blocks (suc m)) (joins (suc m) .own) j
   unfolding written
   apart-on {j = j} p f q = rw (behind j f) (distance-cross core block site own (placed-within blocks joins p) (here f q))
-
-  -- what is counted, from an earlier atom and from one of its own
-  pub grown-old : {k i : ℕ} → Placed blocks m k i
-      → Grown (seen blocks joins (suc m) k i) (seen blocks joins m k i)
-      (vertex (blocks (suc m)) (joins (suc m) .own)) (apart blocks joins m (joins (suc m) .parent) (joins (suc m) .site) k i)
-  unfolding written
-  grown-old p = grown-first core block site own (placed-within blocks joins p)
-
-  pub grown-new : {k i : ℕ} → k ≡ suc (suc m) → Placed blocks (suc m) k i
-      → Grown (seen blocks joins (suc m) k i) (vertex (blocks (suc m)) i)
-      (seen blocks joins m (joins (suc m) .parent) (joins (suc m) .site)) (distance (blocks (suc m)) (joins (suc m) .own) i)
-  unfolding written
-  grown-new {i = i} e p = rw (behind i e) (grown-second core block site own (here e p))
 
 -- distances stay as they are with every placement more
 pub apart-keeps : {blocks : ℕ → Graph} {joins : ℕ → Join} {m k i l j : ℕ} (last : ℕ) → m ≤ last → Assembled blocks joins last → Placed blocks m k i → Placed blocks m l j

@@ -47,7 +47,9 @@ pub fn compose(d: &[u8]) -> IndicesReply
 // Writes a sheet of a deck without one, a whole record of 40 or 44 bytes, into the first bytes of a buffer. A refusal writes nothing.
 pub fn write_sheet(d: &[u8], sheet: Sheet, out: &mut [u8]) -> SheetWritten
     ensures reply { λ r. ⌜ r ≡ saidSheetWritten (sheetWriteReply sheet (now (d .entry)) (length (now (out .entry)))) ⌝ }
-    ensures bytes { λ r. ⌜ now (out .exit) ≡ sheetOut sheet (now (out .entry)) (sheetWriteReply sheet (now (d .entry)) (length (now (out .entry)))) ⌝ }
+    ensures bytes { λ r. ⌜
+        now (out .exit) ≡ sheetOut sheet (now (out .entry)) (sheetWriteReply sheet (now (d .entry)) (length (now (out .entry))))
+        ⌝ }
 {
     let bytes = bytes_of(sheet);
     if LONGEST < d.len() {

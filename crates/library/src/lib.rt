@@ -64,7 +64,10 @@ fn fields_at(
     position: usize,
 ) -> Indices
     requires { ⌜ ((l : Library) × Held (now d) l (take count blocks) (payloadAt (now d) at) sites n × (position < products (l .sites))) ⌝ }
-    ensures { λ r. ⌜ ((l : Library) → Held (now (d .entry)) l (take count blocks) (payloadAt (now (d .entry)) at) sites n → position < products (l .sites) → r ≡ productAt (now (d .entry)) l position) ⌝ }
+    ensures { λ r. ⌜
+        ((l : Library) → Held (now (d .entry)) l (take count blocks) (payloadAt (now (d .entry)) at) sites n
+        → position < products (l .sites) → r ≡ productAt (now (d .entry)) l position)
+        ⌝ }
 {
     let xs = payload_at(d, at);
     let digits = choose(sites, n, position);
@@ -98,7 +101,9 @@ pub fn product(d: &[u8], position: usize) -> ProductReply
 // number of products, write nothing.
 pub fn step(d: &[u8], sheet: Sheet, position: usize, out: &mut [u8]) -> StepReply
     ensures reply { λ r. ⌜ r ≡ saidStep (suc position) (stepReply sheet (now (d .entry)) position (length (now (out .entry)))) ⌝ }
-    ensures bytes { λ _. ⌜ now (out .exit) ≡ stepOut sheet (now (out .entry)) (stepReply sheet (now (d .entry)) position (length (now (out .entry)))) ⌝ }
+    ensures bytes { λ _. ⌜
+        now (out .exit) ≡ stepOut sheet (now (out .entry)) (stepReply sheet (now (d .entry)) position (length (now (out .entry))))
+        ⌝ }
 {
     if LONGEST < d.len() {
         return StepReply::Refused(Refusal {
@@ -134,8 +139,15 @@ fn run_over(
     sheet: Sheet,
     out: &mut [u8],
 ) -> usize
-    requires { ⌜ ((d : List ℕ) × (l : Library) × (bs : List BlockAt) × (xs : List ℕ) × Spread d l bs xs sites n core (now all) × (many ≡ products (l .sites))) ⌝ }
-    ensures { λ r. ⌜ ((d : List ℕ) (l : Library) (bs : List BlockAt) (xs : List ℕ) → Spread d l bs xs sites n core (now (all .entry)) → many ≡ products (l .sites) → (r ≡ runOf sheet d position (now (out .entry)) .next) × (now (out .exit) ≡ runOf sheet d position (now (out .entry)) .out)) ⌝ }
+    requires { ⌜
+        ((d : List ℕ) × (l : Library) × (bs : List BlockAt) × (xs : List ℕ) × Spread d l bs xs sites n core (now all)
+        × (many ≡ products (l .sites)))
+        ⌝ }
+    ensures { λ r. ⌜
+        ((d : List ℕ) (l : Library) (bs : List BlockAt) (xs : List ℕ) → Spread d l bs xs sites n core (now (all .entry))
+        → many ≡ products (l .sites) → (r ≡ runOf sheet d position (now (out .entry)) .next)
+        × (now (out .exit) ≡ runOf sheet d position (now (out .entry)) .out))
+        ⌝ }
 {
     let bytes = bytes_of(sheet);
     let mut p = position;
@@ -169,7 +181,10 @@ fn run_read(d: &[u8], l: LibraryRead, position: usize, sheet: Sheet, out: &mut [
 // Writes the sheets of the products from a position on, one after the other, as many whole ones as a buffer holds, and hands back the next position: what the
 // steps write, each into what the one before left. The blocks are read once.
 pub fn run(d: &[u8], sheet: Sheet, position: usize, out: &mut [u8]) -> StepReply
-    ensures reply { λ r. ⌜ r ≡ saidStep (runOf sheet (now (d .entry)) position (now (out .entry)) .next) (stepReply sheet (now (d .entry)) position (length (now (out .entry)))) ⌝ }
+    ensures reply { λ r. ⌜
+        r ≡ saidStep (runOf sheet (now (d .entry)) position (now (out .entry)) .next)
+        (stepReply sheet (now (d .entry)) position (length (now (out .entry))))
+        ⌝ }
     ensures bytes { λ _. ⌜ now (out .exit) ≡ runOf sheet (now (d .entry)) position (now (out .entry)) .out ⌝ }
 {
     if LONGEST < d.len() {

@@ -105,7 +105,9 @@ pub(crate) fn all_arms(
     sites: [Site; SITES],
 ) -> ArmRows
     requires { ⌜ ((k : ℕ) → getD sites k noSite .first ≤ length (now xs)) ⌝ }
-    ensures { λ r. ⌜ ((i : ℕ) → i < allPlaces → rowArm (getD r i []) ≡ armFor (now (d .entry)) (take count blocks) (now (xs .entry)) sites i) ⌝ }
+    ensures { λ r. ⌜
+        ((i : ℕ) → i < allPlaces → rowArm (getD r i []) ≡ armFor (now (d .entry)) (take count blocks) (now (xs .entry)) sites i)
+        ⌝ }
 {
     let mut all = [[0u64; 14]; PLACES];
     let mut i = 0;
@@ -136,8 +138,14 @@ pub(crate) fn product_from(
     n: usize,
     position: usize,
 ) -> Indices
-    requires { ⌜ ((d : List ℕ) × (l : Library) × (bs : List BlockAt) × (xs : List ℕ) × Spread d l bs xs sites n core (now all) × (position < products (l .sites))) ⌝ }
-    ensures { λ r. ⌜ ((d : List ℕ) (l : Library) (bs : List BlockAt) (xs : List ℕ) → Spread d l bs xs sites n core (now (all .entry)) → position < products (l .sites) → r ≡ productAt d l position) ⌝ }
+    requires { ⌜
+        ((d : List ℕ) × (l : Library) × (bs : List BlockAt) × (xs : List ℕ) × Spread d l bs xs sites n core (now all)
+        × (position < products (l .sites)))
+        ⌝ }
+    ensures { λ r. ⌜
+        ((d : List ℕ) (l : Library) (bs : List BlockAt) (xs : List ℕ) → Spread d l bs xs sites n core (now (all .entry))
+        → position < products (l .sites) → r ≡ productAt d l position)
+        ⌝ }
 {
     let digits = choose(sites, n, position);
     let arms = pick(all, digits);

@@ -258,7 +258,9 @@ fn bond_line(d: &[u8], at: usize, n: usize) -> NumbersRead
 
 // The bond lines from a place on, and their ends.
 fn bonds(d: &[u8], from: usize, n: usize, m: usize, ones: &mut [u16], twos: &mut [u16]) -> Walk
-    requires { ⌜ (from ≡ bondLinePlace (now d) 0) × (n ≡ atomLineCount (now d)) × (n ≤ most) × (m ≤ length (now ones)) × (m ≤ length (now twos)) ⌝ }
+    requires { ⌜
+        (from ≡ bondLinePlace (now d) 0) × (n ≡ atomLineCount (now d)) × (n ≤ most) × (m ≤ length (now ones)) × (m ≤ length (now twos))
+        ⌝ }
     ensures { λ r. ⌜ BondsRead (now (d .entry)) m (now (ones .entry)) (now (twos .entry)) (now (ones .exit)) (now (twos .exit)) r ⌝ }
 {
     let mut at = from;
@@ -282,7 +284,10 @@ fn bonds(d: &[u8], from: usize, n: usize, m: usize, ones: &mut [u16], twos: &mut
 
 // The bond lines from a place on and their ends, and M  END: 25 to 27.
 fn rest(d: &[u8], from: usize, n: usize, m: usize, ones: &mut [u16], twos: &mut [u16]) -> Reply
-    requires { ⌜ (from ≡ bondLinePlace (now d) 0) × (n ≡ atomLineCount (now d)) × (n ≤ most) × (m ≤ length (now ones)) × (m ≤ length (now twos)) × (m ≡ bondLineCount (now d)) ⌝ }
+    requires { ⌜
+        (from ≡ bondLinePlace (now d) 0) × (n ≡ atomLineCount (now d)) × (n ≤ most) × (m ≤ length (now ones)) × (m ≤ length (now twos))
+        × (m ≡ bondLineCount (now d))
+        ⌝ }
     ensures { λ r. ⌜ RestRead (now (d .entry)) (now (ones .entry)) (now (twos .entry)) (now (ones .exit)) (now (twos .exit)) r ⌝ }
 {
     let passed = bonds(d, from, n, m, ones, twos);
@@ -302,8 +307,14 @@ fn rest(d: &[u8], from: usize, n: usize, m: usize, ones: &mut [u16], twos: &mut 
 
 // The lines after the counts: 25 to 27, the marks of the atoms and the ends of the bonds.
 fn lists(d: &[u8], x: Numbers, marks: &mut [u8], ones: &mut [u16], twos: &mut [u16]) -> Reply
-    requires { ⌜ (x ≡ numbersAt (now d) (countsPlace (now d))) × (x .one ≤ length (now marks)) × (x .one ≤ most) × (x .two ≤ length (now ones)) × (x .two ≤ length (now twos)) ⌝ }
-    ensures { λ r. ⌜ ListsRead (now (d .entry)) (now (marks .entry)) (now (ones .entry)) (now (twos .entry)) (now (marks .exit)) (now (ones .exit)) (now (twos .exit)) r ⌝ }
+    requires { ⌜
+        (x ≡ numbersAt (now d) (countsPlace (now d))) × (x .one ≤ length (now marks)) × (x .one ≤ most) × (x .two ≤ length (now ones))
+        × (x .two ≤ length (now twos))
+        ⌝ }
+    ensures { λ r. ⌜
+        ListsRead (now (d .entry)) (now (marks .entry)) (now (ones .entry)) (now (twos .entry)) (now (marks .exit)) (now (ones .exit))
+        (now (twos .exit)) r
+        ⌝ }
 {
     let passed = atoms(d, x.next, x.one, marks);
     match passed {
@@ -315,7 +326,9 @@ fn lists(d: &[u8], x: Numbers, marks: &mut [u8], ones: &mut [u16], twos: &mut [u
 // The answer for a block: its refusals, 9 for a lent output too short, or its bytes.
 fn answer(n: usize, xs: &[u8], out: &mut [u8]) -> MolRead
     ensures reply { λ r. ⌜ r ≡ saidAnswer n (now (xs .entry)) (answerReply n (now (xs .entry)) (length (now (out .entry)))) ⌝ }
-    ensures bytes { λ _. ⌜ now (out .exit) ≡ filledBonds (answerReply n (now (xs .entry)) (length (now (out .entry)))) (now (xs .entry)) (now (out .entry)) ⌝ }
+    ensures bytes { λ _. ⌜
+        now (out .exit) ≡ filledBonds (answerReply n (now (xs .entry)) (length (now (out .entry)))) (now (xs .entry)) (now (out .entry))
+        ⌝ }
 {
     let reply = block::check(n, xs);
     match reply {

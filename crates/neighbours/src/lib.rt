@@ -65,7 +65,9 @@ fn refused(number: usize, place: usize) -> NeighboursRead
 fn kept(n: usize, bonds: &[u8], high: bool, out: &mut [u8]) -> NeighboursRead
     requires { ⌜ Sized n (now bonds) ⌝ }
     ensures reply { λ r. ⌜ r ≡ saidNeighboursRead (keptReply n (now (bonds .entry)) high (length (now (out .entry)))) ⌝ }
-    ensures bytes { λ r. ⌜ now (out .exit) ≡ bytesAfter (keptReply n (now (bonds .entry)) high (length (now (out .entry)))) (now (out .entry)) ⌝ }
+    ensures bytes { λ r. ⌜
+        now (out .exit) ≡ bytesAfter (keptReply n (now (bonds .entry)) high (length (now (out .entry)))) (now (out .entry))
+        ⌝ }
 {
     let reply = bonds::judged(n, bonds, high);
     match reply {
@@ -87,7 +89,9 @@ fn kept(n: usize, bonds: &[u8], high: bool, out: &mut [u8]) -> NeighboursRead
 fn bonds_of(text: &[u8], at: usize, n: usize, out: &mut [u8]) -> NeighboursRead
     requires { ⌜ (at ≤ length (now text)) × FewBonds n (stepsAt 0 (now text) at) ⌝ }
     ensures reply { λ r. ⌜ r ≡ saidNeighboursRead (blockOf n (stepsAt 0 (now (text .entry)) at) (length (now (out .entry)))) ⌝ }
-    ensures bytes { λ r. ⌜ now (out .exit) ≡ bytesAfter (blockOf n (stepsAt 0 (now (text .entry)) at) (length (now (out .entry)))) (now (out .entry)) ⌝ }
+    ensures bytes { λ r. ⌜
+        now (out .exit) ≡ bytesAfter (blockOf n (stepsAt 0 (now (text .entry)) at) (length (now (out .entry)))) (now (out .entry))
+        ⌝ }
 {
     let mut bytes = [0u8; BYTES];
     let reach = bonds::fill(text, at, n, &mut bytes);
@@ -99,7 +103,9 @@ fn bonds_of(text: &[u8], at: usize, n: usize, out: &mut [u8]) -> NeighboursRead
 fn block_of(text: &[u8], at: usize, n: usize, count: usize, out: &mut [u8]) -> NeighboursRead
     requires { ⌜ (at ≤ length (now text)) × (count ≡ length (bondsIn (stepsAt 0 (now text) at))) ⌝ }
     ensures reply { λ r. ⌜ r ≡ saidNeighboursRead (blockOf n (stepsAt 0 (now (text .entry)) at) (length (now (out .entry)))) ⌝ }
-    ensures bytes { λ r. ⌜ now (out .exit) ≡ bytesAfter (blockOf n (stepsAt 0 (now (text .entry)) at) (length (now (out .entry)))) (now (out .entry)) ⌝ }
+    ensures bytes { λ r. ⌜
+        now (out .exit) ≡ bytesAfter (blockOf n (stepsAt 0 (now (text .entry)) at) (length (now (out .entry)))) (now (out .entry))
+        ⌝ }
 {
     if n == 0 {
         return refused(1, 0);
@@ -116,7 +122,9 @@ fn block_of(text: &[u8], at: usize, n: usize, count: usize, out: &mut [u8]) -> N
 // The block of a text. The bonds stand at the front of the lent bytes, two bytes each, and later bytes stay; a refusal changes none.
 pub fn read(text: &[u8], out: &mut [u8]) -> NeighboursRead
     ensures reply { λ r. ⌜ r ≡ saidNeighboursRead (neighboursReply (now (text .entry)) (length (now (out .entry)))) ⌝ }
-    ensures bytes { λ r. ⌜ now (out .exit) ≡ bytesAfter (neighboursReply (now (text .entry)) (length (now (out .entry)))) (now (out .entry)) ⌝ }
+    ensures bytes { λ r. ⌜
+        now (out .exit) ≡ bytesAfter (neighboursReply (now (text .entry)) (length (now (out .entry)))) (now (out .entry))
+        ⌝ }
 {
     let fault = scan::fault(text);
     if fault < text.len() {
@@ -155,7 +163,9 @@ fn given(bytes: &[u8], out: &mut [u8]) -> NeighboursWritten
 fn write_fine(n: usize, near: &Neighbours, out: &mut [u8]) -> NeighboursWritten
     requires { ⌜ (n ≤ mostAtoms) × (length (textBy (joinedIn (now near)) n) ≤ longest) ⌝ }
     ensures reply { λ r. ⌜ r ≡ saidNeighboursWritten (givenReply (textBy (joinedIn (now (near .entry))) n) (length (now (out .entry)))) ⌝ }
-    ensures bytes { λ r. ⌜ now (out .exit) ≡ textAfter (givenReply (textBy (joinedIn (now (near .entry))) n) (length (now (out .entry)))) (now (out .entry)) ⌝ }
+    ensures bytes { λ r. ⌜
+        now (out .exit) ≡ textAfter (givenReply (textBy (joinedIn (now (near .entry))) n) (length (now (out .entry)))) (now (out .entry))
+        ⌝ }
 {
     let mut bytes = [0u8; TEXT];
     let len = writing::text(&mut bytes, near, n);
@@ -165,7 +175,9 @@ fn write_fine(n: usize, near: &Neighbours, out: &mut [u8]) -> NeighboursWritten
 // Writes the text of a block at the front of the lent bytes; later bytes stay, and a refusal changes none.
 pub fn write(n: usize, bonds: &[u8], out: &mut [u8]) -> NeighboursWritten
     ensures reply { λ r. ⌜ r ≡ saidNeighboursWritten (neighboursWriteReply n (now (bonds .entry)) (length (now (out .entry)))) ⌝ }
-    ensures bytes { λ r. ⌜ now (out .exit) ≡ textAfter (neighboursWriteReply n (now (bonds .entry)) (length (now (out .entry)))) (now (out .entry)) ⌝ }
+    ensures bytes { λ r. ⌜
+        now (out .exit) ≡ textAfter (neighboursWriteReply n (now (bonds .entry)) (length (now (out .entry)))) (now (out .entry))
+        ⌝ }
 {
     let opened = block::neighbours(n, bonds);
     let reply = opened.reply;

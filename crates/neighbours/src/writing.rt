@@ -60,7 +60,9 @@ fn number(out: &mut [u8], at: usize, v: usize) -> usize
 // Puts a blank and a number where j is a greater neighbour of i.
 fn neighbour(out: &mut [u8], at: usize, near: &Neighbours, i: usize, j: usize) -> usize
     requires { ⌜ Within mostAtoms i × Within mostAtoms j ⌝ }
-    ensures { λ r. ⌜ Puts (now (out .entry)) at (listed (cond (isGreater (joinedIn (now (near .entry))) i j) (j ∷ []) [])) (now (out .exit)) r ⌝ }
+    ensures { λ r. ⌜
+        Puts (now (out .entry)) at (listed (cond (isGreater (joinedIn (now (near .entry))) i j) (j ∷ []) [])) (now (out .exit)) r
+        ⌝ }
 {
     if is_greater(near, i, j) {
         let next = put_byte(out, at, b' ');

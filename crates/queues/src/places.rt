@@ -93,7 +93,10 @@ fn fill_in(s: &mut [u8], number: u16, n: usize, bonds: &[u8]) -> Reply
 pub(crate) fn add_to(s: &mut [u8], number: u16, n: usize, bonds: &[u8]) -> Reply
     requires { ⌜ length (now s) ≡ shelfBytes summaryBytes ⌝ }
     ensures reply { λ r. ⌜ r ≡ saidReply (addReply summaryBytes (now (s .entry)) number (blockReply n (now (bonds .entry)))) ⌝ }
-    ensures bytes { λ _. ⌜ now (s .exit) ≡ added summaryBytes (now (s .entry)) number (blockReply n (now (bonds .entry))) (storedBlock number n (now (bonds .entry))) ⌝ }
+    ensures bytes { λ _. ⌜
+        now (s .exit) ≡ added summaryBytes (now (s .entry)) number (blockReply n (now (bonds .entry)))
+        (storedBlock number n (now (bonds .entry)))
+        ⌝ }
 {
     let room = room_reply(s, number);
     match room {

@@ -42,7 +42,8 @@ fn weights(n: usize, c: &[u64; SEATS], start: usize, d: u64) -> [u64; SEATS]
 fn passed(row: &DistanceRow, c: &[u64; SEATS], t: &[u64; SEATS], a: usize, b: usize) -> u64
     requires { ⌜ Within mostAtoms a × Within mostAtoms b × (at (now c) a ≤ cap) × (at (now t) b ≤ full) ⌝ }
     ensures { λ r. ⌜
-        r ≡ cond (eqb (suc (getD (now (row .entry)) (a - 1) 0)) (getD (now (row .entry)) (b - 1) 0)) (at (now (c .entry)) a) 0 * at (now (t .entry)) b
+        r ≡ cond (eqb (suc (getD (now (row .entry)) (a - 1) 0)) (getD (now (row .entry)) (b - 1) 0)) (at (now (c .entry)) a) 0 * at
+        (now (t .entry)) b
         ⌝ }
 {
     let x = c[a] * t[b];
@@ -55,11 +56,14 @@ fn passed(row: &DistanceRow, c: &[u64; SEATS], t: &[u64; SEATS], a: usize, b: us
 
 // Adds to the entry of each bond what it carries.
 fn add_flows(bonds: &[u8], row: &DistanceRow, c: &[u64; SEATS], t: &[u64; SEATS], out: &mut [u64])
-    requires { ⌜ ((n : ℕ) × (i : ℕ) × (d : ℕ) × StartRows n (now bonds) (now row) (now c) (now t) i d) × SharesRoom (now bonds) (now out) ⌝ }
+    requires { ⌜
+        ((n : ℕ) × (i : ℕ) × (d : ℕ) × StartRows n (now bonds) (now row) (now c) (now t) i d) × SharesRoom (now bonds) (now out)
+        ⌝ }
     ensures { λ _. ⌜
         ((n i d : ℕ) → StartRows n (now (bonds .entry)) (now (row .entry)) (now (c .entry)) (now (t .entry)) i d
         → EntriesFilled (length (now (bonds .entry)) / 2)
-        (λ k. getD (now (out .entry)) k 0 + carried (graphOf n (now (bonds .entry))) i d (bondAt (now (bonds .entry)) k)) (now (out .entry)) (now (out .exit)))
+        (λ k. getD (now (out .entry)) k 0 + carried (graphOf n (now (bonds .entry))) i d (bondAt (now (bonds .entry)) k))
+        (now (out .entry)) (now (out .exit)))
         ⌝ }
 {
     let m = bonds.len() / 2;
@@ -102,7 +106,8 @@ fn add_start(
     out: &mut [u64],
 ) -> u64
     requires { ⌜
-        Start n (bondsOf (now bonds)) (now near) (now row) (now sets) top (i + 1) × WholeBlock n (now bonds) i before × Sofar n (now bonds) i before (now out)
+        Start n (bondsOf (now bonds)) (now near) (now row) (now sets) top (i + 1) × WholeBlock n (now bonds) i before
+        × Sofar n (now bonds) i before (now out)
         ⌝ }
     ensures { λ r. ⌜
         (r ≡ min cap (lcmStarts n (pathCount (graphOf n (now (bonds .entry)))) (i + 1)))
@@ -131,10 +136,14 @@ pub(crate) fn fill(
     far: &Farthest,
     out: &mut [u64],
 ) -> u64
-    requires { ⌜ WholeBlock n (now bonds) 0 1 × BlockGiven n (bondsOf (now bonds)) (now near) (now half) (now far) × Sofar n (now bonds) 0 1 (now out) ⌝ }
+    requires { ⌜
+        WholeBlock n (now bonds) 0 1 × BlockGiven n (bondsOf (now bonds)) (now near) (now half) (now far)
+        × Sofar n (now bonds) 0 1 (now out)
+        ⌝ }
     ensures { λ r. ⌜
         (r ≡ min cap (denominator (graphOf n (now (bonds .entry)))))
-        × (r ≤ mostDenominator → (k : ℕ) → k < length (now (bonds .entry)) / 2 → getD (now (out .exit)) k 0 ≡ share (graphOf n (now (bonds .entry))) (bondAt (now (bonds .entry)) k))
+        × (r ≤ mostDenominator → (k : ℕ) → k < length (now (bonds .entry)) / 2
+        → getD (now (out .exit)) k 0 ≡ share (graphOf n (now (bonds .entry))) (bondAt (now (bonds .entry)) k))
         ⌝ }
 {
     let mut d: u64 = 1;

@@ -56,7 +56,8 @@ fn answered(
     out: &mut [u64],
 ) -> SharesReply
     requires { ⌜
-        (blockReply n (now bonds) ≡ read tt) × (now near ≡ neighboursOf (graphOf n (now bonds))) × (now half ≡ halfTable n (now bonds)) × (now far ≡ farOf n (now bonds))
+        (blockReply n (now bonds) ≡ read tt) × (now near ≡ neighboursOf (graphOf n (now bonds))) × (now half ≡ halfTable n (now bonds))
+        × (now far ≡ farOf n (now bonds))
         ⌝ }
     ensures reply { λ r. ⌜ r ≡ saidShares (sharesReply n (now (bonds .entry)) (length (now (out .entry)))) ⌝ }
     ensures entries { λ _. ⌜ now (out .exit) ≡ sharesEntries n (now (bonds .entry)) (now (out .entry)) ⌝ }

@@ -156,7 +156,10 @@ pub extern "C" fn tteuyomal_contributions(
     shares: &mut [u64],
     denominator: &mut [u64],
 ) -> u64
-    ensures { λ r. ⌜ Contributed atoms (now (bonds .entry)) (now (shares .entry)) (now (denominator .entry)) r (now (shares .exit)) (now (denominator .exit)) ⌝ }
+    ensures { λ r. ⌜
+        Contributed atoms (now (bonds .entry)) (now (shares .entry)) (now (denominator .entry)) r (now (shares .exit))
+        (now (denominator .exit))
+        ⌝ }
 {
     if denominator.len() < 1 {
         return unlent(atoms, bonds);
@@ -193,7 +196,9 @@ pub extern "C" fn tteuyomal_judge(deck: &[u8]) -> u64
 // A sheet of either kind written.
 fn write_either(deck: &[u8], sheet: Sheet, out: &mut [u8]) -> u64
     ensures reply { λ r. ⌜ r ≡ coded (sheetWriteReply sheet (now (deck .entry)) (length (now (out .entry)))) ⌝ }
-    ensures bytes { λ _. ⌜ now (out .exit) ≡ sheetOut sheet (now (out .entry)) (sheetWriteReply sheet (now (deck .entry)) (length (now (out .entry)))) ⌝ }
+    ensures bytes { λ _. ⌜
+        now (out .exit) ≡ sheetOut sheet (now (out .entry)) (sheetWriteReply sheet (now (deck .entry)) (length (now (out .entry))))
+        ⌝ }
 {
     let written = judging::write_sheet(deck, sheet, out);
     match written {
@@ -205,7 +210,9 @@ fn write_either(deck: &[u8], sheet: Sheet, out: &mut [u8]) -> u64
 #[no_mangle]
 pub extern "C" fn tteuyomal_write_sheet(deck: &[u8], out: &mut [u8]) -> u64
     ensures reply { λ r. ⌜ r ≡ coded (sheetWriteReply Five (now (deck .entry)) (length (now (out .entry)))) ⌝ }
-    ensures bytes { λ _. ⌜ now (out .exit) ≡ sheetOut Five (now (out .entry)) (sheetWriteReply Five (now (deck .entry)) (length (now (out .entry)))) ⌝ }
+    ensures bytes { λ _. ⌜
+        now (out .exit) ≡ sheetOut Five (now (out .entry)) (sheetWriteReply Five (now (deck .entry)) (length (now (out .entry))))
+        ⌝ }
 {
     write_either(deck, Sheet::Five, out)
 }
@@ -213,7 +220,9 @@ pub extern "C" fn tteuyomal_write_sheet(deck: &[u8], out: &mut [u8]) -> u64
 #[no_mangle]
 pub extern "C" fn tteuyomal_write_six(deck: &[u8], out: &mut [u8]) -> u64
     ensures reply { λ r. ⌜ r ≡ coded (sheetWriteReply Six (now (deck .entry)) (length (now (out .entry)))) ⌝ }
-    ensures bytes { λ _. ⌜ now (out .exit) ≡ sheetOut Six (now (out .entry)) (sheetWriteReply Six (now (deck .entry)) (length (now (out .entry)))) ⌝ }
+    ensures bytes { λ _. ⌜
+        now (out .exit) ≡ sheetOut Six (now (out .entry)) (sheetWriteReply Six (now (deck .entry)) (length (now (out .entry))))
+        ⌝ }
 {
     write_either(deck, Sheet::Six, out)
 }

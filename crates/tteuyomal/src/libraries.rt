@@ -83,7 +83,11 @@ pub extern "C" fn tteuyomal_library_step(
     out: &mut [u8],
     next: &mut [u64],
 ) -> u64
-    ensures { λ r. ⌜ Walked (stepReply (sheetFor kind) (now (deck .entry)) position (length (now (out .entry)))) (stepOut (sheetFor kind) (now (out .entry)) (stepReply (sheetFor kind) (now (deck .entry)) position (length (now (out .entry))))) (suc position) (now (out .entry)) (now (next .entry)) r (now (out .exit)) (now (next .exit)) ⌝ }
+    ensures { λ r. ⌜
+        Walked (stepReply (sheetFor kind) (now (deck .entry)) position (length (now (out .entry))))
+        (stepOut (sheetFor kind) (now (out .entry)) (stepReply (sheetFor kind) (now (deck .entry)) position (length (now (out .entry)))))
+        (suc position) (now (out .entry)) (now (next .entry)) r (now (out .exit)) (now (next .exit))
+        ⌝ }
 {
     let sheet = sheet_for(kind);
     if next.len() < 1 {
@@ -101,7 +105,12 @@ pub extern "C" fn tteuyomal_library_run(
     out: &mut [u8],
     next: &mut [u64],
 ) -> u64
-    ensures { λ r. ⌜ Walked (stepReply (sheetFor kind) (now (deck .entry)) position (length (now (out .entry)))) (runOf (sheetFor kind) (now (deck .entry)) position (now (out .entry)) .out) (runOf (sheetFor kind) (now (deck .entry)) position (now (out .entry)) .next) (now (out .entry)) (now (next .entry)) r (now (out .exit)) (now (next .exit)) ⌝ }
+    ensures { λ r. ⌜
+        Walked (stepReply (sheetFor kind) (now (deck .entry)) position (length (now (out .entry))))
+        (runOf (sheetFor kind) (now (deck .entry)) position (now (out .entry)) .out)
+        (runOf (sheetFor kind) (now (deck .entry)) position (now (out .entry)) .next) (now (out .entry)) (now (next .entry)) r
+        (now (out .exit)) (now (next .exit))
+        ⌝ }
 {
     let sheet = sheet_for(kind);
     if next.len() < 1 {

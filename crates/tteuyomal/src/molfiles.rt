@@ -21,7 +21,9 @@ fn unlent_molfile(text: &[u8]) -> u64
 
 #[no_mangle]
 pub extern "C" fn tteuyomal_read_molfile(text: &[u8], bonds: &mut [u8], counts: &mut [u64]) -> u64
-    ensures { λ r. ⌜ MolfileRead (now (text .entry)) (now (bonds .entry)) (now (counts .entry)) r (now (bonds .exit)) (now (counts .exit)) ⌝ }
+    ensures { λ r. ⌜
+        MolfileRead (now (text .entry)) (now (bonds .entry)) (now (counts .entry)) r (now (bonds .exit)) (now (counts .exit))
+        ⌝ }
 {
     if counts.len() < 2 {
         return unlent_molfile(text);
@@ -44,7 +46,9 @@ pub extern "C" fn tteuyomal_write_molfile(
     text: &mut [u8],
     length: &mut [u64],
 ) -> u64
-    ensures { λ r. ⌜ MolfileWritten atoms (now (bonds .entry)) (now (text .entry)) (now (length .entry)) r (now (text .exit)) (now (length .exit)) ⌝ }
+    ensures { λ r. ⌜
+        MolfileWritten atoms (now (bonds .entry)) (now (text .entry)) (now (length .entry)) r (now (text .exit)) (now (length .exit))
+        ⌝ }
 {
     if length.len() < 1 {
         return unlent(atoms, bonds);

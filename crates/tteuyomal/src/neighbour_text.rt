@@ -48,7 +48,9 @@ pub extern "C" fn tteuyomal_write_neighbours(
     text: &mut [u8],
     length: &mut [u64],
 ) -> u64
-    ensures { λ r. ⌜ TextWritten atoms (now (bonds .entry)) (now (text .entry)) (now (length .entry)) r (now (text .exit)) (now (length .exit)) ⌝ }
+    ensures { λ r. ⌜
+        TextWritten atoms (now (bonds .entry)) (now (text .entry)) (now (length .entry)) r (now (text .exit)) (now (length .exit))
+        ⌝ }
 {
     if length.len() < 1 {
         return unlent(atoms, bonds);

@@ -11,7 +11,9 @@ pub extern "C" fn tteuyomal_szeged(
     terms: &mut [u64],
     index: &mut [u64],
 ) -> u64
-    ensures { λ r. ⌜ SzegedLent atoms (now (bonds .entry)) (now (terms .entry)) (now (index .entry)) r (now (terms .exit)) (now (index .exit)) ⌝ }
+    ensures { λ r. ⌜
+        SzegedLent atoms (now (bonds .entry)) (now (terms .entry)) (now (index .entry)) r (now (terms .exit)) (now (index .exit))
+        ⌝ }
 {
     if index.len() < 1 {
         return unlent(atoms, bonds);
