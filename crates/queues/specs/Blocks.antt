@@ -34,8 +34,8 @@ abbrev pub summaryTable : Trade Block Indices (List ℕ) Indices (Read Indices)
 summaryTable = record {
   width = summaryBytes;
   check = λ g. blockReply (g .atoms) (g .bytes);
-  storedBlock = λ x g. storedBlock x (g .atoms) (g .bytes);
-  storedFields = storedFields;
+  stored = λ x g. storedBlock x (g .atoms) (g .bytes);
+  fieldsOf = storedFields;
   composed = composedReply;
   said = λ xs r. r;
 }
@@ -45,6 +45,6 @@ abbrev pub blocks : Meaning Block Indices (List ℕ) (Read Indices)
 blocks = record {
   nothing = noBlock;
   fine = λ g. blockReply (g .atoms) (g .bytes);
-  storedFields = λ g. indicesOf (graphOf (g .atoms) (g .bytes));
+  fieldsOf = λ g. indicesOf (graphOf (g .atoms) (g .bytes));
   composedOf = λ q xs. writtenReply (bookIn q) xs;
 }
