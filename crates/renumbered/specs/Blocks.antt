@@ -111,12 +111,12 @@ module _ {n m : ℕ} {xs ys : List ℕ} (r : RelistedBlocks n xs m ys) where
     -- as they are written into the lent entries
     pub share-follows : (out more : List ℕ) {d c : ℕ} → sharesReply n xs (length out) ≡ read d → sharesReply m ys (length more) ≡ read c
         → getD (sharesEntries n xs out) k 0 ≡ getD (sharesEntries m ys more) l 0
-    unfolding shares.filled
+    unfolding shares.filledShares
     share-follows out more e f =
         rw (e, f) (entry (share g) xs (drop (length (bondsOf xs)) out) k hk ∙ bond-share ∙ sym (entry (share h) ys (drop (length (bondsOf ys)) more) l hl))
 
     pub term-follows : (out more : List ℕ) {s c : ℕ} → szegedReply n xs (length out) ≡ read s → szegedReply m ys (length more) ≡ read c
         → getD (szegedEntries n xs out) k 0 ≡ getD (szegedEntries m ys more) l 0
-    unfolding szeged.filled
+    unfolding szeged.filledTerms
     term-follows out more e f =
         rw (e, f) (entry (szegedTerm g) xs (drop (length (bondsOf xs)) out) k hk ∙ bond-term ∙ sym (entry (szegedTerm h) ys (drop (length (bondsOf ys)) more) l hl))

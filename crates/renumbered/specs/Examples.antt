@@ -106,12 +106,12 @@ ringed-relisted = record {
 -- D is 2 and the Szeged index 28; the bond to the fifth atom is last in the one list and first in the other, and so is what is told of it
 pub ringed-shares :
     (sharesReply 5 ringed 5 ≡ read 2) × (sharesEntries 5 ringed (replicate 5 0) ≡ 7 ∷ 5 ∷ 5 ∷ 7 ∷ 8 ∷ []) × (sharesEntries 5 ringedAgain (replicate 5 0) ≡ 8 ∷ 5 ∷ 7 ∷ 7 ∷ 5 ∷ [])
-unfolding ringed ringedAgain joins anyJoins bonded anyAtom reaches firstFrom distance allAtoms connected degree sum sumPairs bondsOf bondFault bondsReply blockReply gather walks shortestPaths uses passingPaths pathCount pathsUsing lcm lcmOver lcmPairs denominator share sharesReply shares.filled
+unfolding ringed ringedAgain joins anyJoins bonded anyAtom reaches firstFrom distance allAtoms connected degree sum sumPairs bondsOf bondFault bondsReply blockReply gather walks shortestPaths uses passingPaths pathCount pathsUsing lcm lcmOver lcmPairs denominator share sharesReply shares.filledShares
 ringed-shares = (refl, refl, refl)
 
 pub ringed-terms :
     (szegedReply 5 ringed 5 ≡ read 28) × (szegedEntries 5 ringed (replicate 5 0) ≡ 6 ∷ 6 ∷ 6 ∷ 6 ∷ 4 ∷ []) × (szegedEntries 5 ringedAgain (replicate 5 0) ≡ 4 ∷ 6 ∷ 6 ∷ 6 ∷ 6 ∷ [])
-unfolding ringed ringedAgain joins anyJoins bonded anyAtom reaches firstFrom distance allAtoms connected degree sum bondsOf bondFault bondsReply blockReply closer nearer szegedTerm sumBonds szegedReply szeged.filled
+unfolding ringed ringedAgain joins anyJoins bonded anyAtom reaches firstFrom distance allAtoms connected degree sum bondsOf bondFault bondsReply blockReply closer nearer szegedTerm sumBonds szegedReply szeged.filledTerms
 ringed-terms = (refl, refl, refl)
 
 -- Each bond of a path of three is one of a ring of three, but not back: no numbering makes them the same, since W is 4 and 3.

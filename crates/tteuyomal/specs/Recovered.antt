@@ -159,8 +159,8 @@ balaban-bounded : (n : ℕ) (xs : List ℕ) → Bounded mostPlace (balabanReply 
 unfolding balabanReply
 balaban-bounded n xs = then-bounded mostPlace (blockReply n xs) _ (block-here n xs) (λ u e. tt)
 
-text-bounded : (n : ℕ) (xs : List ℕ) (room : ℕ) → Bounded mostPlace (molwriter.writeReply n xs room)
-unfolding molwriter.writeReply
+text-bounded : (n : ℕ) (xs : List ℕ) (room : ℕ) → Bounded mostPlace (molwriter.molfileWriteReply n xs room)
+unfolding molwriter.molfileWriteReply
 text-bounded n xs room =
     let t = ltb room (length (molwriter.molfileText n (bondsOf xs))) in
     then-bounded mostPlace (blockReply n xs) _ (block-here n xs) (λ u e.
@@ -263,7 +263,7 @@ balaban-tells n xs room = lent room (balabanList n xs) (listed (balabanReply n x
 pub molfile-written-tells : (n : ℕ) (xs : List ℕ) (room entries : ℕ) → Tells (writtenReply n xs room entries)
 molfile-written-tells n xs room entries =
     tells (writtenReply n xs room entries)
-    (then-bounded mostPlace (molwriter.writeReply n xs room) _ (text-bounded n xs room) (λ k e.
+    (then-bounded mostPlace (molwriter.molfileWriteReply n xs room) _ (text-bounded n xs room) (λ k e.
     then-bounded mostPlace (refuseIf (ltb entries 1) 9 0) (λ _. read k) (if-bounded mostPlace (ltb entries 1) 9 0 (omega arith)) (λ v f. tt)))
 
 pub compose-tells : (s : Sheet) (d : List ℕ) (room : ℕ) → Tells (fitting room (composedList s d))
