@@ -6,12 +6,15 @@
 -- | `saidProduct`, `saidStep`    | how the code says it                                                     | `unique-product`, `unique-step`, `unique-run`               |
 -- | `stemOf`, `joinedAt`         | a product joined arm by arm from what is kept of the library             | `stem-six`, `product-joined`: the fields of its molecule    |
 -- | `Held`, `Spread`             | what the code holds of a library that is read                            | `product-spread`                                            |
+-- | `Turns`                      | what the other sites are joined to, while the last one turns             | `turns`: the fields of each product until it is round       |
+-- | `Going`                      | how far a run has come                                                   | `going-next`, `going-done`, `going-full`                    |
 -- Definitions
 pub mod Said
 pub mod Steps
 -- Work
 pub mod Kept
 pub mod Held
+pub mod Turning
 -- Laws
 pub mod Grows
 pub mod Ready
