@@ -49,8 +49,11 @@ pub(crate) fn staying_at(
     n: usize,
     position: usize,
 ) -> Staying
-    requires { ⌜ ((d : List ℕ) × (l : Library) × (bs : List BlockAt) × (xs : List ℕ) × Spread d l bs xs sites n core (now all) × (position < products (l .sites))) ⌝ }
-    ensures { λ r. ⌜ ((d : List ℕ) (l : Library) (bs : List BlockAt) (xs : List ℕ) → Spread d l bs xs sites n core (now (all .entry)) → position < products (l .sites) → Turns d l (now (all .entry)) position r) ⌝ }
+    requires { ⌜ ((d : List ℕ) × (l : Library) × (bs : List BlockAt) × (xs : List ℕ)
+        × Spread d l bs xs sites n core (now all) × (position < products (l .sites))) ⌝ }
+    ensures { λ r. ⌜ ((d : List ℕ) (l : Library) (bs : List BlockAt) (xs : List ℕ)
+        → Spread d l bs xs sites n core (now (all .entry)) → position < products (l .sites)
+        → Turns d l (now (all .entry)) position r) ⌝ }
 {
     let digits = choose(sites, n, position);
     let arms = pick(all, digits);
@@ -84,7 +87,9 @@ pub(crate) fn turn(
     requires { ⌜ start ≤ length (now out) ⌝ }
     ensures within { λ r. ⌜ r .at ≤ length (now (out .exit)) ⌝ }
     ensures on { λ r. ⌜ (sheetBytes sheet ≤ length (now (out .entry)) - start → position < r .next) ⌝ }
-    ensures goes { λ r. ⌜ ((d : List ℕ) (l : Library) (whole : Ran) → Turns d l (now (all .entry)) position stay → Going sheet d whole (now (out .entry)) position start → Going sheet d whole (now (out .exit)) (r .next) (r .at)) ⌝ }
+    ensures goes { λ r. ⌜ ((d : List ℕ) (l : Library) (whole : Ran) → Turns d l (now (all .entry)) position stay
+        → Going sheet d whole (now (out .entry)) position start
+        → Going sheet d whole (now (out .exit)) (r .next) (r .at)) ⌝ }
 {
     let bytes = bytes_of(sheet);
     let six = stay.six;
