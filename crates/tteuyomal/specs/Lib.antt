@@ -3,6 +3,7 @@
 -- | notion                         | meaning                                                     | the law that matters                                           |
 -- | `code`, `coded`, `verdictCode` | a refusal, an answer, a verdict as one number               | `Tells`, `Judges`: what the number tells, with nothing assumed |
 -- | `fitting`, `after`, `Lent`     | 9 where the answer does not fit; the lent output afterwards | `lent-once`                                                    |
+-- | `stepCode`, `Walked`           | 254 for done; the outputs of a library's step and run       | `Walks`: what the number tells, with nothing assumed           |
 -- | `Beside`, `Contributed`        | a number for each bond, and one number beside them          | `beside-once`                                                  |
 pub mod Convention
 pub mod Beside
@@ -19,3 +20,4 @@ pub mod Bounded
 pub mod Recovered
 pub mod Told
 pub mod ToldTexts
+pub mod ToldLibraries
