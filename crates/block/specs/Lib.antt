@@ -1,7 +1,7 @@
 -- What a block is told.
 --
 -- | notion                                                       | meaning                                            | the law that matters                                         |
--- | `graphOf n xs`                                               | the graph that an atom count and bond bytes say    | `judging`: of a block that is not refused                   |
+-- | `graphOf n xs`                                               | the graph that an atom count and bond bytes say    | `molecule`: of a block that is not refused                   |
 -- | `blockReply`                                                 | refusals 1 to 7, in order                          | `passed`: the tests that a fine block passed; `place-within` |
 -- | `rowReply`, `rowsOf`, `farOf`                                | the distances from one atom, from all; the largest | `row-at`, `distance-at`, `farthest-at`                       |
 -- | `halfTable`                                                  | half of the distances from all                     | `table-is-rows`, `table-distance`, `table-row`               |

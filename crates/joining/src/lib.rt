@@ -4,7 +4,7 @@ use block::Vertex;
 ghost use mathlib.Core.Path.{_≡_};
 ghost use Prim.Native.Nat.{_+_, _*_, _^_, _<_, _≤_, max, min};
 ghost use Rattle.graph.specs.Graph.{isAt};
-ghost use Rattle.tables.specs.Parts.{beyond, both, evenAcross, oddAcross, joinSix};
+ghost use Rattle.tables.specs.Parts.{beyond, both, joinSix};
 ghost use Rattle.joining.specs.Joining.{mostCounted, mostField, cutCounts, cutFields, grownOf, joinedOf};
 ghost use Rattle.joining.specs.Small.{SmallCounts, Low, SmallFields};
 
@@ -129,32 +129,19 @@ pub fn grown(v: Vertex, d: u64, o: Vertex) -> Vertex
     with(cut(v), farther(smaller(d, MOST_COUNTED), cut(o)))
 }
 
-// The even distances across the joining bond: c is counted from one end, o from the other.
-fn even_across(c: Vertex, o: Vertex) -> u64
+// The even distances across the joining bond: c is counted from one end, the four numbers from the other. With even and odd exchanged there, the odd ones.
+fn across(c: Vertex, even: u64, odd: u64, evens: u64, odds: u64) -> u64
     requires { ⌜ SmallCounts c ⌝ }
-    requires { ⌜ SmallCounts o ⌝ }
-    ensures { λ r. ⌜ (r ≡ evenAcross c o) × (r ≤ 6 * 2 ^ 58) ⌝ }
+    requires { ⌜ (even ≤ mostCounted) × (odd ≤ mostCounted) × (evens ≤ mostCounted) × (odds ≤ mostCounted) ⌝ }
+    ensures { λ r. ⌜ (r ≡ c .even * odds + c .evens * odds + c .evens * odd + c .odd * evens + c .odds * evens + c .odds * even)
+        × (r ≤ 6 * 2 ^ 58) ⌝ }
 {
-    times(c.even, o.odds)
-        + times(c.evens, o.odds)
-        + times(c.evens, o.odd)
-        + times(c.odd, o.evens)
-        + times(c.odds, o.evens)
-        + times(c.odds, o.even)
-}
-
-// The odd ones.
-fn odd_across(c: Vertex, o: Vertex) -> u64
-    requires { ⌜ SmallCounts c ⌝ }
-    requires { ⌜ SmallCounts o ⌝ }
-    ensures { λ r. ⌜ (r ≡ oddAcross c o) × (r ≤ 6 * 2 ^ 58) ⌝ }
-{
-    times(c.even, o.evens)
-        + times(c.evens, o.evens)
-        + times(c.evens, o.even)
-        + times(c.odd, o.odds)
-        + times(c.odds, o.odds)
-        + times(c.odds, o.odd)
+    times(c.even, odds)
+        + times(c.evens, odds)
+        + times(c.evens, odd)
+        + times(c.odd, evens)
+        + times(c.odds, evens)
+        + times(c.odds, even)
 }
 
 // How many are 3.
@@ -174,8 +161,8 @@ fn added(x: Indices, y: Indices, c: Vertex, o: Vertex) -> Indices
     requires { ⌜ SmallCounts o ⌝ }
     ensures { λ r. ⌜ r ≡ joinSix x y c o ⌝ }
 {
-    let even = x.even + y.even + even_across(c, o);
-    let odd = x.odd + y.odd + odd_across(c, o);
+    let even = x.even + y.even + across(c, o.even, o.odd, o.evens, o.odds);
+    let odd = x.odd + y.odd + across(c, o.odd, o.even, o.odds, o.evens);
     let polarity = x.polarity + y.polarity + threes_across(c, o);
     Indices {
         atoms: x.atoms + y.atoms,

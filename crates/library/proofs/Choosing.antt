@@ -31,11 +31,3 @@ module _ (sites : List Site) (n position : ℕ) (digits : List ℕ) where
   pub choose-end : (p : ℕ) → Chosen sites n position digits 0 p → choiceIn digits n ≡ choiceAt (sitesIn sites n) position
   unfolding choiceIn choiceAt sitesIn
   choose-end p c = c digits (λ i l. refl) refl
-
--- a small digit put among small ones
-pub small-set : (t : List ℕ) (k x m : ℕ) → x < m → ((i : ℕ) → getD t i 0 < m) → (i : ℕ) → getD (set t k x) i 0 < m
-small-set [] k x m h s i = s i
-small-set (y ∷ t) zero x m h s zero = h
-small-set (y ∷ t) zero x m h s (suc i) = s (suc i)
-small-set (y ∷ t) (suc k) x m h s zero = s zero
-small-set (y ∷ t) (suc k) x m h s (suc i) = small-set t k x m h (λ j. s (suc j)) i

@@ -21,6 +21,7 @@ use Rattle.catalogue.specs.Said.{noSite}
 use Rattle.library.specs.Kept.{noArm, armAt, armFor, rowArm}
 use Rattle.library.specs.Steps.{Ran, behind, stepsFrom}
 use Rattle.library.specs.Running.{run-next, run-done, run-full}
+use Rattle.library.specs.Turning.{Going}
 use Rattle.library.specs.declared.kept.Arm.{Arm}
 
 -- the arm for a place
@@ -42,13 +43,7 @@ rows-next all i row f h e old j l = go (eqb j i) refl
     go true q = let z : j ≡ i = eqb-true j i q in rw z (ap rowArm (getD-set-same all i row [] h) ∙ e)
     go false q = let z = eqb-false j i q in ap rowArm (getD-set-other all i j row [] z) ∙ old j (omega (arith, z))
 
--- a buffer whose first bytes are written, and what the steps make of the rest
-pub record Going (s : Sheet) (d : List ℕ) (whole : Ran) (out : List ℕ) (p at : ℕ) : Type 0 where
-  pub fuel : ℕ
-  pub within : at ≤ length out
-  pub lasts : length out ≤ at + fuel
-  pub same : whole ≡ behind (take at out) (stepsFrom fuel s d p (drop at out))
-
+-- how far a run has come
 pub going-start : (s : Sheet) (d : List ℕ) (p : ℕ) (out : List ℕ) → Going s d (stepsFrom (length out) s d p out) out p 0
 going-start s d p out = record { fuel = length out; within = omega arith; lasts = omega arith; same = refl }
 

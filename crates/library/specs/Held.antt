@@ -15,9 +15,10 @@ use Rattle.records.specs.Records.{payloadAt}
 use Rattle.assembly.specs.declared.BlockAt.{BlockAt}
 use Rattle.products.specs.Library.{mostSites, mostCandidates, coreNumber, Library, libraryReply}
 use Rattle.products.specs.Products.{products, choiceAt, productAt}
+use Rattle.products.specs.Sound.{whole}
 use Rattle.products.specs.declared.Site.{Site}
 use Rattle.catalogue.specs.Said.{noSite}
-use Rattle.catalogue.specs.Table.{sitesIn}
+use Rattle.catalogue.specs.Table.{sitesIn, sites-length}
 use Rattle.library.specs.Kept.{noArm, armAt, coreIn, armsAt, stemOf, joinedAt, allPlaces, armFor, rowArm, picked, choiceIn}
 use Rattle.library.specs.declared.kept.Arm.{Arm}
 use Rattle.library.specs.declared.kept.Core.{Core}
@@ -40,6 +41,9 @@ pub record Spread (d : List ℕ) (l : Library) (bs : List BlockAt) (xs : List �
 module _ {d : List ℕ} {l : Library} {bs : List BlockAt} {xs : List ℕ} {sites : List Site} {n : ℕ} (t : Held d l bs xs sites n) where
   pub few : n ≤ mostSites
   few = few-sites d l (t .reads) sites n (t .same)
+
+  pub one : 1 ≤ n
+  one = let w = whole d l (t .reads) .listed .few in omega (arith, sites-length sites n, ap length (t .same), w .low)
 
   pub many : (k : ℕ) → k < n → Within mostCandidates (getD sites k noSite .many)
   many k h = site-stands d l (t .reads) sites n (t .same) k h .many

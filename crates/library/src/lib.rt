@@ -1,6 +1,7 @@
 // The products of a library: what is kept of its core and its candidates, and each product joined from that.
 mod arms;
 mod kept;
+mod last;
 mod spread;
 
 use arms::arms_at;
@@ -13,6 +14,8 @@ use catalogue::read_library;
 use deck::LONGEST;
 use kept::Core;
 use kept::core_in;
+use last::staying_at;
+use last::turn;
 use products::SITES;
 use products::Site;
 use records::Sheet;
@@ -24,7 +27,6 @@ use sheets::bytes_of;
 use sheets::put_sheet;
 use spread::ArmRows;
 use spread::all_arms;
-use spread::product_from;
 ghost use mathlib.Core.Path.{_≡_};
 ghost use mathlib.Core.List.{List};
 ghost use Prim.Native.Nat.{ℕ, suc, _≤_, _<_};
@@ -156,10 +158,10 @@ fn run_over(
         if out.len() - at < bytes {
             return p;
         }
-        let x = product_from(core, all, sites, n, p);
-        put_sheet(&mut out[at..], sheet, x);
-        at += bytes;
-        p += 1;
+        let stay = staying_at(core, all, sites, n, p);
+        let reached = turn(stay, all, p, sheet, at, out);
+        at = reached.at;
+        p = reached.next;
     }
     p
 }

@@ -1,8 +1,5 @@
-// All arms of a library at once, and each product joined from them.
-use super::arms::choose;
-use super::arms::with_arms;
+// All arms of a library at once, and those of a choice among them.
 use super::kept::Arm;
-use super::kept::Core;
 use super::kept::NO_ARM;
 use super::kept::arm_at;
 use assembly::BlockTable;
@@ -12,15 +9,12 @@ use products::CANDIDATES;
 use products::SITES;
 use products::Site;
 ghost use mathlib.Core.Path.{_≡_};
-ghost use mathlib.Core.List.{List, []};
+ghost use mathlib.Core.List.{[]};
 ghost use Prim.Native.Nat.{ℕ, _≤_, _<_};
 ghost use lib.ListN.{length, take, getD};
-ghost use Rattle.assembly.specs.declared.BlockAt.{BlockAt};
-ghost use Rattle.products.specs.Library.{mostCandidates, Library};
-ghost use Rattle.products.specs.Products.{products, productAt};
+ghost use Rattle.products.specs.Library.{mostCandidates};
 ghost use Rattle.catalogue.specs.Said.{noSite};
 ghost use Rattle.library.specs.Kept.{allPlaces, rowArm, armFor, picked};
-ghost use Rattle.library.specs.Held.{Spread};
 
 // An arm as a row of numbers, and the rows of all arms: those of each site one after the other.
 pub(crate) const PLACES: usize = SITES * CANDIDATES;
@@ -52,7 +46,7 @@ fn arm_row(arm: Arm) -> ArmRow
     ]
 }
 
-fn row_arm(row: ArmRow) -> Arm
+pub(crate) fn row_arm(row: ArmRow) -> Arm
     ensures { λ r. ⌜ r ≡ rowArm row ⌝ }
 {
     let six = Indices {
@@ -119,7 +113,7 @@ pub(crate) fn all_arms(
 }
 
 // The arms of a choice among all.
-fn pick(all: &ArmRows, digits: [usize; SITES]) -> [Arm; SITES]
+pub(crate) fn pick(all: &ArmRows, digits: [usize; SITES]) -> [Arm; SITES]
     requires { ⌜ ((k : ℕ) → getD digits k 0 < mostCandidates) ⌝ }
     ensures { λ r. ⌜ r ≡ picked (now (all .entry)) digits ⌝ }
 {
@@ -129,6 +123,7 @@ fn pick(all: &ArmRows, digits: [usize; SITES]) -> [Arm; SITES]
     let a3 = row_arm(all[3 * CANDIDATES + digits[3]]);
     [a0, a1, a2, a3]
 }
+<<<<<<< HEAD
 
 // The fields of the product at a position, joined from what is kept.
 pub(crate) fn product_from(
@@ -152,3 +147,5 @@ pub(crate) fn product_from(
     let stem = with_arms(core, arms, n);
     stem.six
 }
+=======
+>>>>>>> f0d9d5dcc398e8c509bbd9f99d97d8c99de25a4c

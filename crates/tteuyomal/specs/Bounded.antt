@@ -21,7 +21,7 @@ use Rattle.assembly.specs.Placements.{mostPlacements, placementCount, placement
 use Rattle.assembly.specs.declared.Placement.{Placement}
 use Rattle.assembly.specs.declared.JoinSite.{JoinSite}
 use Rattle.assembly.specs.declared.BlockAt.{BlockAt}
-use Rattle.deck.specs.Deck.{longestDeck, kindsAfter, sheetKinds, Deck, blockAt, moved, bondPlace, blockPlace, placementPlace, blockReplyAt, deckAt, blocksFrom, blocksReply, assemblyReplyAt, endReply, sheetReply, deckReply}
+use Rattle.deck.specs.Deck.{longestDeck, kindsAfter, sheetKinds, Deck, blockAt, moved, bondPlace, blockPlace, placementPlace, blockReplyAt, deckAt, blocksFrom, blocksReply, openReply, assemblyReplyAt, endReply, sheetReply, deckReply}
 use Rattle.deck.specs.Kept.{kept}
 use Rattle.deck.specs.declared.Form.{Form}
 use Rattle.deck.specs.declared.Form.the-variants.{Composed, Judged}
@@ -122,7 +122,7 @@ first-number q = go (eqb (q .parent) 0 && eqb (q .site) 0 && eqb (q .own) 0)
     go true = omega arith
     go false = omega arith
 
-either : (t : Bool) (m n : ℕ) → m ≤ mostNumber → n ≤ mostNumber → cond t m n ≤ mostNumber
+pub either : (t : Bool) (m n : ℕ) → m ≤ mostNumber → n ≤ mostNumber → cond t m n ≤ mostNumber
 either true m n h k = h
 either false m n h k = k
 
@@ -191,7 +191,7 @@ module _ (d : List ℕ) (l : length d ≤ longestDeck) where
       go true r = r
       go false r = tt
 
-  end-bounded : (at : ℕ) → at ≤ length d → Bounded mostPlace (endReply d at)
+  pub end-bounded : (at : ℕ) → at ≤ length d → Bounded mostPlace (endReply d at)
   unfolding endReply
   end-bounded at h = if-bounded mostPlace (ltb at (length d)) 11 at (omega arith)
 
@@ -200,6 +200,12 @@ module _ (d : List ℕ) (l : length d ≤ longestDeck) where
   sheet-bounded Composed at h = end-bounded at h
   sheet-bounded Judged at h =
       then-bounded mostPlace (recordReply sheetKinds d at) _ (record-bounded mostPlace sheetKinds d at (omega arith)) (λ u e. end-bounded (endAt d at) (taken d at sheetKinds e .whole))
+
+pub open-bounded : (last : Kind) (d : List ℕ) → Bounded mostPlace (openReply last d)
+unfolding openReply blocksReply
+open-bounded last d =
+    then-bounded mostPlace (refuseIf (ltb longestDeck (length d)) 20 0) _ (if-bounded mostPlace (ltb longestDeck (length d)) 20 0 (omega arith)) (λ u e.
+    from-bounded d (ltb-false longestDeck (length d) (if-read _ 20 0 e)) last (suc mostBlocks) 0 [] (omega arith))
 
 pub deck-bounded : (form : Form) (d : List ℕ) → Bounded mostPlace (deckReply form d)
 unfolding deckReply blocksReply assemblyReplyAt

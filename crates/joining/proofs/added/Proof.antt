@@ -1,7 +1,7 @@
 -- `joining::added` meets its contract. Assumes nothing.
 use native.Mathlib.Omega.{arith}
 use mathlib.Core.Path.{refl}
-use Rattle.tables.specs.Parts.{joinSix}
+use Rattle.tables.specs.Parts.{evenAcross, oddAcross, joinSix}
 use borrow.Author.Needs.{needs}
 use Rattle.joining.proofs.added.Statement.{statement}
 use Rattle.joining.proofs.added.Tie as tie
@@ -9,8 +9,8 @@ use Rattle.joining.proofs.added.Tie as tie
 add-even : tie.Need-add-even
 add-even c = search needs
 
-even-across-requires : tie.Need-even-across-requires
-even-across-requires c κs = search needs
+across-requires : tie.Need-across-requires
+across-requires c κs = search needs
 
 add-even-2 : tie.Need-add-even-2
 add-even-2 c = search needs
@@ -18,8 +18,8 @@ add-even-2 c = search needs
 add-odd : tie.Need-add-odd
 add-odd c = search needs
 
-odd-across-requires : tie.Need-odd-across-requires
-odd-across-requires c κs = search needs
+across-requires-2 : tie.Need-across-requires-2
+across-requires-2 c κs = search needs
 
 add-odd-2 : tie.Need-add-odd-2
 add-odd-2 c = search needs
@@ -52,19 +52,19 @@ larger-requires-2 : tie.Need-larger-requires-2
 larger-requires-2 c κs = search needs
 
 returns : tie.Need-returns
-unfolding joinSix
+unfolding evenAcross oddAcross joinSix
 returns c =
-    rw (c .larger2 .ensures, c .before .before .before .larger .ensures, c .before .before .before .before .before .before .threes-across .ensures .0, c .before .before .before .before .before .before .before .before .before .odd-across .ensures .0, c .before .before .before .before .before .before .before .before .before .before .before .before .even-across .ensures .0) refl
+    rw (c .larger2 .ensures, c .before .before .before .larger .ensures, c .before .before .before .before .before .before .threes-across .ensures .0, c .before .before .before .before .before .before .before .before .before .across2 .ensures .0, c .before .before .before .before .before .before .before .before .before .before .before .before .across .ensures .0) refl
 
 pub added-spec : {M : Type 1} → statement M
 added-spec =
     tie.close
     (tie.spec
     add-even
-    even-across-requires
+    across-requires
     add-even-2
     add-odd
-    odd-across-requires
+    across-requires-2
     add-odd-2
     add-polarity
     threes-across-requires

@@ -11,7 +11,8 @@ use Rattle.products.specs.Library.{Library}
 use Rattle.products.specs.Products.{products}
 use Rattle.library.specs.Held.{Spread}
 use Rattle.library.specs.Steps.{Ran, stepsFrom}
-use Rattle.library.proofs.Spreading.{Going, going-start, going-full, going-done, going-next, lent-whole, lent-long, some-bytes}
+use Rattle.library.specs.Turning.{Going}
+use Rattle.library.proofs.Spreading.{going-start, going-full, going-done}
 use Rattle.library.proofs.run_over.Statement.{statement}
 use Rattle.library.proofs.run_over.Tie as tie
 
@@ -41,45 +42,28 @@ returns c d l bs xs t m = let a = c .before .before .before .before .before .arg
     let e = going-full (a .sheet) d l (t .held .reads) (r .inv .2 d l bs xs t m) (omega (arith, c .if1 .taken, c .before .before .before .bytes-of .ensures)) in
     (sym (ap (λ (x : Ran). x .next) e), sym (ap (λ (x : Ran). x .out) e))
 
-product-from-requires : tie.Need-product-from-requires Inv-loop μ-loop
-product-from-requires c κs = let p = c .before .before .before .before .before .pre in (p .0, p .1, p .2, p .3, p .4, omega (arith, p .5))
+staying-at-requires : tie.Need-staying-at-requires Inv-loop μ-loop
+staying-at-requires c κs = let p = c .before .before .before .before .before .pre in (p .0, p .1, p .2, p .3, p .4, omega (arith, p .5))
 
-sub-put-sheet : tie.Need-sub-put-sheet Inv-loop μ-loop
-sub-put-sheet c = c .before .before .before .loop .inv .1
-
-part-put-sheet-start : tie.Need-part-put-sheet-start Inv-loop μ-loop
-part-put-sheet-start c = search needs
-
-part-put-sheet-end : tie.Need-part-put-sheet-end Inv-loop μ-loop
-part-put-sheet-end c = search needs
-
-put-sheet-requires : tie.Need-put-sheet-requires Inv-loop μ-loop
-put-sheet-requires c κs = search needs
-
-add-at : tie.Need-add-at Inv-loop μ-loop
-add-at c = search needs
-
-add-p : tie.Need-add-p Inv-loop μ-loop
-add-p c = search needs
+turn-requires : tie.Need-turn-requires Inv-loop μ-loop
+turn-requires c κs = let p = c .before .before .before .before .before .before .before .pre in
+    ((p .0, p .1, c .before .staying-at .ensures (p .0) (p .1) (p .2) (p .3) (p .4) (omega (arith, p .5, c .before .before .before .loop-test .taken))), c .before .before .before .before .loop .inv .1)
 
 loop-less : tie.Need-loop-less Inv-loop μ-loop
-loop-less c = search needs
+loop-less c = let r = c .before .before .before .before .before .before .before .loop in
+    let a = c .before .before .before .before .before .before .before .before .before .before .args in
+    let room : sheetBytes (a .sheet) ≤ length (r .out) - r .at = omega (arith, c .before .before .before .before .before .before .before .before .bytes-of .ensures, c .before .before .before .before .before .if1 .left) in
+    omega (arith, c .before .before .turn .ensures .1 .0 room, c .before .before .before .before .before .before .loop-test .taken)
 
 loop-again : tie.Need-loop-again Inv-loop μ-loop
 loop-again c = let a = c .before .before .before .before .before .before .before .before .before .before .args in let r = c .before .before .before .before .before .before .before .loop in
-    let b = c .before .before .before .before .before .before .before .before .bytes-of .ensures in
-    let fits : sheetBytes (a .sheet) ≤ length (r .out) - r .at = omega (arith, b, c .before .before .before .before .before .if1 .left) in
-    let made = c .before .before .before .before .product-from .result in
-    let ys = c .before .before .put-sheet .last .0 in
-    let lent = lent-whole (a .sheet) (r .out) made (r .at) ys (c .before .before .put-sheet .ensures) in
-    let new = take (r .at) (r .out) ++ (ys ++ drop (length (r .out) - r .at) (drop (r .at) (r .out))) in
-    let long : length new ≡ length (r .out) = ap length lent ∙ lent-long (a .sheet) (r .out) made (r .at) (r .inv .1) in (
-      long ∙ r .inv .0,
-      omega (arith, long, fits, b, r .inv .1),
+    let test = c .before .before .before .before .before .before .loop-test .taken in
+    let reached = c .before .before .turn in (
+      search needs,
+      reached .ensures .0,
       λ d l bs xs t m.
-          let low : r .p < products (l .sites) = omega (arith, m, c .before .before .before .before .before .before .loop-test .taken) in
-          subst (λ (k : ℕ). Going (a .sheet) d (stepsFrom (length (a .out .now)) (a .sheet) d (a .position) (a .out .now)) new (r .p + 1) (r .at + k)) (sym b)
-          (going-next (a .sheet) d l (t .held .reads) (r .inv .2 d l bs xs t m) low fits (some-bytes (a .sheet)) made (c .before .before .before .before .product-from .ensures d l bs xs t low) new lent),
+          let low : r .p < products (l .sites) = omega (arith, m, test) in
+          reached .ensures .1 .1 d l (stepsFrom (length (a .out .now)) (a .sheet) d (a .position) (a .out .now)) (c .before .before .before .before .staying-at .ensures d l bs xs t low) (r .inv .2 d l bs xs t m),
     )
 
 same-length-2 : tie.Need-same-length-2 Inv-loop μ-loop
@@ -101,13 +85,8 @@ run-over-spec =
     sub-if1
     same-length
     returns
-    product-from-requires
-    sub-put-sheet
-    part-put-sheet-start
-    part-put-sheet-end
-    put-sheet-requires
-    add-at
-    add-p
+    staying-at-requires
+    turn-requires
     loop-less
     loop-again
     same-length-2

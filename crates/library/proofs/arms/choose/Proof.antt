@@ -7,7 +7,8 @@ use lib.ListN.{length, getD, length-set}
 use borrow.Author.Needs.{needs}
 use Rattle.block.specs.Lent.{zeros}
 use Rattle.products.specs.Library.{mostSites, mostCandidates}
-use Rattle.library.proofs.Choosing.{Chosen, choose-next, choose-end, small-set}
+use Rattle.library.specs.Turning.{small-set}
+use Rattle.library.proofs.Choosing.{Chosen, choose-next, choose-end}
 use Rattle.library.proofs.arms.choose.Statement.{statement}
 use Rattle.library.proofs.arms.choose.Tie as tie
 

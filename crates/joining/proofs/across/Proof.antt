@@ -1,9 +1,8 @@
--- `joining::even_across` meets its contract. Assumes nothing.
+-- `joining::across` meets its contract. Assumes nothing.
 use native.Mathlib.Omega.{arith}
-use Rattle.tables.specs.Parts.{evenAcross}
 use borrow.Author.Needs.{needs}
-use Rattle.joining.proofs.even_across.Statement.{statement}
-use Rattle.joining.proofs.even_across.Tie as tie
+use Rattle.joining.proofs.across.Statement.{statement}
+use Rattle.joining.proofs.across.Tie as tie
 
 times-requires : tie.Need-times-requires
 times-requires c κs = search needs
@@ -39,11 +38,10 @@ add-result-5 : tie.Need-add-result-5
 add-result-5 c = search needs
 
 returns : tie.Need-returns
-unfolding evenAcross
 returns c = (omega arith, omega arith)
 
-pub even-across-spec : {M : Type 1} → statement M
-even-across-spec =
+pub across-spec : {M : Type 1} → statement M
+across-spec =
     tie.close
     (tie.spec
     times-requires

@@ -1,0 +1,114 @@
+// The last site turns while the others stay: what they are joined to is made once for all its candidates.
+use super::arms::choose;
+use super::arms::with_arms;
+use super::kept::Core;
+use super::spread::ArmRows;
+use super::spread::pick;
+use super::spread::row_arm;
+use block::Indices;
+use block::Vertex;
+use joining::joined;
+use products::CANDIDATES;
+use products::SITES;
+use products::Site;
+use records::Sheet;
+use sheets::bytes_of;
+use sheets::put_sheet;
+ghost use mathlib.Core.Path.{_≡_};
+ghost use mathlib.Core.List.{List};
+ghost use Prim.Native.Nat.{ℕ, _-_, _≤_, _<_};
+ghost use lib.ListN.{length};
+ghost use Rattle.assembly.specs.declared.BlockAt.{BlockAt};
+ghost use Rattle.sheets.specs.Sheets.{sheetBytes};
+ghost use Rattle.products.specs.Library.{Library};
+ghost use Rattle.products.specs.Products.{products};
+ghost use Rattle.library.specs.Steps.{Ran};
+ghost use Rattle.library.specs.Held.{Spread};
+ghost use Rattle.library.specs.Turning.{Going, Turns};
+
+// What stays while the last site turns: the fields of the core with the other sites' arms, and what is then counted from the last site's atom. The arms that
+// are joined to it stand at this place among all, and `left` of them are to come.
+pub(crate) struct Staying {
+    pub(crate) six: Indices,
+    pub(crate) from: Vertex,
+    pub(crate) place: usize,
+    pub(crate) left: usize,
+}
+
+// How far a run has come: the next position, and how much of the buffer is written.
+pub(crate) struct Reached {
+    pub(crate) next: usize,
+    pub(crate) at: usize,
+}
+
+// What stays from a position on.
+pub(crate) fn staying_at(
+    core: Core,
+    all: &ArmRows,
+    sites: [Site; SITES],
+    n: usize,
+    position: usize,
+) -> Staying
+    requires { ⌜ ((d : List ℕ) × (l : Library) × (bs : List BlockAt) × (xs : List ℕ)
+        × Spread d l bs xs sites n core (now all) × (position < products (l .sites))) ⌝ }
+    ensures { λ r. ⌜ ((d : List ℕ) (l : Library) (bs : List BlockAt) (xs : List ℕ)
+        → Spread d l bs xs sites n core (now (all .entry)) → position < products (l .sites)
+        → Turns d l (now (all .entry)) position r) ⌝ }
+{
+    let digits = choose(sites, n, position);
+    let arms = pick(all, digits);
+    let k = n - 1;
+    let stem = with_arms(core, arms, k);
+    let six = stem.six;
+    let seen = stem.seen;
+    let from = seen[k];
+    let s = sites[k];
+    let digit = digits[k];
+    let place = CANDIDATES * k + digit;
+    let left = (s.many as usize) - digit;
+    Staying {
+        six,
+        from,
+        place,
+        left,
+    }
+}
+
+// The sheets of the products from a position on, until the last site has turned or the buffer has no room.
+pub(crate) fn turn(
+    stay: Staying,
+    all: &ArmRows,
+    position: usize,
+    sheet: Sheet,
+    start: usize,
+    out: &mut [u8],
+) -> Reached
+    requires { ⌜ ((d : List ℕ) × (l : Library) × Turns d l (now all) position stay) ⌝ }
+    requires { ⌜ start ≤ length (now out) ⌝ }
+    ensures within { λ r. ⌜ r .at ≤ length (now (out .exit)) ⌝ }
+    ensures on { λ r. ⌜ (sheetBytes sheet ≤ length (now (out .entry)) - start → position < r .next) ⌝ }
+    ensures goes { λ r. ⌜ ((d : List ℕ) (l : Library) (whole : Ran) → Turns d l (now (all .entry)) position stay
+        → Going sheet d whole (now (out .entry)) position start
+        → Going sheet d whole (now (out .exit)) (r .next) (r .at)) ⌝ }
+{
+    let bytes = bytes_of(sheet);
+    let six = stay.six;
+    let from = stay.from;
+    let place = stay.place;
+    let left = stay.left;
+    let mut k = 0;
+    let mut at = start;
+    while k < left {
+        if out.len() - at < bytes {
+            let next = position + k;
+            return Reached { next, at };
+        }
+        let arm = row_arm(all[place + k]);
+        let x = joined(six, arm.six, from, arm.end);
+        put_sheet(&mut out[at..], sheet, x);
+        at += bytes;
+        k += 1;
+    }
+    let next = position + k;
+    Reached { next, at }
+}
