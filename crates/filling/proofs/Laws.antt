@@ -14,7 +14,7 @@ use Rattle.half.specs.Half.{mostAtoms, halfAt, halfRow}
 use Rattle.block.specs.Sums.{entry, vertexBy, indicesBy}
 use Rattle.block.specs.declared.Indices.{Indices}
 use Rattle.block.specs.declared.Vertex.{Vertex}
-use Rattle.summary.specs.Summary.{bytes}
+use Rattle.records.specs.Bytes.{littleBytes}
 use Rattle.filling.specs.Work.{seatBytes, seatOn, oneSeat, seatsBy, headOn, headBy, partsOn}
 
 sets-append : (xs ys l : List ℕ) (at : ℕ) → sets l at (xs ++ ys) ≡ sets (sets l at xs) (at + length xs) ys
@@ -27,37 +27,37 @@ sets-append (x ∷ xs) ys l at =
 pub joined : (l : List ℕ) {m r : List ℕ} (xs ys : List ℕ) (at p : ℕ) → m ≡ sets l at xs → r ≡ sets m p ys → p ≡ at + length xs → r ≡ sets l at (xs ++ ys)
 joined l xs ys at p e f q = f ∙ ap₂ (λ (m : List ℕ) (k : ℕ). sets m k ys) e q ∙ sym (sets-append xs ys l at)
 
-pub two : (l : List ℕ) {m r : List ℕ} (at x : ℕ) → m ≡ set l at (x % 256) → r ≡ set m (at + 1) (x / 256 % 256) → r ≡ sets l at (bytes 2 x)
-unfolding bytes
+pub two : (l : List ℕ) {m r : List ℕ} (at x : ℕ) → m ≡ set l at (x % 256) → r ≡ set m (at + 1) (x / 256 % 256) → r ≡ sets l at (littleBytes 2 x)
+unfolding littleBytes
 two l at x e f = f ∙ rw (e, add-one at)
 
-pub four : (l : List ℕ) {m r : List ℕ} (at x : ℕ) → m ≡ sets l at (bytes 2 x) → r ≡ sets m (at + 2) (bytes 2 (x / 256 / 256)) → r ≡ sets l at (bytes 4 x)
-unfolding bytes
-four l at x e f = joined l (bytes 2 x) (bytes 2 (x / 256 / 256)) at (at + 2) e f refl
+pub four : (l : List ℕ) {m r : List ℕ} (at x : ℕ) → m ≡ sets l at (littleBytes 2 x) → r ≡ sets m (at + 2) (littleBytes 2 (x / 256 / 256)) → r ≡ sets l at (littleBytes 4 x)
+unfolding littleBytes
+four l at x e f = joined l (littleBytes 2 x) (littleBytes 2 (x / 256 / 256)) at (at + 2) e f refl
 
 pub three : (l : List ℕ) {m r s : List ℕ} (at x y z : ℕ) → m ≡ set l at x → r ≡ set m (at + 1) y → s ≡ set r (at + 2) z → s ≡ sets l at (x ∷ y ∷ z ∷ [])
 three l at x y z e f h =
     let b : at + 2 ≡ suc (suc at) = omega arith in
     h ∙ rw (b, f, e, add-one at)
 
-pub seat-put : (l : List ℕ) {m r s t : List ℕ} (at even odd evens odds ones twos far ends : ℕ) → m ≡ sets l at (bytes 2 even) → r ≡ sets m (at + 2) (bytes 2 odd)
+pub seat-put : (l : List ℕ) {m r s t : List ℕ} (at even odd evens odds ones twos far ends : ℕ) → m ≡ sets l at (littleBytes 2 even) → r ≡ sets m (at + 2) (littleBytes 2 odd)
     → s ≡ sets r (at + 4) (evens % 256 ∷ odds % 256 ∷ ones % 256 ∷ []) → t ≡ sets s (at + 7) (twos % 256 ∷ far % 256 ∷ ends % 256 ∷ [])
     → t ≡ sets l at (seatBytes even odd evens odds ones twos far ends)
-unfolding seatBytes bytes
+unfolding seatBytes littleBytes
 seat-put l {m} {r} {s} {t} at even odd evens odds ones twos far ends a b c d =
     let p : at + 4 ≡ at + 2 + 2 = omega arith in
     let q : at + 7 ≡ at + 4 + 3 = omega arith in
-    joined l (bytes 2 even) (bytes 2 odd ++ ((evens % 256 ∷ odds % 256 ∷ ones % 256 ∷ []) ++ (twos % 256 ∷ far % 256 ∷ ends % 256 ∷ []))) at (at + 2) a
-    (joined m (bytes 2 odd) ((evens % 256 ∷ odds % 256 ∷ ones % 256 ∷ []) ++ (twos % 256 ∷ far % 256 ∷ ends % 256 ∷ [])) (at + 2) (at + 4) b
+    joined l (littleBytes 2 even) (littleBytes 2 odd ++ ((evens % 256 ∷ odds % 256 ∷ ones % 256 ∷ []) ++ (twos % 256 ∷ far % 256 ∷ ends % 256 ∷ []))) at (at + 2) a
+    (joined m (littleBytes 2 odd) ((evens % 256 ∷ odds % 256 ∷ ones % 256 ∷ []) ++ (twos % 256 ∷ far % 256 ∷ ends % 256 ∷ [])) (at + 2) (at + 4) b
     (joined r (evens % 256 ∷ odds % 256 ∷ ones % 256 ∷ []) (twos % 256 ∷ far % 256 ∷ ends % 256 ∷ []) (at + 4) (at + 7) c d q) p) refl
 
-pub first-put : (l : List ℕ) {m r s : List ℕ} (x n far : ℕ) → m ≡ sets l 0 (bytes 2 x) → r ≡ set m 2 (n % 256) → s ≡ set r 3 (far % 256) → s ≡ sets l 0 (bytes 2 x ++ (n % 256 ∷ far % 256 ∷ []))
-unfolding bytes
+pub first-put : (l : List ℕ) {m r s : List ℕ} (x n far : ℕ) → m ≡ sets l 0 (littleBytes 2 x) → r ≡ set m 2 (n % 256) → s ≡ set r 3 (far % 256) → s ≡ sets l 0 (littleBytes 2 x ++ (n % 256 ∷ far % 256 ∷ []))
+unfolding littleBytes
 first-put l x n far a b c = c ∙ rw (b, a)
 
-pub totals-put : (l : List ℕ) {m r s : List ℕ} (x y z : ℕ) → m ≡ sets l 4 (bytes 4 x) → r ≡ sets m 8 (bytes 4 y) → s ≡ sets r 12 (bytes 4 z) → s ≡ sets l 4 (bytes 4 x ++ (bytes 4 y ++ bytes 4 z))
-unfolding bytes
-totals-put l {m} x y z a b c = joined l (bytes 4 x) (bytes 4 y ++ bytes 4 z) 4 8 a (joined m (bytes 4 y) (bytes 4 z) 8 12 b c refl) refl
+pub totals-put : (l : List ℕ) {m r s : List ℕ} (x y z : ℕ) → m ≡ sets l 4 (littleBytes 4 x) → r ≡ sets m 8 (littleBytes 4 y) → s ≡ sets r 12 (littleBytes 4 z) → s ≡ sets l 4 (littleBytes 4 x ++ (littleBytes 4 y ++ littleBytes 4 z))
+unfolding littleBytes
+totals-put l {m} x y z a b c = joined l (littleBytes 4 x) (littleBytes 4 y ++ littleBytes 4 z) 4 8 a (joined m (littleBytes 4 y) (littleBytes 4 z) 8 12 b c refl) refl
 
 -- bytes, one by one
 pub put-one : (s xs : List ℕ) (at i : ℕ) → i < length xs → sets s (at + i) (drop i xs) ≡ sets (set s (at + i) (getD xs i 0)) (at + (i + 1)) (drop (i + 1) xs)
@@ -73,7 +73,7 @@ put-start s xs at = ap (λ (n : ℕ). sets s n xs) (sym (add-zero at))
 
 -- the seats
 pub length-one : (half : List ℕ) (far n i : ℕ) → length (oneSeat half far n i) ≡ 10
-unfolding oneSeat seatOn seatBytes bytes
+unfolding oneSeat seatOn seatBytes littleBytes
 length-one half far n i = go (ltb i n) (vertexBy (min n mostAtoms) (entry (halfRow half (i + 1))) far)
   where
     go : (t : Bool) (v : Vertex) → length (cond t (seatOn v) (replicate 10 0)) ≡ 10
@@ -116,12 +116,12 @@ unfolding oneSeat seatOn
 seat-is l at half row far n i v h e f z = z ∙ ap (λ (w : Vertex). sets l at (seatOn w)) (f ∙ ap (λ (x : List ℕ). vertexBy (min n mostAtoms) (entry x) far) e) ∙ rw (lt-ltb i n h)
 
 pub seat-off : (l : List ℕ) {r : List ℕ} (at : ℕ) (half : List ℕ) (far n i : ℕ) → n ≤ i → r ≡ sets l at (seatBytes 0 0 0 0 0 0 0 0) → r ≡ sets l at (oneSeat half far n i)
-unfolding oneSeat seatBytes bytes
+unfolding oneSeat seatBytes littleBytes
 seat-off l at half far n i h z = z ∙ rw (le-ltb i n h)
 
-pub head-put : (l : List ℕ) {m r : List ℕ} (x : ℕ) (s : Indices) → m ≡ sets l 0 (bytes 2 x ++ (s .atoms % 256 ∷ s .largest % 256 ∷ [])) → r ≡ sets m 4 (bytes 4 (s .even) ++ (bytes 4 (s .odd) ++ bytes 4 (s .polarity))) → r ≡ sets l 0 (headOn x s)
-unfolding headOn bytes
-head-put l x s e f = joined l (bytes 2 x ++ (s .atoms % 256 ∷ s .largest % 256 ∷ [])) (bytes 4 (s .even) ++ (bytes 4 (s .odd) ++ bytes 4 (s .polarity))) 0 4 e f refl
+pub head-put : (l : List ℕ) {m r : List ℕ} (x : ℕ) (s : Indices) → m ≡ sets l 0 (littleBytes 2 x ++ (s .atoms % 256 ∷ s .largest % 256 ∷ [])) → r ≡ sets m 4 (littleBytes 4 (s .even) ++ (littleBytes 4 (s .odd) ++ littleBytes 4 (s .polarity))) → r ≡ sets l 0 (headOn x s)
+unfolding headOn littleBytes
+head-put l x s e f = joined l (littleBytes 2 x ++ (s .atoms % 256 ∷ s .largest % 256 ∷ [])) (littleBytes 4 (s .even) ++ (littleBytes 4 (s .odd) ++ littleBytes 4 (s .polarity))) 0 4 e f refl
 
 pub head-by : (x : ℕ) (half far : List ℕ) (n : ℕ) (s : Indices) → s ≡ indicesBy (min n mostAtoms) (halfAt half) (entry far) → headOn x s ≡ headBy x half far n
 unfolding headBy

@@ -32,8 +32,9 @@ use Rattle.block.specs.Told.{few-atoms, molecule, farthest-at}
 use Rattle.block.specs.declared.Opened.{Opened}
 use Rattle.block.specs.declared.Indices.{Indices}
 use Rattle.block.specs.declared.Vertex.{Vertex}
+use Rattle.records.specs.Bytes.{littleBytes}
 use Rattle.summary.specs.Layout.{summaryBytes}
-use Rattle.summary.specs.Summary.{bytes, headOf, seatOf, seatAt, seatsFrom, pairOf, summaryOf}
+use Rattle.summary.specs.Summary.{headOf, seatOf, seatAt, seatsFrom, pairOf, summaryOf}
 use Rattle.filling.specs.Reply.{fillReply, filledSummary, fillBytes}
 use Rattle.filling.specs.Work.{seatBytes, seatOn, oneSeat, seatsBy, headOn, headBy, partsOn}
 use Rattle.filling.specs.Ones.{ones-are-bonds}
@@ -70,7 +71,7 @@ length-seats half far n zero i = refl
 length-seats half far n (suc left) i = length-append (oneSeat half (getD far i 0) n i) (seatsBy half far n (suc i) left) ∙ omega (arith, length-one half (getD far i 0) n i, length-seats half far n left (suc i))
 
 length-head : (x : ℕ) (half far : List ℕ) (n : ℕ) → length (headBy x half far n) ≡ 16
-unfolding headBy headOn bytes
+unfolding headBy headOn littleBytes
 length-head x half far n = refl
 
 -- one behind the other in front of what stays
@@ -114,7 +115,7 @@ module _ (n : ℕ) (xs : List ℕ) (fine : blockReply n xs ≡ read tt) where
 
   -- the head
   head-small : (x : ℕ) (s : Indices) → s .atoms < 256 → s .largest < 256 → headOn x s ≡ headOf x s
-  unfolding headOn headOf bytes
+  unfolding headOn headOf littleBytes
   head-small x s a b = rw (small (s .atoms) a, small (s .largest) b)
 
   largest-few : indicesOf g .largest < 256
@@ -136,7 +137,7 @@ module _ (n : ℕ) (xs : List ℕ) (fine : blockReply n xs ≡ read tt) where
   unfolding seatOn seatBytes seatOf
   seat-small v d a b c e f q =
       rw (← q)
-      (ap (λ (t : List ℕ). bytes 2 (v .even) ++ (bytes 2 (v .odd) ++ t)) (tail-same (v .evens) (v .odds) (v .ones) (v .twos) (v .farthest) (v .ones) a b c e f c))
+      (ap (λ (t : List ℕ). littleBytes 2 (v .even) ++ (littleBytes 2 (v .odd) ++ t)) (tail-same (v .evens) (v .odds) (v .ones) (v .twos) (v .farthest) (v .ones) a b c e f c))
 
   counts-low : (a : ℕ) → (vertex g a evenOne < 256) × (vertex g a oddOne < 256) × (vertex g a (isAt 1) < 256) × (vertex g a (isAt 2) < 256)
   unfolding vertex evenOne oddOne isAt

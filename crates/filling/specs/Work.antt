@@ -9,12 +9,12 @@ use Rattle.half.specs.Half.{mostAtoms, halfAt, halfRow}
 use Rattle.block.specs.Sums.{entry, indicesBy, vertexBy}
 use Rattle.block.specs.declared.Indices.{Indices}
 use Rattle.block.specs.declared.Vertex.{Vertex}
-use Rattle.summary.specs.Summary.{bytes}
+use Rattle.records.specs.Bytes.{littleBytes}
 
 -- the bytes of an atom; as many bonds are at it as atoms at distance 1
 unfoldable pub seatBytes : ℕ → ℕ → ℕ → ℕ → ℕ → ℕ → ℕ → ℕ → List ℕ
 seatBytes even odd evens odds ones twos far ends =
-    bytes 2 even ++ (bytes 2 odd ++ ((evens % 256) ∷ (odds % 256) ∷ (ones % 256) ∷ (twos % 256) ∷ (far % 256) ∷ (ends % 256) ∷ []))
+    littleBytes 2 even ++ (littleBytes 2 odd ++ ((evens % 256) ∷ (odds % 256) ∷ (ones % 256) ∷ (twos % 256) ∷ (far % 256) ∷ (ends % 256) ∷ []))
 
 unfoldable pub seatOn : Vertex → List ℕ
 seatOn v = seatBytes (v .even) (v .odd) (v .evens) (v .odds) (v .ones) (v .twos) (v .farthest) (v .ones)
@@ -27,7 +27,7 @@ seatsBy half far n i zero = []
 seatsBy half far n i (suc left) = oneSeat half (getD far i 0) n i ++ seatsBy half far n (suc i) left
 
 unfoldable pub headOn : ℕ → Indices → List ℕ
-headOn x s = bytes 2 x ++ ((s .atoms % 256) ∷ (s .largest % 256) ∷ []) ++ (bytes 4 (s .even) ++ (bytes 4 (s .odd) ++ bytes 4 (s .polarity)))
+headOn x s = littleBytes 2 x ++ ((s .atoms % 256) ∷ (s .largest % 256) ∷ []) ++ (littleBytes 4 (s .even) ++ (littleBytes 4 (s .odd) ++ littleBytes 4 (s .polarity)))
 
 unfoldable pub headBy : ℕ → List ℕ → List ℕ → ℕ → List ℕ
 headBy x half far n = headOn x (indicesBy (min n mostAtoms) (halfAt half) (entry far))

@@ -4,7 +4,7 @@ ghost use mathlib.Core.List.{[], _∷_, _++_};
 ghost use Prim.Native.Nat.{_+_, _%_, _^_, _≤_, _<_};
 ghost use lib.ListN.{length, set};
 ghost use lib.Seq.{sets};
-ghost use Rattle.summary.specs.Summary.{bytes};
+ghost use Rattle.records.specs.Bytes.{littleBytes};
 ghost use Rattle.filling.specs.Work.{seatBytes};
 
 pub(crate) fn put(out: &mut [u8], at: usize, x: u8)
@@ -29,7 +29,7 @@ pub(crate) fn put1(out: &mut [u8], at: usize, x: u64)
 
 pub(crate) fn put2(out: &mut [u8], at: usize, x: u64)
     requires { ⌜ at < 2 ^ 33 ⌝ }
-    ensures { λ _. ⌜ now (out .exit) ≡ sets (now (out .entry)) at (bytes 2 x) ⌝ }
+    ensures { λ _. ⌜ now (out .exit) ≡ sets (now (out .entry)) at (littleBytes 2 x) ⌝ }
 {
     put1(out, at, x);
     put1(out, at + 1, x / 256);
@@ -37,7 +37,7 @@ pub(crate) fn put2(out: &mut [u8], at: usize, x: u64)
 
 pub(crate) fn put4(out: &mut [u8], at: usize, x: u64)
     requires { ⌜ at < 2 ^ 32 ⌝ }
-    ensures { λ _. ⌜ now (out .exit) ≡ sets (now (out .entry)) at (bytes 4 x) ⌝ }
+    ensures { λ _. ⌜ now (out .exit) ≡ sets (now (out .entry)) at (littleBytes 4 x) ⌝ }
 {
     put2(out, at, x);
     put2(out, at + 2, x / 256 / 256);
@@ -87,7 +87,7 @@ pub(crate) fn put_seat(
 }
 
 pub(crate) fn put_first(out: &mut [u8], number: u64, n: u64, far: u64)
-    ensures { λ _. ⌜ now (out .exit) ≡ sets (now (out .entry)) 0 (bytes 2 number ++ (n % 256 ∷ far % 256 ∷ [])) ⌝ }
+    ensures { λ _. ⌜ now (out .exit) ≡ sets (now (out .entry)) 0 (littleBytes 2 number ++ (n % 256 ∷ far % 256 ∷ [])) ⌝ }
 {
     put2(out, 0, number);
     put1(out, 2, n);
@@ -95,7 +95,7 @@ pub(crate) fn put_first(out: &mut [u8], number: u64, n: u64, far: u64)
 }
 
 pub(crate) fn put_totals(out: &mut [u8], even: u64, odd: u64, polarity: u64)
-    ensures { λ _. ⌜ now (out .exit) ≡ sets (now (out .entry)) 4 (bytes 4 even ++ (bytes 4 odd ++ bytes 4 polarity)) ⌝ }
+    ensures { λ _. ⌜ now (out .exit) ≡ sets (now (out .entry)) 4 (littleBytes 4 even ++ (littleBytes 4 odd ++ littleBytes 4 polarity)) ⌝ }
 {
     put4(out, 4, even);
     put4(out, 8, odd);

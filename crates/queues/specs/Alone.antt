@@ -15,9 +15,9 @@ use Rattle.block.specs.Block.{graphOf, blockReply}
 use Rattle.block.specs.Index.{indicesOf}
 use Rattle.block.specs.Told.{molecule}
 use Rattle.block.specs.declared.Indices.{Indices}
-use Rattle.records.specs.Bytes.{little, le16}
+use Rattle.records.specs.Bytes.{little, le16, littleBytes}
 use Rattle.summary.specs.Layout.{summaryBytes, storedFields}
-use Rattle.summary.specs.Summary.{bytes, headOf, seatsFrom, pairOf, summaryOf}
+use Rattle.summary.specs.Summary.{headOf, seatsFrom, pairOf, summaryOf}
 use Rattle.summary.specs.Back.{length-head, length-seats, fields-told, summary-told, ends-told}
 use Rattle.shelf.specs.Shelf.{placeFrom, shelfIn, placeOf as placeIn}
 use Rattle.summaries.specs.Composing.{composedReply}
@@ -42,7 +42,7 @@ length-stored x g =
     ∙ omega (arith, length-head x (indicesOf g), length-append (seatsFrom g 1 mostAtoms) (halfOf (pairOf g)), length-seats g mostAtoms 1, length-half (pairOf g))
 
 number-stored : (x : ℕ) (g : Graph) → x < 65536 → le16 (summaryOf x g) 0 ≡ x
-unfolding summaryOf headOf bytes little
+unfolding summaryOf headOf littleBytes little
 number-stored x g h = omega arith
 
 -- a shelf as a book

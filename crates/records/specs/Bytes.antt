@@ -1,6 +1,6 @@
 -- Definitions. Bytes and little-endian numbers.
-use Prim.Native.Nat.{ℕ, zero, suc, _+_, _*_, min}
-use mathlib.Core.List.{List}
+use Prim.Native.Nat.{ℕ, zero, suc, _+_, _*_, _/_, _%_, min}
+use mathlib.Core.List.{List, [], _∷_}
 use mathlib.Core.Path.{_≡_}
 use lib.ListN.{length, getD, take, drop}
 use denote.Ref.{RefT, ptr, now}
@@ -16,6 +16,11 @@ little (suc k) d at = byteAt d at + 256 * little k d (at + 1)
 
 abbrev pub le16 : List ℕ → ℕ → ℕ
 le16 d at = little 2 d at
+
+-- and a number in k bytes
+unfoldable pub littleBytes : ℕ → ℕ → List ℕ
+littleBytes zero n = []
+littleBytes (suc k) n = n % 256 ∷ littleBytes k (n / 256)
 
 -- the len bytes from a place on, fewer where the list ends
 abbrev pub part : List ℕ → ℕ → ℕ → List ℕ

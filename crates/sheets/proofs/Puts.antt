@@ -9,13 +9,13 @@ use borrow.Author.Tests.{lt-ltb, le-ltb, eq-eqb, ne-eqb}
 use lib.ListN.{length, getD, set, take, drop, replicate, length-set, drop-of-length-le}
 use lib.Seq.{sets, sets-eq, length-sets, length-take-le, drop-cons}
 use Rattle.block.specs.declared.Indices.{Indices}
-use Rattle.records.specs.Bytes.{little}
+use Rattle.records.specs.Bytes.{little, littleBytes}
 use Rattle.records.specs.Records.{headBytes, sheetKind, sheetAt}
 use Rattle.records.specs.declared.Kind.{Kind}
 use Rattle.records.specs.declared.Sheet.{Sheet}
 use Rattle.records.specs.declared.Sheet.the-variants.{Five, Six}
 use Rattle.records.proofs.Numbers.{past}
-use Rattle.sheets.specs.Sheets.{allFields, allWidths, fieldCount, widths, fieldsOf, fieldsAt, claimedAt, littleBytes, fieldBytes, sheetRecord, sheetBytes, sheetPut, firstWrong}
+use Rattle.sheets.specs.Sheets.{allFields, allWidths, fieldCount, widths, fieldsOf, fieldsAt, claimedAt, fieldBytes, sheetRecord, sheetBytes, sheetPut, firstWrong}
 use Rattle.sheets.specs.Along.{widthsTotal, Narrow}
 use Rattle.sheets.specs.Back.{length-little, length-sheet, fields-some}
 

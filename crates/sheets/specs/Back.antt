@@ -10,12 +10,12 @@ use lib.Dec.{eqb, lit<}
 use lib.ListN.{length, getD, take, drop, length-append}
 use lib.Seq.{getD-drop, drop-drop, drop-append-seam}
 use Rattle.block.specs.declared.Indices.{Indices}
-use Rattle.records.specs.Bytes.{byteAt, little}
+use Rattle.records.specs.Bytes.{byteAt, little, littleBytes}
 use Rattle.records.specs.Records.{sheetKind}
 use Rattle.records.specs.declared.Sheet.{Sheet}
 use Rattle.records.specs.declared.Sheet.the-variants.{Five, Six}
 use Rattle.records.specs.Longer.{little-behind}
-use Rattle.sheets.specs.Sheets.{allFields, allWidths, fieldCount, widths, fieldsOf, fieldsAt, littleBytes, fieldBytes, sheetRecord, sheetBytes, firstWrong}
+use Rattle.sheets.specs.Sheets.{allFields, allWidths, fieldCount, widths, fieldsOf, fieldsAt, fieldBytes, sheetRecord, sheetBytes, firstWrong}
 use Rattle.sheets.specs.Along.{widthsTotal}
 
 pub length-little : (k n : ℕ) → length (littleBytes k n) ≡ k

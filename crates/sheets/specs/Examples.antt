@@ -1,8 +1,9 @@
 -- Laws. Worked examples, computed from the definitions.
 use mathlib.Core.List.{[], _∷_}
 use mathlib.Core.Path.{_≡_, refl}
+use Rattle.records.specs.Bytes.{littleBytes}
 use Rattle.records.specs.declared.Sheet.the-variants.{Five, Six}
-use Rattle.sheets.specs.Sheets.{widths, littleBytes, fieldBytes, sheetRecord, firstWrong}
+use Rattle.sheets.specs.Sheets.{widths, fieldBytes, sheetRecord, firstWrong}
 
 -- bytes of different weights
 weights : littleBytes 4 305419896 ≡ 120 ∷ 86 ∷ 52 ∷ 18 ∷ []

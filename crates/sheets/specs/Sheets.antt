@@ -1,7 +1,7 @@
 -- Definitions. A sheet: its fields in order, the bytes that each takes, its record byte by byte, what a record claims, and the first wrong field.
 -- The rules: "Kind 3, sheet: atom count (4), W, even part, odd part, polarity (8 each); 36 bytes", "Kind 4, sheet of six fields: those five and the
 -- largest distance (4); 40 bytes", "All numbers are little-endian", "differs with the first wrong field, 1 to 5 or 1 to 6".
-use Prim.Native.Nat.{ℕ, zero, suc, _+_, _/_, _%_}
+use Prim.Native.Nat.{ℕ, suc, _+_}
 use mathlib.Core.Bool.{cond}
 use mathlib.Core.List.{List, [], _∷_, _++_}
 use lib.Dec.{eqb, ltb}
@@ -9,7 +9,7 @@ use lib.ListN.{length, take, drop}
 use Rattle.graph.specs.Graph.{Graph}
 use Rattle.block.specs.declared.Indices.{Indices}
 use Rattle.block.specs.Index.{indicesOf}
-use Rattle.records.specs.Bytes.{little}
+use Rattle.records.specs.Bytes.{little, littleBytes}
 use Rattle.records.specs.Records.{headBytes, sheetKind, sheetAt}
 use Rattle.records.specs.declared.Sheet.{Sheet}
 use Rattle.records.specs.declared.Sheet.the-variants.{Five, Six}
@@ -44,11 +44,6 @@ fieldsAt (w ∷ ws) d at = little w d at ∷ fieldsAt ws d (at + w)
 -- the fields that the sheet record at a place claims
 unfoldable pub claimedAt : List ℕ → ℕ → List ℕ
 claimedAt d at = fieldsAt (widths (sheetAt d at)) d (at + headBytes)
-
--- a number in k bytes, little-endian
-unfoldable pub littleBytes : ℕ → ℕ → List ℕ
-littleBytes zero n = []
-littleBytes (suc k) n = n % 256 ∷ littleBytes k (n / 256)
 
 -- numbers in fields of some widths, one after the other
 unfoldable pub fieldBytes : List ℕ → List ℕ → List ℕ

@@ -24,12 +24,12 @@ use Rattle.block.specs.Told.{few-atoms, molecule}
 use Rattle.block.specs.Index.{indicesOf, vertexOf}
 use Rattle.block.specs.declared.Indices.{Indices}
 use Rattle.block.specs.declared.Vertex.{Vertex}
-use Rattle.records.specs.Bytes.{byteAt, little, le16}
+use Rattle.records.specs.Bytes.{byteAt, little, le16, littleBytes}
 use Rattle.tables.specs.Table.{tableOf, totalBy, Told}
 use Rattle.tables.specs.Grow.{same-sight, same-six, total-parts}
 use Rattle.tables.specs.Written.{six-is, sight-is, alone-molecule}
 use Rattle.summary.specs.Layout.{storedNumber, storedAtoms, storedFields, seat, vertexAt, storedDegree, farAt, keptOf}
-use Rattle.summary.specs.Summary.{bytes, headOf, seatOf, seatAt, seatsFrom, pairOf, summaryOf}
+use Rattle.summary.specs.Summary.{headOf, seatOf, seatAt, seatsFrom, pairOf, summaryOf}
 
 -- numbers of two and of four bytes read back
 two-back : (x : ℕ) → x < 65536 → x % 256 + 256 * (x / 256 % 256) ≡ x
@@ -52,11 +52,11 @@ four-at b p v h e0 e1 e2 e3 =
 
 -- how long the pieces are
 pub length-head : (x : ℕ) (v : Indices) → length (headOf x v) ≡ 16
-unfolding headOf bytes
+unfolding headOf littleBytes
 length-head x v = refl
 
 pub length-seat : (g : Graph) (i : ℕ) → length (seatAt g i) ≡ 10
-unfolding seatAt seatOf bytes
+unfolding seatAt seatOf littleBytes
 length-seat g i = go (leb i (g .atoms))
   where
     go : (t : Bool) → length (cond t (seatOf (vertexOf g i) (degree (g .bonds) i)) (replicate 10 0)) ≡ 10
@@ -154,7 +154,7 @@ module _ (x n : ℕ) (xs : List ℕ) (fine : blockReply n xs ≡ read tt) where
       omega arith
 
   pub vertex-told : (i : ℕ) → Within n i → vertexAt s i ≡ vertexOf g i
-  unfolding vertexAt vertexOf seatOf bytes
+  unfolding vertexAt vertexOf seatOf littleBytes
   vertex-told i w =
       let at = seat i in
       let E = pair-at s at (vertex g i evenOf) (small _ (vertex-most mole tame-even w)) (seat-at i 0 at w (omega arith) (omega arith)) (seat-at i 1 (at + 1) w (omega arith) (omega arith)) in
@@ -170,11 +170,11 @@ module _ (x n : ℕ) (xs : List ℕ) (fine : blockReply n xs ≡ read tt) where
       (seat-at i 8 (at + 8) w (omega arith) (omega arith))
 
   pub ends-told : (i : ℕ) → Within n i → storedDegree s i ≡ degree (g .bonds) i
-  unfolding seatOf bytes
+  unfolding seatOf littleBytes
   ends-told i w = seat-at i 9 (seat i + 9) w (omega arith) (omega arith)
 
   pub fields-told : storedFields s ≡ indicesOf g
-  unfolding storedFields indicesOf headOf bytes totalBy total
+  unfolding storedFields indicesOf headOf littleBytes totalBy total
   fields-told =
       let E = four-at s 4 (total g evenOf) (big _ (total-most mole tame-even)) (head-at 4 (omega arith)) (head-at 5 (omega arith)) (head-at 6 (omega arith)) (head-at 7 (omega arith)) in
       let O = four-at s 8 (total g oddOf) (big _ (total-most mole tame-odd)) (head-at 8 (omega arith)) (head-at 9 (omega arith)) (head-at 10 (omega arith)) (head-at 11 (omega arith)) in
@@ -182,7 +182,7 @@ module _ (x n : ℕ) (xs : List ℕ) (fine : blockReply n xs ≡ read tt) where
       same-six (omega (arith, head-at 2 (omega arith), few)) (ap₂ _+_ E O ∙ sym (total-parts (tableOf g))) E O P (head-at 3 (omega arith))
 
   pub number-told : x < 65536 → storedNumber s ≡ x
-  unfolding headOf bytes
+  unfolding headOf littleBytes
   number-told h = pair-at s 0 x h (head-at 0 (omega arith)) (head-at 1 (omega arith))
 
   -- A SUMMARY READ BACK tells the block

@@ -1,5 +1,5 @@
 -- Definitions. The bytes of a block's summary.
-use Prim.Native.Nat.{ℕ, zero, suc, _/_, _%_}
+use Prim.Native.Nat.{ℕ, zero, suc}
 use mathlib.Core.Bool.{cond}
 use mathlib.Core.List.{List, [], _∷_, _++_}
 use lib.Dec.{leb}
@@ -9,19 +9,15 @@ use Rattle.half.specs.Half.{mostAtoms, halfOf}
 use Rattle.block.specs.Index.{indicesOf, vertexOf}
 use Rattle.block.specs.declared.Indices.{Indices}
 use Rattle.block.specs.declared.Vertex.{Vertex}
-
--- a number in k bytes, little-endian
-unfoldable pub bytes : ℕ → ℕ → List ℕ
-bytes zero x = []
-bytes (suc k) x = (x % 256) ∷ bytes k (x / 256)
+use Rattle.records.specs.Bytes.{littleBytes}
 
 -- the sixteen bytes that it opens with
 unfoldable pub headOf : ℕ → Indices → List ℕ
-headOf x s = bytes 2 x ++ (s .atoms ∷ s .largest ∷ (bytes 4 (s .even) ++ (bytes 4 (s .odd) ++ bytes 4 (s .polarity))))
+headOf x s = littleBytes 2 x ++ (s .atoms ∷ s .largest ∷ (littleBytes 4 (s .even) ++ (littleBytes 4 (s .odd) ++ littleBytes 4 (s .polarity))))
 
 -- the ten bytes of an atom that counts v and has d bonds
 unfoldable pub seatOf : Vertex → ℕ → List ℕ
-seatOf v d = bytes 2 (v .even) ++ (bytes 2 (v .odd) ++ (v .evens ∷ v .odds ∷ v .ones ∷ v .twos ∷ v .farthest ∷ d ∷ []))
+seatOf v d = littleBytes 2 (v .even) ++ (littleBytes 2 (v .odd) ++ (v .evens ∷ v .odds ∷ v .ones ∷ v .twos ∷ v .farthest ∷ d ∷ []))
 
 -- those of an atom, 0 where the block has none
 unfoldable pub seatAt : Graph → ℕ → List ℕ

@@ -6,7 +6,7 @@ use borrow.Author.Needs.{needs}
 use lib.ListN.{length, length-set}
 use denote.Ref.{now}
 use lib.Seq.{sets}
-use Rattle.sheets.specs.Sheets.{littleBytes}
+use Rattle.records.specs.Bytes.{littleBytes}
 use Rattle.sheets.proofs.Puts.{one-byte, no-byte}
 use Rattle.sheets.proofs.put.Statement.{statement}
 use Rattle.sheets.proofs.put.Tie as tie
