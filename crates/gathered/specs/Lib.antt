@@ -4,4 +4,6 @@
 -- | `overRecord`               | what a record is told whose payload is told something          | `unique-compose`              |
 -- | `overOutput`, `sheetTold`  | 9 for the table, 20, 9 for the output, then the record's       | `unique-compose`              |
 pub mod Gathered
+pub mod Orders
+pub mod Alone
 pub mod Unique
