@@ -6,4 +6,6 @@
 pub mod Gathered
 pub mod Orders
 pub mod Alone
+pub mod Stacked
+pub mod AsDeck
 pub mod Unique
