@@ -2,6 +2,7 @@
 use Prim.Native.Nat.{ℕ, _≤_}
 use mathlib.Core.List.{List, [], _∷_}
 use mathlib.Core.Path.{_≡_, refl, ap}
+use native.Mathlib.Omega.{arith}
 use lib.ListN.{length}
 use Rattle.reply.specs.Read.{Read}
 use Rattle.block.specs.declared.Indices.{Indices}
@@ -10,17 +11,20 @@ use Rattle.records.specs.declared.Sheet.{Sheet}
 use Rattle.summary.specs.Layout.{summaryBytes}
 use Rattle.summaries.specs.Composing.{composedReply}
 use Rattle.summaries.specs.Written.{writtenReply}
-use Rattle.storage.specs.Table.{tableBytes, shelf, emptied}
+use Rattle.storage.specs.Shelf.{places, numberIn}
+use Rattle.storage.specs.Table.{tableBytes, shelf, onTable, emptied}
 use Rattle.storage.specs.Calls.{Sent, compose, sheet, own, tableAnswer, answersTo, tableAll}
 use Rattle.storage.specs.Model.{Entry, toldAll, leftAll}
+use Rattle.storage.specs.Seeks.{taken-most}
 use Rattle.storage.specs.Keeps.{Proper, AllProper, KeepsQueue, HonestTrade}
 use Rattle.storage.specs.Kept.{KeptPlaces}
 use Rattle.storage.specs.Alone.{own-calls-only, keeps-own}
 use Rattle.storage.specs.declared.Queue.{Queue}
 use Rattle.queues.specs.Blocks.{Block, bookIn, summaryTable, blocks}
 use Rattle.queues.specs.Alone.{tells-blocks}
-use Rattle.gathered.specs.Gathered.{sheetTold}
+use Rattle.gathered.specs.Gathered.{overOutput, sheetTold}
 use Rattle.gathered.specs.Orders.{Order, Handed, handed, ordered, recordTable, toldBlocks, recordBlocks}
+use Rattle.gathered.specs.Stacked.{Held}
 
 -- the promise of `compose` is what the table tells an order
 pub order-told : (q : Queue) (t : List ℕ) (o : Order) → tableAnswer recordTable q t (compose o) ≡ sheet (handed o (sheetTold t q (o .sheet) (o .asked) (length (o .output))))
@@ -52,3 +56,26 @@ tells-orders = record {
 -- whatever the other queue calls
 pub sheets-alone : (q : Queue) (t : List ℕ) → tableBytes summaryBytes ≤ length t → (cs : List (Sent Block Order)) → answersTo recordTable q (emptied summaryBytes t) cs ≡ toldAll recordBlocks [] (own q cs)
 sheets-alone q t long cs = own-calls-only tells-orders q t long cs
+
+-- after the calls of both its places hold its blocks, and composing is told by these
+module _ (q : Queue) (t : List ℕ) (long : tableBytes summaryBytes ≤ length t) (cs : List (Sent Block Order)) where
+  abbrev pub table : List ℕ
+  table = tableAll recordTable (emptied summaryBytes t) cs
+
+  abbrev pub hold : List (Entry Block)
+  hold = leftAll recordBlocks [] (own q cs)
+
+  pub held : Held hold
+  unfolding tells-orders
+  held =
+      let k = keeps-own tells-orders q t long cs in
+      record {
+        proper = k .proper;
+        apart = k .stores .apart;
+        few = omega (arith, k .stores .count, taken-most (numberIn summaryBytes (shelf summaryBytes q table)) places);
+      }
+
+  pub queue-told : (s : Sheet) (d : List ℕ) (n : ℕ) → sheetTold table q s d n ≡ onTable summaryBytes table (overOutput s (writtenReply (bookIn hold) (payloadAt d 0)) d n)
+  unfolding tells-orders
+  queue-told s d n =
+      ap (λ (m : Read Indices). onTable summaryBytes table (overOutput s m d n)) (kept-told (shelf summaryBytes q table) hold (keeps-own tells-orders q t long cs) (payloadAt d 0))

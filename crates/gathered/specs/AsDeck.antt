@@ -36,7 +36,7 @@ use Rattle.summaries.specs.Written.{writtenReply}
 use Rattle.queues.specs.Blocks.{Block, noBlock, bookIn}
 use Rattle.gathered.specs.Gathered.{elsewhere, behindHead, overRecord}
 use Rattle.gathered.specs.Orders.{recordTable, recordBlocks}
-use Rattle.gathered.specs.Stacked.{blockRecord, blockRecords, further}
+use Rattle.gathered.specs.Stacked.{Held, blockRecord, blockRecords, further}
 
 abbrev Blocks : Type 0
 Blocks = List (Entry Block)
@@ -53,7 +53,7 @@ module _ (e : Entry Block) (p : Fit e) where
   even : length (e .goods .bytes) % 2 ≡ 0
   even = eqb-true (length (e .goods .bytes) % 2) 0 (not-false _ (neither (not (eqb (length (e .goods .bytes) % 2) 0)) (ltb mostBytes (length (e .goods .bytes))) (passed (e .goods .atoms) (e .goods .bytes) (p .fine) .bytes) .0))
 
-  few : length (e .goods .bytes) ≤ mostBytes
+  pub few : length (e .goods .bytes) ≤ mostBytes
   few = ltb-false mostBytes (length (e .goods .bytes)) (neither (not (eqb (length (e .goods .bytes) % 2) 0)) (ltb mostBytes (length (e .goods .bytes))) (passed (e .goods .atoms) (e .goods .bytes) (p .fine) .bytes) .1)
 
   small-atoms : e .goods .atoms < 65536
@@ -65,7 +65,7 @@ part-front a b i len = ap (take len) (drop-append-add a b i)
 
 -- what the record of a block says, behind other bytes and before others
 module _ (a r : List ℕ) (e : Entry Block) (p : Fit e) where
-  size : length (blockRecord e) ≡ 10 + length (e .goods .bytes)
+  pub size : length (blockRecord e) ≡ 10 + length (e .goods .bytes)
   unfolding blockRecord littleBytes
   size = omega arith
 
@@ -270,7 +270,7 @@ module _ (d : List ℕ) where
       (bs, ap (λ (m : ℕ). blocksFrom m assemblyKind all (length a) done) f ∙ step ∙ t ∙ ap (λ (i : ℕ). blocksFrom fuel assemblyKind all i bs) place, rw (← assoc) u)
 
 -- The reply to the deck of a queue's blocks and a record is the reply over that record, its place counted behind the blocks. (A block record would be one more block.)
-module _ (q : Blocks) (k : AllFit q) (z : Apart noBlock q) (some : 1 ≤ length q) (most : length q ≤ places) (d : List ℕ) (other : kindAt d 0 ≡ 1 → ⊥)
+module _ (q : Blocks) (held : Held q) (some : 1 ≤ length q) (d : List ℕ) (other : kindAt d 0 ≡ 1 → ⊥)
     (long : length (blockRecords q ++ d) ≤ longestDeck) where
   abbrev all : List ℕ
   all = blockRecords q ++ d
@@ -280,7 +280,8 @@ module _ (q : Blocks) (k : AllFit q) (z : Apart noBlock q) (some : 1 ≤ length 
 
   blocks-there : (bs : List BlockAt) × (blocksFrom 17 assemblyKind all 0 [] ≡ blocksFrom (suc (16 - length q)) assemblyKind all place bs) × Describes all bs q
   blocks-there =
-      let (bs, e, s) = blocks-read d q [] [] [] all refl tt k z (omega arith) (17 - length q) in
+      let few = held .few in
+      let (bs, e, s) = blocks-read d q [] [] [] all refl tt (held .proper) (held .apart) (omega arith) (17 - length q) in
       let f : length q + (17 - length q) ≡ 17 = omega arith in
       let g : 17 - length q ≡ suc (16 - length q) = omega arith in
       let w : 0 + place ≡ place = omega arith in

@@ -5,7 +5,8 @@
 -- | `overOutput`, `sheetTold`  | 9 for the table, 20, 9 for the output, then the record's       | `unique-compose`              |
 pub mod Gathered
 pub mod Orders
-pub mod Alone
 pub mod Stacked
+pub mod Alone
 pub mod AsDeck
+pub mod Accepted
 pub mod Unique

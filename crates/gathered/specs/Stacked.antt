@@ -1,12 +1,22 @@
 -- Work. A queue's blocks as the records of a deck.
-use Prim.Native.Nat.{ℕ, _+_, _/_}
+use Prim.Native.Nat.{ℕ, _+_, _/_, _≤_}
 use mathlib.Core.List.{List, [], _∷_, _++_}
 use lib.ListN.{length}
 use Rattle.reply.specs.Read.{Read}
 use Rattle.sheets.specs.Sheets.{littleBytes}
+use Rattle.storage.specs.Shelf.{places}
 use Rattle.storage.specs.Model.{Entry}
-use Rattle.queues.specs.Blocks.{Block}
+use Rattle.storage.specs.Entries.{Apart}
+use Rattle.storage.specs.Keeps.{AllProper}
+use Rattle.queues.specs.Blocks.{Block, noBlock}
 use Rattle.gathered.specs.Gathered.{elsewhere}
+use Rattle.gathered.specs.Orders.{recordTable, recordBlocks}
+
+-- what a queue may hold: at most eight blocks that are not refused, each under its own number
+pub record Held (q : List (Entry Block)) : Type 0 where
+  pub proper : AllProper recordTable recordBlocks q
+  pub apart : Apart noBlock q
+  pub few : length q ≤ places
 
 -- payload length, kind 1, block number, n, bond count, bonds
 unfoldable pub blockRecord : Entry Block → List ℕ
