@@ -1,26 +1,25 @@
 -- Laws. The sheet that a queue is handed is the one that writing gives for the deck of its blocks and the record, and is accepted behind that deck. Assumes nothing.
 use Prim.Native.Nat.{ℕ, _+_, _*_, _≤_}
-use mathlib.Core.Bool.{Bool, true, false, _&&_, not}
+use mathlib.Core.Bool.{true}
 use mathlib.Core.List.{List, [], _∷_, _++_}
 use mathlib.Core.Path.{_≡_, refl, sym, _∙_, ap}
 use native.Mathlib.Omega.{arith}
 use borrow.Author.Tests.{le-ltb, ltb-false}
-use lib.Dec.{eqb, ltb}
+use lib.Dec.{ltb}
 use lib.ListN.{length, take, length-append}
 use Rattle.reply.specs.Read.{Read, refused, read, _then_, refuseIf}
 use Rattle.reply.specs.Chain.{not-read, then-read, if-read}
 use Rattle.reply.specs.declared.Refusal.{Refusal}
 use Rattle.block.specs.Block.{mostBytes}
 use Rattle.block.specs.declared.Indices.{Indices}
-use Rattle.records.specs.Bytes.{le16}
 use Rattle.records.specs.Records.{headBytes, assemblyKind, lengthAt, kindAt, payloadAt, endAt, recordReply}
 use Rattle.records.specs.Taken.{of-first, of-one}
 use Rattle.records.specs.declared.Sheet.{Sheet}
 use Rattle.summary.specs.Layout.{summaryBytes}
+use Rattle.summaries.specs.Composing.{composedReply}
 use Rattle.summaries.specs.Written.{writtenReply}
-use Rattle.assembly.specs.Placements.{mostPlacements, placementCount, placementAt, assemblyReply}
+use Rattle.assembly.specs.Placements.{assemblyReply}
 use Rattle.assembly.specs.Sound.{whole}
-use Rattle.storage.specs.Shelf.{places}
 use Rattle.storage.specs.Stored.{little-part}
 use Rattle.storage.specs.Table.{tableBytes, tableReply}
 use Rattle.storage.specs.Calls.{Sent}
@@ -28,6 +27,7 @@ use Rattle.storage.specs.Model.{Entry, lookup, has}
 use Rattle.storage.specs.Entries.{has-positive, has-number}
 use Rattle.storage.specs.Keeps.{AllProper}
 use Rattle.storage.specs.declared.Queue.{Queue}
+use Rattle.queues.specs.Queues.{ownPlaces}
 use Rattle.queues.specs.Blocks.{Block, noBlock, bookIn}
 use Rattle.deck.specs.Deck.{longestDeck, placementPlace, endReply}
 use Rattle.deck.specs.declared.Form.the-variants.{Composed}
@@ -38,9 +38,9 @@ use Rattle.judging.specs.Theorems.{written-accepted}
 use Rattle.judging.specs.declared.Verdict.the-variants as verdict
 use Rattle.judging.specs.declared.SheetWritten.the-variants as written
 use Rattle.gathered.specs.Gathered.{elsewhere, behindHead, overRecord, overOutput, sheetTold}
-use Rattle.gathered.specs.Orders.{Order, recordTable, recordBlocks}
+use Rattle.gathered.specs.Orders.{Order, recordTable, recordBlocks, tableLeft, blocksLeft}
 use Rattle.gathered.specs.Stacked.{Held, blockRecord, blockRecords, further}
-use Rattle.gathered.specs.Alone.{table, hold, held, queue-told}
+use Rattle.gathered.specs.Alone.{held, own-composed, own-told}
 use Rattle.gathered.specs.AsDeck.{few, size, as-deck}
 
 -- the records of a queue's blocks are short
@@ -107,22 +107,26 @@ sheet-made : (y : Read Indices) → saidSheetWritten y ≡ written.Sheet → (x 
 sheet-made (refused r) e = absurd (let z : _≡_ {A = ℕ} 0 1 = cc in omega arith)
 sheet-made (read x) e = (x, refl)
 
-module _ (q : Queue) (t : List ℕ) (long : tableBytes summaryBytes ≤ length t) (cs : List (Sent Block Order)) (s : Sheet) (d out : List ℕ) where
-  -- the deck of the blocks that its own calls left, and the record
-  abbrev pub ownDeck : List ℕ
-  ownDeck = blockRecords (hold q t long cs) ++ d
+-- After any calls of both queues since the table was made empty, with the deck of the blocks that a queue's own calls left and a record.
+module _ (q : Queue) (t : List ℕ) (long : tableBytes summaryBytes ≤ length t) (cs : List (Sent Block Order)) (d : List ℕ) where
+  abbrev records : List ℕ
+  records = blockRecords (blocksLeft q cs)
 
-  abbrev told : Read Indices
-  told = sheetTold (table q t long cs) q s d (length out)
+  -- THE RECORD IS TOLD WHAT THAT DECK IS, refusals included, its place counted behind the blocks
+  pub queue-as-deck : 1 ≤ length (blocksLeft q cs) → (kindAt d 0 ≡ 1 → ⊥) → length (records ++ d) ≤ longestDeck
+      → fieldsReply Composed (records ++ d) ≡ further (length records) (overRecord (composedReply (ownPlaces (tableLeft t cs) q) (payloadAt d 0)) d)
+  queue-as-deck some other short =
+      as-deck (blocksLeft q cs) (held q t long cs) some d other short
+      ∙ ap (λ (m : Read Indices). further (length records) (overRecord m d)) (sym (own-composed q t long cs (payloadAt d 0)))
 
-  module _ (made : saidSheetWritten told ≡ written.Sheet) where
-    -- WHAT A QUEUE IS HANDED, after any calls of both since the table was made empty, is byte for byte what writing gives for that deck
-    pub queue-sheet : told ≡ sheetWriteReply s ownDeck (length out)
+  module _ (s : Sheet) (out : List ℕ) (made : saidSheetWritten (sheetTold (tableLeft t cs) q s d (length out)) ≡ written.Sheet) where
+    -- A SHEET THAT IS HANDED OUT is byte for byte what writing gives for that deck
+    pub queue-sheet : sheetTold (tableLeft t cs) q s d (length out) ≡ sheetWriteReply s (records ++ d) (length out)
     queue-sheet =
-        let (x, e) = sheet-made told made in
-        let (u, a, f) = then-read (tableReply summaryBytes (table q t long cs)) _ (sym (queue-told q t long cs s d (length out)) ∙ e) in
-        e ∙ sym (same-sheet (hold q t long cs) (held q t long cs) s d (length out) x f)
+        let (x, e) = sheet-made (sheetTold (tableLeft t cs) q s d (length out)) made in
+        let (u, a, f) = then-read (tableReply summaryBytes (tableLeft t cs)) _ (sym (own-told q t long cs s d (length out)) ∙ e) in
+        e ∙ sym (same-sheet (blocksLeft q cs) (held q t long cs) s d (length out) x f)
 
     -- AND IS ACCEPTED behind it
-    pub queue-accepted : saidVerdict (judgeReply (ownDeck ++ take (sheetBytes s) (sheetOut s out told))) ≡ verdict.Accepted
-    queue-accepted = rw queue-sheet (written-accepted s ownDeck out (sym (ap saidSheetWritten queue-sheet) ∙ made))
+    pub queue-accepted : saidVerdict (judgeReply ((records ++ d) ++ take (sheetBytes s) (sheetOut s out (sheetTold (tableLeft t cs) q s d (length out))))) ≡ verdict.Accepted
+    queue-accepted = rw queue-sheet (written-accepted s (records ++ d) out (sym (ap saidSheetWritten queue-sheet) ∙ made))

@@ -13,17 +13,16 @@ use Rattle.summaries.specs.Composing.{composedReply}
 use Rattle.summaries.specs.Written.{writtenReply}
 use Rattle.storage.specs.Shelf.{places, numberIn}
 use Rattle.storage.specs.Table.{tableBytes, shelf, onTable, emptied}
-use Rattle.storage.specs.Calls.{Sent, compose, sheet, own, tableAnswer, answersTo, tableAll}
-use Rattle.storage.specs.Model.{Entry, toldAll, leftAll}
+use Rattle.storage.specs.Calls.{Sent, compose, sheet, own, tableAnswer, answersTo}
+use Rattle.storage.specs.Model.{Entry, toldAll}
 use Rattle.storage.specs.Seeks.{taken-most}
-use Rattle.storage.specs.Keeps.{Proper, AllProper, KeepsQueue, HonestTrade}
-use Rattle.storage.specs.Kept.{KeptPlaces}
+use Rattle.storage.specs.Keeps.{AllProper, KeepsQueue, HonestTrade}
 use Rattle.storage.specs.Alone.{own-calls-only, keeps-own}
 use Rattle.storage.specs.declared.Queue.{Queue}
 use Rattle.queues.specs.Blocks.{Block, bookIn, summaryTable, blocks}
 use Rattle.queues.specs.Alone.{tells-blocks}
 use Rattle.gathered.specs.Gathered.{overOutput, sheetTold}
-use Rattle.gathered.specs.Orders.{Order, Handed, handed, ordered, recordTable, toldBlocks, recordBlocks}
+use Rattle.gathered.specs.Orders.{Order, handed, ordered, recordTable, recordBlocks, tableLeft, blocksLeft}
 use Rattle.gathered.specs.Stacked.{Held}
 
 -- the promise of `compose` is what the table tells an order
@@ -59,23 +58,19 @@ sheets-alone q t long cs = own-calls-only tells-orders q t long cs
 
 -- after the calls of both its places hold its blocks, and composing is told by these
 module _ (q : Queue) (t : List ℕ) (long : tableBytes summaryBytes ≤ length t) (cs : List (Sent Block Order)) where
-  abbrev pub table : List ℕ
-  table = tableAll recordTable (emptied summaryBytes t) cs
-
-  abbrev pub hold : List (Entry Block)
-  hold = leftAll recordBlocks [] (own q cs)
-
-  pub held : Held hold
+  pub held : Held (blocksLeft q cs)
   unfolding tells-orders
   held =
       let k = keeps-own tells-orders q t long cs in
       record {
         proper = k .proper;
         apart = k .stores .apart;
-        few = omega (arith, k .stores .count, taken-most (numberIn summaryBytes (shelf summaryBytes q table)) places);
+        few = omega (arith, k .stores .count, taken-most (numberIn summaryBytes (shelf summaryBytes q (tableLeft t cs))) places);
       }
 
-  pub queue-told : (s : Sheet) (d : List ℕ) (n : ℕ) → sheetTold table q s d n ≡ onTable summaryBytes table (overOutput s (writtenReply (bookIn hold) (payloadAt d 0)) d n)
+  pub own-composed : (xs : List ℕ) → composedReply (shelf summaryBytes q (tableLeft t cs)) xs ≡ writtenReply (bookIn (blocksLeft q cs)) xs
   unfolding tells-orders
-  queue-told s d n =
-      ap (λ (m : Read Indices). onTable summaryBytes table (overOutput s m d n)) (kept-told (shelf summaryBytes q table) hold (keeps-own tells-orders q t long cs) (payloadAt d 0))
+  own-composed xs = kept-told (shelf summaryBytes q (tableLeft t cs)) (blocksLeft q cs) (keeps-own tells-orders q t long cs) xs
+
+  pub own-told : (s : Sheet) (d : List ℕ) (n : ℕ) → sheetTold (tableLeft t cs) q s d n ≡ onTable summaryBytes (tableLeft t cs) (overOutput s (writtenReply (bookIn (blocksLeft q cs)) (payloadAt d 0)) d n)
+  own-told s d n = ap (λ (m : Read Indices). onTable summaryBytes (tableLeft t cs) (overOutput s m d n)) (own-composed (payloadAt d 0))

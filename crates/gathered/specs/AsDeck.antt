@@ -1,18 +1,18 @@
 -- Laws. The deck of a queue's blocks and a record is told what the record is told over the blocks, its place counted behind them. Assumes nothing.
-use Prim.Native.Nat.{ℕ, zero, suc, _+_, _*_, _-_, _/_, _%_, _≤_, _<_}
-use mathlib.Core.Bool.{Bool, true, false, _&&_, _||_, not, cond}
+use Prim.Native.Nat.{ℕ, suc, _+_, _*_, _-_, _/_, _%_, _≤_, _<_}
+use mathlib.Core.Bool.{Bool, true, false, _&&_, not, cond}
 use mathlib.Core.List.{List, [], _∷_, _++_, append-assoc, append-nil}
 use mathlib.Core.Path.{_≡_, refl, sym, _∙_, ap, ap₂, fun-ext}
 use native.Mathlib.Omega.{arith}
-use borrow.Author.Tests.{eq-eqb, ne-eqb, eqb-true, eqb-false, lt-ltb, le-ltb, ltb-true, ltb-false, lt-leb, not-false}
-use lib.Dec.{eqb, ltb, leb}
-use lib.ListN.{length, getD, take, drop, length-append}
-use lib.Seq.{take-at, drop-append-add, getD-append-add}
-use Rattle.graph.specs.Graph.{Graph, Within}
+use borrow.Author.Tests.{eq-eqb, ne-eqb, eqb-true, lt-ltb, le-ltb, ltb-true, ltb-false, lt-leb, not-false}
+use lib.Dec.{eqb, ltb}
+use lib.ListN.{length, take, length-append}
+use lib.Seq.{take-at, drop-append-add}
+use Rattle.graph.specs.Graph.{Graph}
 use Rattle.graph.specs.Assembly.{written}
-use Rattle.reply.specs.Read.{Read, refused, read, _then_, refuseIf, refusal, ifElse}
-use Rattle.reply.specs.Chain.{then-read, if-read, neither}
-use Rattle.block.specs.Block.{mostBytes, graphOf, blockReply}
+use Rattle.reply.specs.Read.{Read, refused, read, _then_, refuseIf, refusal}
+use Rattle.reply.specs.Chain.{neither}
+use Rattle.block.specs.Block.{mostBytes, graphOf}
 use Rattle.block.specs.Told.{passed, few-atoms}
 use Rattle.block.specs.Index.{indicesOf}
 use Rattle.block.specs.declared.Indices.{Indices}
@@ -21,9 +21,9 @@ use Rattle.records.specs.declared.Kind.{Kind}
 use Rattle.records.specs.Records.{headBytes, blockKind, assemblyKind, lengthAt, kindAt, payloadAt, endAt, wanted, kindReply, isWrong, lengthReply, recordReply}
 use Rattle.records.specs.Longer.{little-behind}
 use Rattle.assembly.specs.declared.BlockAt.{BlockAt}
-use Rattle.assembly.specs.Book.{Book, find, used, bondBytes, blockGraph, bookOf, mostBlocks}
+use Rattle.assembly.specs.Book.{Book, find, bondBytes, bookOf, mostBlocks}
 use Rattle.assembly.specs.Placements.{placementCount, placementAt, graphOn, joinOn, assemblyReply}
-use Rattle.deck.specs.Deck.{longestDeck, Deck, deckAt, blockAt, kindsAfter, moved, blockPlace, placementPlace, blockReplyAt, blocksFrom, blocksReply, assemblyReplyAt, endReply, sheetReply, deckReply}
+use Rattle.deck.specs.Deck.{longestDeck, Deck, deckAt, blockAt, kindsAfter, moved, placementPlace, blockReplyAt, blocksFrom, blocksReply, assemblyReplyAt, endReply, sheetReply, deckReply}
 use Rattle.deck.specs.Molecule.{placedIn, graphAt, joinAt, moleculeOf}
 use Rattle.deck.specs.declared.Form.the-variants.{Composed}
 use Rattle.compose.specs.Fields.{fieldsReply}

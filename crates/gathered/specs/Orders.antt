@@ -1,15 +1,18 @@
 -- Work. The table of the calls where composing goes by a whole record and hands a sheet out; and what its calls mean with no bytes.
 use Prim.Native.Nat.{ℕ}
-use mathlib.Core.List.{List}
+use mathlib.Core.List.{List, []}
 use lib.ListN.{length}
 use Rattle.reply.specs.Read.{Read}
 use Rattle.block.specs.declared.Indices.{Indices}
 use Rattle.records.specs.Records.{payloadAt}
 use Rattle.records.specs.declared.Sheet.{Sheet}
+use Rattle.summary.specs.Layout.{summaryBytes}
 use Rattle.summaries.specs.Composing.{composedReply}
 use Rattle.summaries.specs.Written.{writtenReply}
-use Rattle.storage.specs.Calls.{Trade}
-use Rattle.storage.specs.Model.{Entry, Meaning}
+use Rattle.storage.specs.Table.{emptied}
+use Rattle.storage.specs.Calls.{Trade, Sent, own, tableAll}
+use Rattle.storage.specs.Model.{Entry, Meaning, leftAll}
+use Rattle.storage.specs.declared.Queue.{Queue}
 use Rattle.queues.specs.Blocks.{Block, bookIn, summaryTable, blocks}
 use Rattle.judging.specs.Judging.{saidSheetWritten, sheetOut}
 use Rattle.judging.specs.declared.SheetWritten.{SheetWritten}
@@ -54,3 +57,10 @@ recordBlocks = record {
   fieldsOf = blocks .fieldsOf;
   composedOf = λ q o. handed o (toldBlocks q o);
 }
+
+-- the table after some calls of both queues since it was made empty, and the blocks that a queue's own calls leave it
+abbrev pub tableLeft : List ℕ → List (Sent Block Order) → List ℕ
+tableLeft t cs = tableAll recordTable (emptied summaryBytes t) cs
+
+abbrev pub blocksLeft : Queue → List (Sent Block Order) → List (Entry Block)
+blocksLeft q cs = leftAll recordBlocks [] (own q cs)
