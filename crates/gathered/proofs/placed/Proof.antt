@@ -36,7 +36,7 @@ mul-t9 : tie.Need-mul-t9
 mul-t9 c =
     let s = c .before .before .before .before .before .before .before .before in
     let r = c .before .before .told .given in
-    omega (arith, told-few (s .args .table .now) (s .args .queue) (payloadAt (s .args .d .now) 0) (told-refused (answer s) (r .0 .0) (sym (told-is (c .before .before .before .before)) ∙ r .1)))
+    omega (arith, told-few (s .args .table .now) (s .args .queue) (payloadAt (s .args .d .now) 0) (r .0 .0) (told-refused (answer s) (r .0 .0) (sym (told-is (c .before .before .before .before)) ∙ r .1)))
 
 enum-known-told-2 : tie.Need-enum-known-told-2
 enum-known-told-2 c = search needs
