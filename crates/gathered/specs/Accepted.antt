@@ -34,7 +34,7 @@ use Rattle.deck.specs.declared.Form.the-variants.{Composed}
 use Rattle.sheets.specs.Sheets.{sheetBytes}
 use Rattle.compose.specs.Fields.{fieldsReply}
 use Rattle.judging.specs.Judging.{judgeReply, saidVerdict, sheetWriteReply, saidSheetWritten, sheetOut}
-use Rattle.judging.specs.Theorems.{written-accepted}
+use Rattle.judging.specs.Theorems.{sheet-made, written-accepted}
 use Rattle.judging.specs.declared.Verdict.the-variants as verdict
 use Rattle.judging.specs.declared.SheetWritten.the-variants as written
 use Rattle.gathered.specs.Gathered.{elsewhere, behindHead, overRecord, overOutput, sheetTold}
@@ -47,7 +47,7 @@ use Rattle.gathered.specs.AsDeck.{few, size, as-deck}
 records-short : (q : List (Entry Block)) → AllProper recordTable recordBlocks q → length (blockRecords q) ≤ (10 + mostBytes) * length q
 unfolding blockRecords
 records-short [] p = omega arith
-records-short (e ∷ q) p = omega (arith, length-append (blockRecord e) (blockRecords q), size [] [] e (p .0), few e (p .0), records-short q (p .1))
+records-short (e ∷ q) p = omega (arith, length-append (blockRecord e) (blockRecords q), size e, few e (p .0), records-short q (p .1))
 
 -- a queue that has a number holds something
 holds-some : (q : List (Entry Block)) (x : ℕ) → has noBlock q x ≡ true → 1 ≤ length q
@@ -102,10 +102,6 @@ same-sheet q h s d n x e =
     let (u, a, f) = then-read (refuseIf (ltb longestDeck (length d)) 20 0) _ e in
     let (v, b, g) = then-read (refuseIf (ltb n (sheetBytes s)) 9 0) _ f in
     sheet-is q h d x g s n (ltb-false n (sheetBytes s) (if-read _ 9 0 b))
-
-sheet-made : (y : Read Indices) → saidSheetWritten y ≡ written.Sheet → (x : Indices) × (y ≡ read x)
-sheet-made (refused r) e = absurd (let z : _≡_ {A = ℕ} 0 1 = cc in omega arith)
-sheet-made (read x) e = (x, refl)
 
 -- After any calls of both queues since the table was made empty, with the deck of the blocks that a queue's own calls left and a record.
 module _ (q : Queue) (t : List ℕ) (long : tableBytes summaryBytes ≤ length t) (cs : List (Sent Block Order)) (d : List ℕ) where

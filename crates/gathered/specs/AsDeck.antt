@@ -63,12 +63,20 @@ module _ (e : Entry Block) (p : Fit e) where
 part-front : (a b : List ℕ) (i len : ℕ) → part (a ++ b) (length a + i) len ≡ part b i len
 part-front a b i len = ap (take len) (drop-append-add a b i)
 
+-- and a test behind other bytes
+ltb-behind : (n a b : ℕ) → ltb (n + a) (n + b) ≡ ltb a b
+ltb-behind n a b = go (ltb a b) refl
+  where
+    go : (t : Bool) → ltb a b ≡ t → ltb (n + a) (n + b) ≡ t
+    go true e = lt-ltb (n + a) (n + b) (omega (arith, ltb-true a b e))
+    go false e = le-ltb (n + a) (n + b) (omega (arith, ltb-false a b e))
+
+pub size : (e : Entry Block) → length (blockRecord e) ≡ 10 + length (e .goods .bytes)
+unfolding blockRecord littleBytes
+size e = omega arith
+
 -- what the record of a block says, behind other bytes and before others
 module _ (a r : List ℕ) (e : Entry Block) (p : Fit e) where
-  pub size : length (blockRecord e) ≡ 10 + length (e .goods .bytes)
-  unfolding blockRecord littleBytes
-  size = omega arith
-
   says-length : little 2 (blockRecord e ++ r) 0 ≡ 6 + length (e .goods .bytes)
   unfolding blockRecord littleBytes little
   says-length = omega (arith, few e p)
@@ -120,7 +128,7 @@ module _ (a r : List ℕ) (e : Entry Block) (p : Fit e) where
       ap₂ (λ (f m : ℕ). part d f m) z bonds-there ∙ part-front a (blockRecord e ++ r) 10 (length (e .goods .bytes)) ∙ says-bytes
 
   pub end-there : endAt d (length a) ≡ length (a ++ blockRecord e)
-  end-there = omega (arith, length-there, size, length-append a (blockRecord e))
+  end-there = omega (arith, length-there, size e, length-append a (blockRecord e))
 
   within : endAt d (length a) ≤ length d
   within = omega (arith, end-there, length-append a (blockRecord e), length-append a (blockRecord e ++ r), length-append (blockRecord e) r)
@@ -320,11 +328,7 @@ module _ (q : Blocks) (held : Held q) (some : 1 ≤ length q) (d : List ℕ) (ot
       (go (ltb (length d) (endAt d 0)) (eqb (kindAt d 0) 2))
     where
       short-is : ltb (length all) (endAt all place) ≡ ltb (length d) (endAt d 0)
-      short-is = by (ltb (length d) (endAt d 0)) refl
-        where
-          by : (t : Bool) → ltb (length d) (endAt d 0) ≡ t → ltb (length all) (endAt all place) ≡ t
-          by true e = lt-ltb (length all) (endAt all place) (omega (arith, ltb-true (length d) (endAt d 0) e, front-end (blockRecords q) d, length-append (blockRecords q) d))
-          by false e = le-ltb (length all) (endAt all place) (omega (arith, ltb-false (length d) (endAt d 0) e, front-end (blockRecords q) d, length-append (blockRecords q) d))
+      short-is = ap₂ ltb (length-append (blockRecords q) d) (front-end (blockRecords q) d) ∙ ltb-behind place (length d) (endAt d 0)
 
       go : (t u : Bool) → (refuseIf t 11 place then λ _. cond u (read assemblyKind) (refused (refusal 12 place)) then λ c. lengthReply c all place)
           ≡ further place (refuseIf t 11 0 then λ _. cond u (read assemblyKind) (refused (refusal 12 0)) then λ c. lengthReply c d 0)
@@ -363,11 +367,7 @@ module _ (q : Blocks) (held : Held q) (some : 1 ≤ length q) (d : List ℕ) (ot
       ends i j e false = refl
 
       end-is : ltb (endAt all place) (length all) ≡ ltb (endAt d 0) (length d)
-      end-is = by (ltb (endAt d 0) (length d)) refl
-        where
-          by : (t : Bool) → ltb (endAt d 0) (length d) ≡ t → ltb (endAt all place) (length all) ≡ t
-          by true e = lt-ltb (endAt all place) (length all) (omega (arith, ltb-true (endAt d 0) (length d) e, front-end (blockRecords q) d, length-append (blockRecords q) d))
-          by false e = le-ltb (endAt all place) (length all) (omega (arith, ltb-false (endAt d 0) (length d) e, front-end (blockRecords q) d, length-append (blockRecords q) d))
+      end-is = ap₂ ltb (front-end (blockRecords q) d) (length-append (blockRecords q) d) ∙ ltb-behind place (endAt d 0) (length d)
 
       rest : (m : Read (Unit {0})) → (moved (placementPlace place) m then λ _. refuseIf (ltb (endAt all place) (length all)) 11 (endAt all place) then λ _. read deck)
           ≡ further place (moved (placementPlace 0) m then λ _. refuseIf (ltb (endAt d 0) (length d)) 11 (endAt d 0) then λ _. read deck)

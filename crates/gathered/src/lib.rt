@@ -81,7 +81,7 @@ fn ended(d: &[u8], all: Indices) -> IndicesReply
 }
 
 // What the payload is told, and then what follows the record.
-fn placed_alone(table: &[u8], queue: Queue, d: &[u8]) -> IndicesReply
+fn behind_head(table: &[u8], queue: Queue, d: &[u8]) -> IndicesReply
     ensures { λ r. ⌜ r ≡ saidIndices (behindHead
         (composeTold (now (table .entry)) queue (payloadAt (now (d .entry)) 0)) (now (d .entry))) ⌝ }
 {
@@ -100,7 +100,7 @@ fn composed(table: &[u8], queue: Queue, d: &[u8]) -> IndicesReply
     let reply = record_at(d, 0, ASSEMBLY, ASSEMBLY);
     match reply {
         Reply::Refused(r) => IndicesReply::Refused(r),
-        Reply::Fine => placed_alone(table, queue, d),
+        Reply::Fine => behind_head(table, queue, d),
     }
 }
 

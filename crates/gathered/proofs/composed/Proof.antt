@@ -18,8 +18,8 @@ enum-known-reply c = search needs
 enum-told : tie.Need-enum-told
 enum-told c = search needs
 
-placed-alone-requires : tie.Need-placed-alone-requires
-placed-alone-requires c κs = search needs
+behind-head-requires : tie.Need-behind-head-requires
+behind-head-requires c κs = search needs
 
 returns : tie.Need-returns
 returns c =
@@ -30,7 +30,7 @@ returns c =
 returns-2 : tie.Need-returns-2
 returns-2 c =
     let a = c .before .before .before .before .before .before .args in
-    c .placed-alone .ensures
+    c .behind-head .ensures
     ∙ sym (ap saidIndices (record-fine _ (a .d .now) (sym (once assemblyKind (a .d .now) 0) ∙ fine-read _ (sym (c .before .before .before .record-at .ensures) ∙ c .before .enum-told .given .1))))
 
 pub composed-spec : {M : Type 1} → statement M
@@ -40,6 +40,6 @@ composed-spec =
     record-at-requires
     enum-known-reply
     enum-told
-    placed-alone-requires
+    behind-head-requires
     returns
     returns-2)

@@ -1,10 +1,10 @@
--- `gathered::placed_alone` meets its contract. Assumes nothing.
+-- `gathered::behind_head` meets its contract. Assumes nothing.
 use mathlib.Core.Path.{sym, _∙_, ap}
 use borrow.Author.Needs.{needs}
 use Rattle.block.specs.Index.{saidIndices}
 use Rattle.gathered.proofs.Answers.{told-refused, told-read, behind-refused, behind-read}
-use Rattle.gathered.proofs.placed_alone.Statement.{statement}
-use Rattle.gathered.proofs.placed_alone.Tie as tie
+use Rattle.gathered.proofs.behind_head.Statement.{statement}
+use Rattle.gathered.proofs.behind_head.Tie as tie
 
 placed-requires : tie.Need-placed-requires
 placed-requires c κs = search needs
@@ -28,7 +28,7 @@ returns-2 c =
     let r = c .before .before .told2 .given in
     c .ended .ensures ∙ sym (ap saidIndices (behind-read _ _ (r .0 .0) (told-read _ (r .0 .0) (sym (c .before .before .before .before .placed .ensures) ∙ r .1))))
 
-pub placed-alone-spec : {M : Type 1} → statement M
-placed-alone-spec =
+pub behind-head-spec : {M : Type 1} → statement M
+behind-head-spec =
     tie.close
     (tie.spec placed-requires enum-known-told enum-known-told-2 ended-requires returns returns-2)
