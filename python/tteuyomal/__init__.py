@@ -26,6 +26,7 @@ from .decks import (
 from .libraries import Candidate, Library, Product, Site
 from .library import NotThere, Refused
 from .library import version as library_version
+from .tables import Queue, Table
 
 __version__ = "2.0.0"
 
@@ -37,9 +38,11 @@ __all__ = [
     "NotThere",
     "Placement",
     "Product",
+    "Queue",
     "Refused",
     "Sheet",
     "Site",
+    "Table",
     "Verdict",
     "compose",
     "contributions",

@@ -31,6 +31,7 @@ mod libraries;
 mod molfiles;
 mod neighbour_text;
 mod szeged_terms;
+mod two_queues;
 mod version;
 
 const PLACES: usize = 72_057_594_037_927_936;
