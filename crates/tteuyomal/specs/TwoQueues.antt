@@ -4,23 +4,15 @@ use mathlib.Core.Bool.{cond}
 use mathlib.Core.List.{List}
 use lib.Dec.{eqb}
 use Rattle.reply.specs.Read.{Read, read, _then_}
-use Rattle.reply.specs.declared.Reply.{Reply}
-use Rattle.reply.specs.declared.Reply.the-variants as reply
 use Rattle.records.specs.declared.Sheet.the-variants.{Six}
 use Rattle.sheets.specs.Sheets.{fieldsOf}
 use Rattle.storage.specs.declared.Queue.{Queue}
 use Rattle.storage.specs.declared.Queue.the-variants.{Day, Night}
 use Rattle.queues.specs.Queues.{lookTold}
-use Rattle.tteuyomal.specs.Convention.{code}
 
 -- 0 is the day queue, anything else counts as the night queue
 abbrev pub queueFor : ℕ → Queue
 queueFor which = cond (eqb which 0) Day Night
-
--- a reply of the library as one number
-abbrev pub replyCode : Reply → ℕ
-replyCode (reply.Refused r) = code r
-replyCode reply.Fine = 0
 
 -- the six fields of a block that a queue holds
 abbrev pub lookList : List ℕ → Queue → ℕ → Read (List ℕ)

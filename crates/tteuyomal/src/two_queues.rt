@@ -1,15 +1,21 @@
 // Two queues at one table, as C calls them.
 ghost use mathlib.Core.Path.{_≡_};
+ghost use lib.ListN.{length};
 ghost use Rattle.summary.specs.Layout.{summaryBytes};
 ghost use Rattle.storage.specs.Table.{tableReply, emptied};
 ghost use Rattle.queues.specs.Queues.{addTold, tableAdded, dropTold, tableDropped};
+ghost use Rattle.judging.specs.Judging.{sheetOut};
+ghost use Rattle.gathered.specs.Gathered.{sheetTold};
 ghost use Rattle.tteuyomal.specs.Convention.{coded, Lent};
-ghost use Rattle.tteuyomal.specs.TwoQueues.{queueFor, lookList, replyCode};
+ghost use Rattle.tteuyomal.specs.Libraries.{sheetFor};
+ghost use Rattle.tteuyomal.specs.TwoQueues.{queueFor, lookList};
 use super::code_of;
 use super::give_fields;
+use super::libraries::sheet_for;
+use super::reply_code;
+use super::written_code;
 use block::IndicesReply;
 use records::Sheet;
-use reply::Reply;
 use storage::Queue;
 
 // The queue of a number: 0 is the day queue, anything else counts as the night queue.
@@ -20,16 +26,6 @@ fn queue_for(which: usize) -> Queue
         return Queue::Day;
     }
     Queue::Night
-}
-
-// A reply as one number.
-fn reply_code(reply: Reply) -> u64
-    ensures { λ r. ⌜ r ≡ replyCode reply ⌝ }
-{
-    match reply {
-        Reply::Fine => 0,
-        Reply::Refused(r) => code_of(r),
-    }
 }
 
 #[no_mangle]
@@ -79,4 +75,21 @@ pub extern "C" fn tteuyomal_queue_drop(table: &mut [u8], queue: usize, number: u
 {
     let told = queues::drop(table, queue_for(queue), number);
     reply_code(told)
+}
+
+#[no_mangle]
+pub extern "C" fn tteuyomal_queue_compose(
+    table: &[u8],
+    queue: usize,
+    kind: usize,
+    assembly: &[u8],
+    out: &mut [u8],
+) -> u64
+    ensures reply { λ r. ⌜ r ≡ coded (sheetTold (now (table .entry)) (queueFor queue) (sheetFor kind)
+        (now (assembly .entry)) (length (now (out .entry)))) ⌝ }
+    ensures bytes { λ _. ⌜ now (out .exit) ≡ sheetOut (sheetFor kind) (now (out .entry)) (sheetTold (now (table .entry)) (queueFor queue) (sheetFor kind)
+        (now (assembly .entry)) (length (now (out .entry)))) ⌝ }
+{
+    let written = gathered::compose(table, queue_for(queue), sheet_for(kind), assembly, out);
+    written_code(written)
 }

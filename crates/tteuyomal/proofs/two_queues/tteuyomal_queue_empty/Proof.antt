@@ -1,9 +1,10 @@
 -- `tteuyomal::two_queues::tteuyomal_queue_empty` meets its contract. Assumes nothing.
+use mathlib.Core.Path.{_∙_}
 use denote.Ref.{now}
 use borrow.Author.Needs.{needs}
 use Rattle.summary.specs.Layout.{summaryBytes}
 use Rattle.storage.specs.Table.{tableReply}
-use Rattle.tteuyomal.proofs.QueueReplies.{reply-coded}
+use Rattle.tteuyomal.proofs.Laws.{reply-coded}
 use Rattle.tteuyomal.proofs.two_queues.tteuyomal_queue_empty.Statement.{statement}
 use Rattle.tteuyomal.proofs.two_queues.tteuyomal_queue_empty.Tie as tie
 
@@ -20,7 +21,7 @@ returns : tie.Need-returns
 returns c =
     let e = c .before .before .before in
     let a = e .before .before .before .args in
-    (reply-coded (e .empty .result) (tableReply summaryBytes (now (a .table))) (c .reply-code .ensures) (e .empty .ensures .0), e .empty .ensures .1)
+    (c .reply-code .ensures ∙ reply-coded (e .empty .result) (tableReply summaryBytes (now (a .table))) (e .empty .ensures .0), e .empty .ensures .1)
 
 pub tteuyomal-queue-empty-spec : {M : Type 1} → statement M
 tteuyomal-queue-empty-spec =

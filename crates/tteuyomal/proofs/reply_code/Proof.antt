@@ -1,9 +1,9 @@
--- `tteuyomal::two_queues::reply_code` meets its contract. Assumes nothing.
+-- `tteuyomal::reply_code` meets its contract. Assumes nothing.
 use mathlib.Core.Path.{sym, _∙_, ap}
 use borrow.Author.Needs.{needs}
-use Rattle.tteuyomal.specs.TwoQueues.{replyCode}
-use Rattle.tteuyomal.proofs.two_queues.reply_code.Statement.{statement}
-use Rattle.tteuyomal.proofs.two_queues.reply_code.Tie as tie
+use Rattle.tteuyomal.specs.Convention.{replyCode}
+use Rattle.tteuyomal.proofs.reply_code.Statement.{statement}
+use Rattle.tteuyomal.proofs.reply_code.Tie as tie
 
 enum-told : tie.Need-enum-told
 enum-told c = search needs
