@@ -292,5 +292,7 @@ pub fn queue_drop(table: &mut [u8], queue: usize, number: u16) -> u64 {
 
 pub fn queue_compose(table: &[u8], queue: usize, kind: usize, record: &[u8], out: &mut [u8]) -> u64 {
     let (to, room) = (out.as_mut_ptr(), out.len());
-    unsafe { c::tteuyomal_queue_compose(table.as_ptr(), table.len(), queue, kind, record.as_ptr(), record.len(), to, room) }
+    unsafe {
+        c::tteuyomal_queue_compose(table.as_ptr(), table.len(), queue, kind, record.as_ptr(), record.len(), to, room)
+    }
 }

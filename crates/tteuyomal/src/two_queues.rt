@@ -87,8 +87,8 @@ pub extern "C" fn tteuyomal_queue_compose(
 ) -> u64
     ensures reply { λ r. ⌜ r ≡ coded (sheetTold (now (table .entry)) (queueFor queue) (sheetFor kind)
         (now (assembly .entry)) (length (now (out .entry)))) ⌝ }
-    ensures bytes { λ _. ⌜ now (out .exit) ≡ sheetOut (sheetFor kind) (now (out .entry)) (sheetTold (now (table .entry)) (queueFor queue) (sheetFor kind)
-        (now (assembly .entry)) (length (now (out .entry)))) ⌝ }
+    ensures bytes { λ _. ⌜ now (out .exit) ≡ sheetOut (sheetFor kind) (now (out .entry))
+        (sheetTold (now (table .entry)) (queueFor queue) (sheetFor kind) (now (assembly .entry)) (length (now (out .entry)))) ⌝ }
 {
     let written = gathered::compose(table, queue_for(queue), sheet_for(kind), assembly, out);
     written_code(written)

@@ -34,6 +34,7 @@ pub fn stack(decks: &[&DeckPlan]) {
         ("szeged", most(&blocks, |bonds| archive::szeged(64, bonds, &mut [0; MOST_BONDS], &mut [0]))),
         ("balaban", most(&blocks, |bonds| archive::balaban(64, bonds, &mut [0]))),
         ("polynomial", most(&blocks, |bonds| archive::polynomial(64, bonds, 0.5, &mut [0.0; 2]))),
+        ("queue_empty", most(&[table.clone()], |table| archive::queue_empty(&mut table.to_vec()))),
         ("queue_add", most(&blocks, |bonds| archive::queue_add(&mut vec![0; TABLE], 0, 1, 64, bonds))),
         ("queue_look", most(&[table.clone()], |table| archive::queue_look(table, 1, 8, &mut [0; 6]))),
         ("queue_drop", most(&[table.clone()], |table| archive::queue_drop(&mut table.to_vec(), 1, 8))),

@@ -94,5 +94,9 @@ fn time_looking() -> String {
     };
     let [taken, _] = medians(&mut look, &mut || {});
     let met = if taken < LOOK_SECONDS { "met" } else { "MISSED" };
-    format!("A queue's look-up in its last place takes {:.1} ns (goal under {}: {met}).", taken * 1e9, duration(LOOK_SECONDS))
+    format!(
+        "A queue's look-up in its last place takes {:.1} ns (goal under {}: {met}).",
+        taken * 1e9,
+        duration(LOOK_SECONDS)
+    )
 }
