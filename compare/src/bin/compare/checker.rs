@@ -51,7 +51,7 @@ pub fn code<T>(answer: &Result<T, Refusal>) -> u64 {
     }
 }
 
-pub fn words(code: u64) -> String {
+fn words(code: u64) -> String {
     match (code % 256, code / 256) {
         (0, 0) => String::from("fine"),
         (DONE, 0) => String::from("done"),
