@@ -1,11 +1,13 @@
 -- What composing from a record is told, test by test. Assumes nothing.
-use Prim.Native.Nat.{ℕ, _+_, _*_, _≤_, _<_}
+use Prim.Native.Nat.{ℕ, zero, suc, _*_, _≤_, _<_}
+use mathlib.Core.Bool.{Bool, true, false, cond}
 use mathlib.Core.List.{List, [], _∷_}
 use mathlib.Core.Path.{_≡_, refl, sym, _∙_, ap}
 use native.Mathlib.Omega.{arith}
 use borrow.Author.Tests.{lt-ltb, le-ltb}
+use lib.Dec.{ltb}
 use lib.ListN.{length}
-use Rattle.reply.specs.Read.{Read, refused, read, refusal, _then_}
+use Rattle.reply.specs.Read.{Read, refused, read, refusal, _then_, refuseIf, refuseFor}
 use Rattle.reply.specs.declared.Refusal.{Refusal}
 use Rattle.block.specs.Index.{saidIndices}
 use Rattle.block.specs.declared.Indices.{Indices}
@@ -66,6 +68,17 @@ module _ (m : Read Indices) (d : List ℕ) where
   unfolding overRecord
   record-fine e = rw e
 
+-- the number of what is wrong before the record is read
+module _ (s : Sheet) (long output : ℕ) where
+  pub too-long : longestDeck < long → cond {A = ℕ} (ltb longestDeck long) 20 (cond (ltb output (sheetBytes s)) 9 0) ≡ 20
+  too-long h = rw (lt-ltb longestDeck long h)
+
+  pub too-short : long ≤ longestDeck → output < sheetBytes s → cond {A = ℕ} (ltb longestDeck long) 20 (cond (ltb output (sheetBytes s)) 9 0) ≡ 9
+  too-short h l = rw (le-ltb longestDeck long h, lt-ltb output (sheetBytes s) l)
+
+  pub both-fit : long ≤ longestDeck → sheetBytes s ≤ output → cond {A = ℕ} (ltb longestDeck long) 20 (cond (ltb output (sheetBytes s)) 9 0) ≡ 0
+  both-fit h l = rw (le-ltb longestDeck long h, le-ltb output (sheetBytes s) l)
+
 -- the table, the record's length and the output
 module _ (t : List ℕ) (q : Queue) (s : Sheet) (d : List ℕ) (n : ℕ) where
   pub short-table : length t < tableBytes summaryBytes → sheetTold t q s d n ≡ refused (refusal 9 0)
@@ -77,21 +90,30 @@ module _ (t : List ℕ) (q : Queue) (s : Sheet) (d : List ℕ) (n : ℕ) where
         long-reply t (overOutput s (composedReply (ownPlaces t q) (payloadAt d 0)) d n) h
         ∙ ap (λ (m : Read Indices). overOutput s m d n) (sym (long-reply t (composedReply (ownPlaces t q) (payloadAt d 0)) h))
 
-    pub long-record : longestDeck < length d → sheetTold t q s d n ≡ refused (refusal 20 0)
+    -- by what is wrong before the record is read
+    faults : sheetTold t q s d n ≡ (refuseFor (cond (ltb longestDeck (length d)) 20 (cond (ltb n (sheetBytes s)) 9 0)) 0 then λ _. overRecord (composeTold t q (payloadAt d 0)) d)
     unfolding overOutput
-    long-record l = over ∙ rw (lt-ltb longestDeck (length d) l)
+    faults = over ∙ go (ltb longestDeck (length d)) (ltb n (sheetBytes s))
+      where
+        go : (a b : Bool) → (refuseIf a 20 0 then λ _. refuseIf b 9 0 then λ _. overRecord (composeTold t q (payloadAt d 0)) d)
+            ≡ (refuseFor (cond a 20 (cond b 9 0)) 0 then λ _. overRecord (composeTold t q (payloadAt d 0)) d)
+        go true b = refl
+        go false true = refl
+        go false false = refl
 
-    module _ (l : length d ≤ longestDeck) where
-      pub short-output : n < sheetBytes s → sheetTold t q s d n ≡ refused (refusal 9 0)
-      unfolding overOutput
-      short-output o = over ∙ rw (le-ltb longestDeck (length d) l, lt-ltb n (sheetBytes s) o)
+    module _ (f : ℕ) (e : f ≡ cond (ltb longestDeck (length d)) 20 (cond (ltb n (sheetBytes s)) 9 0)) where
+      pub told-fault : (f ≡ 0 → ⊥) → sheetTold t q s d n ≡ refused (refusal f 0)
+      told-fault z = faults ∙ rw (← e) (go f z)
+        where
+          go : (k : ℕ) → (k ≡ 0 → ⊥) → (refuseFor k 0 then λ _. overRecord (composeTold t q (payloadAt d 0)) d) ≡ refused (refusal k 0)
+          go zero z = absurd (z refl)
+          go (suc k) z = refl
 
-      told-record : sheetBytes s ≤ n → sheetTold t q s d n ≡ overRecord (composeTold t q (payloadAt d 0)) d
-      unfolding overOutput
-      told-record o = over ∙ rw (le-ltb longestDeck (length d) l, le-ltb n (sheetBytes s) o)
+      told-record : f ≡ 0 → sheetTold t q s d n ≡ overRecord (composeTold t q (payloadAt d 0)) d
+      told-record z = faults ∙ rw (sym e ∙ z)
 
-      pub record-told-refused : (r : Refusal) → sheetBytes s ≤ n → saidIndices (overRecord (composeTold t q (payloadAt d 0)) d) ≡ measured.Refused r → sheetTold t q s d n ≡ refused r
-      record-told-refused r o e = told-record o ∙ told-refused _ r e
+      pub record-told-refused : (r : Refusal) → f ≡ 0 → saidIndices (overRecord (composeTold t q (payloadAt d 0)) d) ≡ measured.Refused r → sheetTold t q s d n ≡ refused r
+      record-told-refused r z h = told-record z ∙ told-refused _ r h
 
-      pub record-told-read : (x : Indices) → sheetBytes s ≤ n → saidIndices (overRecord (composeTold t q (payloadAt d 0)) d) ≡ measured.Of x → sheetTold t q s d n ≡ read x
-      record-told-read x o e = told-record o ∙ told-read _ x e
+      pub record-told-read : (x : Indices) → f ≡ 0 → saidIndices (overRecord (composeTold t q (payloadAt d 0)) d) ≡ measured.Of x → sheetTold t q s d n ≡ read x
+      record-told-read x z h = told-record z ∙ told-read _ x h

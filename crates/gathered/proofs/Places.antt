@@ -16,7 +16,7 @@ use Rattle.assembly.proofs.Faults.{faulty, faultless, none-left}
 use Rattle.summary.specs.Layout.{summaryBytes}
 use Rattle.shelf.specs.Shelf.{shelfIn}
 use Rattle.summaries.specs.Composing.{composedReply}
-use Rattle.storage.specs.Table.{tableBytes, onTable}
+use Rattle.storage.specs.Table.{tableBytes}
 use Rattle.storage.specs.declared.Queue.{Queue}
 use Rattle.queues.specs.Queues.{ownPlaces, composeTold}
 

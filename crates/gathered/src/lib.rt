@@ -17,12 +17,15 @@ use sheets::bytes_of;
 use sheets::put_sheet;
 use storage::Queue;
 ghost use mathlib.Core.Path.{_≡_};
+ghost use mathlib.Core.Bool.{cond};
+ghost use lib.Dec.{ltb};
 ghost use lib.ListN.{length};
 ghost use Rattle.reply.specs.Read.{refused, refusal, read, _then_};
 ghost use Rattle.block.specs.Index.{saidIndices};
 ghost use Rattle.records.specs.Records.{payloadAt, endAt};
 ghost use Rattle.queues.specs.Queues.{composeTold};
-ghost use Rattle.deck.specs.Deck.{placementPlace, endReply};
+ghost use Rattle.deck.specs.Deck.{longestDeck, placementPlace, endReply};
+ghost use Rattle.sheets.specs.Sheets.{sheetBytes};
 ghost use Rattle.judging.specs.Judging.{saidSheetWritten, sheetOut};
 ghost use Rattle.gathered.specs.Gathered.{elsewhere, overRecord, behindHead, sheetTold};
 
@@ -31,6 +34,20 @@ fn refused(number: usize) -> SheetWritten
     ensures { λ r. ⌜ r ≡ saidSheetWritten (refused (refusal number 0)) ⌝ }
 {
     SheetWritten::Refused(Refusal { number, place: 0 })
+}
+
+// What is wrong before the record is read: 20 where it is too long, 9 where the output is too short for the sheet, or 0.
+fn fault(sheet: Sheet, long: usize, output: usize) -> usize
+    ensures { λ r. ⌜ r ≡ cond (ltb longestDeck long) 20 (cond (ltb output (sheetBytes sheet)) 9 0) ⌝ }
+{
+    let bytes = bytes_of(sheet);
+    if LONGEST < long {
+        return 20;
+    }
+    if output < bytes {
+        return 9;
+    }
+    0
 }
 
 // The fields that the payload of the record at the front makes of a queue's blocks; a refusal stands at the placement's first byte.
@@ -90,15 +107,12 @@ pub fn compose(table: &[u8], queue: Queue, sheet: Sheet, d: &[u8], out: &mut [u8
     ensures bytes { λ _. ⌜ now (out .exit) ≡ sheetOut sheet (now (out .entry))
         (sheetTold (now (table .entry)) queue sheet (now (d .entry)) (length (now (out .entry)))) ⌝ }
 {
-    let bytes = bytes_of(sheet);
     if table.len() < TABLE {
         return refused(9);
     }
-    if LONGEST < d.len() {
-        return refused(20);
-    }
-    if out.len() < bytes {
-        return refused(9);
+    let f = fault(sheet, d.len(), out.len());
+    if f != 0 {
+        return refused(f);
     }
     let told = composed(table, queue, d);
     match told {

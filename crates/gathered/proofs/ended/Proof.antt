@@ -1,12 +1,11 @@
 -- `gathered::ended` meets its contract. Assumes nothing.
-use mathlib.Core.Path.{_≡_, sym, _∙_, ap}
+use mathlib.Core.Path.{sym, _∙_, ap}
 use native.Mathlib.Omega.{arith}
 use Prim.Native.Nat.{ℕ}
 use borrow.Author.Needs.{needs}
 use Rattle.reply.specs.Read.{refusal}
 use Rattle.block.specs.Index.{saidIndices}
 use Rattle.block.specs.declared.IndicesReply.the-variants as measured
-use Rattle.records.specs.Records.{endAt}
 use Rattle.gathered.proofs.Answers.{more-follows, none-follows}
 use Rattle.gathered.proofs.ended.Statement.{statement}
 use Rattle.gathered.proofs.ended.Tie as tie
