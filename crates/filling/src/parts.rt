@@ -1,4 +1,5 @@
 // The parts of a summary: what it opens with, and what it keeps of each atom.
+use super::rows::around;
 use super::store::put_first;
 use super::store::put_seat;
 use super::store::put_totals;
@@ -18,7 +19,7 @@ fn seat(out: &mut [u8], at: usize, half: &Half, far: u8, n: usize, i: usize)
 {
     if i < n {
         let row = half::row(half, i + 1);
-        let v = block::around_row(&row, n, far);
+        let v = around(&row, n, far);
         put_seat(
             out,
             at,

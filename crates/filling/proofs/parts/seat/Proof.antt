@@ -11,8 +11,8 @@ add-row c = search needs
 row-requires : tie.Need-row-requires
 row-requires c κs = search needs
 
-around-row-requires : tie.Need-around-row-requires
-around-row-requires c κs = search needs
+around-requires : tie.Need-around-requires
+around-requires c κs = search needs
 
 put-seat-requires : tie.Need-put-seat-requires
 put-seat-requires c κs = search needs
@@ -24,7 +24,7 @@ returns : tie.Need-returns
 returns c =
     let b = c .before .before .before .before in
     let a = b .before .before .before .before .before .args in
-    seat-is (a .out .now) (a .at) (a .half .now) _ (a .far) (a .n) (a .i) _ (b .before .before .before .if1 .taken) (b .before .before .row .ensures) (b .around-row .ensures) (c .before .before .put-seat .ensures)
+    seat-is (a .out .now) (a .at) (a .half .now) _ (a .far) (a .n) (a .i) _ (b .before .before .before .if1 .taken) (b .before .before .row .ensures) (b .around .ensures) (c .before .before .put-seat .ensures)
 
 put-seat-requires-2 : tie.Need-put-seat-requires-2
 put-seat-requires-2 c κs = search needs
@@ -43,7 +43,7 @@ seat-spec =
     (tie.spec
     add-row
     row-requires
-    around-row-requires
+    around-requires
     put-seat-requires
     same-length
     returns
