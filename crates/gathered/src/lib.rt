@@ -52,7 +52,8 @@ fn fault(sheet: Sheet, long: usize, output: usize) -> usize
 
 // The fields that the payload of the record at the front makes of a queue's blocks; a refusal stands at the placement's first byte.
 fn placed(table: &[u8], queue: Queue, d: &[u8]) -> IndicesReply
-    ensures { λ r. ⌜ r ≡ saidIndices (elsewhere (placementPlace 0) (composeTold (now (table .entry)) queue (payloadAt (now (d .entry)) 0))) ⌝ }
+    ensures { λ r. ⌜ r ≡ saidIndices (elsewhere (placementPlace 0)
+        (composeTold (now (table .entry)) queue (payloadAt (now (d .entry)) 0))) ⌝ }
 {
     let xs = payload_at(d, 0);
     let told = queues::compose(table, queue, xs);
@@ -81,7 +82,8 @@ fn ended(d: &[u8], all: Indices) -> IndicesReply
 
 // What the payload is told, and then what follows the record.
 fn placed_alone(table: &[u8], queue: Queue, d: &[u8]) -> IndicesReply
-    ensures { λ r. ⌜ r ≡ saidIndices (behindHead (composeTold (now (table .entry)) queue (payloadAt (now (d .entry)) 0)) (now (d .entry))) ⌝ }
+    ensures { λ r. ⌜ r ≡ saidIndices (behindHead
+        (composeTold (now (table .entry)) queue (payloadAt (now (d .entry)) 0)) (now (d .entry))) ⌝ }
 {
     let told = placed(table, queue, d);
     match told {
@@ -92,7 +94,8 @@ fn placed_alone(table: &[u8], queue: Queue, d: &[u8]) -> IndicesReply
 
 // The fields that a record makes of a queue's blocks, or its refusal.
 fn composed(table: &[u8], queue: Queue, d: &[u8]) -> IndicesReply
-    ensures { λ r. ⌜ r ≡ saidIndices (overRecord (composeTold (now (table .entry)) queue (payloadAt (now (d .entry)) 0)) (now (d .entry))) ⌝ }
+    ensures { λ r. ⌜ r ≡ saidIndices (overRecord
+        (composeTold (now (table .entry)) queue (payloadAt (now (d .entry)) 0)) (now (d .entry))) ⌝ }
 {
     let reply = record_at(d, 0, ASSEMBLY, ASSEMBLY);
     match reply {
@@ -101,7 +104,8 @@ fn composed(table: &[u8], queue: Queue, d: &[u8]) -> IndicesReply
     }
 }
 
-// Composes a record over a queue's blocks and puts the sheet, a whole record of 40 or 44 bytes, into the first bytes of an output. A refusal writes nothing.
+// Composes a record over a queue's blocks and puts the sheet, a whole record of 40 or 44 bytes, into the first bytes of an output. A
+// refusal writes nothing.
 pub fn compose(table: &[u8], queue: Queue, sheet: Sheet, d: &[u8], out: &mut [u8]) -> SheetWritten
     ensures reply { λ r. ⌜ r ≡ saidSheetWritten (sheetTold (now (table .entry)) queue sheet (now (d .entry)) (length (now (out .entry)))) ⌝ }
     ensures bytes { λ _. ⌜ now (out .exit) ≡ sheetOut sheet (now (out .entry))
