@@ -17,7 +17,7 @@ use Rattle.records.specs.Records.{blockKind, assemblyKind, kindAt, endAt, paylo
 use Rattle.records.specs.Taken.{taken}
 use Rattle.records.specs.declared.Kind.{Kind}
 use Rattle.assembly.specs.Book.{Book, used, bondBytes, bookOf, mostBlocks}
-use Rattle.assembly.specs.Placements.{mostPlacements, placementCount, placementAt, Shelf, shelfOf, isFull, firstFault, parentFault, joinFault, laterFault, fault, placementsReply, assemblyReply}
+use Rattle.assembly.specs.Placements.{mostPlacements, placementCount, placementAt, Shelf, shelfOf, isFull, firstFault, parentFault, joinFault, laterFault, fault, placementsReply, shelfReply, assemblyReply}
 use Rattle.assembly.specs.declared.Placement.{Placement}
 use Rattle.assembly.specs.declared.JoinSite.{JoinSite}
 use Rattle.assembly.specs.declared.BlockAt.{BlockAt}
@@ -152,13 +152,16 @@ module _ (shelf : Shelf) (placed : ℕ → Placement) where
       then-bounded c (refuseFor (fault shelf placed k) (suc k)) _ (for-bounded c (fault shelf placed k) (suc k) (fault-number k) (omega arith))
       (λ u e. placed-bounded c (suc k) left (omega arith))
 
-pub assembly-bounded : (book : Book) (xs : List ℕ) → Bounded (suc mostPlacements) (assemblyReply book xs)
-unfolding assemblyReply
-assembly-bounded book xs =
+pub shelf-bounded : (shelf : Shelf) (xs : List ℕ) → Bounded (suc mostPlacements) (shelfReply shelf xs)
+shelf-bounded shelf xs =
     let c = suc mostPlacements in
     let n = placementCount xs in
     then-bounded c (refuseIf (isOutside mostPlacements n) 15 0) _ (if-bounded c (isOutside mostPlacements n) 15 0 (omega arith)) (λ u e.
-    placed-bounded (shelfOf book) (placementAt xs) c 0 n (omega (arith, ltb-false mostPlacements n (neither (eqb n 0) (ltb mostPlacements n) (if-read _ 15 0 e) .1))))
+    placed-bounded shelf (placementAt xs) c 0 n (omega (arith, ltb-false mostPlacements n (neither (eqb n 0) (ltb mostPlacements n) (if-read _ 15 0 e) .1))))
+
+assembly-bounded : (book : Book) (xs : List ℕ) → Bounded (suc mostPlacements) (assemblyReply book xs)
+unfolding assemblyReply
+assembly-bounded book xs = shelf-bounded (shelfOf book) xs
 
 -- A deck: no place is more than the deck's length and what a record's own places add.
 first-or-bond : (at c : ℕ) (t : Bool) (j : ℕ) → at < c → bondPlace at j < c → cond t at (bondPlace at j) < c
@@ -191,7 +194,7 @@ module _ (d : List ℕ) (l : length d ≤ longestDeck) where
       go true r = r
       go false r = tt
 
-  end-bounded : (at : ℕ) → at ≤ length d → Bounded mostPlace (endReply d at)
+  pub end-bounded : (at : ℕ) → at ≤ length d → Bounded mostPlace (endReply d at)
   unfolding endReply
   end-bounded at h = if-bounded mostPlace (ltb at (length d)) 11 at (omega arith)
 

@@ -11,6 +11,7 @@ pub mod Szeged
 pub mod Balaban
 pub mod FarthestAtom
 pub mod Libraries
+pub mod TwoQueues
 pub mod CountSets
 pub mod Molfiles
 pub mod Texts
@@ -19,3 +20,4 @@ pub mod Bounded
 pub mod Recovered
 pub mod Told
 pub mod ToldTexts
+pub mod ToldQueues

@@ -105,7 +105,7 @@ judges (read (suc n)) s h =
     }
 
 -- What each function's answer can be refused for.
-block-here : (n : ℕ) (xs : List ℕ) → Bounded mostPlace (blockReply n xs)
+pub block-here : (n : ℕ) (xs : List ℕ) → Bounded mostPlace (blockReply n xs)
 block-here n xs = wider (suc mostBytes) mostPlace (blockReply n xs) (omega arith) (block-bounded n xs)
 
 indices-bounded : (n : ℕ) (xs : List ℕ) → Bounded mostPlace (indicesReply n xs)
@@ -192,11 +192,11 @@ unfolding judgeReply
 judge-bounded d = then-bounded mostPlace (deckReply Judged d) (λ k. read (wrongIn d k)) (deck-bounded Judged d) (λ k e. tt)
 
 -- an answer as a list of numbers, and 9 where that does not fit
-listed : {A B : Type 0} (x : Read A) (f : A → List B) → Bounded mostPlace x → Bounded mostPlace (x then λ a. read (f a))
+pub listed : {A B : Type 0} (x : Read A) (f : A → List B) → Bounded mostPlace x → Bounded mostPlace (x then λ a. read (f a))
 listed (refused r) f s = s
 listed (read a) f s = tt
 
-lent : {A : Type 0} (room : ℕ) (x : Read (List A)) → Bounded mostPlace x → Tells (fitting room x)
+pub lent : {A : Type 0} (room : ℕ) (x : Read (List A)) → Bounded mostPlace x → Tells (fitting room x)
 lent room x s = tells (fitting room x) (fits x s)
   where
     fits : {A : Type 0} (x : Read (List A)) → Bounded mostPlace x → Bounded mostPlace (fitting room x)
