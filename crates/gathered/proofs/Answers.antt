@@ -20,9 +20,9 @@ use Rattle.storage.specs.Table.{tableBytes}
 use Rattle.storage.specs.declared.Queue.{Queue}
 use Rattle.queues.specs.Queues.{ownPlaces, composeTold}
 use Rattle.queues.proofs.Answers.{short-reply, long-reply}
-use Rattle.deck.specs.Deck.{longestDeck, placementPlace, endReply}
+use Rattle.deck.specs.Deck.{longestDeck, moved, placementPlace, endReply}
 use Rattle.sheets.specs.Sheets.{sheetBytes}
-use Rattle.gathered.specs.Gathered.{elsewhere, behindHead, overRecord, overOutput, sheetTold}
+use Rattle.gathered.specs.Gathered.{behindHead, overRecord, overOutput, sheetTold}
 
 -- what the code's fields say of the answer
 pub told-refused : (m : Read Indices) (r : Refusal) → saidIndices m ≡ measured.Refused r → m ≡ refused r
@@ -34,10 +34,10 @@ told-read (refused q) x e = let z : _≡_ {A = ℕ} 0 1 = cc in absurd (omega ar
 told-read (read y) x e = cc
 
 -- the placement's first byte
-pub placed-refused : (m : Read Indices) (r : Refusal) → m ≡ refused r → measured.Refused (refusal (r .number) (6 * r .place)) ≡ saidIndices (elsewhere (placementPlace 0) m)
+pub placed-refused : (m : Read Indices) (r : Refusal) → m ≡ refused r → measured.Refused (refusal (r .number) (6 * r .place)) ≡ saidIndices (moved (placementPlace 0) m)
 placed-refused m r e = rw e (let z : 6 * r .place ≡ placementPlace 0 r = omega arith in ap (λ (p : ℕ). measured.Refused (refusal (r .number) p)) z)
 
-pub placed-read : (m : Read Indices) (x : Indices) → m ≡ read x → measured.Of x ≡ saidIndices (elsewhere (placementPlace 0) m)
+pub placed-read : (m : Read Indices) (x : Indices) → m ≡ read x → measured.Of x ≡ saidIndices (moved (placementPlace 0) m)
 placed-read m x e = rw e
 
 -- behind the record
@@ -52,11 +52,11 @@ module _ (d : List ℕ) (x : Indices) where
 
 -- the record
 module _ (m : Read Indices) (d : List ℕ) where
-  pub behind-refused : (r : Refusal) → elsewhere (placementPlace 0) m ≡ refused r → behindHead m d ≡ refused r
+  pub behind-refused : (r : Refusal) → moved (placementPlace 0) m ≡ refused r → behindHead m d ≡ refused r
   unfolding behindHead
   behind-refused r e = rw e
 
-  pub behind-read : (x : Indices) → elsewhere (placementPlace 0) m ≡ read x → behindHead m d ≡ (endReply d (endAt d 0) then λ _. read x)
+  pub behind-read : (x : Indices) → moved (placementPlace 0) m ≡ read x → behindHead m d ≡ (endReply d (endAt d 0) then λ _. read x)
   unfolding behindHead
   behind-read x e = rw e
 

@@ -29,7 +29,7 @@ use Rattle.storage.specs.Keeps.{AllProper}
 use Rattle.storage.specs.declared.Queue.{Queue}
 use Rattle.queues.specs.Queues.{ownPlaces}
 use Rattle.queues.specs.Blocks.{Block, noBlock, bookIn}
-use Rattle.deck.specs.Deck.{longestDeck, placementPlace, endReply}
+use Rattle.deck.specs.Deck.{longestDeck, moved, placementPlace, endReply}
 use Rattle.deck.specs.declared.Form.the-variants.{Composed}
 use Rattle.sheets.specs.Sheets.{sheetBytes}
 use Rattle.compose.specs.Fields.{fieldsReply}
@@ -37,7 +37,7 @@ use Rattle.judging.specs.Judging.{judgeReply, saidVerdict, sheetWriteReply, sai
 use Rattle.judging.specs.Theorems.{sheet-made, written-accepted}
 use Rattle.judging.specs.declared.Verdict.the-variants as verdict
 use Rattle.judging.specs.declared.SheetWritten.the-variants as written
-use Rattle.gathered.specs.Gathered.{elsewhere, behindHead, overRecord, overOutput, sheetTold}
+use Rattle.gathered.specs.Gathered.{behindHead, overRecord, overOutput, sheetTold}
 use Rattle.gathered.specs.Orders.{Order, recordTable, recordBlocks, tableLeft, blocksLeft}
 use Rattle.gathered.specs.Stacked.{Held, blockRecord, blockRecords, further}
 use Rattle.gathered.specs.Alone.{held, own-composed, own-told}
@@ -56,7 +56,7 @@ holds-some [] x e = absurd (omega (arith, has-positive noBlock [] x e, has-numbe
 holds-some (f ∷ q) x e = omega arith
 
 -- the payload of a record that is composed was fine
-placed-fine : (place : Refusal → ℕ) (m : Read (Unit {0})) (x y : Indices) → elsewhere place (m then λ _. read x) ≡ read y → m ≡ read tt
+placed-fine : (place : Refusal → ℕ) (m : Read (Unit {0})) (x y : Indices) → moved place (m then λ _. read x) ≡ read y → m ≡ read tt
 placed-fine place (refused r) x y e = absurd (not-read e)
 placed-fine place (read u) x y e = refl
 
@@ -69,7 +69,7 @@ module _ (q : List (Entry Block)) (h : Held q) (d : List ℕ) (x : Indices) (e :
   placed : (assemblyReply (bookIn q) (payloadAt d 0) ≡ read tt) × (length d ≤ endAt d 0)
   unfolding behindHead writtenReply endReply
   placed =
-      let (y, b, g) = then-read (elsewhere (placementPlace 0) (writtenReply (bookIn q) (payloadAt d 0))) (λ x. endReply d (endAt d 0) then λ _. read x) (behind .1) in
+      let (y, b, g) = then-read (moved (placementPlace 0) (writtenReply (bookIn q) (payloadAt d 0))) (λ x. endReply d (endAt d 0) then λ _. read x) (behind .1) in
       let (v, c, i) = then-read (endReply d (endAt d 0)) _ g in
       (placed-fine (placementPlace 0) (assemblyReply (bookIn q) (payloadAt d 0)) _ y b, ltb-false (endAt d 0) (length d) (if-read _ 11 (endAt d 0) c))
 

@@ -34,7 +34,7 @@ use Rattle.storage.specs.Entries.{absent, Apart}
 use Rattle.storage.specs.Keeps.{Proper, AllProper}
 use Rattle.summaries.specs.Written.{writtenReply}
 use Rattle.queues.specs.Blocks.{Block, noBlock, bookIn}
-use Rattle.gathered.specs.Gathered.{elsewhere, behindHead, overRecord}
+use Rattle.gathered.specs.Gathered.{behindHead, overRecord}
 use Rattle.gathered.specs.Orders.{recordTable, recordBlocks}
 use Rattle.gathered.specs.Stacked.{Held, blockRecord, blockRecords, further}
 
@@ -405,7 +405,7 @@ module _ (q : Blocks) (held : Held q) (some : 1 ≤ length q) (d : List ℕ) (ot
   record-fine = ap (λ (m : Read Indices). recordReply (assemblyKind ∷ []) d 0 then λ _. m) (go (assemblyReply (bookIn q) (payloadAt d 0)))
     where
       go : (m : Read (Unit {0})) → (moved (placementPlace 0) m then λ _. endReply d (endAt d 0) then λ _. read (indicesOf whole))
-          ≡ (elsewhere (placementPlace 0) (m then λ _. read (indicesOf whole)) then λ x. endReply d (endAt d 0) then λ _. read x)
+          ≡ (moved (placementPlace 0) (m then λ _. read (indicesOf whole)) then λ x. endReply d (endAt d 0) then λ _. read x)
       go (refused r) = refl
       go (read u) = refl
 

@@ -3,8 +3,7 @@ use Prim.Native.Nat.{ℕ}
 use mathlib.Core.List.{List, [], _∷_}
 use lib.Dec.{ltb}
 use lib.ListN.{length}
-use Rattle.reply.specs.Read.{Read, refused, read, refusal, _then_, refuseIf}
-use Rattle.reply.specs.declared.Refusal.{Refusal}
+use Rattle.reply.specs.Read.{Read, read, _then_, refuseIf}
 use Rattle.block.specs.declared.Indices.{Indices}
 use Rattle.records.specs.Records.{assemblyKind, payloadAt, endAt, recordReply}
 use Rattle.records.specs.declared.Sheet.{Sheet}
@@ -13,18 +12,13 @@ use Rattle.summaries.specs.Composing.{composedReply}
 use Rattle.storage.specs.Table.{onTable}
 use Rattle.storage.specs.declared.Queue.{Queue}
 use Rattle.queues.specs.Queues.{ownPlaces}
-use Rattle.deck.specs.Deck.{longestDeck, placementPlace, endReply}
+use Rattle.deck.specs.Deck.{longestDeck, moved, placementPlace, endReply}
 use Rattle.sheets.specs.Sheets.{sheetBytes}
-
--- the same answer, its refusal at another place
-abbrev pub elsewhere : {A : Type 0} → (Refusal → ℕ) → Read A → Read A
-elsewhere place (refused r) = refused (refusal (r .number) (place r))
-elsewhere place (read x) = read x
 
 -- what is told of a record, whose payload is told m, behind its head: m's refusal at the placement's first byte; 11 for what follows the record; then m's fields
 unfoldable pub behindHead : Read Indices → List ℕ → Read Indices
 behindHead m d =
-    elsewhere (placementPlace 0) m then λ x.
+    moved (placementPlace 0) m then λ x.
     endReply d (endAt d 0) then λ _.
     read x
 

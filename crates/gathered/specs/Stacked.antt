@@ -3,13 +3,13 @@ use Prim.Native.Nat.{ℕ, _+_, _/_, _≤_}
 use mathlib.Core.List.{List, [], _∷_, _++_}
 use lib.ListN.{length}
 use Rattle.reply.specs.Read.{Read}
+use Rattle.deck.specs.Deck.{moved}
 use Rattle.sheets.specs.Sheets.{littleBytes}
 use Rattle.storage.specs.Shelf.{places}
 use Rattle.storage.specs.Model.{Entry}
 use Rattle.storage.specs.Entries.{Apart}
 use Rattle.storage.specs.Keeps.{AllProper}
 use Rattle.queues.specs.Blocks.{Block, noBlock}
-use Rattle.gathered.specs.Gathered.{elsewhere}
 use Rattle.gathered.specs.Orders.{recordTable, recordBlocks}
 
 -- what a queue may hold: at most eight blocks that are not refused, each under its own number
@@ -30,4 +30,4 @@ blockRecords (e ∷ q) = blockRecord e ++ blockRecords q
 
 -- an answer whose place is counted from further on
 abbrev pub further : {A : Type 0} → ℕ → Read A → Read A
-further n m = elsewhere (λ r. n + r .place) m
+further n m = moved (λ r. n + r .place) m

@@ -24,10 +24,10 @@ ghost use Rattle.reply.specs.Read.{refused, refusal, read, _then_};
 ghost use Rattle.block.specs.Index.{saidIndices};
 ghost use Rattle.records.specs.Records.{payloadAt, endAt};
 ghost use Rattle.queues.specs.Queues.{composeTold};
-ghost use Rattle.deck.specs.Deck.{longestDeck, placementPlace, endReply};
+ghost use Rattle.deck.specs.Deck.{longestDeck, moved, placementPlace, endReply};
 ghost use Rattle.sheets.specs.Sheets.{sheetBytes};
 ghost use Rattle.judging.specs.Judging.{saidSheetWritten, sheetOut};
-ghost use Rattle.gathered.specs.Gathered.{elsewhere, overRecord, behindHead, sheetTold};
+ghost use Rattle.gathered.specs.Gathered.{overRecord, behindHead, sheetTold};
 
 // A refusal at place 0.
 fn refused(number: usize) -> SheetWritten
@@ -52,7 +52,7 @@ fn fault(sheet: Sheet, long: usize, output: usize) -> usize
 
 // The fields that the payload of the record at the front makes of a queue's blocks; a refusal stands at the placement's first byte.
 fn placed(table: &[u8], queue: Queue, d: &[u8]) -> IndicesReply
-    ensures { λ r. ⌜ r ≡ saidIndices (elsewhere (placementPlace 0)
+    ensures { λ r. ⌜ r ≡ saidIndices (moved (placementPlace 0)
         (composeTold (now (table .entry)) queue (payloadAt (now (d .entry)) 0))) ⌝ }
 {
     let xs = payload_at(d, 0);

@@ -168,7 +168,7 @@ first-or-bond : (at c : ℕ) (t : Bool) (j : ℕ) → at < c → bondPlace at j 
 first-or-bond at c true j h k = h
 first-or-bond at c false j h k = k
 
-moved-bounded : (b c : ℕ) (place : Refusal → ℕ) (x : Read (Unit {0})) → ((r : Refusal) → r .place < b → place r < c) → Bounded b x → Bounded c (moved place x)
+pub moved-bounded : {A : Type 0} (b c : ℕ) (place : Refusal → ℕ) (x : Read A) → ((r : Refusal) → r .place < b → place r < c) → Bounded b x → Bounded c (moved place x)
 moved-bounded b c place (refused r) h s = record { low = s .low; high = s .high; place = h r (s .place) }
 moved-bounded b c place (read u) h s = tt
 

@@ -19,16 +19,16 @@ use Rattle.sheets.specs.Sheets.{fieldsOf, sheetBytes}
 use Rattle.assembly.specs.Placements.{mostPlacements, shelfReply}
 use Rattle.shelf.specs.Shelf.{shelfIn}
 use Rattle.summaries.specs.Composing.{composedReply}
-use Rattle.deck.specs.Deck.{longestDeck, placementPlace, endReply}
+use Rattle.deck.specs.Deck.{longestDeck, moved, placementPlace, endReply}
 use Rattle.summary.specs.Layout.{summaryBytes, storedFields as storedFields}
 use Rattle.storage.specs.Shelf.{places as eight, holds, placeHolding, placeAt, roomReply, addReply, lookReply, dropReply}
 use Rattle.storage.specs.Table.{tableBytes, tableReply, onTable}
 use Rattle.storage.specs.declared.Queue.{Queue}
 use Rattle.queues.specs.Queues.{ownPlaces, addTold, lookTold, dropTold}
-use Rattle.gathered.specs.Gathered.{elsewhere, behindHead, overRecord, overOutput, sheetTold}
+use Rattle.gathered.specs.Gathered.{behindHead, overRecord, overOutput, sheetTold}
 use Rattle.tteuyomal.specs.Convention.{mostPlace, fitting}
 use Rattle.tteuyomal.specs.TwoQueues.{lookList}
-use Rattle.tteuyomal.specs.Bounded.{Bounded, then-bounded, if-bounded, record-bounded, shelf-bounded, end-bounded}
+use Rattle.tteuyomal.specs.Bounded.{Bounded, then-bounded, if-bounded, record-bounded, shelf-bounded, moved-bounded, end-bounded}
 use Rattle.tteuyomal.specs.Recovered.{Tells, tells, block-here, listed, lent}
 
 table-bounded : (t : List ℕ) → Bounded mostPlace (tableReply summaryBytes t)
@@ -59,10 +59,6 @@ look-bounded s x =
     (if-bounded mostPlace (not (holds summaryBytes s x)) 30 0 (omega arith)) (λ u e. tt)
 
 -- composing: a placement's first byte
-elsewhere-bounded : (b c : ℕ) (place : Refusal → ℕ) (x : Read Indices) → ((r : Refusal) → r .place < b → place r < c) → Bounded b x → Bounded c (elsewhere place x)
-elsewhere-bounded b c place (refused r) h s = record { low = s .low; high = s .high; place = h r (s .place) }
-elsewhere-bounded b c place (read x) h s = tt
-
 composed-bounded : (s xs : List ℕ) → Bounded (suc mostPlacements) (composedReply s xs)
 unfolding composedReply
 composed-bounded s xs = then-bounded (suc mostPlacements) (shelfReply (shelfIn s) xs) (λ _. read _) (shelf-bounded (shelfIn s) xs) (λ u e. tt)
@@ -77,7 +73,7 @@ output-bounded s shelf d n =
     then-bounded mostPlace (refuseIf (ltb n (sheetBytes s)) 9 0) _ (if-bounded mostPlace (ltb n (sheetBytes s)) 9 0 (omega arith)) (λ v f.
     then-bounded mostPlace (recordReply (assemblyKind ∷ []) d 0) _ (record-bounded mostPlace (assemblyKind ∷ []) d 0 (omega arith)) (λ w g.
     let whole = taken d 0 (assemblyKind ∷ []) g .whole in
-    then-bounded mostPlace (elsewhere (placementPlace 0) m) _ (elsewhere-bounded (suc mostPlacements) mostPlace (placementPlace 0) m (λ r h. omega (arith, h)) (composed-bounded shelf xs)) (λ x h.
+    then-bounded mostPlace (moved (placementPlace 0) m) _ (moved-bounded (suc mostPlacements) mostPlace (placementPlace 0) m (λ r h. omega (arith, h)) (composed-bounded shelf xs)) (λ x h.
     then-bounded mostPlace (endReply d (endAt d 0)) _ (end-bounded d l (endAt d 0) whole) (λ y k. tt)))))
 
 -- FUNCTION BY FUNCTION
