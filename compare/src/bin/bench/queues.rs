@@ -1,8 +1,8 @@
 //! Two queues at one table: adding a block beside its indices, composing beside the sheet of the same deck, and a look-up.
 
 use crate::timing::medians;
-use crate::{archive, duration, many_blocks, row};
-use opinion::make::plan::{write_records, BlockPlan, DeckPlan};
+use crate::{archive, duration, libraries, many_blocks, row};
+use opinion::make::plan::{write_records, BlockPlan, DeckPlan, PlacementPlan};
 use opinion::make::shapes;
 use opinion::queues::{FIVE, TABLE};
 use std::hint::black_box;
@@ -27,6 +27,7 @@ pub fn times() -> String {
     ] {
         time_composing(name, &deck, 1.0);
     }
+    time_product(1.0);
     time_looking()
 }
 
@@ -48,7 +49,7 @@ pub fn largest() -> (Vec<u8>, Vec<u8>) {
     held(&many_blocks(64, 8, 32))
 }
 
-/// A block dropped and added again, in the last place, beside its indices.
+/// A block added in the last place, whose number is set to 0 before, beside its indices.
 fn time_adding(name: &str, block: &BlockPlan, goal: f64) {
     let (atoms, bonds) = (block.atoms as usize, block.bond_bytes());
     let mut table = vec![0; TABLE];
@@ -56,8 +57,9 @@ fn time_adding(name: &str, block: &BlockPlan, goal: f64) {
         add(&mut table, &BlockPlan { number, ..block.clone() });
     }
     let mut fields = [0; 5];
+    let last = TABLE / 16 * 15;
     let mut again = || {
-        archive::queue_drop(&mut table, NIGHT, 8);
+        table[last..last + 2].fill(0);
         assert_eq!(archive::queue_add(black_box(&mut table), NIGHT, 8, atoms, black_box(&bonds)), 0);
     };
     let mut indices = || {
@@ -80,6 +82,28 @@ fn time_composing(name: &str, deck: &DeckPlan, goal: f64) {
         black_box(archive::write_sheet(black_box(&bytes), &mut written));
     };
     row(&format!("queue's sheet beside the deck's, {name}"), medians(&mut compose, &mut write), goal);
+}
+
+/// The sheet of a library's first product from a queue that holds its blocks, beside a step of the library.
+fn time_product(goal: f64) {
+    let plan = libraries::library();
+    let library = plan.bytes();
+    let joined = plan.sites.iter().map(|site| {
+        let (number, own) = site.candidates[0];
+        PlacementPlan::joined(number, 1, site.atom, own)
+    });
+    let placements: Vec<PlacementPlan> = [PlacementPlan::first(plan.core)].into_iter().chain(joined).collect();
+    let (table, record) = held(&DeckPlan { blocks: plan.blocks[..8].to_vec(), placements, sheet: None });
+    let (mut composed, mut stepped, mut next) = ([0; 40], [0; 40], [0]);
+    assert_eq!(archive::queue_compose(&table, NIGHT, FIVE, &record, &mut composed), 0);
+    assert_eq!((archive::library_step(&library, FIVE, 0, &mut stepped, &mut next), stepped), (0, composed));
+    let mut compose = || {
+        black_box(archive::queue_compose(black_box(&table), NIGHT, FIVE, black_box(&record), &mut composed));
+    };
+    let mut step = || {
+        black_box(archive::library_step(black_box(&library), FIVE, 0, &mut stepped, &mut next));
+    };
+    row("queue's sheet beside a library's step, core of 20 and four of 10", medians(&mut compose, &mut step), goal);
 }
 
 /// The number in the last place of eight.
