@@ -79,6 +79,9 @@ enum tteuyomal_refusal {
     TTEUYOMAL_MOLFILE_LINE = 25,    /* a line of the molfile is missing or too short */
     TTEUYOMAL_MOLFILE_NUMBER = 26,  /* a count or a bond end of the molfile isn't blanks, then at least one digit */
     TTEUYOMAL_MOLFILE_END = 27,     /* a bond end of the molfile is outside its atom list */
+    TTEUYOMAL_NO_ROOM = 28,         /* the queue holds eight blocks already */
+    TTEUYOMAL_NUMBER_HELD = 29,     /* the queue holds a block under this number already */
+    TTEUYOMAL_NUMBER_NOT_HELD = 30, /* the queue holds no block under this number */
     TTEUYOMAL_SITE_COUNT = 31,      /* a library's site count is 0 or above 4 */
     TTEUYOMAL_CANDIDATE_COUNT = 32, /* a site's candidate count is 0 or above 8 */
     TTEUYOMAL_SITE_TAKEN = 33,      /* a site's atom was used by an earlier site */
@@ -90,7 +93,7 @@ enum tteuyomal_refusal {
  * record is expected and the deck ends; the first byte too many. Molfile: for 25 to 27 the first byte of
  * the line, or the file's length where it is missing; for 3 to 6 the number of the kept bond. Neighbour
  * text: for 21 and 22 that byte or the number's first, or the text's length where it ends too early; for 3 to 6 the
- * number of the bond. 0 for 8, 9, 10, 20 and 34. */
+ * number of the bond. 0 for 8, 9, 10, 20, 28, 29, 30 and 34. */
 
 /* 0, a refusal's number, TTEUYOMAL_DONE or TTEUYOMAL_DIFFERS. */
 static inline unsigned tteuyomal_what(tteuyomal_reply reply) { return (unsigned)(reply % 256); }
@@ -229,6 +232,37 @@ tteuyomal_reply tteuyomal_read_neighbours(const uint8_t *text, size_t text_len, 
  * Refusals: the block's, then 9 (text_len below that length, or length_len 0). */
 tteuyomal_reply tteuyomal_write_neighbours(size_t atoms, const uint8_t *bonds, size_t bonds_len, uint8_t *text,
                                            size_t text_len, uint64_t *length, size_t length_len);
+
+/* ---- Two queues at one table ---- */
+
+/* A lent table holds sixteen blocks, eight for the day queue and eight for the night queue, each under a number of its
+ * queue's own. It is TTEUYOMAL_TABLE_BYTES long; bytes behind that stay as they are. Where `queue` is 0 it is the day
+ * queue, else the night queue. What a queue is told depends only on its own calls since the table was made empty, whatever
+ * the other queue calls. On a table that these functions did not leave, its bytes fix every reply. Each function first
+ * refuses with 9 at 0 a shorter table. A refusal changes no byte of the table. */
+#define TTEUYOMAL_TABLE_BYTES 42752
+
+/* Makes the table empty, for both queues: its bytes become 0. Refusals: 9. */
+tteuyomal_reply tteuyomal_queue_empty(uint8_t *table, size_t table_len);
+
+/* Adds a block to what a queue holds. Refusals: 9, the block's, 14 (number 0), 29, 28, all of these three at 0. */
+tteuyomal_reply tteuyomal_queue_add(uint8_t *table, size_t table_len, size_t queue, uint16_t number, size_t atoms,
+                                    const uint8_t *bonds, size_t bonds_len);
+
+/* Writes six numbers of a block that a queue holds: the five fields and the largest distance. The table stays as it is.
+ * Refusals: 9, 30 (at 0), then 9 (fields_len below 6). */
+tteuyomal_reply tteuyomal_queue_look(const uint8_t *table, size_t table_len, size_t queue, uint16_t number,
+                                     uint64_t *fields, size_t fields_len);
+
+/* Drops a block that a queue holds; its place is used again. Refusals: 9, 30 (at 0). */
+tteuyomal_reply tteuyomal_queue_drop(uint8_t *table, size_t table_len, size_t queue, uint16_t number);
+
+/* Writes the sheet that one record of kind 2 makes of the blocks that a queue holds: a whole record of kind 3, or of kind 4
+ * where `kind` is 4, as it is written for the deck of these blocks and that record. The table stays as it is.
+ * Refusals: 9, then 20, 9 (out_len below 40, or 44 for kind 4), and the deck's as if the record began at byte 0; 16 for a
+ * block number that the queue does not hold. */
+tteuyomal_reply tteuyomal_queue_compose(const uint8_t *table, size_t table_len, size_t queue, size_t kind,
+                                        const uint8_t *record, size_t record_len, uint8_t *out, size_t out_len);
 
 /* ---- Trees ---- */
 

@@ -10,7 +10,7 @@ import unittest
 
 from common import FORTY, LIBRARY, RIGHT, RIGHT_SIX, text
 
-from tteuyomal import Block, command, decktext
+from tteuyomal import Block, Refused, command, decktext
 
 README, LIBRARIES = text("README.md"), text("docs", "LIBRARIES.md")
 SPELLED = r"^    ((?:[0-9A-F]{2} )+) "
@@ -65,6 +65,20 @@ class Readme(unittest.TestCase):
         self.assertEqual(bytes(names["deck"]), FORTY)
         self.assertEqual(repr(names["deck"].compose()), "Sheet(atoms=12, w=198, even=96, odd=102, polarity=14, largest=None)")
         self.assertTrue(names["judge"](names["deck"].with_sheet()))
+
+    def test_queues(self):
+        """Line by line: what it says behind the call is what the call tells."""
+        names = {}
+        for line in self.indented("from tteuyomal import Block, Placement, Table").splitlines():
+            call, _, words = line.partition("#")
+            if not words.startswith((" atoms", " refused")):
+                exec(line, names)
+                continue
+            try:
+                told = eval(call, names)
+            except Refused as refusal:
+                told = refusal
+            self.assertEqual(f" {told}", words)
 
     def test_commands(self):
         """The chemist's commands, in order, in a folder that has the text."""

@@ -137,6 +137,35 @@ mod c {
             length: *mut u64,
             length_len: usize,
         ) -> u64;
+        pub fn tteuyomal_queue_empty(table: *mut u8, table_len: usize) -> u64;
+        pub fn tteuyomal_queue_add(
+            table: *mut u8,
+            table_len: usize,
+            queue: usize,
+            number: u16,
+            atoms: usize,
+            bonds: *const u8,
+            bonds_len: usize,
+        ) -> u64;
+        pub fn tteuyomal_queue_look(
+            table: *const u8,
+            table_len: usize,
+            queue: usize,
+            number: u16,
+            fields: *mut u64,
+            fields_len: usize,
+        ) -> u64;
+        pub fn tteuyomal_queue_drop(table: *mut u8, table_len: usize, queue: usize, number: u16) -> u64;
+        pub fn tteuyomal_queue_compose(
+            table: *const u8,
+            table_len: usize,
+            queue: usize,
+            kind: usize,
+            record: *const u8,
+            record_len: usize,
+            out: *mut u8,
+            out_len: usize,
+        ) -> u64;
     }
 }
 
@@ -241,4 +270,29 @@ pub fn write_neighbours(atoms: usize, bonds: &[u8], text: &mut [u8], length: &mu
     let (out, room) = (text.as_mut_ptr(), text.len());
     let (told, entries) = (length.as_mut_ptr(), length.len());
     unsafe { c::tteuyomal_write_neighbours(atoms, bonds.as_ptr(), bonds.len(), out, room, told, entries) }
+}
+
+pub fn queue_empty(table: &mut [u8]) -> u64 {
+    unsafe { c::tteuyomal_queue_empty(table.as_mut_ptr(), table.len()) }
+}
+
+pub fn queue_add(table: &mut [u8], queue: usize, number: u16, atoms: usize, bonds: &[u8]) -> u64 {
+    let (start, len) = (table.as_mut_ptr(), table.len());
+    unsafe { c::tteuyomal_queue_add(start, len, queue, number, atoms, bonds.as_ptr(), bonds.len()) }
+}
+
+pub fn queue_look(table: &[u8], queue: usize, number: u16, fields: &mut [u64]) -> u64 {
+    let (out, room) = (fields.as_mut_ptr(), fields.len());
+    unsafe { c::tteuyomal_queue_look(table.as_ptr(), table.len(), queue, number, out, room) }
+}
+
+pub fn queue_drop(table: &mut [u8], queue: usize, number: u16) -> u64 {
+    unsafe { c::tteuyomal_queue_drop(table.as_mut_ptr(), table.len(), queue, number) }
+}
+
+pub fn queue_compose(table: &[u8], queue: usize, kind: usize, record: &[u8], out: &mut [u8]) -> u64 {
+    let (to, room) = (out.as_mut_ptr(), out.len());
+    unsafe {
+        c::tteuyomal_queue_compose(table.as_ptr(), table.len(), queue, kind, record.as_ptr(), record.len(), to, room)
+    }
 }

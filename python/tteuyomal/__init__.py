@@ -26,8 +26,9 @@ from .decks import (
 from .libraries import Candidate, Library, Product, Site
 from .library import NotThere, Refused
 from .library import version as library_version
+from .tables import Queue, Table
 
-__version__ = "2.0.0"
+__version__ = "2.1.0"
 
 __all__ = [
     "Block",
@@ -37,9 +38,11 @@ __all__ = [
     "NotThere",
     "Placement",
     "Product",
+    "Queue",
     "Refused",
     "Sheet",
     "Site",
+    "Table",
     "Verdict",
     "compose",
     "contributions",

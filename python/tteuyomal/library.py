@@ -20,7 +20,7 @@ import operator
 import os
 import struct
 from collections.abc import Iterable, Iterator
-from ctypes import c_char_p, c_double, c_size_t, c_uint8, c_uint64
+from ctypes import c_char_p, c_double, c_size_t, c_uint8, c_uint16, c_uint64
 from typing import Any, NamedTuple
 
 Bonds = Iterable[tuple[int, int]] | bytes
@@ -124,6 +124,9 @@ WORDS = {
     25: "a line of the molfile is missing or too short",
     26: "a count or a bond end of the molfile isn't blanks, then at least one digit",
     27: "a bond end of the molfile is outside its atom list",
+    28: "the queue holds eight blocks already",
+    29: "the queue holds a block under this number already",
+    30: "the queue holds no block under this number",
     31: "a library's site count is 0 or above 4",
     32: "a site's candidate count is 0 or above 8",
     33: "a site's atom was used by an earlier site",
@@ -438,6 +441,11 @@ _compose_six = _function("compose_six", _DECK + _NUMBERS)
 _library_count = _function("library_count", _DECK + _NUMBERS)
 _library_step = _function("library_step", _DECK + 2 * [c_size_t] + _BYTES + _NUMBERS)
 _library_run = _function("library_run", _DECK + 2 * [c_size_t] + _BYTES + _NUMBERS)
+_queue_empty = _function("queue_empty", _BYTES)
+_queue_add = _function("queue_add", _BYTES + [c_size_t, c_uint16] + _BLOCK)
+_queue_look = _function("queue_look", _BYTES + [c_size_t, c_uint16] + _NUMBERS)
+_queue_drop = _function("queue_drop", _BYTES + [c_size_t, c_uint16])
+_queue_compose = _function("queue_compose", _BYTES + 2 * [c_size_t] + _DECK + _BYTES)
 _read_molfile = _function("read_molfile", _TEXT + _BYTES + _NUMBERS)
 _write_molfile = _function("write_molfile", _BLOCK + _BYTES + _NUMBERS)
 _read_neighbours = _function("read_neighbours", _TEXT + _BYTES + _NUMBERS)
@@ -549,3 +557,46 @@ def read_neighbours(text: Bytes) -> ReadBlock:
 def write_neighbours(atoms: int, bonds: Bonds) -> bytes:
     """A block as a neighbour text."""
     return _write_text(_write_neighbours, atoms, bonds)
+
+
+TABLE_BYTES = 42_752  # of a table of sixteen blocks, eight for each queue
+DAY, NIGHT = 0, 1
+
+
+def _table(table: bytearray) -> list[Any]:
+    """A table is lent where it stands: the library writes into it."""
+    if not isinstance(table, bytearray):
+        raise TypeError(f"a table is a bytearray, not {type(table).__name__}")
+    return [(c_uint8 * len(table)).from_buffer(table), len(table)]
+
+
+def _own(table: bytearray, queue: int, number: int) -> list[Any]:
+    return _table(table) + [_size(queue, "the queue"), _exactly(number, "the block number", 65535)]
+
+
+def queue_empty(table: bytearray) -> None:
+    """Makes a table empty, for both queues."""
+    _told(_queue_empty(*_table(table)))
+
+
+def queue_add(table: bytearray, queue: int, number: int, atoms: int, bonds: Bonds) -> None:
+    """Adds a block to what a queue (`DAY` or `NIGHT`) holds."""
+    _told(_queue_add(*_own(table, queue, number), *_block(atoms, bonds)))
+
+
+def queue_look(table: bytearray, queue: int, number: int) -> Six:
+    """The six fields of a block that a queue holds."""
+    return Six(*_numbers(_queue_look, _own(table, queue, number), 6))
+
+
+def queue_drop(table: bytearray, queue: int, number: int) -> None:
+    """Drops a block that a queue holds."""
+    _told(_queue_drop(*_own(table, queue, number)))
+
+
+def queue_compose(table: bytearray, queue: int, record: Bytes, kind: int = 3) -> bytes:
+    """The sheet (of kind 3 or 4) that one assembly record makes of the blocks that a queue holds."""
+    room = 44 if kind == 4 else 40
+    out = (c_uint8 * room)()
+    _told(_queue_compose(*_table(table), _size(queue, "the queue"), kind, *_lent(record, "a record"), out, room))
+    return bytes(out)

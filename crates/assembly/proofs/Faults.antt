@@ -6,12 +6,12 @@ use mathlib.Core.Path.{_≡_, refl, sym, _∙_}
 use native.Mathlib.Omega.{arith}
 use borrow.Author.Tests.{eq-eqb, ne-eqb}
 use Rattle.graph.specs.Assembly.{Join}
-use Rattle.reply.specs.Read.{refused, read, refusal, refuseFor, isOutside}
+use Rattle.reply.specs.Read.{Read, refused, read, refusal, _then_, refuseIf, refuseFor, isOutside}
 use Rattle.reply.specs.Chain.{not-read}
 use Rattle.block.specs.Faults.{inside}
 use Rattle.reply.specs.declared.Refusal.{Refusal}
 use Rattle.assembly.specs.Book.{Book}
-use Rattle.assembly.specs.Placements.{mostPlacements, placementCount, placementAt, atomSite, Shelf, shelfOf, isFull, firstFault, parentFault, joinFault, joinOn, sitesOn, laterFault, fault, placementsReply, assemblyReply}
+use Rattle.assembly.specs.Placements.{mostPlacements, placementCount, placementAt, atomSite, Shelf, shelfOf, isFull, firstFault, parentFault, joinFault, joinOn, sitesOn, laterFault, fault, placementsReply, shelfReply, assemblyReply}
 use Rattle.assembly.specs.declared.Placement.{Placement}
 use Rattle.assembly.specs.declared.JoinSite.{JoinSite}
 
@@ -97,6 +97,25 @@ module _ (shelf : Shelf) (placed : ℕ → Placement) (k : ℕ) where
   unfolding placementsReply
   none-left = refl
 
+-- the place of a refusal is a placement's number, or 0
+same-refusal : {A : Type 0} (q r : Refusal) → _≡_ {A = Read A} (refused q) (refused r) → q ≡ r
+same-refusal q r e = cc
+
+placed-few : (shelf : Shelf) (placed : ℕ → Placement) (r : Refusal) (left k : ℕ) → placementsReply shelf placed k left ≡ refused r → r .place ≤ k + left
+placed-few shelf placed r zero k e = absurd (not-read (sym e ∙ none-left shelf placed k))
+placed-few shelf placed r (suc left) k e = go (fault shelf placed k) refl (placed-few shelf placed r left (suc k))
+  where
+    go : (n : ℕ) → fault shelf placed k ≡ n → (placementsReply shelf placed (suc k) left ≡ refused r → r .place ≤ suc k + left) → r .place ≤ k + suc left
+    go zero f more = omega (arith, more (sym (faultless shelf placed k left f) ∙ e))
+    go (suc n) f more = rw (← (same-refusal _ r (sym (faulty shelf placed k left (omega arith)) ∙ e))) (omega arith)
+
+pub shelf-few : (shelf : Shelf) (xs : List ℕ) (r : Refusal) → shelfReply shelf xs ≡ refused r → r .place ≤ mostPlacements
+shelf-few shelf xs r = go (isOutside mostPlacements (placementCount xs)) refl
+  where
+    go : (t : Bool) → isOutside mostPlacements (placementCount xs) ≡ t → (refuseIf t 15 0 then λ _. placementsReply shelf (placementAt xs) 0 (placementCount xs)) ≡ refused r → r .place ≤ mostPlacements
+    go true t e = rw (← (same-refusal (refusal 15 0) r e)) (omega arith)
+    go false t e = omega (arith, inside mostPlacements (placementCount xs) t, placed-few shelf (placementAt xs) r (placementCount xs) 0 e)
+
 module _ (book : Book) (xs : List ℕ) where
   pub count-outside : isOutside mostPlacements (placementCount xs) ≡ true → assemblyReply book xs ≡ refused (refusal 15 0)
   unfolding assemblyReply
@@ -106,24 +125,6 @@ module _ (book : Book) (xs : List ℕ) where
   unfolding assemblyReply
   count-within e = rw e
 
-  -- the place of a refusal is a placement's number, or 0
   pub place-few : (r : Refusal) → assemblyReply book xs ≡ refused r → r .place ≤ mostPlacements
-  place-few r e = go (isOutside mostPlacements (placementCount xs)) refl
-    where
-      from : (left k : ℕ) → placementsReply (shelfOf book) (placementAt xs) k left ≡ refused r → r .place ≤ k + left
-      from zero k e = absurd (not-read (sym e ∙ none-left (shelfOf book) (placementAt xs) k))
-      from (suc left) k e = at (fault (shelfOf book) (placementAt xs) k) refl (from left (suc k))
-        where
-          at : (n : ℕ) → fault (shelfOf book) (placementAt xs) k ≡ n → (placementsReply (shelfOf book) (placementAt xs) (suc k) left ≡ refused r → r .place ≤ suc k + left) → r .place ≤ k + suc left
-          at zero f more = omega (arith, more (sym (faultless (shelfOf book) (placementAt xs) k left f) ∙ e))
-          at (suc n) f more =
-              let g : refused (refusal (fault (shelfOf book) (placementAt xs) k) (suc k)) ≡ refused r = sym (faulty (shelfOf book) (placementAt xs) k left (omega arith)) ∙ e in
-              let h : refusal (fault (shelfOf book) (placementAt xs) k) (suc k) ≡ r = cc in
-              rw (← h) (omega arith)
-
-      go : (t : Bool) → isOutside mostPlacements (placementCount xs) ≡ t → r .place ≤ mostPlacements
-      go true t =
-          let g : refused (refusal 15 0) ≡ refused r = sym (count-outside t) ∙ e in
-          let h : refusal 15 0 ≡ r = cc in
-          rw (← h) (omega arith)
-      go false t = omega (arith, inside mostPlacements (placementCount xs) t, from (placementCount xs) 0 (sym (count-within t) ∙ e))
+  unfolding assemblyReply
+  place-few r e = shelf-few (shelfOf book) xs r e

@@ -43,9 +43,9 @@ blockAt d at =
     record { number = le16 d start; start = start; atoms = le16 d (start + 2); bonds = le16 d (start + blockKind .count) }
 
 -- the same refusal at another place
-abbrev pub moved : (Refusal → ℕ) → Read (Unit {0}) → Read (Unit {0})
+abbrev pub moved : {A : Type 0} → (Refusal → ℕ) → Read A → Read A
 moved place (refused r) = refused (refusal (r .number) (place r))
-moved place (read u) = read u
+moved place (read x) = read x
 
 -- the first byte of bond number j, from 1, of the block record at a place
 abbrev pub bondPlace : ℕ → ℕ → ℕ

@@ -1,14 +1,14 @@
 -- Laws. Runs of bytes that are put one behind the other. Assumes nothing.
 use Prim.Native.Nat.{ℕ, zero, suc, _+_, _*_, _-_, _/_, _%_, _≤_, _<_, min}
 use mathlib.Core.Bool.{Bool, true, false, cond}
-use mathlib.Core.List.{List, [], _∷_, _++_}
+use mathlib.Core.List.{List, [], _∷_, _++_, append-assoc}
 use mathlib.Core.Path.{_≡_, refl, sym, _∙_, ap, ap₂}
 use native.Mathlib.Nat.{add-zero}
 use native.Mathlib.Numerals.{add-one}
 use native.Mathlib.Omega.{arith}
 use borrow.Author.Tests.{lt-ltb, le-ltb}
 use lib.Dec.{ltb}
-use lib.ListN.{length, getD, set, drop, replicate, drop-of-length-le}
+use lib.ListN.{length, length-append, getD, set, drop, replicate, replicate-append-replicate, drop-of-length-le}
 use lib.Seq.{sets, drop-cons}
 use Rattle.half.specs.Half.{mostAtoms, halfAt, halfRow}
 use Rattle.block.specs.Sums.{entry, vertexBy, indicesBy}
@@ -71,6 +71,21 @@ put-none s xs at i h = rw (drop-of-length-le xs h)
 pub put-start : (s xs : List ℕ) (at : ℕ) → sets s at xs ≡ sets s (at + 0) (drop 0 xs)
 put-start s xs at = ap (λ (n : ℕ). sets s n xs) (sym (add-zero at))
 
+-- zeros, one by one
+pub zeros-one : (s : List ℕ) (at i k : ℕ) → i < k → sets s (at + i) (replicate (k - i) 0) ≡ sets (set s (at + i) 0) (at + (i + 1)) (replicate (k - (i + 1)) 0)
+zeros-one s at i k h =
+    let e : at + (i + 1) ≡ suc (at + i) = omega arith in
+    let f : k - i ≡ suc (k - (i + 1)) = omega arith in
+    rw (e, f)
+
+pub zeros-none : (s : List ℕ) (at i k : ℕ) → k ≤ i → sets s (at + i) (replicate (k - i) 0) ≡ s
+zeros-none s at i k h = let z : k - i ≡ 0 = omega arith in rw z
+
+pub zeros-start : (s : List ℕ) (at k : ℕ) → sets s at (replicate k 0) ≡ sets s (at + 0) (replicate (k - 0) 0)
+zeros-start s at k =
+    let e : k - 0 ≡ k = omega arith in
+    rw e (ap (λ (n : ℕ). sets s n (replicate k 0)) (sym (add-zero at)))
+
 -- the seats
 pub length-one : (half : List ℕ) (far n i : ℕ) → length (oneSeat half far n i) ≡ 10
 unfolding oneSeat seatOn seatBytes littleBytes
@@ -80,13 +95,14 @@ length-one half far n i = go (ltb i n) (vertexBy (min n mostAtoms) (entry (halfR
     go true v = refl
     go false v = refl
 
-pub record SeatsPut (old half far : List ℕ) (n : ℕ) (new : List ℕ) (i : ℕ) : Type 0 where
-  pub is : sets new (16 + 10 * i) (seatsBy half far n i (64 - i)) ≡ sets old 16 (seatsBy half far n 0 64)
+-- i of the first m are put
+pub record SeatsPut (old half far : List ℕ) (n m : ℕ) (new : List ℕ) (i : ℕ) : Type 0 where
+  pub is : sets new (16 + 10 * i) (seatsBy half far n i (m - i)) ≡ sets old 16 (seatsBy half far n 0 m)
   pub size : length new ≡ length old
-  pub low : i ≤ 64
+  pub low : (i ≤ m) × (m ≤ mostAtoms)
 
-pub seats-start : (old half far : List ℕ) (n : ℕ) → SeatsPut old half far n old 0
-seats-start old half far n = record { is = refl; size = refl; low = omega arith }
+pub seats-start : (old half far : List ℕ) (n m : ℕ) → m ≤ mostAtoms → SeatsPut old half far n m old 0
+seats-start old half far n m h = let e : m - 0 ≡ m = omega arith in record { is = rw e; size = refl; low = (omega arith, h) }
 
 seats-step : (half far : List ℕ) (n : ℕ) (l : List ℕ) (i m p a b c : ℕ) → a ≡ p + 10 → b ≡ suc i → c ≡ suc m
     → sets (sets l p (oneSeat half (getD far i 0) n i)) a (seatsBy half far n b m) ≡ sets l p (seatsBy half far n i c)
@@ -95,29 +111,66 @@ seats-step half far n l i m p a b c ea eb ec =
     let k : a ≡ p + length (oneSeat half (getD far i 0) n i) = omega (arith, length-one half (getD far i 0) n i) in
     rw (k, eb, ec) (sym (sets-append (oneSeat half (getD far i 0) n i) (seatsBy half far n (suc i) m) l p))
 
-pub seats-next : {old half far : List ℕ} {n : ℕ} {new r : List ℕ} {i : ℕ} → SeatsPut old half far n new i → i < 64 → length r ≡ length new
-    → r ≡ sets new (16 + 10 * i) (oneSeat half (getD far i 0) n i) → SeatsPut old half far n r (i + 1)
-seats-next {old} {half} {far} {n} {new} {r} {i} S l k e = record {
-  is = ap (λ (x : List ℕ). sets x (16 + 10 * (i + 1)) (seatsBy half far n (i + 1) (64 - (i + 1)))) e
-      ∙ seats-step half far n new i (64 - (i + 1)) (16 + 10 * i) (16 + 10 * (i + 1)) (i + 1) (64 - i) (omega arith) (add-one i) (omega arith) ∙ S .is;
+pub seats-next : {old half far : List ℕ} {n m : ℕ} {new r : List ℕ} {i : ℕ} → SeatsPut old half far n m new i → i < m → length r ≡ length new
+    → r ≡ sets new (16 + 10 * i) (oneSeat half (getD far i 0) n i) → SeatsPut old half far n m r (i + 1)
+seats-next {old} {half} {far} {n} {m} {new} {r} {i} S l k e = record {
+  is = ap (λ (x : List ℕ). sets x (16 + 10 * (i + 1)) (seatsBy half far n (i + 1) (m - (i + 1)))) e
+      ∙ seats-step half far n new i (m - (i + 1)) (16 + 10 * i) (16 + 10 * (i + 1)) (i + 1) (m - i) (omega arith) (add-one i) (omega arith) ∙ S .is;
   size = k ∙ S .size;
-  low = omega arith;
+  low = (omega arith, S .low .1);
 }
 
-pub seats-end : {old half far : List ℕ} {n : ℕ} {new : List ℕ} {i : ℕ} → SeatsPut old half far n new i → 64 ≤ i → new ≡ sets old 16 (seatsBy half far n 0 64)
+pub seats-end : {old half far : List ℕ} {n m : ℕ} {new : List ℕ} {i : ℕ} → SeatsPut old half far n m new i → m ≤ i → new ≡ sets old 16 (seatsBy half far n 0 m)
 unfolding seatsBy
-seats-end {i = i} S l =
-    let z : 64 - i ≡ 0 = omega arith in
+seats-end {m = m} {i = i} S l =
+    let z : m - i ≡ 0 = omega arith in
     (rw z at (S .is))
+
+-- behind the atoms there are zeros
+seats-none : (half far : List ℕ) (n i left : ℕ) → n ≤ i → seatsBy half far n i left ≡ replicate (10 * left) 0
+unfolding seatsBy oneSeat
+seats-none half far n i zero h = refl
+seats-none half far n i (suc left) h =
+    let e : 10 * suc left ≡ 10 + 10 * left = omega arith in
+    rw (le-ltb i n h, seats-none half far n (suc i) left (omega arith), e) (replicate-append-replicate 10 (10 * left) 0)
+
+-- also where no place is left
+seats-behind : (half far : List ℕ) (n i left : ℕ) → (0 < left → n ≤ i) → seatsBy half far n i left ≡ replicate (10 * left) 0
+unfolding seatsBy
+seats-behind half far n i zero h = refl
+seats-behind half far n i (suc left) h = seats-none half far n i (suc left) (h (omega arith))
+
+length-seats : (half far : List ℕ) (n i left : ℕ) → length (seatsBy half far n i left) ≡ 10 * left
+unfolding seatsBy
+length-seats half far n i zero = refl
+length-seats half far n i (suc left) =
+    length-append (oneSeat half (getD far i 0) n i) (seatsBy half far n (suc i) left) ∙ omega (arith, length-one half (getD far i 0) n i, length-seats half far n (suc i) left)
+
+seats-append : (half far : List ℕ) (n i a b : ℕ) → seatsBy half far n i (a + b) ≡ seatsBy half far n i a ++ seatsBy half far n (i + a) b
+unfolding seatsBy
+seats-append half far n i zero b =
+    let e : 0 + b ≡ b = omega arith in
+    let f : i + 0 ≡ i = omega arith in
+    rw (e, f)
+seats-append half far n i (suc a) b =
+    let e : suc a + b ≡ suc (a + b) = omega arith in
+    let f : i + suc a ≡ suc i + a = omega arith in
+    rw (e, f, seats-append half far n (suc i) a b) (sym (append-assoc (oneSeat half (getD far i 0) n i) (seatsBy half far n (suc i) a) (seatsBy half far n (suc i + a) b)))
+
+pub seats-all : (l : List ℕ) {o r : List ℕ} (half far : List ℕ) (n m : ℕ) → m ≡ min n mostAtoms → o ≡ sets l 16 (seatsBy half far n 0 m)
+    → r ≡ sets o (16 + 10 * m) (replicate (10 * (mostAtoms - m)) 0) → r ≡ sets l 16 (seatsBy half far n 0 mostAtoms)
+seats-all l half far n m q e f =
+    let zeros = seats-behind half far n (0 + m) (mostAtoms - m) (λ z. omega arith) in
+    let w : m + (mostAtoms - m) ≡ mostAtoms = omega arith in
+    joined l (seatsBy half far n 0 m) (replicate (10 * (mostAtoms - m)) 0) 16 (16 + 10 * m) e f (omega (arith, length-seats half far n 0 m))
+    ∙ ap (λ (x : List ℕ). sets l 16 (seatsBy half far n 0 m ++ x)) (sym zeros)
+    ∙ ap (λ (x : List ℕ). sets l 16 x) (sym (seats-append half far n 0 m (mostAtoms - m)))
+    ∙ ap (λ (k : ℕ). sets l 16 (seatsBy half far n 0 k)) w
 
 pub seat-is : (l : List ℕ) {r : List ℕ} (at : ℕ) (half row : List ℕ) (far n i : ℕ) (v : Vertex) → i < n → row ≡ halfRow half (i + 1) → v ≡ vertexBy (min n mostAtoms) (entry row) far
     → r ≡ sets l at (seatBytes (v .even) (v .odd) (v .evens) (v .odds) (v .ones) (v .twos) (v .farthest) (v .ones)) → r ≡ sets l at (oneSeat half far n i)
 unfolding oneSeat seatOn
 seat-is l at half row far n i v h e f z = z ∙ ap (λ (w : Vertex). sets l at (seatOn w)) (f ∙ ap (λ (x : List ℕ). vertexBy (min n mostAtoms) (entry x) far) e) ∙ rw (lt-ltb i n h)
-
-pub seat-off : (l : List ℕ) {r : List ℕ} (at : ℕ) (half : List ℕ) (far n i : ℕ) → n ≤ i → r ≡ sets l at (seatBytes 0 0 0 0 0 0 0 0) → r ≡ sets l at (oneSeat half far n i)
-unfolding oneSeat seatBytes littleBytes
-seat-off l at half far n i h z = z ∙ rw (le-ltb i n h)
 
 pub head-put : (l : List ℕ) {m r : List ℕ} (x : ℕ) (s : Indices) → m ≡ sets l 0 (littleBytes 2 x ++ (s .atoms % 256 ∷ s .largest % 256 ∷ [])) → r ≡ sets m 4 (littleBytes 4 (s .even) ++ (littleBytes 4 (s .odd) ++ littleBytes 4 (s .polarity))) → r ≡ sets l 0 (headOn x s)
 unfolding headOn littleBytes

@@ -5,5 +5,6 @@
 -- | `seatsBy`, `headBy`      | what the functions put, by half of the distances and the farthest of each atom | `ones-are-bonds`: as many bonds at an atom as atoms at distance 1 |
 pub mod Reply
 pub mod Work
+pub mod Rows
 pub mod Ones
 pub mod Unique

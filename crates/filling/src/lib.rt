@@ -1,5 +1,6 @@
 // The summary of a block, put into lent bytes.
 mod parts;
+mod rows;
 mod store;
 
 use block::ATOMS;

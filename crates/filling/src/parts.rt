@@ -1,50 +1,62 @@
 // The parts of a summary: what it opens with, and what it keeps of each atom.
+use super::rows::around;
+use super::rows::within;
 use super::store::put_first;
 use super::store::put_seat;
 use super::store::put_totals;
+use super::store::put_zeros;
 use block::ATOMS;
 use block::Farthest;
 use half::Half;
 ghost use mathlib.Core.Path.{_≡_};
-ghost use Prim.Native.Nat.{_^_, _<_};
+ghost use Prim.Native.Nat.{_^_, _≤_, _<_};
+ghost use lib.ListN.{length};
 ghost use lib.Seq.{sets};
 ghost use Rattle.half.specs.Half.{mostAtoms};
+ghost use Rattle.summary.specs.Layout.{summaryBytes};
 ghost use Rattle.filling.specs.Work.{oneSeat, seatsBy, headBy};
 
-// The ten bytes of atom i + 1, from which the farthest is `far`; 0 where there is none.
+// The ten bytes of atom i + 1, from which the farthest is `far`.
 fn seat(out: &mut [u8], at: usize, half: &Half, far: u8, n: usize, i: usize)
-    requires { ⌜ (at < 2 ^ 32) × (i < mostAtoms) ⌝ }
+    requires { ⌜ (at < 2 ^ 32) × (i < mostAtoms) × (i < n) ⌝ }
     ensures { λ _. ⌜ now (out .exit) ≡ sets (now (out .entry)) at (oneSeat (now (half .entry)) far n i) ⌝ }
 {
-    if i < n {
-        let row = half::row(half, i + 1);
-        let v = block::around_row(&row, n, far);
-        put_seat(
-            out,
-            at,
-            v.even,
-            v.odd,
-            v.evens,
-            v.odds,
-            v.ones,
-            v.twos,
-            v.farthest,
-            v.ones,
-        );
-        return;
-    }
-    put_seat(out, at, 0, 0, 0, 0, 0, 0, 0, 0);
+    let row = half::row(half, i + 1);
+    let v = around(&row, n, far);
+    put_seat(
+        out,
+        at,
+        v.even,
+        v.odd,
+        v.evens,
+        v.odds,
+        v.ones,
+        v.twos,
+        v.farthest,
+        v.ones,
+    );
 }
 
-// Those of all atoms.
-pub(crate) fn seats(out: &mut [u8], half: &Half, far: &Farthest, n: usize)
-    ensures { λ _. ⌜ now (out .exit) ≡ sets (now (out .entry)) 16 (seatsBy (now (half .entry)) (now (far .entry)) n 0 mostAtoms) ⌝ }
+// Those of the first m atoms.
+fn first_seats(out: &mut [u8], half: &Half, far: &Farthest, n: usize, m: usize)
+    requires { ⌜ (m ≤ mostAtoms) × (m ≤ n) ⌝ }
+    ensures { λ _. ⌜ now (out .exit) ≡ sets (now (out .entry)) 16 (seatsBy (now (half .entry)) (now (far .entry)) n 0 m) ⌝ }
 {
     let mut i = 0;
-    while i < ATOMS {
+    while i < m {
         seat(out, 16 + 10 * i, half, far[i], n, i);
         i += 1;
     }
+}
+
+// Those of all atoms; zeros where there is none.
+pub(crate) fn seats(out: &mut [u8], half: &Half, far: &Farthest, n: usize)
+    requires { ⌜ summaryBytes ≤ length (now out) ⌝ }
+    ensures { λ _. ⌜ now (out .exit) ≡ sets (now (out .entry)) 16 (seatsBy (now (half .entry)) (now (far .entry)) n 0 mostAtoms) ⌝ }
+{
+    let m = within(n);
+    first_seats(out, half, far, n, m);
+    put_zeros(out, 16 + 10 * m, 10 * (ATOMS - m));
 }
 
 // The sixteen bytes that it opens with.

@@ -2,7 +2,7 @@
 ghost use mathlib.Core.Path.{_≡_};
 ghost use mathlib.Core.List.{[], _∷_, _++_};
 ghost use Prim.Native.Nat.{_+_, _%_, _^_, _≤_, _<_};
-ghost use lib.ListN.{length, set};
+ghost use lib.ListN.{length, set, replicate};
 ghost use lib.Seq.{sets};
 ghost use Rattle.records.specs.Bytes.{littleBytes};
 ghost use Rattle.filling.specs.Work.{seatBytes};
@@ -51,6 +51,18 @@ pub(crate) fn put_bytes(out: &mut [u8], at: usize, xs: &[u8])
     let mut i = 0;
     while i < xs.len() {
         out[at + i] = xs[i];
+        i += 1;
+    }
+}
+
+// Puts zeros from a place on.
+pub(crate) fn put_zeros(out: &mut [u8], at: usize, k: usize)
+    requires { ⌜ at + k ≤ length (now out) ⌝ }
+    ensures { λ _. ⌜ now (out .exit) ≡ sets (now (out .entry)) at (replicate k 0) ⌝ }
+{
+    let mut i = 0;
+    while i < k {
+        out[at + i] = 0;
         i += 1;
     }
 }

@@ -107,7 +107,7 @@ unfolding sheetPut
 put-record s out x h = rw (le-ltb (length out) (sheetBytes s) h) (take-at (sheetRecord s (fieldsOf s x)) _ (sheetBytes s) (length-sheet s x))
 
 -- a sheet that was written is that of the deck's molecule, and the buffer was long enough
-sheet-made : (y : Read Indices) → saidSheetWritten y ≡ written.Sheet → (x : Indices) × (y ≡ read x)
+pub sheet-made : (y : Read Indices) → saidSheetWritten y ≡ written.Sheet → (x : Indices) × (y ≡ read x)
 sheet-made (refused r) e = absurd (let z : _≡_ {A = ℕ} 0 1 = cc in omega arith)
 sheet-made (read x) e = (x, refl)
 

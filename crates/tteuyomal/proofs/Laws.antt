@@ -22,13 +22,12 @@ use Rattle.block.specs.declared.DistanceReply.{DistanceReply}
 use Rattle.block.specs.declared.DistanceReply.the-variants as apart
 use Rattle.judging.specs.declared.Verdict.{Verdict}
 use Rattle.judging.specs.declared.SheetWritten.{SheetWritten}
-use Rattle.judging.specs.declared.SheetWritten.the-variants as written
 use Rattle.judging.specs.Judging.{saidSheetWritten}
 use Rattle.poly.specs.Poly.{saidPolynomial}
 use Rattle.poly.specs.declared.Values.{Values}
 use Rattle.poly.specs.declared.ValuesReply.{ValuesReply}
 use Rattle.poly.specs.declared.ValuesReply.the-variants as answer
-use Rattle.tteuyomal.specs.Convention.{code, coded, verdictCode, over, Lent}
+use Rattle.tteuyomal.specs.Convention.{code, coded, replyCode, writtenCode, verdictCode, over, Lent}
 
 -- what a reply of the code says, as a refusal or a value
 abbrev pub toldBlock : Reply → Read (Unit {0})
@@ -58,10 +57,6 @@ abbrev pub toldDistance : DistanceReply → Read ℕ
 toldDistance (apart.Refused r) = refused r
 toldDistance (apart.Of d) = read d
 
-abbrev pub writtenCode : SheetWritten → ℕ
-writtenCode (written.Refused r) = code r
-writtenCode written.Sheet = 0
-
 pub block-told : (a : Reply) (R : Read (Unit {0})) → a ≡ saidReply R → toldBlock a ≡ R
 block-told a (refused r) e = ap toldBlock e
 block-told a (read tt) e = ap toldBlock e
@@ -85,6 +80,10 @@ values-told a (read v) e = ap toldValues e
 pub distance-told : (a : DistanceReply) (R : Read ℕ) → a ≡ saidDistance R → toldDistance a ≡ R
 distance-told a (refused r) e = ap toldDistance e
 distance-told a (read d) e = ap toldDistance e
+
+pub reply-coded : (a : Reply) (R : Read (Unit {0})) → a ≡ saidReply R → replyCode a ≡ coded R
+reply-coded a (refused r) e = ap replyCode e
+reply-coded a (read tt) e = ap replyCode e
 
 pub written-coded : (a : SheetWritten) (R : Read Indices) → a ≡ saidSheetWritten R → writtenCode a ≡ coded R
 written-coded a (refused r) e = ap writtenCode e

@@ -6,3 +6,4 @@ pub mod Indexed
 pub mod MolfileReplies
 pub mod Texts
 pub mod Walking
+pub mod QueueReplies

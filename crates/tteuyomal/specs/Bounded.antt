@@ -17,7 +17,7 @@ use Rattle.records.specs.Records.{blockKind, assemblyKind, kindAt, endAt, paylo
 use Rattle.records.specs.Taken.{taken}
 use Rattle.records.specs.declared.Kind.{Kind}
 use Rattle.assembly.specs.Book.{Book, used, bondBytes, bookOf, mostBlocks}
-use Rattle.assembly.specs.Placements.{mostPlacements, placementCount, placementAt, Shelf, shelfOf, isFull, firstFault, parentFault, joinFault, laterFault, fault, placementsReply, assemblyReply}
+use Rattle.assembly.specs.Placements.{mostPlacements, placementCount, placementAt, Shelf, shelfOf, isFull, firstFault, parentFault, joinFault, laterFault, fault, placementsReply, shelfReply, assemblyReply}
 use Rattle.assembly.specs.declared.Placement.{Placement}
 use Rattle.assembly.specs.declared.JoinSite.{JoinSite}
 use Rattle.assembly.specs.declared.BlockAt.{BlockAt}
@@ -152,20 +152,23 @@ module _ (shelf : Shelf) (placed : ℕ → Placement) where
       then-bounded c (refuseFor (fault shelf placed k) (suc k)) _ (for-bounded c (fault shelf placed k) (suc k) (fault-number k) (omega arith))
       (λ u e. placed-bounded c (suc k) left (omega arith))
 
-pub assembly-bounded : (book : Book) (xs : List ℕ) → Bounded (suc mostPlacements) (assemblyReply book xs)
-unfolding assemblyReply
-assembly-bounded book xs =
+pub shelf-bounded : (shelf : Shelf) (xs : List ℕ) → Bounded (suc mostPlacements) (shelfReply shelf xs)
+shelf-bounded shelf xs =
     let c = suc mostPlacements in
     let n = placementCount xs in
     then-bounded c (refuseIf (isOutside mostPlacements n) 15 0) _ (if-bounded c (isOutside mostPlacements n) 15 0 (omega arith)) (λ u e.
-    placed-bounded (shelfOf book) (placementAt xs) c 0 n (omega (arith, ltb-false mostPlacements n (neither (eqb n 0) (ltb mostPlacements n) (if-read _ 15 0 e) .1))))
+    placed-bounded shelf (placementAt xs) c 0 n (omega (arith, ltb-false mostPlacements n (neither (eqb n 0) (ltb mostPlacements n) (if-read _ 15 0 e) .1))))
+
+assembly-bounded : (book : Book) (xs : List ℕ) → Bounded (suc mostPlacements) (assemblyReply book xs)
+unfolding assemblyReply
+assembly-bounded book xs = shelf-bounded (shelfOf book) xs
 
 -- A deck: no place is more than the deck's length and what a record's own places add.
 first-or-bond : (at c : ℕ) (t : Bool) (j : ℕ) → at < c → bondPlace at j < c → cond t at (bondPlace at j) < c
 first-or-bond at c true j h k = h
 first-or-bond at c false j h k = k
 
-moved-bounded : (b c : ℕ) (place : Refusal → ℕ) (x : Read (Unit {0})) → ((r : Refusal) → r .place < b → place r < c) → Bounded b x → Bounded c (moved place x)
+pub moved-bounded : {A : Type 0} (b c : ℕ) (place : Refusal → ℕ) (x : Read A) → ((r : Refusal) → r .place < b → place r < c) → Bounded b x → Bounded c (moved place x)
 moved-bounded b c place (refused r) h s = record { low = s .low; high = s .high; place = h r (s .place) }
 moved-bounded b c place (read u) h s = tt
 

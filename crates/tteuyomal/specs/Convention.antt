@@ -7,6 +7,10 @@ use lib.Dec.{ltb}
 use lib.ListN.{length, drop}
 use Rattle.reply.specs.Read.{Read, refused, read, _then_, refuseIf}
 use Rattle.reply.specs.declared.Refusal.{Refusal}
+use Rattle.reply.specs.declared.Reply.{Reply}
+use Rattle.reply.specs.declared.Reply.the-variants as reply
+use Rattle.judging.specs.declared.SheetWritten.{SheetWritten}
+use Rattle.judging.specs.declared.SheetWritten.the-variants as written
 use Rattle.judging.specs.declared.Verdict.{Verdict}
 use Rattle.judging.specs.declared.Verdict.the-variants as verdict
 
@@ -20,6 +24,15 @@ code r = r .number % 256 + 256 * (r .place % mostPlace)
 abbrev pub coded : {A : Type 0} → Read A → ℕ
 coded (refused r) = code r
 coded (read x) = 0
+
+-- a reply that tells nothing but fine, and one about a sheet that is to be written
+abbrev pub replyCode : Reply → ℕ
+replyCode (reply.Refused r) = code r
+replyCode reply.Fine = 0
+
+abbrev pub writtenCode : SheetWritten → ℕ
+writtenCode (written.Refused r) = code r
+writtenCode written.Sheet = 0
 
 -- a verdict: 0 for accepted, 255 for "differs" with the first wrong field
 abbrev pub verdictCode : Verdict → ℕ

@@ -2,12 +2,8 @@
 --
 -- | notion                         | meaning                                                     | the law that matters                                           |
 -- | `code`, `coded`, `verdictCode` | a refusal, an answer, a verdict as one number               | `Tells`, `Judges`: what the number tells, with nothing assumed |
-<<<<<<< HEAD
--- | `fitting`, `outAfter`, `Lent`  | 9 where the answer does not fit; the lent output afterwards | `lent-once`                                                    |
-=======
 -- | `fitting`, `outAfter`, `Lent`  | 9 where the answer does not fit; the lent output afterwards | `lent-once`                                                    |
 -- | `stepCode`, `Walked`           | 254 for done; the outputs of a library's step and run       | `Walks`: what the number tells, with nothing assumed           |
->>>>>>> f0d9d5dcc398e8c509bbd9f99d97d8c99de25a4c
 -- | `Beside`, `Contributed`        | a number for each bond, and one number beside them          | `beside-once`                                                  |
 pub mod Convention
 pub mod Beside
@@ -16,6 +12,7 @@ pub mod Szeged
 pub mod Balaban
 pub mod FarthestAtom
 pub mod Libraries
+pub mod TwoQueues
 pub mod CountSets
 pub mod Molfiles
 pub mod Texts
@@ -25,3 +22,4 @@ pub mod Recovered
 pub mod Told
 pub mod ToldTexts
 pub mod ToldLibraries
+pub mod ToldQueues

@@ -105,7 +105,7 @@ judges (read (suc n)) s h =
     }
 
 -- What each function's answer can be refused for.
-block-here : (n : ℕ) (xs : List ℕ) → Bounded mostPlace (blockReply n xs)
+pub block-here : (n : ℕ) (xs : List ℕ) → Bounded mostPlace (blockReply n xs)
 block-here n xs = wider (suc mostBytes) mostPlace (blockReply n xs) (omega arith) (block-bounded n xs)
 
 indices-bounded : (n : ℕ) (xs : List ℕ) → Bounded mostPlace (indicesReply n xs)

@@ -7,7 +7,7 @@ ghost use Rattle.block.specs.Block.{blockReply};
 ghost use Rattle.records.specs.declared.Sheet.the-variants.{Five, Six};
 ghost use Rattle.sheets.specs.Sheets.{fieldsOf};
 ghost use Rattle.judging.specs.Judging.{judgeReply, saidVerdict, sheetWriteReply, sheetOut};
-ghost use Rattle.tteuyomal.specs.Convention.{mostPlace, code, coded, verdictCode, over, Lent};
+ghost use Rattle.tteuyomal.specs.Convention.{mostPlace, code, coded, replyCode, writtenCode, verdictCode, over, Lent};
 ghost use Rattle.tteuyomal.specs.Replies.{indicesList, composedList, placedList, vertexList, valuesList, polynomialList, unlentReply, Contributed};
 use block::DistanceReply;
 use block::VertexReply;
@@ -31,6 +31,7 @@ mod libraries;
 mod molfiles;
 mod neighbour_text;
 mod szeged_terms;
+mod two_queues;
 mod version;
 
 const PLACES: usize = 72_057_594_037_927_936;
@@ -40,6 +41,26 @@ fn code_of(r: Refusal) -> u64
     ensures { λ x. ⌜ x ≡ code r ⌝ }
 {
     (r.number % 256) as u64 + 256 * ((r.place % PLACES) as u64)
+}
+
+// A reply as one number.
+fn reply_code(reply: Reply) -> u64
+    ensures { λ x. ⌜ x ≡ replyCode reply ⌝ }
+{
+    match reply {
+        Reply::Fine => 0,
+        Reply::Refused(r) => code_of(r),
+    }
+}
+
+// The same for a sheet that is to be written.
+fn written_code(written: SheetWritten) -> u64
+    ensures { λ x. ⌜ x ≡ writtenCode written ⌝ }
+{
+    match written {
+        SheetWritten::Refused(r) => code_of(r),
+        SheetWritten::Sheet => 0,
+    }
 }
 
 // Puts numbers at the front of a lent output.
@@ -79,10 +100,7 @@ pub extern "C" fn tteuyomal_check_block(atoms: usize, bonds: &[u8]) -> u64
     ensures { λ r. ⌜ r ≡ coded (blockReply atoms (now (bonds .entry))) ⌝ }
 {
     let reply = block::check(atoms, bonds);
-    match reply {
-        Reply::Fine => 0,
-        Reply::Refused(r) => code_of(r),
-    }
+    reply_code(reply)
 }
 
 #[no_mangle]
@@ -201,10 +219,7 @@ fn write_either(deck: &[u8], sheet: Sheet, out: &mut [u8]) -> u64
         ⌝ }
 {
     let written = judging::write_sheet(deck, sheet, out);
-    match written {
-        SheetWritten::Refused(r) => code_of(r),
-        SheetWritten::Sheet => 0,
-    }
+    written_code(written)
 }
 
 #[no_mangle]

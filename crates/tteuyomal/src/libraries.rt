@@ -18,7 +18,7 @@ ghost use Rattle.tteuyomal.specs.Libraries.{sheetFor, countList, withNex
 const DONE: u64 = 254;
 
 // The sheet of a kind: 4 has six fields, anything else counts as 3.
-fn sheet_for(kind: usize) -> Sheet
+pub(crate) fn sheet_for(kind: usize) -> Sheet
     ensures { λ r. ⌜ r ≡ sheetFor kind ⌝ }
 {
     if kind == 4 {

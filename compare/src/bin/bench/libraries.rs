@@ -22,7 +22,7 @@ const GOAL: f64 = 200.0;
 const PRODUCTS_A_SECOND: f64 = 2_000_000.0;
 
 /// A core of 20 atoms with four sites, and for each site eight candidates of 10 atoms, each by some atom.
-fn library() -> LibraryPlan {
+pub fn library() -> LibraryPlan {
     let random = &mut Random::new(20);
     let core = BlockPlan { number: 1, ..with_more_bonds(random, 20, 4) };
     let arms: Vec<BlockPlan> =

@@ -1,9 +1,10 @@
 //! The stack that each function takes on the largest inputs, and whether the archive asks for heap memory.
 
-use crate::{archive, libraries, opened, stack};
+use crate::{archive, libraries, opened, queues, stack};
 use opinion::block::MOST_BONDS;
 use opinion::make::plan::DeckPlan;
 use opinion::make::shapes;
+use opinion::queues::{SIX, TABLE};
 use std::fs;
 
 const MOST_STACK: usize = 256 << 10;
@@ -13,6 +14,7 @@ pub fn stack(decks: &[&DeckPlan]) {
     let judged: Vec<Vec<u8>> = decks.iter().map(|deck| opened(deck).1).collect();
     let decks: Vec<Vec<u8>> = decks.iter().map(|deck| deck.bytes()).collect();
     let libraries = [libraries::largest().bytes()];
+    let (table, record) = queues::largest();
     let blocks = [shapes::path(64), shapes::double_ring(64), shapes::cube(6), shapes::doubling(32)];
     let blocks = blocks.map(|block| block.bond_bytes());
     let rows = [
@@ -32,6 +34,11 @@ pub fn stack(decks: &[&DeckPlan]) {
         ("szeged", most(&blocks, |bonds| archive::szeged(64, bonds, &mut [0; MOST_BONDS], &mut [0]))),
         ("balaban", most(&blocks, |bonds| archive::balaban(64, bonds, &mut [0]))),
         ("polynomial", most(&blocks, |bonds| archive::polynomial(64, bonds, 0.5, &mut [0.0; 2]))),
+        ("queue_empty", most(&[table.clone()], |table| archive::queue_empty(&mut table.to_vec()))),
+        ("queue_add", most(&blocks, |bonds| archive::queue_add(&mut vec![0; TABLE], 0, 1, 64, bonds))),
+        ("queue_look", most(&[table.clone()], |table| archive::queue_look(table, 1, 8, &mut [0; 6]))),
+        ("queue_drop", most(&[table.clone()], |table| archive::queue_drop(&mut table.to_vec(), 1, 8))),
+        ("queue_compose", most(&[record], |record| archive::queue_compose(&table, 1, SIX, record, &mut [0; 44]))),
         ("count_sets", most(&blocks, |bonds| archive::count_sets(64, bonds, &mut [0; 2]))),
     ];
     println!("| Function | bytes of stack | goal | |");

@@ -1,37 +1,22 @@
 -- `tteuyomal::tteuyomal_check_block` meets its contract.
-use mathlib.Core.Path.{sym, _∙_, ap}
+use mathlib.Core.Path.{_∙_}
 use denote.Ref.{now}
 use borrow.Author.Needs.{needs}
 use Rattle.block.specs.Block.{blockReply}
-use Rattle.tteuyomal.specs.Convention.{coded}
-use Rattle.tteuyomal.proofs.Laws.{toldBlock, block-told}
+use Rattle.tteuyomal.proofs.Laws.{reply-coded}
 use Rattle.tteuyomal.proofs.tteuyomal_check_block.Statement.{statement}
 use Rattle.tteuyomal.proofs.tteuyomal_check_block.Tie as tie
 
 check-requires : tie.Need-check-requires
 check-requires c κs = search needs
 
-enum-told : tie.Need-enum-told
-enum-told c = search needs
-
-enum-known-reply : tie.Need-enum-known-reply
-enum-known-reply c = search needs
-
-code-of-requires : tie.Need-code-of-requires
-code-of-requires c κs = search needs
+reply-code-requires : tie.Need-reply-code-requires
+reply-code-requires c κs = search needs
 
 returns : tie.Need-returns
 returns c =
-    let s = c .before .before .before .before in
-    ap coded (sym (ap toldBlock (c .enum-told .given .1)) ∙ block-told _ (blockReply (s .args .atoms) (now (s .args .bonds))) (c .before .before .check .ensures))
-
-returns-2 : tie.Need-returns-2
-returns-2 c =
-    let s = c .before .before .before .before .before .before in
-    c .code-of .ensures
-    ∙ ap coded (sym (ap toldBlock (c .before .before .reply .given .1)) ∙ block-told _ (blockReply (s .args .atoms) (now (s .args .bonds))) (c .before .before .before .before .check .ensures))
+    let a = c .before .before .before .args in
+    c .reply-code .ensures ∙ reply-coded _ (blockReply (a .atoms) (now (a .bonds))) (c .before .check .ensures)
 
 pub tteuyomal-check-block-spec : {M : Type 1} → statement M
-tteuyomal-check-block-spec =
-    tie.close
-    (tie.spec check-requires enum-told enum-known-reply code-of-requires returns returns-2)
+tteuyomal-check-block-spec = tie.close (tie.spec check-requires reply-code-requires returns)

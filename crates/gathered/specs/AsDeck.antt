@@ -1,42 +1,59 @@
--- Laws. The reply to the deck of some blocks and a record is the reply over that record, its place counted behind the blocks. Assumes nothing.
-use Prim.Native.Nat.{ℕ, zero, suc, _+_, _*_, _-_, _/_, _%_, _≤_, _<_}
-use mathlib.Core.Bool.{Bool, true, false, _&&_, _||_, not, cond}
+-- Laws. The deck of a queue's blocks and a record is told what the record is told over the blocks, its place counted behind them. Assumes nothing.
+use Prim.Native.Nat.{ℕ, suc, _+_, _*_, _-_, _/_, _%_, _≤_, _<_}
+use mathlib.Core.Bool.{Bool, true, false, _&&_, not, cond}
 use mathlib.Core.List.{List, [], _∷_, _++_, append-assoc, append-nil}
 use mathlib.Core.Path.{_≡_, refl, sym, _∙_, ap, ap₂, fun-ext}
 use native.Mathlib.Omega.{arith}
-use borrow.Author.Tests.{eq-eqb, ne-eqb, eqb-true, eqb-false, lt-ltb, le-ltb, ltb-true, ltb-false, lt-leb, not-false}
-use lib.Dec.{eqb, ltb, leb}
-use lib.ListN.{length, getD, take, drop, length-append}
-use lib.Seq.{take-at, drop-append-add, getD-append-add}
-use Rattle.graph.specs.Graph.{Graph, Within}
+use borrow.Author.Tests.{eq-eqb, ne-eqb, eqb-true, lt-ltb, le-ltb, ltb-true, ltb-false, lt-leb, not-false}
+use lib.Dec.{eqb, ltb}
+use lib.ListN.{length, take, length-append}
+use lib.Seq.{take-at, drop-append-add}
+use Rattle.graph.specs.Graph.{Graph}
 use Rattle.graph.specs.Assembly.{written}
 use Rattle.reply.specs.Read.{Read, refused, read, _then_, refuseIf, refusal}
-use Rattle.reply.specs.Chain.{then-read, if-read, neither}
-use Rattle.block.specs.Block.{mostBytes, graphOf, blockReply}
+use Rattle.reply.specs.Chain.{neither}
+use Rattle.block.specs.Block.{mostBytes, graphOf}
 use Rattle.block.specs.Told.{passed, few-atoms}
 use Rattle.block.specs.Index.{indicesOf}
+use Rattle.block.specs.declared.Indices.{Indices}
 use Rattle.records.specs.Bytes.{little, le16, part}
 use Rattle.records.specs.declared.Kind.{Kind}
-use Rattle.records.specs.Records.{headBytes, blockKind, assemblyKind, lengthAt, kindAt, payloadAt, endAt, wanted, kindReply, lengthReply, recordReply}
+use Rattle.records.specs.Records.{headBytes, blockKind, assemblyKind, lengthAt, kindAt, payloadAt, endAt, wanted, kindReply, isWrong, lengthReply, recordReply}
 use Rattle.records.specs.Longer.{little-behind}
 use Rattle.assembly.specs.declared.BlockAt.{BlockAt}
-use Rattle.assembly.specs.Book.{Book, find, used, bondBytes, blockGraph, bookOf}
+use Rattle.assembly.specs.Book.{Book, find, bondBytes, bookOf, mostBlocks}
 use Rattle.assembly.specs.Placements.{placementCount, placementAt, graphOn, joinOn, assemblyReply}
-use Rattle.deck.specs.Deck.{longestDeck, Deck, deckAt, blockAt, kindsAfter, moved, blockPlace, placementPlace, blockReplyAt, ifElse, blocksFrom, blocksReply, assemblyReplyAt, endReply, sheetReply, deckReply}
+use Rattle.deck.specs.Deck.{longestDeck, Deck, deckAt, blockAt, kindsAfter, moved, placementPlace, blockReplyAt, blocksFrom, blocksReply, assemblyReplyAt, endReply, sheetReply, deckReply}
 use Rattle.deck.specs.Molecule.{placedIn, graphAt, joinAt, moleculeOf}
 use Rattle.deck.specs.declared.Form.the-variants.{Composed}
 use Rattle.compose.specs.Fields.{fieldsReply}
 use Rattle.sheets.specs.Sheets.{littleBytes}
+use Rattle.storage.specs.Shelf.{places}
 use Rattle.storage.specs.Model.{Entry, lookup, has}
 use Rattle.storage.specs.Entries.{absent, Apart}
-use Rattle.gathered.specs.Gathered.{Block, noBlock, Blocks, graphIn, bookIn, moleculeOver, overRecord, blockRecord, blockRecords, Fit, AllFit, further}
+use Rattle.storage.specs.Keeps.{Proper, AllProper}
+use Rattle.summaries.specs.Written.{writtenReply}
+use Rattle.queues.specs.Blocks.{Block, noBlock, bookIn}
+use Rattle.gathered.specs.Gathered.{behindHead, overRecord}
+use Rattle.gathered.specs.Orders.{recordTable, recordBlocks}
+use Rattle.gathered.specs.Stacked.{Held, blockRecord, blockRecords, further}
+
+abbrev Blocks : Type 0
+Blocks = List (Entry Block)
+
+-- a block that may stand in a deck
+abbrev Fit : Entry Block → Type 0
+Fit e = Proper recordTable recordBlocks e
+
+abbrev AllFit : Blocks → Type 0
+AllFit q = AllProper recordTable recordBlocks q
 
 -- the bonds of a block that is not refused are pairs of bytes, and few
 module _ (e : Entry Block) (p : Fit e) where
   even : length (e .goods .bytes) % 2 ≡ 0
   even = eqb-true (length (e .goods .bytes) % 2) 0 (not-false _ (neither (not (eqb (length (e .goods .bytes) % 2) 0)) (ltb mostBytes (length (e .goods .bytes))) (passed (e .goods .atoms) (e .goods .bytes) (p .fine) .bytes) .0))
 
-  few : length (e .goods .bytes) ≤ mostBytes
+  pub few : length (e .goods .bytes) ≤ mostBytes
   few = ltb-false mostBytes (length (e .goods .bytes)) (neither (not (eqb (length (e .goods .bytes) % 2) 0)) (ltb mostBytes (length (e .goods .bytes))) (passed (e .goods .atoms) (e .goods .bytes) (p .fine) .bytes) .1)
 
   small-atoms : e .goods .atoms < 65536
@@ -46,12 +63,20 @@ module _ (e : Entry Block) (p : Fit e) where
 part-front : (a b : List ℕ) (i len : ℕ) → part (a ++ b) (length a + i) len ≡ part b i len
 part-front a b i len = ap (take len) (drop-append-add a b i)
 
+-- and a test behind other bytes
+ltb-behind : (n a b : ℕ) → ltb (n + a) (n + b) ≡ ltb a b
+ltb-behind n a b = go (ltb a b) refl
+  where
+    go : (t : Bool) → ltb a b ≡ t → ltb (n + a) (n + b) ≡ t
+    go true e = lt-ltb (n + a) (n + b) (omega (arith, ltb-true a b e))
+    go false e = le-ltb (n + a) (n + b) (omega (arith, ltb-false a b e))
+
+pub size : (e : Entry Block) → length (blockRecord e) ≡ 10 + length (e .goods .bytes)
+unfolding blockRecord littleBytes
+size e = omega arith
+
 -- what the record of a block says, behind other bytes and before others
 module _ (a r : List ℕ) (e : Entry Block) (p : Fit e) where
-  size : length (blockRecord e) ≡ 10 + length (e .goods .bytes)
-  unfolding blockRecord littleBytes
-  size = omega arith
-
   says-length : little 2 (blockRecord e ++ r) 0 ≡ 6 + length (e .goods .bytes)
   unfolding blockRecord littleBytes little
   says-length = omega (arith, few e p)
@@ -103,14 +128,14 @@ module _ (a r : List ℕ) (e : Entry Block) (p : Fit e) where
       ap₂ (λ (f m : ℕ). part d f m) z bonds-there ∙ part-front a (blockRecord e ++ r) 10 (length (e .goods .bytes)) ∙ says-bytes
 
   pub end-there : endAt d (length a) ≡ length (a ++ blockRecord e)
-  end-there = omega (arith, length-there, size, length-append a (blockRecord e))
+  end-there = omega (arith, length-there, size e, length-append a (blockRecord e))
 
   within : endAt d (length a) ≤ length d
   within = omega (arith, end-there, length-append a (blockRecord e), length-append a (blockRecord e ++ r), length-append (blockRecord e) r)
 
   -- the record is taken, whatever may stand there besides a block
   pub record-there : (ks : List Kind) → recordReply (blockKind ∷ ks) d (length a) ≡ read tt
-  unfolding recordReply kindReply lengthReply
+  unfolding recordReply kindReply lengthReply isWrong
   record-there ks =
       let w : lengthAt d (length a) ≡ wanted blockKind d (length a) = omega (arith, length-there, bonds-there) in
       rw (le-ltb (length d) (endAt d (length a)) within, kind-there, eq-eqb (lengthAt d (length a)) (wanted blockKind d (length a)) w)
@@ -149,7 +174,7 @@ describes-find d (b ∷ bs) (e ∷ q) h x = go (eqb (b .number) x) (ap (λ (f : 
     go false t more = rw (← t) more
 
 pub describes-book : (d : List ℕ) (bs : List BlockAt) (q : Blocks) → Describes d bs q → bookOf d bs ≡ bookIn q
-unfolding bookOf bookIn has
+unfolding bookOf has
 describes-book d bs q h =
     ap₂ (λ (f : ℕ → Bool) (g : ℕ → Graph). record { has = f; graph = g })
     (fun-ext (λ x. ap (λ (e : Entry Block). not (eqb x 0) && eqb (e .number) x) (describes-find d bs q h x)))
@@ -194,7 +219,7 @@ module _ (a d : List ℕ) where
   front-end = omega (arith, front-length)
 
 -- a block's record is read, and then the rest
-module _ (a r : List ℕ) (e : Entry Block) (p : Fit e) (done : List BlockAt) (new : eqb (find done (e .number) .number) (e .number) ≡ false) (few : length done < 16) where
+module _ (a r : List ℕ) (e : Entry Block) (p : Fit e) (done : List BlockAt) (new : eqb (find done (e .number) .number) (e .number) ≡ false) (few : length done < mostBlocks) where
   kinds-there : recordReply (kindsAfter done assemblyKind) (a ++ (blockRecord e ++ r)) (length a) ≡ read tt
   kinds-there = go done
     where
@@ -205,7 +230,7 @@ module _ (a r : List ℕ) (e : Entry Block) (p : Fit e) (done : List BlockAt) (n
   block-there : blockReplyAt (a ++ (blockRecord e ++ r)) (length a) done ≡ read tt
   unfolding blockReplyAt
   block-there =
-      rw (bytes-there a r e p, atoms-there a r e p, number-there a r e p, ne-eqb (e .number) 0 (λ z. omega (arith, p .positive)), new, lt-leb 16 (length done) few, p .fine)
+      rw (bytes-there a r e p, atoms-there a r e p, number-there a r e p, ne-eqb (e .number) 0 (λ z. omega (arith, p .positive)), new, lt-leb mostBlocks (length done) few, p .fine)
 
   pub block-step : (fuel : ℕ) → blocksFrom (suc fuel) assemblyKind (a ++ (blockRecord e ++ r)) (length a) done
       ≡ blocksFrom fuel assemblyKind (a ++ (blockRecord e ++ r)) (length (a ++ blockRecord e)) (done ++ (blockAt (a ++ (blockRecord e ++ r)) (length a) ∷ []))
@@ -227,7 +252,7 @@ module _ (d : List ℕ) where
       (bs : List BlockAt) × (blocksFrom (length q + fuel) assemblyKind all (length a) done ≡ blocksFrom fuel assemblyKind all (length a + length (blockRecords q)) bs) × Describes all bs (p ++ q)
 
   blocks-read : (q : Blocks) (a : List ℕ) (done : List BlockAt) (p : Blocks) (all : List ℕ) → all ≡ a ++ (blockRecords q ++ d) → Describes all done p → AllFit q → Apart noBlock (p ++ q)
-      → length p + length q ≤ 8 → (fuel : ℕ) → Goal q a done p all fuel
+      → length p + length q ≤ places → (fuel : ℕ) → Goal q a done p all fuel
   unfolding blockRecords
   blocks-read [] a done p all e s k z l fuel =
       let w : length a + 0 ≡ length a = omega arith in
@@ -240,7 +265,7 @@ module _ (d : List ℕ) where
       let there : entryIn all (blockAt all (length a)) ≡ x
       = ap (λ (t : List ℕ). entryIn t (blockAt t (length a))) e₁ ∙ entry-there a r x (k .0) in
       let new : eqb (find done (x .number) .number) (x .number) ≡ false = unused all done p s x (k .0 .positive) (earlier-none p x q (k .0 .positive) z) in
-      let few : length done < 16 = omega (arith, describes-length all done p s) in
+      let few : length done < mostBlocks = omega (arith, describes-length all done p s) in
       let f : suc (length q) + fuel ≡ suc (length q + fuel) = omega arith in
       let step = ap (λ (t : List ℕ). blocksFrom (suc (length q + fuel)) assemblyKind t (length a) done) e₁
       ∙ block-step a r x (k .0) done new few (length q + fuel)
@@ -253,7 +278,7 @@ module _ (d : List ℕ) where
       (bs, ap (λ (m : ℕ). blocksFrom m assemblyKind all (length a) done) f ∙ step ∙ t ∙ ap (λ (i : ℕ). blocksFrom fuel assemblyKind all i bs) place, rw (← assoc) u)
 
 -- The reply to the deck of a queue's blocks and a record is the reply over that record, its place counted behind the blocks. (A block record would be one more block.)
-module _ (q : Blocks) (k : AllFit q) (z : Apart noBlock q) (some : 1 ≤ length q) (most : length q ≤ 8) (d : List ℕ) (other : kindAt d 0 ≡ 1 → ⊥)
+module _ (q : Blocks) (held : Held q) (some : 1 ≤ length q) (d : List ℕ) (other : kindAt d 0 ≡ 1 → ⊥)
     (long : length (blockRecords q ++ d) ≤ longestDeck) where
   abbrev all : List ℕ
   all = blockRecords q ++ d
@@ -263,7 +288,8 @@ module _ (q : Blocks) (k : AllFit q) (z : Apart noBlock q) (some : 1 ≤ length 
 
   blocks-there : (bs : List BlockAt) × (blocksFrom 17 assemblyKind all 0 [] ≡ blocksFrom (suc (16 - length q)) assemblyKind all place bs) × Describes all bs q
   blocks-there =
-      let (bs, e, s) = blocks-read d q [] [] [] all refl tt k z (omega arith) (17 - length q) in
+      let few = held .few in
+      let (bs, e, s) = blocks-read d q [] [] [] all refl tt (held .proper) (held .apart) (omega arith) (17 - length q) in
       let f : length q + (17 - length q) ≡ 17 = omega arith in
       let g : 17 - length q ≡ suc (16 - length q) = omega arith in
       let w : 0 + place ≡ place = omega arith in
@@ -282,33 +308,33 @@ module _ (q : Blocks) (k : AllFit q) (z : Apart noBlock q) (some : 1 ≤ length 
   payload-is = front-payload (blockRecords q) d
 
   -- the record's own refusals
+  here : place ≡ place + 0
+  here = omega arith
+
+  length-is : lengthReply assemblyKind all place ≡ further place (lengthReply assemblyKind d 0)
+  unfolding lengthReply isWrong
+  length-is =
+      ap₂ (λ (n m : ℕ). refuseIf (not (eqb n (assemblyKind .fixed + assemblyKind .item * m))) 13 place) (front-length (blockRecords q) d) (front-count (blockRecords q) d)
+      ∙ go (eqb (lengthAt d 0) (wanted assemblyKind d 0))
+    where
+      go : (v : Bool) → refuseIf (not v) 13 place ≡ further place (refuseIf (not v) 13 0)
+      go true = refl
+      go false = ap (λ (i : ℕ). refused (refusal 13 i)) here
+
   record-is : recordReply (blockKind ∷ assemblyKind ∷ []) all place ≡ further place (recordReply (assemblyKind ∷ []) d 0)
-  unfolding recordReply kindReply lengthReply
+  unfolding recordReply kindReply
   record-is =
-      rw (short-is, front-kind (blockRecords q) d, ne-eqb (kindAt d 0) 1 other, front-length (blockRecords q) d)
+      rw (short-is, front-kind (blockRecords q) d, ne-eqb (kindAt d 0) 1 other)
       (go (ltb (length d) (endAt d 0)) (eqb (kindAt d 0) 2))
     where
       short-is : ltb (length all) (endAt all place) ≡ ltb (length d) (endAt d 0)
-      short-is = by (ltb (length d) (endAt d 0)) refl
-        where
-          by : (t : Bool) → ltb (length d) (endAt d 0) ≡ t → ltb (length all) (endAt all place) ≡ t
-          by true e = lt-ltb (length all) (endAt all place) (omega (arith, ltb-true (length d) (endAt d 0) e, front-end (blockRecords q) d, length-append (blockRecords q) d))
-          by false e = le-ltb (length all) (endAt all place) (omega (arith, ltb-false (length d) (endAt d 0) e, front-end (blockRecords q) d, length-append (blockRecords q) d))
+      short-is = ap₂ ltb (length-append (blockRecords q) d) (front-end (blockRecords q) d) ∙ ltb-behind place (length d) (endAt d 0)
 
-      w : place ≡ place + 0
-      w = omega arith
-
-      by-length : (v : Bool) → refuseIf (not v) 13 place ≡ further place (refuseIf (not v) 13 0)
-      by-length true = refl
-      by-length false = ap (λ (i : ℕ). refused (refusal 13 i)) w
-
-      go : (t u : Bool) → (refuseIf t 11 place then λ _. cond u (read assemblyKind) (refused (refusal 12 place)) then λ c. refuseIf (not (eqb (lengthAt d 0) (wanted c all place))) 13 place)
-          ≡ further place (refuseIf t 11 0 then λ _. cond u (read assemblyKind) (refused (refusal 12 0)) then λ c. refuseIf (not (eqb (lengthAt d 0) (wanted c d 0))) 13 0)
-      go true u = ap (λ (i : ℕ). refused (refusal 11 i)) w
-      go false false = ap (λ (i : ℕ). refused (refusal 12 i)) w
-      go false true =
-          ap (λ (m : ℕ). refuseIf (not (eqb (lengthAt d 0) (assemblyKind .fixed + assemblyKind .item * m))) 13 place) (front-count (blockRecords q) d)
-          ∙ by-length (eqb (lengthAt d 0) (wanted assemblyKind d 0))
+      go : (t u : Bool) → (refuseIf t 11 place then λ _. cond u (read assemblyKind) (refused (refusal 12 place)) then λ c. lengthReply c all place)
+          ≡ further place (refuseIf t 11 0 then λ _. cond u (read assemblyKind) (refused (refusal 12 0)) then λ c. lengthReply c d 0)
+      go true u = ap (λ (i : ℕ). refused (refusal 11 i)) here
+      go false false = ap (λ (i : ℕ). refused (refusal 12 i)) here
+      go false true = length-is
 
   last-is : (fuel : ℕ) (b : BlockAt) (bs : List BlockAt) → blocksFrom (suc fuel) assemblyKind all place (b ∷ bs) ≡ (further place (recordReply (assemblyKind ∷ []) d 0) then λ _. read (deckAt all (b ∷ bs) place))
   unfolding blocksFrom
@@ -322,7 +348,15 @@ module _ (q : Blocks) (k : AllFit q) (z : Apart noBlock q) (some : 1 ≤ length 
       last [] l = absurd (omega arith)
       last (b ∷ bs) l = last-is (16 - length q) b bs
 
-  deck-reply : deckReply Composed all ≡ further place (overRecord (bookIn q) d (read deck))
+  -- what is refused of the record, and then something
+  abbrev fine : {A : Type 0} → A → Read A
+  fine x =
+      recordReply (assemblyKind ∷ []) d 0 then λ _.
+      moved (placementPlace 0) (assemblyReply (bookIn q) (payloadAt d 0)) then λ _.
+      endReply d (endAt d 0) then λ _.
+      read x
+
+  deck-reply : deckReply Composed all ≡ further place (fine deck)
   unfolding deckReply blocksReply assemblyReplyAt sheetReply endReply
   deck-reply =
       rw (le-ltb longestDeck (length all) long, blocks-reply)
@@ -333,11 +367,7 @@ module _ (q : Blocks) (k : AllFit q) (z : Apart noBlock q) (some : 1 ≤ length 
       ends i j e false = refl
 
       end-is : ltb (endAt all place) (length all) ≡ ltb (endAt d 0) (length d)
-      end-is = by (ltb (endAt d 0) (length d)) refl
-        where
-          by : (t : Bool) → ltb (endAt d 0) (length d) ≡ t → ltb (endAt all place) (length all) ≡ t
-          by true e = lt-ltb (endAt all place) (length all) (omega (arith, ltb-true (endAt d 0) (length d) e, front-end (blockRecords q) d, length-append (blockRecords q) d))
-          by false e = le-ltb (endAt all place) (length all) (omega (arith, ltb-false (endAt d 0) (length d) e, front-end (blockRecords q) d, length-append (blockRecords q) d))
+      end-is = ap₂ ltb (front-end (blockRecords q) d) (length-append (blockRecords q) d) ∙ ltb-behind place (endAt d 0) (length d)
 
       rest : (m : Read (Unit {0})) → (moved (placementPlace place) m then λ _. refuseIf (ltb (endAt all place) (length all)) 11 (endAt all place) then λ _. read deck)
           ≡ further place (moved (placementPlace 0) m then λ _. refuseIf (ltb (endAt d 0) (length d)) 11 (endAt d 0) then λ _. read deck)
@@ -352,17 +382,32 @@ module _ (q : Blocks) (k : AllFit q) (z : Apart noBlock q) (some : 1 ≤ length 
           ap (λ (m : Read (Unit {0})). moved (placementPlace place) m then λ _. refuseIf (ltb (endAt all place) (length all)) 11 (endAt all place) then λ _. read deck) (ap₂ assemblyReply book-is payload-is)
           ∙ rest (assemblyReply (bookIn q) (payloadAt d 0))
 
-  molecule-is : moleculeOf all deck ≡ moleculeOver (bookIn q) (payloadAt d 0)
-  unfolding moleculeOf graphAt joinAt placedIn moleculeOver
+  abbrev whole : Graph
+  whole = let xs = payloadAt d 0 in written (graphOn (bookIn q) (placementAt xs)) (joinOn (placementAt xs)) (placementCount xs - 1)
+
+  molecule-is : moleculeOf all deck ≡ whole
+  unfolding moleculeOf graphAt joinAt placedIn
   molecule-is = ap₂ (λ (b : Book) (xs : List ℕ). written (graphOn b (placementAt xs)) (joinOn (placementAt xs)) (placementCount xs - 1)) book-is payload-is
 
-  pub as-deck : fieldsReply Composed all ≡ further place (overRecord (bookIn q) d (read (indicesOf (moleculeOver (bookIn q) (payloadAt d 0)))))
+  fields-reply : fieldsReply Composed all ≡ further place (fine (indicesOf whole))
   unfolding fieldsReply
-  as-deck = rw deck-reply (go (recordReply (assemblyKind ∷ []) d 0) (moved (placementPlace 0) (assemblyReply (bookIn q) (payloadAt d 0))) (endReply d (endAt d 0)))
+  fields-reply = rw deck-reply (go (recordReply (assemblyKind ∷ []) d 0) (moved (placementPlace 0) (assemblyReply (bookIn q) (payloadAt d 0))) (endReply d (endAt d 0)))
     where
       go : (a b c : Read (Unit {0})) → (further place (a then λ _. b then λ _. c then λ _. read deck) then λ k. read (indicesOf (moleculeOf all k)))
-          ≡ further place (a then λ _. b then λ _. c then λ _. read (indicesOf (moleculeOver (bookIn q) (payloadAt d 0))))
+          ≡ further place (a then λ _. b then λ _. c then λ _. read (indicesOf whole))
       go (refused r) b c = refl
       go (read u) (refused r) c = refl
       go (read u) (read v) (refused r) = refl
       go (read u) (read v) (read w) = ap (λ (g : Graph). read (indicesOf g)) molecule-is
+
+  record-fine : fine (indicesOf whole) ≡ overRecord (writtenReply (bookIn q) (payloadAt d 0)) d
+  unfolding overRecord behindHead writtenReply
+  record-fine = ap (λ (m : Read Indices). recordReply (assemblyKind ∷ []) d 0 then λ _. m) (go (assemblyReply (bookIn q) (payloadAt d 0)))
+    where
+      go : (m : Read (Unit {0})) → (moved (placementPlace 0) m then λ _. endReply d (endAt d 0) then λ _. read (indicesOf whole))
+          ≡ (moved (placementPlace 0) (m then λ _. read (indicesOf whole)) then λ x. endReply d (endAt d 0) then λ _. read x)
+      go (refused r) = refl
+      go (read u) = refl
+
+  pub as-deck : fieldsReply Composed all ≡ further place (overRecord (writtenReply (bookIn q) (payloadAt d 0)) d)
+  as-deck = fields-reply ∙ ap (further place) record-fine

@@ -2,7 +2,7 @@
 //! beside a table that only that queue calls; tables of random bytes; and what the request names.
 
 use crate::archive;
-use crate::checker::{code, words, Checker};
+use crate::checker::{code, Checker};
 use crate::lent::{Lent, Shown};
 use opinion::make::blocks::random_block;
 use opinion::make::damage::damage_block;
@@ -30,7 +30,19 @@ struct Told {
     out: Lent<u8>,
 }
 
+/// How often something was told that is no refusal.
+#[derive(Default)]
+struct Fine {
+    added: usize,
+    looked: usize,
+    dropped: usize,
+    composed: usize,
+    emptied: usize,
+    foreign: usize,
+}
+
 pub fn run(checker: &mut Checker, seed: u64, first: u64, cases: u64) {
+    let fine = &mut Fine::default();
     named(checker);
     short_tables(checker);
     for case in first..first + cases {
@@ -38,11 +50,26 @@ pub fn run(checker: &mut Checker, seed: u64, first: u64, cases: u64) {
         checker.case(name, |checker| {
             let random = &mut Random::for_case(seed ^ 0x7175_6575, case);
             if random.once_in(4) {
+                fine.foreign += 1;
                 foreign(checker, random);
             } else {
-                interleaved(checker, random);
+                interleaved(checker, random, fine);
             }
         });
+    }
+    let Fine { added, looked, dropped, composed, emptied, foreign } = fine;
+    println!("queues: {added} blocks added, {looked} looked up, {dropped} dropped, {composed} sheets composed, {emptied} tables made empty between calls, {foreign} tables of random bytes");
+}
+
+impl Fine {
+    fn count(&mut self, call: &Call, reply: u64) {
+        let entry = match call {
+            Call::Add(..) => &mut self.added,
+            Call::Look(..) => &mut self.looked,
+            Call::Drop(_) => &mut self.dropped,
+            Call::Compose(..) => &mut self.composed,
+        };
+        *entry += (reply == 0) as usize;
     }
 }
 
@@ -105,13 +132,20 @@ fn emptied(checker: &mut Checker, random: &mut Random) -> Vec<u8> {
     table
 }
 
-/// Calls of both queues in a random order.
-fn interleaved(checker: &mut Checker, random: &mut Random) {
+/// Calls of both queues in a random order; now and then the table is made empty, which ends what both were told before.
+fn interleaved(checker: &mut Checker, random: &mut Random, fine: &mut Fine) {
     let mut table = emptied(checker, random);
     let mut alone = [emptied(checker, random), emptied(checker, random)];
     let mut held = [Held::default(), Held::default()];
     let decks = [queue_deck(random), queue_deck(random)];
     for _ in 0..random.between(4, 60) {
+        if random.once_in(60) {
+            held = [Held::default(), Held::default()];
+            for table in [&mut table].into_iter().chain(&mut alone) {
+                checker.holds(archive::queue_empty(table) == 0, "a table was not made empty");
+            }
+            fine.emptied += 1;
+        }
         let which = random.below(2);
         let call = random_call(random, &decks[which], &held[which]);
         let mut told = perform(checker, &mut table, QUEUES[which], &call);
@@ -121,6 +155,7 @@ fn interleaved(checker: &mut Checker, random: &mut Random) {
         checker.holds(same, "a queue was told something else than its own calls alone");
         let (reply, fault) = right(&mut held[which], &call, &told);
         checker.agree(|| format!("{:?} {call:?}", QUEUES[which]), reply, told.reply, fault);
+        fine.count(&call, told.reply);
         if let (Call::Compose(kind, record, _), 0) = (&call, told.reply) {
             as_deck(checker, &held[which], *kind, record, &told.out.part()[..sheet_bytes(*kind)]);
         }
@@ -169,6 +204,8 @@ fn random_call(random: &mut Random, deck: &DeckPlan, held: &Held) -> Call {
             if random.once_in(3) {
                 block = random_block(random, 64);
                 block.number = some_number(random, deck, held);
+            } else if random.once_in(2) {
+                block.number = random.between(1, 40) as u16;
             }
             if random.once_in(8) {
                 damage_block(random, &mut block);
@@ -248,10 +285,7 @@ fn low_numbers(random: &mut Random) -> Vec<u8> {
 fn steps(checker: &mut Checker, table: &mut [u8], calls: &[(Queue, Call, u64)]) {
     for (queue, call, right) in calls {
         let told = perform(checker, table, *queue, call);
-        checker.holds(
-            told.reply == *right,
-            format!("{queue:?} {call:?}: {}, right is {}", words(told.reply), words(*right)),
-        );
+        checker.agree(|| format!("{queue:?} {call:?}"), *right, told.reply, None);
     }
 }
 
