@@ -1,0 +1,73 @@
+use Prim.Native.Nat.{_-_, _≤_, _<_}
+use mathlib.Core.Path.{_≡_}
+use native.Mathlib.Omega.{arith}
+use Rattle.reach.proofs.Settling.{Settling, settling-none, settling-more}
+use Rattle.reach.proofs.settled.Statement.{statement}
+use Rattle.reach.proofs.settled.Tie as tie
+
+abbrev Inv-loop : tie.InvT-loop
+Inv-loop sets n near₀ met₀ i₀ near met i = (i ≤ n) × Settling sets near met i
+
+abbrev μ-loop : tie.MeasureT-loop
+μ-loop sets n near₀ met₀ i₀ near met i = n - i
+
+loop-holds : tie.Need-loop-holds Inv-loop μ-loop
+loop-holds c = (omega arith, settling-none _ _ (c .before .pre .1))
+
+mul-set : tie.Need-mul-set Inv-loop μ-loop
+mul-set c = omega arith
+
+element-copy-out-set : tie.Need-element-copy-out-set Inv-loop μ-loop
+element-copy-out-set c = omega arith
+
+mul-near : tie.Need-mul-near Inv-loop μ-loop
+mul-near c = omega arith
+
+slice-write-near : tie.Need-slice-write-near Inv-loop μ-loop
+slice-write-near c = omega (arith, c .before .before .loop .inv .1 .size)
+
+size-requires : tie.Need-size-requires Inv-loop μ-loop
+size-requires c κs = tt
+
+add-met : tie.Need-add-met Inv-loop μ-loop
+add-met c = omega (arith, c .size .ensures .1, c .before .before .before .loop .inv .1 .low)
+
+add-i : tie.Need-add-i Inv-loop μ-loop
+add-i c = omega arith
+
+loop-less : tie.Need-loop-less Inv-loop μ-loop
+loop-less c = omega arith
+
+loop-again : tie.Need-loop-again Inv-loop μ-loop
+loop-again c =
+    let l = c .before .before .before .loop in
+    let z = c .size .ensures in
+    (omega arith, rw (z .0) (settling-more _ _ _ (l .i) (omega arith) (omega (arith, z .0, z .1)) (l .inv .1)))
+
+same-length : tie.Need-same-length Inv-loop μ-loop
+same-length c = omega (arith, c .before .loop .inv .1 .size, c .before .before .before .pre .1)
+
+returns : tie.Need-returns Inv-loop μ-loop
+returns c =
+    let e : c .before .loop .i ≡ c .before .before .before .args .n = omega arith in
+    let S = rw e at (c .before .loop .inv .1) in
+    (S .met-is, S .copied)
+
+pub settled-spec : {M : Type 1} → statement M
+settled-spec =
+    tie.close
+    (tie.spec
+    Inv-loop
+    μ-loop
+    loop-holds
+    mul-set
+    element-copy-out-set
+    mul-near
+    slice-write-near
+    size-requires
+    add-met
+    add-i
+    loop-less
+    loop-again
+    same-length
+    returns)

@@ -1,0 +1,145 @@
+// The indices of a block by reach: a set for each atom, of the atoms at most d bonds away, one bond farther at a time. No distance is stored.
+ghost use mathlib.Core.Path.{_≡_};
+ghost use Prim.Native.Nat.{ℕ, suc, _*_, _≤_};
+ghost use lib.Count.{ones};
+ghost use lib.ListN.{length};
+ghost use Rattle.graph.specs.Graph.{Within, sum, oddOf};
+ghost use Rattle.reply.specs.Read.{read};
+ghost use Rattle.block.specs.Block.{mostAtoms, graphOf, blockReply};
+ghost use Rattle.block.specs.Index.{indicesOf, indicesReply, saidIndices};
+ghost use Rattle.block.specs.Near.{around};
+ghost use Rattle.reach.specs.Reach.{Own, Reach, Low, fartherOf};
+use block::ATOMS;
+use block::Indices;
+use block::IndicesReply;
+use reply::Reply;
+
+// A set of atoms for each atom: that of atom v at v - 1.
+type Sets = [u64; ATOMS];
+
+// What the distances of all ordered pairs add up to: all of them and the odd ones; and how many are 3.
+struct Both {
+    pub all: u64,
+    pub odd: u64,
+    pub threes: u64,
+}
+
+// Each of n atoms alone.
+fn alone(n: usize) -> Sets
+    requires { ⌜ n ≤ mostAtoms ⌝ }
+    ensures { λ r. ⌜ Own n r ⌝ }
+{
+    let mut sets = [0u64; ATOMS];
+    let mut i = 0;
+    while i < n {
+        sets[i] = 1u64 << i;
+        i += 1;
+    }
+    sets
+}
+
+// One bond farther: to the set of each atom come those of its neighbours.
+fn spread(near: &Sets, n: usize, bonds: &[u8], sets: &mut [u64])
+    requires { ⌜ (blockReply n (now bonds) ≡ read tt) × (length (now sets) ≡ mostAtoms) ⌝ }
+    ensures { λ _. ⌜ ((d : ℕ) → Reach (graphOf n (now (bonds .entry))) d (now (near .entry)) → Reach (graphOf n (now (bonds .entry))) d (now (sets .entry))
+        → Reach (graphOf n (now (bonds .entry))) (suc d) (now (sets .exit))) ⌝ }
+{
+    let m = bonds.len() / 2;
+    let mut k = 0;
+    while k < m {
+        let u = bonds[2 * k] as usize - 1;
+        let v = bonds[2 * k + 1] as usize - 1;
+        sets[u] = sets[u] | near[v];
+        sets[v] = sets[v] | near[u];
+        k += 1;
+    }
+}
+
+// How many atoms a set has.
+fn size(set: u64) -> u64
+    ensures { λ r. ⌜ (r ≡ ones set) × (r ≤ mostAtoms) ⌝ }
+{
+    u64::count_ones(set) as u64
+}
+
+// How many atoms the sets of the first n atoms have together. Those sets are copied.
+fn settled(sets: &Sets, n: usize, near: &mut [u64]) -> u64
+    requires { ⌜ (n ≤ mostAtoms) × (length (now near) ≡ mostAtoms) ⌝ }
+    ensures met { λ r. ⌜ r ≡ sum n (λ v. ones (around (now (sets .entry)) v)) ⌝ }
+    ensures copied { λ _. ⌜ ((v : ℕ) → Within n v → around (now (near .exit)) v ≡ around (now (sets .entry)) v) ⌝ }
+{
+    let mut met: u64 = 0;
+    let mut i = 0;
+    while i < n {
+        let set = sets[i];
+        near[i] = set;
+        met += size(set);
+        i += 1;
+    }
+    met
+}
+
+// d where it is odd, else 0.
+fn odd_part(d: u64) -> u64
+    ensures { λ r. ⌜ r ≡ oddOf d ⌝ }
+{
+    if d % 2 == 0 { 0 } else { d }
+}
+
+// With so many more pairs, which are d bonds apart.
+fn farther(s: Both, d: u64, pairs: u64) -> Both
+    requires { ⌜ Low s × (d ≤ mostAtoms) × (pairs ≤ mostAtoms * mostAtoms) ⌝ }
+    ensures { λ r. ⌜ r ≡ fartherOf s d pairs ⌝ }
+{
+    Both {
+        all: s.all + d * pairs,
+        odd: s.odd + odd_part(d) * pairs,
+        threes: s.threes + (d == 3) as u64 * pairs,
+    }
+}
+
+// The indices of a block that is not refused.
+fn summed(n: usize, bonds: &[u8]) -> Indices
+    requires { ⌜ blockReply n (now bonds) ≡ read tt ⌝ }
+    ensures { λ r. ⌜ r ≡ indicesOf (graphOf n (now (bonds .entry))) ⌝ }
+{
+    let pairs = n as u64 * n as u64;
+    let mut near = alone(n);
+    let mut sets = near;
+    let mut s = Both {
+        all: 0,
+        odd: 0,
+        threes: 0,
+    };
+    let mut met = n as u64;
+    let mut d: u64 = 0;
+    while met < pairs {
+        spread(&near, n, bonds, &mut sets);
+        let reached = settled(&sets, n, &mut near);
+        d += 1;
+        s = farther(s, d, reached - met);
+        met = reached;
+    }
+    Indices {
+        atoms: n as u64,
+        w: s.all / 2,
+        even: s.all / 2 - s.odd / 2,
+        odd: s.odd / 2,
+        polarity: s.threes / 2,
+        largest: d,
+    }
+}
+
+// The indices of a block, or its refusal.
+pub fn measure(n: usize, bonds: &[u8]) -> IndicesReply
+    ensures { λ r. ⌜ r ≡ saidIndices (indicesReply n (now (bonds .entry))) ⌝ }
+{
+    let reply = block::check(n, bonds);
+    match reply {
+        Reply::Refused(refusal) => IndicesReply::Refused(refusal),
+        Reply::Fine => {
+            let indices = summed(n, bonds);
+            IndicesReply::Of(indices)
+        }
+    }
+}
