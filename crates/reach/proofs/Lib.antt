@@ -1,6 +1,7 @@
 -- Laws of sets within reach and of the sums over them.
 pub mod Own
 pub mod Settling
+pub mod Leaving
 pub mod Touching
 pub mod Summing
 pub mod Digits

@@ -1,21 +1,21 @@
 -- Sums over the pairs within reach. Assumes nothing.
-use Prim.Native.Nat.{ℕ, zero, suc, _+_, _-_, _*_, _/_, _≤_, _<_}
+use Prim.Native.Nat.{ℕ, zero, suc, _+_, _-_, _*_, _/_, _≤_, _<_, min}
 use mathlib.Core.Bool.{Bool, true, false, cond}
 use mathlib.Core.Path.{_≡_, refl, sym, ap, ap₂, _∙_}
 use native.Mathlib.Decide.{ℕ-discrete, decLt}
 use native.Mathlib.Omega.{arith}
-use borrow.Author.Tests.{le-leb, lt-leb}
+use borrow.Author.Tests.{le-leb, lt-leb, ne-eqb}
 use lib.Count.{ones}
 use lib.Dec.{leb}
 use lib.ListN.{length}
 use mathlib.Core.List.{List}
-use Rattle.graph.specs.Graph.{Graph, Within, Molecule, distance, sum, sumPairs, total, itself, each, evenOf, oddOf, isAt, wiener, oddPart, evenPart, polarity}
+use Rattle.graph.specs.Graph.{Graph, Within, Molecule, distance, sum, sumPairs, total, itself, each, evenOf, oddOf, isAt, wiener, oddPart, evenPart, polarity, vertex, vertexSum}
 use Rattle.graph.specs.Bounds.{Tame, tame-itself, tame-odd, tame-at}
 use Rattle.graph.specs.Distance.{distance-below, distance-sym, distance-self}
 use Rattle.graph.specs.Farthest.{largest}
 use Rattle.graph.specs.Largest.{largest-over, largest-met}
 use Rattle.graph.specs.Matched.{Mutual, pairs-twice}
-use Rattle.graph.specs.Parts.{parts-of}
+use Rattle.graph.specs.Parts.{parts-of, count-at-0}
 use Rattle.graph.specs.Sums.{sum-cong, sum-add, sum-scale, sum-const, sum-le, sum-below, sum-tight, sumPairs-add, sumPairs-cong}
 use Rattle.graph.specs.Sets.{has}
 use Rattle.block.specs.Block.{mostAtoms}
@@ -145,3 +145,36 @@ module _ (g : Graph) where
   pub count-reach : (d : ℕ) (sets : List ℕ) → Reach g d sets → sum n (λ v. ones (around sets v)) ≡ upTo g each d
   unfolding upTo
   count-reach d sets R = sum-cong n (λ v a. count-atoms n (around sets v) (R .fits v a) ∙ sum-cong n (λ w b. ap (λ (t : Bool). cond t 1 0) (R .holds v w a b)))
+
+  -- each atom is within reach of itself, and all others are at least one bond away
+  pub one-each : Molecule g → (v : ℕ) → Within n v → 1 + sum n (λ w. min (distance g v w) 1) ≡ n * 1
+  unfolding isAt vertex
+  one-each m v a = omega (arith, sum-add n (λ w. isAt 0 (distance g v w)) (λ w. min (distance g v w) 1), sum-cong n (λ w b. at (distance g v w)), sum-const n 1, whole)
+    where
+      at : (x : ℕ) → isAt 0 x + min x 1 ≡ 1
+      at zero = refl
+      at (suc x) = rw (ne-eqb (suc x) 0 (λ e. omega arith)) (omega arith)
+
+      whole : sum n (λ w. isAt 0 (distance g v w)) ≡ 1
+      whole = count-at-0 m a
+
+  -- one bond farther: each atom that is not within reach is one bond farther at least
+  pub one-farther : (d : ℕ) (sets : List ℕ) → Reach g (suc d) sets → (v : ℕ) → Within n v
+      → ones (around sets v) + sum n (λ w. min (distance g v w) (suc (suc d))) ≡ sum n (λ w. min (distance g v w) (suc d)) + n
+  one-farther d sets R v a =
+      omega (
+        arith,
+        count-atoms n (around sets v) (R .fits v a),
+        sum-cong n (λ w b. ap (λ (t : Bool). cond t 1 0) (R .holds v w a b)),
+        sum-add n (λ w. short each (suc d) (distance g v w)) (λ w. min (distance g v w) (suc (suc d))),
+        sum-add n (λ w. min (distance g v w) (suc d)) (λ w. 1),
+        sum-cong n (λ w b. at (distance g v w)),
+        sum-const n 1,
+      )
+    where
+      at : (x : ℕ) → short each (suc d) x + min x (suc (suc d)) ≡ min x (suc d) + 1
+      at x = elim (decLt (suc d) x) [ yes l ↦ omega (arith, short-out each (suc d) x l) | no l ↦ omega (arith, short-in each (suc d) x (omega arith)) ]
+
+  pub all-wanting : (d : ℕ) → All d → (v : ℕ) → Within n v → sum n (λ w. min (distance g v w) (suc d)) ≡ vertexSum g v
+  unfolding vertex
+  all-wanting d a v h = sum-cong n (λ w b. let l = a v w h b in omega arith)

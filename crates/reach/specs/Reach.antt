@@ -1,8 +1,9 @@
 -- Work. The atoms within reach of each atom, as sets, and sums over the ordered pairs within reach.
-use Prim.Native.Nat.{ℕ, suc, _+_, _*_, _^_, _≤_, _<_}
+use Prim.Native.Nat.{ℕ, suc, _+_, _*_, _^_, _≤_, _<_, min}
 use mathlib.Core.Bool.{Bool, false, _&&_, _||_, cond}
 use mathlib.Core.List.{List, [], _∷_}
 use mathlib.Core.Path.{_≡_}
+use lib.Count.{ones}
 use lib.Dec.{eqb, leb}
 use lib.ListN.{length}
 use Rattle.graph.specs.Graph.{Graph, Bond, Within, distance, sum, itself, each, oddOf, isAt}
@@ -47,3 +48,17 @@ pub record Upto (g : Graph) (d met : ℕ) (s : Both) : Type 0 where
   pub threes-is : s .threes ≡ upTo g (isAt 3) d
   pub met-is : met ≡ upTo g each d
   pub deep : (k : ℕ) → d ≡ suc k → upTo g each k < g .atoms * g .atoms
+
+-- numbers of n atoms to which more can be added
+pub record Room (n : ℕ) (reached : List ℕ) : Type 0 where
+  pub room : (v : ℕ) → Within n v → around reached v ≤ mostAtoms * mostAtoms
+
+-- how many atoms the set of each of n atoms has is added
+pub record Added (n : ℕ) (sets old new : List ℕ) : Type 0 where
+  pub size : length new ≡ mostAtoms
+  pub added : (v : ℕ) → Within n v → around new v ≡ around old v + ones (around sets v)
+
+-- the numbers of atoms within reach of each atom, at 0 to d bonds together; what is wanting to all atoms is the vertex sum, once all are within reach
+pub record Reached (g : Graph) (d : ℕ) (reached : List ℕ) : Type 0 where
+  pub size : length reached ≡ mostAtoms
+  pub wanting : (v : ℕ) → Within (g .atoms) v → around reached v + sum (g .atoms) (λ w. min (distance g v w) (suc d)) ≡ g .atoms * suc d

@@ -1,14 +1,18 @@
 // The indices of a block by reach: a set for each atom, of the atoms at most d bonds away, one bond farther at a time. No distance is stored.
 ghost use mathlib.Core.Path.{_≡_};
-ghost use Prim.Native.Nat.{ℕ, suc, _*_, _≤_};
+ghost use Prim.Native.Nat.{ℕ, suc, _*_, _-_, _≤_};
 ghost use lib.Count.{ones};
-ghost use lib.ListN.{length};
+ghost use lib.Dec.{ltb};
+ghost use lib.ListN.{length, getD, replicate};
+ghost use mathlib.Core.Bool.{cond};
 ghost use Rattle.graph.specs.Graph.{Within, sum, oddOf};
 ghost use Rattle.reply.specs.Read.{read};
 ghost use Rattle.block.specs.Block.{mostAtoms, graphOf, blockReply};
 ghost use Rattle.block.specs.Index.{indicesOf, indicesReply, saidIndices};
 ghost use Rattle.block.specs.Near.{around};
-ghost use Rattle.reach.specs.Reach.{Own, Reach, Low, fartherOf};
+ghost use Rattle.half.specs.Half.{table};
+ghost use Rattle.reach.specs.Sums.{sumsReply, saidSums};
+ghost use Rattle.reach.specs.Reach.{Own, Reach, Low, fartherOf, Room, Added, Reached};
 use block::ATOMS;
 use block::Indices;
 use block::IndicesReply;
@@ -22,6 +26,12 @@ struct Both {
     pub all: u64,
     pub odd: u64,
     pub threes: u64,
+}
+
+// The vertex sum of each atom, that of atom v at v - 1; all 0 where the block is refused.
+pub struct VertexSums {
+    pub reply: Reply,
+    pub at: [u64; ATOMS],
 }
 
 // Each of n atoms alone.
@@ -62,18 +72,21 @@ fn size(set: u64) -> u64
     u64::count_ones(set) as u64
 }
 
-// How many atoms the sets of the first n atoms have together. Those sets are copied.
-fn settled(sets: &Sets, n: usize, near: &mut [u64]) -> u64
-    requires { ⌜ (n ≤ mostAtoms) × (length (now near) ≡ mostAtoms) ⌝ }
+// How many atoms the sets of the first n atoms have together. Those sets are copied, and how many atoms each has is added to what is lent.
+fn settled(sets: &Sets, n: usize, near: &mut [u64], reached: &mut [u64]) -> u64
+    requires { ⌜ (n ≤ mostAtoms) × (length (now near) ≡ mostAtoms) × (length (now reached) ≡ mostAtoms) × Room n (now reached) ⌝ }
     ensures met { λ r. ⌜ r ≡ sum n (λ v. ones (around (now (sets .entry)) v)) ⌝ }
     ensures copied { λ _. ⌜ ((v : ℕ) → Within n v → around (now (near .exit)) v ≡ around (now (sets .entry)) v) ⌝ }
+    ensures added { λ _. ⌜ Added n (now (sets .entry)) (now (reached .entry)) (now (reached .exit)) ⌝ }
 {
     let mut met: u64 = 0;
     let mut i = 0;
     while i < n {
         let set = sets[i];
+        let atoms = size(set);
         near[i] = set;
-        met += size(set);
+        reached[i] = reached[i] + atoms;
+        met += atoms;
         i += 1;
     }
     met
@@ -98,10 +111,12 @@ fn farther(s: Both, d: u64, pairs: u64) -> Both
     }
 }
 
-// The indices of a block that is not refused.
-fn summed(n: usize, bonds: &[u8]) -> Indices
-    requires { ⌜ blockReply n (now bonds) ≡ read tt ⌝ }
-    ensures { λ r. ⌜ r ≡ indicesOf (graphOf n (now (bonds .entry))) ⌝ }
+// The indices of a block that is not refused; and in what is lent, where each number is 1 before, how many atoms were within reach of each atom, all
+// levels together.
+fn summed(n: usize, bonds: &[u8], reached: &mut [u64]) -> Indices
+    requires { ⌜ (blockReply n (now bonds) ≡ read tt) × (now reached ≡ replicate mostAtoms 1) ⌝ }
+    ensures indices { λ r. ⌜ r ≡ indicesOf (graphOf n (now (bonds .entry))) ⌝ }
+    ensures reached { λ r. ⌜ Reached (graphOf n (now (bonds .entry))) (r .largest) (now (reached .exit)) ⌝ }
 {
     let pairs = n as u64 * n as u64;
     let mut near = alone(n);
@@ -115,7 +130,7 @@ fn summed(n: usize, bonds: &[u8]) -> Indices
     let mut d: u64 = 0;
     while met < pairs {
         spread(&near, n, bonds, &mut sets);
-        let reached = settled(&sets, n, &mut near);
+        let reached = settled(&sets, n, &mut near, reached);
         d += 1;
         s = farther(s, d, reached - met);
         met = reached;
@@ -138,8 +153,41 @@ pub fn measure(n: usize, bonds: &[u8]) -> IndicesReply
     match reply {
         Reply::Refused(refusal) => IndicesReply::Refused(refusal),
         Reply::Fine => {
-            let indices = summed(n, bonds);
+            let mut reached = [1u64; ATOMS];
+            let indices = summed(n, bonds, &mut reached);
             IndicesReply::Of(indices)
         }
     }
+}
+
+// What is left of so many levels of n atoms each, for each of the n atoms: a distance is how many levels an atom was not within reach.
+fn left(n: usize, levels: u64, reached: &Sets) -> Sets
+    requires { ⌜ (n ≤ mostAtoms) × (levels ≤ mostAtoms) × ((v : ℕ) → Within n v → around (now reached) v ≤ n * levels) ⌝ }
+    ensures { λ r. ⌜ r ≡ table mostAtoms (λ i. cond (ltb i n) (n * levels - getD (now (reached .entry)) i 0) 0) ⌝ }
+{
+    let all = n as u64 * levels;
+    let mut at = [0u64; ATOMS];
+    let mut i = 0;
+    while i < n {
+        at[i] = all - reached[i];
+        i += 1;
+    }
+    at
+}
+
+// The vertex sum of each atom of a block; all is 0 beyond the atoms, and where the block is refused.
+pub fn vertex_sums(n: usize, bonds: &[u8]) -> VertexSums
+    ensures { λ r. ⌜ r ≡ saidSums (sumsReply n (now (bonds .entry))) ⌝ }
+{
+    let reply = block::check(n, bonds);
+    let Reply::Fine = reply else {
+        return VertexSums {
+            reply,
+            at: [0u64; ATOMS],
+        };
+    };
+    let mut reached = [1u64; ATOMS];
+    let indices = summed(n, bonds, &mut reached);
+    let at = left(n, indices.largest + 1, &reached);
+    VertexSums { reply, at }
 }

@@ -1,4 +1,4 @@
-use mathlib.Core.Path.{_≡_, sym, _∙_}
+use mathlib.Core.Path.{_≡_, refl, sym, _∙_}
 use borrow.Author.Needs.{needs}
 use Rattle.reply.specs.Read.{read}
 use Rattle.reply.specs.Chain.{fine-read, refused-read}
@@ -19,14 +19,17 @@ enum-told c = search needs
 fine : (c : tie.After-enum-told) → let a = c .before .before .before .before .args in blockReply (a .n) (a .bonds .now) ≡ read tt
 fine c = fine-read _ (sym (c .before .before .check .ensures) ∙ c .enum-told .given .1)
 
+slice-aggregate-summed : tie.Need-slice-aggregate-summed
+slice-aggregate-summed c = search needs
+
 summed-requires : tie.Need-summed-requires
-summed-requires c κs = fine c
+summed-requires c κs = (fine (c .before), refl)
 
 returns : tie.Need-returns
 returns c = refused-reply _ _ _ (refused-read _ _ (sym (c .before .before .before .check .ensures) ∙ c .before .reply .given .1))
 
 returns-2 : tie.Need-returns-2
-returns-2 c = fine-reply _ _ (fine (c .before)) _ (c .summed .ensures)
+returns-2 c = fine-reply _ _ (fine (c .before .before .before)) _ (c .before .summed .ensures .0)
 
 pub measure-spec : {M : Type 1} → statement M
-measure-spec = tie.close (tie.spec check-requires enum-known-reply enum-told summed-requires returns returns-2)
+measure-spec = tie.close (tie.spec check-requires enum-known-reply enum-told slice-aggregate-summed summed-requires returns returns-2)
