@@ -1,7 +1,7 @@
 -- How many atoms a set has: its binary digits that are 1. Assumes nothing.
 use Prim.Native.Nat.{ℕ, zero, suc, _+_, _-_, _/_, _%_, _^_, _≤_, _<_}
 use mathlib.Core.Bool.{Bool, cond}
-use mathlib.Core.Path.{_≡_, refl, sym, ap, ap₂, _∙_}
+use mathlib.Core.Path.{_≡_, sym, ap, ap₂, _∙_}
 use native.Mathlib.Decide.{ℕ-discrete}
 use native.Mathlib.Nat.{pow-suc}
 use native.Mathlib.Omega.{arith}
@@ -9,7 +9,7 @@ use borrow.Author.Tests.{eq-eqb, ne-eqb}
 use lib.Count.{ones, onesIn, ones-step}
 use lib.Dec.{eqb}
 use lib.Pow.{shr-shr}
-use Rattle.graph.specs.Graph.{Within, sum}
+use Rattle.graph.specs.Graph.{sum}
 use Rattle.graph.specs.Sets.{has}
 use Rattle.graph.specs.Sums.{sum-cong, sum-split}
 

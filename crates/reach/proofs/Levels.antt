@@ -1,18 +1,17 @@
 -- One bond farther after the other: what holds before each turn, and what is found in the end. Assumes nothing.
 use Prim.Native.Nat.{ℕ, zero, suc, _+_, _-_, _*_, _/_, _^_, _≤_, _<_}
 use mathlib.Core.List.{List}
-use mathlib.Core.Path.{_≡_, refl, sym, ap, ap₂, subst, _∙_}
+use mathlib.Core.Path.{_≡_, refl, sym, ap, ap₂, _∙_}
 use native.Mathlib.Nat.{mul-le-mul, le-refl}
 use native.Mathlib.Numerals.{add-one}
 use native.Mathlib.Omega.{arith}
 use lib.Count.{ones, onesIn, ones-cat}
 use lib.ListN.{length, getD, replicate}
 use lib.Pow.{pow-pos}
-use Rattle.graph.specs.Graph.{Graph, Within, distance, sum, sumPairs, total, itself, each, evenOf, oddOf, isAt, vertexSum}
+use Rattle.graph.specs.Graph.{Graph, Within, distance, sum, total, itself, each, evenOf, oddOf, isAt, vertexSum}
 use Rattle.graph.specs.Farthest.{largest}
-use Rattle.graph.specs.Bounds.{tame-itself, tame-odd, tame-at}
+use Rattle.graph.specs.Bounds.{tame-odd, tame-at}
 use Rattle.graph.specs.Parts.{parts-of}
-use Rattle.graph.specs.Sets.{alone}
 use Rattle.graph.specs.Sums.{sum-cong, sum-const, sumPairs-add, sumPairs-cong}
 use Rattle.reply.specs.Read.{read}
 use Rattle.block.specs.Block.{mostAtoms, graphOf, blockReply}

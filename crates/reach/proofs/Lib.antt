@@ -1,5 +1,4 @@
 -- Laws of sets within reach and of the sums over them.
-pub mod Own
 pub mod Settling
 pub mod Leaving
 pub mod Touching

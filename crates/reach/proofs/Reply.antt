@@ -27,7 +27,6 @@ use Rattle.block.specs.declared.Indices.{Indices}
 use Rattle.block.specs.declared.IndicesReply.the-variants as measured
 use Rattle.reach.specs.Reach.{Reached}
 use Rattle.reach.specs.Sums.{sumsOf, sumsReply, saidSums}
-use Rattle.reach.specs.declared.VertexSums.{VertexSums}
 use Rattle.reach.proofs.Summing.{all-wanting}
 use Rattle.reach.proofs.Leaving.{table-cong}
 

@@ -1,28 +1,22 @@
 -- Sums over the pairs within reach. Assumes nothing.
-use Prim.Native.Nat.{ℕ, zero, suc, _+_, _-_, _*_, _/_, _≤_, _<_, min}
-use mathlib.Core.Bool.{Bool, true, false, cond}
-use mathlib.Core.Path.{_≡_, refl, sym, ap, ap₂, _∙_}
+use Prim.Native.Nat.{ℕ, zero, suc, _+_, _-_, _*_, _≤_, _<_, min}
+use mathlib.Core.Bool.{Bool, cond}
+use mathlib.Core.Path.{_≡_, refl, sym, ap, _∙_}
 use native.Mathlib.Decide.{ℕ-discrete, decLt}
 use native.Mathlib.Omega.{arith}
 use borrow.Author.Tests.{le-leb, lt-leb, ne-eqb}
 use lib.Count.{ones}
 use lib.Dec.{leb}
-use lib.ListN.{length}
 use mathlib.Core.List.{List}
-use Rattle.graph.specs.Graph.{Graph, Within, Molecule, distance, sum, sumPairs, total, itself, each, evenOf, oddOf, isAt, wiener, oddPart, evenPart, polarity, vertex, vertexSum}
-use Rattle.graph.specs.Bounds.{Tame, tame-itself, tame-odd, tame-at}
+use Rattle.graph.specs.Graph.{Graph, Within, Molecule, distance, sum, total, each, isAt, vertex, vertexSum}
 use Rattle.graph.specs.Distance.{distance-below, distance-sym, distance-self}
 use Rattle.graph.specs.Farthest.{largest}
 use Rattle.graph.specs.Largest.{largest-over, largest-met}
-use Rattle.graph.specs.Matched.{Mutual, pairs-twice}
-use Rattle.graph.specs.Parts.{parts-of, count-at-0}
-use Rattle.graph.specs.Sums.{sum-cong, sum-add, sum-scale, sum-const, sum-le, sum-below, sum-tight, sumPairs-add, sumPairs-cong}
-use Rattle.graph.specs.Sets.{has}
-use Rattle.block.specs.Block.{mostAtoms}
-use Rattle.block.specs.Index.{indicesOf}
+use Rattle.graph.specs.Matched.{pairs-twice}
+use Rattle.graph.specs.Parts.{count-at-0}
+use Rattle.graph.specs.Sums.{sum-cong, sum-add, sum-scale, sum-const, sum-le, sum-below, sum-tight}
 use Rattle.block.specs.Near.{around}
-use Rattle.reach.specs.Reach.{Own, Reach, Low, Upto, upTo, fartherOf}
-use Rattle.reach.specs.declared.Both.{Both}
+use Rattle.reach.specs.Reach.{Reach, upTo}
 use Rattle.reach.proofs.Digits.{count-atoms}
 
 -- what is counted of a distance x up to d

@@ -3,7 +3,7 @@ use Prim.Native.Nat.{ℕ, suc, _+_, _-_, _*_, _/_, _^_, _≤_, _<_}
 use mathlib.Core.Bool.{Bool, true, false, _&&_, _||_, or-false, false≢true}
 use mathlib.Core.List.{List, [], _∷_}
 use mathlib.Core.Logic.{inl, inr, ⊎-elim}
-use mathlib.Core.Path.{_≡_, refl, sym, ap, ap₂, subst, subst⁻¹, _∙_}
+use mathlib.Core.Path.{_≡_, refl, sym, ap, subst⁻¹, _∙_}
 use native.Mathlib.Decide.{ℕ-discrete, decLt}
 use native.Mathlib.Numerals.{add-one}
 use native.Mathlib.Omega.{arith}
@@ -17,11 +17,11 @@ use Rattle.graph.specs.Graph.{Graph, Bond, Within, Molecule, anyJoins, bonded, 
 use Rattle.graph.specs.Bonds.{both, both-true, one-of, first-of, second-of, same-test, any-out, any-head, any-tail, any-none, bonded-sym}
 use Rattle.graph.specs.Distance.{distance-sym, distance-self, distance-zero, distance-bond, parent}
 use Rattle.graph.specs.Walk.{far-end}
-use Rattle.graph.specs.Sets.{has, alone, has-or, has-alone}
+use Rattle.graph.specs.Sets.{has, has-or, has-alone}
 use Rattle.reply.specs.Read.{read}
 use Rattle.block.specs.Block.{mostAtoms, bondsOf, graphOf, blockReply}
 use Rattle.block.specs.Near.{around}
-use Rattle.block.specs.Numbered.{bondAt, rest, rest-cons, rest-none, bond-within}
+use Rattle.block.specs.Numbered.{rest, rest-cons, rest-none, bond-within}
 use Rattle.block.specs.Told.{few-atoms, molecule}
 use Rattle.reach.specs.Reach.{Own, Reach, touched}
 

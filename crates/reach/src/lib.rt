@@ -1,4 +1,4 @@
-// The indices of a block by reach: a set for each atom, of the atoms at most d bonds away, one bond farther at a time. No distance is stored.
+// A block measured by reach: for each atom the set of the atoms at most d bonds away, one bond farther at a time. No distance is stored.
 ghost use mathlib.Core.Path.{_≡_};
 ghost use Prim.Native.Nat.{ℕ, suc, _*_, _-_, _≤_};
 ghost use lib.Count.{ones};
@@ -51,7 +51,8 @@ fn alone(n: usize) -> Sets
 // One bond farther: to the set of each atom come those of its neighbours.
 fn spread(near: &Sets, n: usize, bonds: &[u8], sets: &mut [u64])
     requires { ⌜ (blockReply n (now bonds) ≡ read tt) × (length (now sets) ≡ mostAtoms) ⌝ }
-    ensures { λ _. ⌜ ((d : ℕ) → Reach (graphOf n (now (bonds .entry))) d (now (near .entry)) → Reach (graphOf n (now (bonds .entry))) d (now (sets .entry))
+    ensures { λ _. ⌜ ((d : ℕ) → Reach (graphOf n (now (bonds .entry))) d (now (near .entry))
+        → Reach (graphOf n (now (bonds .entry))) d (now (sets .entry))
         → Reach (graphOf n (now (bonds .entry))) (suc d) (now (sets .exit))) ⌝ }
 {
     let m = bonds.len() / 2;
@@ -72,9 +73,10 @@ fn size(set: u64) -> u64
     u64::count_ones(set) as u64
 }
 
-// How many atoms the sets of the first n atoms have together. Those sets are copied, and how many atoms each has is added to what is lent.
+// How many atoms the sets of the first n atoms have together. The sets are copied, and what each has is added to what was reached.
 fn settled(sets: &Sets, n: usize, near: &mut [u64], reached: &mut [u64]) -> u64
-    requires { ⌜ (n ≤ mostAtoms) × (length (now near) ≡ mostAtoms) × (length (now reached) ≡ mostAtoms) × Room n (now reached) ⌝ }
+    requires { ⌜ (n ≤ mostAtoms) × (length (now near) ≡ mostAtoms)
+        × (length (now reached) ≡ mostAtoms) × Room n (now reached) ⌝ }
     ensures met { λ r. ⌜ r ≡ sum n (λ v. ones (around (now (sets .entry)) v)) ⌝ }
     ensures copied { λ _. ⌜ ((v : ℕ) → Within n v → around (now (near .exit)) v ≡ around (now (sets .entry)) v) ⌝ }
     ensures added { λ _. ⌜ Added n (now (sets .entry)) (now (reached .entry)) (now (reached .exit)) ⌝ }
@@ -111,8 +113,7 @@ fn farther(s: Both, d: u64, pairs: u64) -> Both
     }
 }
 
-// The indices of a block that is not refused; and in what is lent, where each number is 1 before, how many atoms were within reach of each atom, all
-// levels together.
+// The indices of a block that is not refused; and lent, from 1 for each atom on, how many atoms were within its reach, all levels together.
 fn summed(n: usize, bonds: &[u8], reached: &mut [u64]) -> Indices
     requires { ⌜ (blockReply n (now bonds) ≡ read tt) × (now reached ≡ replicate mostAtoms 1) ⌝ }
     ensures indices { λ r. ⌜ r ≡ indicesOf (graphOf n (now (bonds .entry))) ⌝ }

@@ -1,5 +1,5 @@
 -- `index` meets its contract: a refusal is the block's. Assumes nothing.
-use mathlib.Core.Path.{_≡_, sym, _∙_}
+use mathlib.Core.Path.{_≡_}
 use borrow.Author.Needs.{needs}
 use Rattle.reply.specs.Read.{read}
 use Rattle.block.specs.Block.{graphOf, blockReply}

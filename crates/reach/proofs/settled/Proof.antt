@@ -1,4 +1,4 @@
-use Prim.Native.Nat.{_-_, _≤_, _<_}
+use Prim.Native.Nat.{_-_, _≤_}
 use mathlib.Core.Path.{_≡_}
 use native.Mathlib.Omega.{arith}
 use Rattle.reach.proofs.Settling.{Settling, settling-none, settling-more, room-here}

@@ -1,6 +1,5 @@
 use mathlib.Core.Path.{refl}
 use native.Mathlib.Omega.{arith}
-use borrow.Author.Needs.{needs}
 use lib.Count.{ones-le}
 use Rattle.block.specs.Block.{mostAtoms}
 use Rattle.reach.proofs.size.Statement.{statement}

@@ -1,12 +1,12 @@
-use Prim.Native.Nat.{ℕ, suc, _+_, _-_, _*_, _≤_, _<_}
-use mathlib.Core.Path.{_≡_, refl, sym, ap, _∙_}
+use Prim.Native.Nat.{suc, _-_, _*_, _<_}
+use mathlib.Core.Path.{_≡_, refl, sym, ap}
 use native.Mathlib.Nat.{mul-le-mul}
 use native.Mathlib.Omega.{arith}
 use lib.ListN.{length}
 use Rattle.reply.specs.Read.{read}
 use Rattle.block.specs.Block.{mostAtoms, graphOf, blockReply}
 use Rattle.reach.specs.Reach.{Reach}
-use Rattle.reach.proofs.Levels.{Level, few, level-start, shallow, low, spare, grows, fits, level-next, odd-less, vertex-left, largest-last, level-end}
+use Rattle.reach.proofs.Levels.{Level, few, level-start, shallow, low, spare, grows, fits, level-next, odd-less, level-end}
 use Rattle.reach.proofs.summed.Statement.{statement}
 use Rattle.reach.proofs.summed.Tie as tie
 
