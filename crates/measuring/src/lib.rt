@@ -17,7 +17,7 @@ pub fn measure(text: &[u8]) -> IndicesReply
         MolRead::Refused(r) => IndicesReply::Refused(r),
         MolRead::Block(x) => {
             let len = 2 * x.bonds;
-            block::measure(x.atoms, &bonds[..len])
+            reach::measure(x.atoms, &bonds[..len])
         }
     }
 }
@@ -32,7 +32,7 @@ pub fn measure_neighbours(text: &[u8]) -> IndicesReply
         NeighboursRead::Refused(r) => IndicesReply::Refused(r),
         NeighboursRead::Block(x) => {
             let len = 2 * x.bonds;
-            block::measure(x.atoms, &bonds[..len])
+            reach::measure(x.atoms, &bonds[..len])
         }
     }
 }

@@ -107,7 +107,7 @@ pub extern "C" fn tteuyomal_check_block(atoms: usize, bonds: &[u8]) -> u64
 pub extern "C" fn tteuyomal_indices(atoms: usize, bonds: &[u8], fields: &mut [u64]) -> u64
     ensures { λ r. ⌜ Lent (indicesList atoms (now (bonds .entry))) (now (fields .entry)) r (now (fields .exit)) ⌝ }
 {
-    let answer = block::measure(atoms, bonds);
+    let answer = reach::measure(atoms, bonds);
     match answer {
         IndicesReply::Refused(r) => code_of(r),
         IndicesReply::Of(x) => give_fields(fields, Sheet::Five, x),

@@ -1,15 +1,17 @@
 -- `index` meets its contract: a refusal is the block's. Assumes nothing.
-use mathlib.Core.Path.{sym, _∙_}
+use mathlib.Core.Path.{_≡_}
 use borrow.Author.Needs.{needs}
-use Rattle.reply.specs.Chain.{fine-read, refused-read}
-use Rattle.block.specs.Block.{blockReply}
-use Rattle.block.specs.Drawn.{opened-reply}
+use Rattle.reply.specs.Read.{read}
+use Rattle.block.specs.Block.{graphOf, blockReply}
+use Rattle.reach.specs.Sums.{sumsOf}
+use Rattle.reach.specs.Told.{sums-refusal, sums-told}
+use Rattle.balaban.proofs.Blocks.{task}
 use Rattle.balaban.proofs.Reply.{refused-reply, fine-reply}
 use Rattle.balaban.proofs.index.Statement.{statement}
 use Rattle.balaban.proofs.index.Tie as tie
 
-table-requires : tie.Need-table-requires
-table-requires c κs = search needs
+vertex-sums-requires : tie.Need-vertex-sums-requires
+vertex-sums-requires c κs = search needs
 
 enum-known-reply : tie.Need-enum-known-reply
 enum-known-reply c = search needs
@@ -17,20 +19,19 @@ enum-known-reply c = search needs
 enum-told : tie.Need-enum-told
 enum-told c = search needs
 
-answered-requires : tie.Need-answered-requires
-answered-requires c κs =
-    let a = c .before .before .before .before .before .before .before .args in
-    let t = c .before .before .before .table in
-    (fine-read (blockReply (a .n) (a .bonds .now)) (sym (opened-reply _ _ _ (t .ensures .0)) ∙ c .before .enum-told .given .1), t .ensures .1 .0)
+-- the block is fine, and the sums are its vertex sums
+told : (c : tie.After-enum-told) → let a = c .before .before .before .before .args in
+    (blockReply (a .n) (a .bonds .now) ≡ read tt) × (c .before .before .vertex-sums .result .at ≡ sumsOf (graphOf (a .n) (a .bonds .now)))
+told c = sums-told _ _ _ (c .before .before .vertex-sums .ensures) (c .enum-told .given .1)
+
+reckon-requires : tie.Need-reckon-requires
+reckon-requires c κs = let t = told (c .before .before) in task _ _ (t .0) _ (t .1)
 
 returns : tie.Need-returns
-returns c = refused-reply _ _ _ (refused-read _ _ (sym (opened-reply _ _ _ (c .before .before .before .table .ensures .0)) ∙ c .before .reply .given .1))
+returns c = refused-reply _ _ _ (sums-refusal _ _ _ (c .before .before .before .vertex-sums .ensures) _ (c .before .reply .given .1))
 
 returns-2 : tie.Need-returns-2
-returns-2 c =
-    let a = c .before .before .before .before .before .before .before .before .args in
-    let t = c .before .before .before .before .table in
-    fine-reply (a .n) (a .bonds .now) (fine-read (blockReply (a .n) (a .bonds .now)) (sym (opened-reply _ _ _ (t .ensures .0)) ∙ c .before .before .enum-told .given .1)) _ (c .answered .ensures)
+returns-2 c = fine-reply _ _ (told (c .before .before .before) .0) _ (c .reckon .ensures)
 
 pub index-spec : {M : Type 1} → statement M
-index-spec = tie.close (tie.spec table-requires enum-known-reply enum-told answered-requires returns returns-2)
+index-spec = tie.close (tie.spec vertex-sums-requires enum-known-reply enum-told reckon-requires returns returns-2)

@@ -1,0 +1,170 @@
+-- One bond farther after the other: what holds before each turn, and what is found in the end. Assumes nothing.
+use Prim.Native.Nat.{ℕ, zero, suc, _+_, _-_, _*_, _/_, _^_, _≤_, _<_}
+use mathlib.Core.List.{List}
+use mathlib.Core.Path.{_≡_, refl, sym, ap, ap₂, _∙_}
+use native.Mathlib.Nat.{mul-le-mul, le-refl}
+use native.Mathlib.Numerals.{add-one}
+use native.Mathlib.Omega.{arith}
+use lib.Count.{ones, onesIn, ones-cat}
+use lib.ListN.{length, getD, replicate}
+use lib.Pow.{pow-pos}
+use Rattle.graph.specs.Graph.{Graph, Within, distance, sum, total, itself, each, evenOf, oddOf, isAt, vertexSum}
+use Rattle.graph.specs.Farthest.{largest}
+use Rattle.graph.specs.Bounds.{tame-odd, tame-at}
+use Rattle.graph.specs.Parts.{parts-of}
+use Rattle.graph.specs.Sums.{sum-cong, sum-const, sumPairs-add, sumPairs-cong}
+use Rattle.reply.specs.Read.{read}
+use Rattle.block.specs.Block.{mostAtoms, graphOf, blockReply}
+use Rattle.block.specs.Index.{indicesOf}
+use Rattle.block.specs.Near.{around}
+use Rattle.block.specs.Told.{few-atoms, molecule}
+use Rattle.reach.specs.Reach.{Own, Reach, Low, Room, Added, Reached, Upto, upTo, fartherOf}
+use Rattle.reach.specs.declared.Both.{Both}
+use Rattle.reach.proofs.Touching.{reach-none, reach-same}
+use Rattle.reach.proofs.Summing.{up-next, up-none, up-most, up-more, up-all, met-all, room, last-is, count-reach, one-each, one-farther, all-wanting}
+
+pub record Level (n : ℕ) (xs near sets reached : List ℕ) (s : Both) (met d : ℕ) : Type 0 where
+  pub near-size : length near ≡ mostAtoms
+  pub sets-size : length sets ≡ mostAtoms
+  pub reach : Reach (graphOf n xs) d near
+  pub wide : Reach (graphOf n xs) d sets
+  pub upto : Upto (graphOf n xs) d met s
+  pub counts : Reached (graphOf n xs) d reached
+
+-- a set of one atom
+ones-alone : (p : ℕ) → ones (2 ^ p) ≡ 1
+unfolding ones onesIn
+ones-alone p = let e : 1 * 2 ^ p + 0 ≡ 2 ^ p = omega arith in ap ones (sym e) ∙ ones-cat p 1 0 (pow-pos p)
+
+cube : {n c : ℕ} → n ≤ mostAtoms → c ≤ mostAtoms → n * (n * c) ≤ mostAtoms * (mostAtoms * mostAtoms)
+cube l h = mul-le-mul l (mul-le-mul l h)
+
+ones-in : (m p : ℕ) → p < m → _≡_ {A = ℕ} (getD (replicate m 1) p 0) 1
+ones-in (suc m) zero l = refl
+ones-in (suc m) (suc p) l = ones-in m p (omega arith)
+ones-in zero p l = absurd (omega arith)
+
+-- x more pairs, f for each
+gain : (f u v m x : ℕ) → v + f * m ≡ u + f * (m + x) → u + f * x ≡ v
+gain f u v m x e = omega arith
+
+module _ (n : ℕ) (xs : List ℕ) (fine : blockReply n xs ≡ read tt) where
+  abbrev g : Graph
+  g = graphOf n xs
+
+  pub few : Within mostAtoms n
+  few = few-atoms n xs fine
+
+  pub level-start : (near : List ℕ) → Own n near → Level n xs near near (replicate mostAtoms 1) (record { all = 0; odd = 0; threes = 0 }) n 0
+  unfolding oddOf isAt
+  level-start near O = record {
+    near-size = O .size;
+    sets-size = O .size;
+    reach = R;
+    wide = R;
+    upto = record {
+      all-is = sym (up-none g itself refl);
+      odd-is = sym (up-none g oddOf refl);
+      threes-is = sym (up-none g (isAt 3) refl);
+      met-is = sym (sym (count-reach g 0 near R) ∙ sum-cong n (λ v w. ap ones (O .own v w) ∙ ones-alone (v - 1)) ∙ sum-const n 1 ∙ omega arith);
+      deep = λ k e. absurd (omega arith);
+    };
+    counts = record { size = refl; wanting = λ v w. ap₂ _+_ (ones-in mostAtoms (v - 1) (omega (arith, few))) refl ∙ one-each g (molecule n xs fine) v w };
+  }
+    where
+      R : Reach g 0 near
+      R = reach-none g (molecule n xs fine) near O
+
+  module _ {near sets reached : List ℕ} {s : Both} {met d : ℕ} (L : Level n xs near sets reached s met d) where
+    module _ (more : met < n * n) where
+      pub shallow : suc d < n
+      shallow = room g (molecule n xs fine) d (omega (arith, L .upto .met-is))
+
+      abbrev deepest : d ≤ 63
+      deepest = omega (arith, shallow, few)
+
+      pub low : Low s
+      low = record {
+        all-low = omega (arith, L .upto .all-is, up-most g itself d mostAtoms (λ x l. omega (arith, deepest)), cube {n = n} {c = mostAtoms} (few .high) (le-refl mostAtoms));
+        odd-low = omega (arith, L .upto .odd-is, up-most g oddOf d mostAtoms (λ x l. omega (arith, deepest, tame-odd .tame x)), cube {n = n} {c = mostAtoms} (few .high) (le-refl mostAtoms));
+        threes-low = omega (arith, L .upto .threes-is, up-most g (isAt 3) d mostAtoms (λ x l. omega (arith, deepest, tame-at 3 .tame x)), cube {n = n} {c = mostAtoms} (few .high) (le-refl mostAtoms));
+      }
+
+      pub spare : Room n reached
+      spare = let h : suc d ≤ mostAtoms = omega (arith, deepest) in record { room = λ v w. omega (arith, L .counts .wanting v w, mul-le-mul (few .high) h) }
+
+      -- one bond farther
+      module _ (near′ sets′ reached′ : List ℕ) (a : length near′ ≡ mostAtoms) (b : length sets′ ≡ mostAtoms) (R : Reach g (suc d) sets′)
+          (copied : (v : ℕ) → Within n v → around near′ v ≡ around sets′ v) (added′ : Added n sets′ reached reached′)
+          (met′ : ℕ) (is : met′ ≡ sum n (λ v. ones (around sets′ v))) where
+        here : met′ ≡ upTo g each (suc d)
+        here = is ∙ count-reach g (suc d) sets′ R
+
+        pub grows : met ≤ met′
+        grows = omega (arith, here, L .upto .met-is, up-more g d)
+
+        pub fits : met′ - met ≤ mostAtoms * mostAtoms
+        fits = omega (arith, here, up-most g each (suc d) 1 (λ x l. omega arith), mul-le-mul (few .high) (few .high))
+
+        added : (f : ℕ → ℕ) (u : ℕ) → u ≡ upTo g f d → u + f (suc d) * (met′ - met) ≡ upTo g f (suc d)
+        added f u e =
+            let k : met′ ≡ met + (met′ - met) = omega (arith, grows) in
+            gain (f (suc d)) u (upTo g f (suc d)) met (met′ - met)
+            (ap (λ (m : ℕ). upTo g f (suc d) + f (suc d) * m) (L .upto .met-is) ∙ up-next g f d ∙ ap₂ (λ (x y : ℕ). x + f (suc d) * y) (sym e) (sym here ∙ k))
+
+        pub level-next : Level n xs near′ sets′ reached′ (fartherOf s (d + 1) (met′ - met)) met′ (d + 1)
+        level-next = rw (add-one d) (record {
+          near-size = a;
+          sets-size = b;
+          reach = reach-same g (suc d) sets′ near′ copied R;
+          wide = R;
+          upto = record {
+            all-is = added itself (s .all) (L .upto .all-is);
+            odd-is = added oddOf (s .odd) (L .upto .odd-is);
+            threes-is = added (isAt 3) (s .threes) (L .upto .threes-is);
+            met-is = here;
+            deep = λ k e. let q : d ≡ k = omega arith in omega (arith, more, L .upto .met-is, ap (upTo g each) q);
+          };
+          counts = record { size = added′ .size; wanting = λ v w. omega (arith, added′ .added v w, L .counts .wanting v w, one-farther g d sets′ R v w) };
+        })
+
+    -- no pair is left
+    module _ (over : n * n ≤ met) where
+      whole : (i j : ℕ) → Within n i → Within n j → distance g i j ≤ d
+      whole = met-all g d (omega (arith, L .upto .met-is))
+
+      twice : (f : ℕ → ℕ) (u : ℕ) → f 0 ≡ 0 → u ≡ upTo g f d → u / 2 ≡ total g f
+      twice f u z e = omega (arith, e, up-all g (molecule n xs fine) f z d whole)
+
+      parts : total g evenOf + total g oddOf ≡ total g itself
+      unfolding total
+      parts =
+          sym (sumPairs-add n (λ i j. evenOf (distance g i j)) (λ i j. oddOf (distance g i j)))
+          ∙ sumPairs-cong n (λ i j w v. parts-of .parts (distance g i j))
+
+      all-twice : s .all / 2 ≡ total g itself
+      all-twice = twice itself (s .all) refl (L .upto .all-is)
+
+      odd-twice : s .odd / 2 ≡ total g oddOf
+      unfolding oddOf
+      odd-twice = twice oddOf (s .odd) refl (L .upto .odd-is)
+
+      threes-twice : s .threes / 2 ≡ total g (isAt 3)
+      unfolding isAt
+      threes-twice = twice (isAt 3) (s .threes) refl (L .upto .threes-is)
+
+      -- what is wanting to all atoms in all levels is the vertex sum
+      pub vertex-left : (v : ℕ) → Within n v → around reached v + vertexSum g v ≡ n * suc d
+      vertex-left v w = ap (λ (x : ℕ). around reached v + x) (sym (all-wanting g d whole v w)) ∙ L .counts .wanting v w
+
+      pub largest-last : largest g ≡ d
+      largest-last = last-is g (molecule n xs fine) d (few .low) whole (L .upto .deep)
+
+      pub odd-less : s .odd / 2 ≤ s .all / 2
+      odd-less = omega (arith, all-twice, odd-twice, parts)
+
+      pub level-end : record { atoms = n; w = s .all / 2; even = s .all / 2 - s .odd / 2; odd = s .odd / 2; polarity = s .threes / 2; largest = d } ≡ indicesOf g
+      unfolding indicesOf
+      level-end =
+          let v : s .all / 2 - s .odd / 2 ≡ total g evenOf = omega (arith, all-twice, odd-twice, parts) in
+          λ k. record { atoms = n; w = all-twice k; even = v k; odd = odd-twice k; polarity = threes-twice k; largest = sym largest-last k }

@@ -1,0 +1,8 @@
+-- Laws of sets within reach and of the sums over them.
+pub mod Settling
+pub mod Leaving
+pub mod Touching
+pub mod Summing
+pub mod Digits
+pub mod Levels
+pub mod Reply

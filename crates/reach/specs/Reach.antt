@@ -1,0 +1,64 @@
+-- Work. The atoms within reach of each atom, as sets, and sums over the ordered pairs within reach.
+use Prim.Native.Nat.{ℕ, suc, _+_, _*_, _^_, _≤_, _<_, min}
+use mathlib.Core.Bool.{Bool, false, _&&_, _||_, cond}
+use mathlib.Core.List.{List, [], _∷_}
+use mathlib.Core.Path.{_≡_}
+use lib.Count.{ones}
+use lib.Dec.{eqb, leb}
+use lib.ListN.{length}
+use Rattle.graph.specs.Graph.{Graph, Bond, Within, distance, sum, itself, each, oddOf, isAt}
+use Rattle.graph.specs.Sets.{has, alone}
+use Rattle.block.specs.Block.{mostAtoms}
+use Rattle.block.specs.Near.{around}
+use Rattle.reach.specs.declared.Both.{Both}
+
+-- the set of each of n atoms has that atom alone
+pub record Own (n : ℕ) (sets : List ℕ) : Type 0 where
+  pub size : length sets ≡ mostAtoms
+  pub own : (v : ℕ) → Within n v → around sets v ≡ alone v
+
+-- the set of each atom has exactly the atoms at most d bonds away
+pub record Reach (g : Graph) (d : ℕ) (sets : List ℕ) : Type 0 where
+  pub fits : (v : ℕ) → Within (g .atoms) v → around sets v < 2 ^ g .atoms
+  pub holds : (v w : ℕ) → Within (g .atoms) v → Within (g .atoms) w → has (around sets v) w ≡ leb (distance g v w) d
+
+-- whether a bond joins v to an atom that passes
+unfoldable pub touched : List Bond → (ℕ → Bool) → ℕ → Bool
+touched [] p v = false
+touched (b ∷ bs) p v = ((eqb (b .one) v && p (b .two)) || (eqb (b .two) v && p (b .one))) || touched bs p v
+
+-- f summed over all ordered pairs at most d bonds apart, each atom with itself too
+unfoldable pub upTo : Graph → (ℕ → ℕ) → ℕ → ℕ
+upTo g f d = sum (g .atoms) (λ i. sum (g .atoms) (λ j. cond (leb (distance g i j) d) (f (distance g i j)) 0))
+
+-- with so many more pairs, which are d bonds apart
+abbrev pub fartherOf : Both → ℕ → ℕ → Both
+fartherOf s d pairs = record { all = s .all + d * pairs; odd = s .odd + oddOf d * pairs; threes = s .threes + isAt 3 d * pairs }
+
+-- sums that leave room for more
+pub record Low (s : Both) : Type 0 where
+  pub all-low : s .all ≤ mostAtoms * (mostAtoms * mostAtoms)
+  pub odd-low : s .odd ≤ mostAtoms * (mostAtoms * mostAtoms)
+  pub threes-low : s .threes ≤ mostAtoms * (mostAtoms * mostAtoms)
+
+-- the sums over the pairs at most d bonds apart, of which there are met; with one bond less there was another pair
+pub record Upto (g : Graph) (d met : ℕ) (s : Both) : Type 0 where
+  pub all-is : s .all ≡ upTo g itself d
+  pub odd-is : s .odd ≡ upTo g oddOf d
+  pub threes-is : s .threes ≡ upTo g (isAt 3) d
+  pub met-is : met ≡ upTo g each d
+  pub deep : (k : ℕ) → d ≡ suc k → upTo g each k < g .atoms * g .atoms
+
+-- numbers of n atoms to which more can be added
+pub record Room (n : ℕ) (reached : List ℕ) : Type 0 where
+  pub room : (v : ℕ) → Within n v → around reached v ≤ mostAtoms * mostAtoms
+
+-- how many atoms the set of each of n atoms has is added
+pub record Added (n : ℕ) (sets old new : List ℕ) : Type 0 where
+  pub size : length new ≡ mostAtoms
+  pub added : (v : ℕ) → Within n v → around new v ≡ around old v + ones (around sets v)
+
+-- the numbers of atoms within reach of each atom, at 0 to d bonds together; what is wanting to all atoms is the vertex sum, once all are within reach
+pub record Reached (g : Graph) (d : ℕ) (reached : List ℕ) : Type 0 where
+  pub size : length reached ≡ mostAtoms
+  pub wanting : (v : ℕ) → Within (g .atoms) v → around reached v + sum (g .atoms) (λ w. min (distance g v w) (suc d)) ≡ g .atoms * suc d

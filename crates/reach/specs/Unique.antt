@@ -1,0 +1,15 @@
+-- Laws. The promises of `measure` and `vertex_sums` determine the reply. Assumes nothing.
+use Prim.Native.Nat.{ℕ}
+use mathlib.Core.List.{List}
+use mathlib.Core.Path.{_≡_}
+use Rattle.reply.specs.Chain.{unique}
+use Rattle.block.specs.Index.{indicesReply, saidIndices}
+use Rattle.block.specs.declared.IndicesReply.{IndicesReply}
+use Rattle.reach.specs.Sums.{sumsReply, saidSums}
+use Rattle.reach.specs.declared.VertexSums.{VertexSums}
+
+pub unique-measure : (n : ℕ) (xs : List ℕ) (r s : IndicesReply) → r ≡ saidIndices (indicesReply n xs) → s ≡ saidIndices (indicesReply n xs) → r ≡ s
+unique-measure n xs r s = unique
+
+pub unique-vertex-sums : (n : ℕ) (xs : List ℕ) (r s : VertexSums) → r ≡ saidSums (sumsReply n xs) → s ≡ saidSums (sumsReply n xs) → r ≡ s
+unique-vertex-sums n xs r s = unique

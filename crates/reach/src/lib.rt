@@ -1,0 +1,194 @@
+// A block measured by reach: for each atom the set of the atoms at most d bonds away, one bond farther at a time. No distance is stored.
+ghost use mathlib.Core.Path.{_≡_};
+ghost use Prim.Native.Nat.{ℕ, suc, _*_, _-_, _≤_};
+ghost use lib.Count.{ones};
+ghost use lib.Dec.{ltb};
+ghost use lib.ListN.{length, getD, replicate};
+ghost use mathlib.Core.Bool.{cond};
+ghost use Rattle.graph.specs.Graph.{Within, sum, oddOf};
+ghost use Rattle.reply.specs.Read.{read};
+ghost use Rattle.block.specs.Block.{mostAtoms, graphOf, blockReply};
+ghost use Rattle.block.specs.Index.{indicesOf, indicesReply, saidIndices};
+ghost use Rattle.block.specs.Near.{around};
+ghost use Rattle.half.specs.Half.{table};
+ghost use Rattle.reach.specs.Sums.{sumsReply, saidSums};
+ghost use Rattle.reach.specs.Reach.{Own, Reach, Low, fartherOf, Room, Added, Reached};
+use block::ATOMS;
+use block::Indices;
+use block::IndicesReply;
+use reply::Reply;
+
+// A set of atoms for each atom: that of atom v at v - 1.
+type Sets = [u64; ATOMS];
+
+// What the distances of all ordered pairs add up to: all of them and the odd ones; and how many are 3.
+struct Both {
+    pub all: u64,
+    pub odd: u64,
+    pub threes: u64,
+}
+
+// The vertex sum of each atom, that of atom v at v - 1; all 0 where the block is refused.
+pub struct VertexSums {
+    pub reply: Reply,
+    pub at: [u64; ATOMS],
+}
+
+// Each of n atoms alone.
+fn alone(n: usize) -> Sets
+    requires { ⌜ n ≤ mostAtoms ⌝ }
+    ensures { λ r. ⌜ Own n r ⌝ }
+{
+    let mut sets = [0u64; ATOMS];
+    let mut i = 0;
+    while i < n {
+        sets[i] = 1u64 << i;
+        i += 1;
+    }
+    sets
+}
+
+// One bond farther: to the set of each atom come those of its neighbours.
+fn spread(near: &Sets, n: usize, bonds: &[u8], sets: &mut [u64])
+    requires { ⌜ (blockReply n (now bonds) ≡ read tt) × (length (now sets) ≡ mostAtoms) ⌝ }
+    ensures { λ _. ⌜ ((d : ℕ) → Reach (graphOf n (now (bonds .entry))) d (now (near .entry))
+        → Reach (graphOf n (now (bonds .entry))) d (now (sets .entry))
+        → Reach (graphOf n (now (bonds .entry))) (suc d) (now (sets .exit))) ⌝ }
+{
+    let m = bonds.len() / 2;
+    let mut k = 0;
+    while k < m {
+        let u = bonds[2 * k] as usize - 1;
+        let v = bonds[2 * k + 1] as usize - 1;
+        sets[u] = sets[u] | near[v];
+        sets[v] = sets[v] | near[u];
+        k += 1;
+    }
+}
+
+// How many atoms a set has.
+fn size(set: u64) -> u64
+    ensures { λ r. ⌜ (r ≡ ones set) × (r ≤ mostAtoms) ⌝ }
+{
+    u64::count_ones(set) as u64
+}
+
+// How many atoms the sets of the first n atoms have together. The sets are copied, and what each has is added to what was reached.
+fn settled(sets: &Sets, n: usize, near: &mut [u64], reached: &mut [u64]) -> u64
+    requires { ⌜ (n ≤ mostAtoms) × (length (now near) ≡ mostAtoms)
+        × (length (now reached) ≡ mostAtoms) × Room n (now reached) ⌝ }
+    ensures met { λ r. ⌜ r ≡ sum n (λ v. ones (around (now (sets .entry)) v)) ⌝ }
+    ensures copied { λ _. ⌜ ((v : ℕ) → Within n v → around (now (near .exit)) v ≡ around (now (sets .entry)) v) ⌝ }
+    ensures added { λ _. ⌜ Added n (now (sets .entry)) (now (reached .entry)) (now (reached .exit)) ⌝ }
+{
+    let mut met: u64 = 0;
+    let mut i = 0;
+    while i < n {
+        let set = sets[i];
+        let atoms = size(set);
+        near[i] = set;
+        reached[i] = reached[i] + atoms;
+        met += atoms;
+        i += 1;
+    }
+    met
+}
+
+// d where it is odd, else 0.
+fn odd_part(d: u64) -> u64
+    ensures { λ r. ⌜ r ≡ oddOf d ⌝ }
+{
+    if d % 2 == 0 { 0 } else { d }
+}
+
+// With so many more pairs, which are d bonds apart.
+fn farther(s: Both, d: u64, pairs: u64) -> Both
+    requires { ⌜ Low s × (d ≤ mostAtoms) × (pairs ≤ mostAtoms * mostAtoms) ⌝ }
+    ensures { λ r. ⌜ r ≡ fartherOf s d pairs ⌝ }
+{
+    Both {
+        all: s.all + d * pairs,
+        odd: s.odd + odd_part(d) * pairs,
+        threes: s.threes + (d == 3) as u64 * pairs,
+    }
+}
+
+// The indices of a block that is not refused; and lent, from 1 for each atom on, how many atoms were within its reach, all levels together.
+fn summed(n: usize, bonds: &[u8], reached: &mut [u64]) -> Indices
+    requires { ⌜ (blockReply n (now bonds) ≡ read tt) × (now reached ≡ replicate mostAtoms 1) ⌝ }
+    ensures indices { λ r. ⌜ r ≡ indicesOf (graphOf n (now (bonds .entry))) ⌝ }
+    ensures reached { λ r. ⌜ Reached (graphOf n (now (bonds .entry))) (r .largest) (now (reached .exit)) ⌝ }
+{
+    let pairs = n as u64 * n as u64;
+    let mut near = alone(n);
+    let mut sets = near;
+    let mut s = Both {
+        all: 0,
+        odd: 0,
+        threes: 0,
+    };
+    let mut met = n as u64;
+    let mut d: u64 = 0;
+    while met < pairs {
+        spread(&near, n, bonds, &mut sets);
+        let reached = settled(&sets, n, &mut near, reached);
+        d += 1;
+        s = farther(s, d, reached - met);
+        met = reached;
+    }
+    Indices {
+        atoms: n as u64,
+        w: s.all / 2,
+        even: s.all / 2 - s.odd / 2,
+        odd: s.odd / 2,
+        polarity: s.threes / 2,
+        largest: d,
+    }
+}
+
+// The indices of a block, or its refusal.
+pub fn measure(n: usize, bonds: &[u8]) -> IndicesReply
+    ensures { λ r. ⌜ r ≡ saidIndices (indicesReply n (now (bonds .entry))) ⌝ }
+{
+    let reply = block::check(n, bonds);
+    match reply {
+        Reply::Refused(refusal) => IndicesReply::Refused(refusal),
+        Reply::Fine => {
+            let mut reached = [1u64; ATOMS];
+            let indices = summed(n, bonds, &mut reached);
+            IndicesReply::Of(indices)
+        }
+    }
+}
+
+// What is left of so many levels of n atoms each, for each of the n atoms: a distance is how many levels an atom was not within reach.
+fn left(n: usize, levels: u64, reached: &Sets) -> Sets
+    requires { ⌜ (n ≤ mostAtoms) × (levels ≤ mostAtoms) × ((v : ℕ) → Within n v → around (now reached) v ≤ n * levels) ⌝ }
+    ensures { λ r. ⌜ r ≡ table mostAtoms (λ i. cond (ltb i n) (n * levels - getD (now (reached .entry)) i 0) 0) ⌝ }
+{
+    let all = n as u64 * levels;
+    let mut at = [0u64; ATOMS];
+    let mut i = 0;
+    while i < n {
+        at[i] = all - reached[i];
+        i += 1;
+    }
+    at
+}
+
+// The vertex sum of each atom of a block; all is 0 beyond the atoms, and where the block is refused.
+pub fn vertex_sums(n: usize, bonds: &[u8]) -> VertexSums
+    ensures { λ r. ⌜ r ≡ saidSums (sumsReply n (now (bonds .entry))) ⌝ }
+{
+    let reply = block::check(n, bonds);
+    let Reply::Fine = reply else {
+        return VertexSums {
+            reply,
+            at: [0u64; ATOMS],
+        };
+    };
+    let mut reached = [1u64; ATOMS];
+    let indices = summed(n, bonds, &mut reached);
+    let at = left(n, indices.largest + 1, &reached);
+    VertexSums { reply, at }
+}
