@@ -16,6 +16,7 @@ pub fn times() -> String {
         ("64 atoms, 128 bonds", shapes::double_ring(64)),
         ("64 atoms, 192 bonds", shapes::cube(6)),
         ("path of 64", shapes::path(64)),
+        ("ring of 20", shapes::ring(20)),
         ("ring of 6", shapes::ring(6)),
     ] {
         time_adding(name, &block, 1.0 / 1.5);
