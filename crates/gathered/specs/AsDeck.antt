@@ -16,7 +16,7 @@ use Rattle.block.specs.Block.{mostBytes, graphOf}
 use Rattle.block.specs.Told.{passed, few-atoms}
 use Rattle.block.specs.Index.{indicesOf}
 use Rattle.block.specs.declared.Indices.{Indices}
-use Rattle.records.specs.Bytes.{little, le16, part}
+use Rattle.records.specs.Bytes.{little, le16, part, littleBytes}
 use Rattle.records.specs.declared.Kind.{Kind}
 use Rattle.records.specs.Records.{headBytes, blockKind, assemblyKind, lengthAt, kindAt, payloadAt, endAt, wanted, kindReply, isWrong, lengthReply, recordReply}
 use Rattle.records.specs.Longer.{little-behind}
@@ -27,7 +27,6 @@ use Rattle.deck.specs.Deck.{longestDeck, Deck, deckAt, blockAt, kindsAfter, mov
 use Rattle.deck.specs.Molecule.{placedIn, graphAt, joinAt, moleculeOf}
 use Rattle.deck.specs.declared.Form.the-variants.{Composed}
 use Rattle.compose.specs.Fields.{fieldsReply}
-use Rattle.sheets.specs.Sheets.{littleBytes}
 use Rattle.storage.specs.Shelf.{places}
 use Rattle.storage.specs.Model.{Entry, lookup, has}
 use Rattle.storage.specs.Entries.{absent, Apart}

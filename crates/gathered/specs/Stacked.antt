@@ -3,8 +3,8 @@ use Prim.Native.Nat.{ℕ, _+_, _/_, _≤_}
 use mathlib.Core.List.{List, [], _∷_, _++_}
 use lib.ListN.{length}
 use Rattle.reply.specs.Read.{Read}
+use Rattle.records.specs.Bytes.{littleBytes}
 use Rattle.deck.specs.Deck.{moved}
-use Rattle.sheets.specs.Sheets.{littleBytes}
 use Rattle.storage.specs.Shelf.{places}
 use Rattle.storage.specs.Model.{Entry}
 use Rattle.storage.specs.Entries.{Apart}
