@@ -1,13 +1,5 @@
 -- The products of a library, step by step.
 --
-<<<<<<< HEAD
--- | notion                    | meaning                                                              | the law that matters                                     |
--- | `stepReply s d p n`       | refusals 20, 9 and the library's, the product at a position, or done | `made-step`                                              |
--- | `stepsFrom`, `runOf`      | steps one after the other, each into what the one before left        | `run-next`, `run-done`, `run-full`                       |
--- | `saidProduct`, `saidStep` | how the code says it                                                 | `unique-product`, `unique-step`, `unique-run`            |
--- | `stemOf`, `joinedAt`      | a product joined arm by arm from what is kept of the library         | `stem-six`, `product-joined`: the fields of its molecule |
--- | `Held`, `Spread`          | what the code holds of a library that is read                        | `product-spread`                                         |
-=======
 -- | notion                    | meaning                                                              | the law that matters                                     |
 -- | `stepReply s d p n`       | refusals 20, 9 and the library's, the product at a position, or done | `made-step`                                              |
 -- | `stepsFrom`, `runOf`      | steps one after the other, each into what the one before left        | `run-next`, `run-done`, `run-full`                       |
@@ -16,7 +8,6 @@
 -- | `Held`, `Spread`          | what the code holds of a library that is read                        | `product-spread`                                         |
 -- | `Turns`                   | what the other sites are joined to, while the last one turns         | `turns`: the fields of each product until it is round    |
 -- | `Going`                   | how far a run has come                                               | `going-next`, `going-done`, `going-full`                 |
->>>>>>> f0d9d5dcc398e8c509bbd9f99d97d8c99de25a4c
 -- Definitions
 pub mod Said
 pub mod Steps

@@ -123,29 +123,3 @@ pub(crate) fn pick(all: &ArmRows, digits: [usize; SITES]) -> [Arm; SITES]
     let a3 = row_arm(all[3 * CANDIDATES + digits[3]]);
     [a0, a1, a2, a3]
 }
-<<<<<<< HEAD
-
-// The fields of the product at a position, joined from what is kept.
-pub(crate) fn product_from(
-    core: Core,
-    all: &ArmRows,
-    sites: [Site; SITES],
-    n: usize,
-    position: usize,
-) -> Indices
-    requires { ⌜
-        ((d : List ℕ) × (l : Library) × (bs : List BlockAt) × (xs : List ℕ) × Spread d l bs xs sites n core (now all)
-        × (position < products (l .sites)))
-        ⌝ }
-    ensures { λ r. ⌜
-        ((d : List ℕ) (l : Library) (bs : List BlockAt) (xs : List ℕ) → Spread d l bs xs sites n core (now (all .entry))
-        → position < products (l .sites) → r ≡ productAt d l position)
-        ⌝ }
-{
-    let digits = choose(sites, n, position);
-    let arms = pick(all, digits);
-    let stem = with_arms(core, arms, n);
-    stem.six
-}
-=======
->>>>>>> f0d9d5dcc398e8c509bbd9f99d97d8c99de25a4c
