@@ -20,9 +20,8 @@ use Rattle.reply.specs.declared.Reply.the-variants as reply
 use Rattle.block.specs.Block.{mostAtoms, graphOf, blockReply}
 use Rattle.block.specs.Index.{indicesOf, indicesReply, saidIndices}
 use Rattle.block.specs.Near.{around}
-use Rattle.block.specs.Rows.{emptyRow}
+use Rattle.block.specs.Rows.{noRow}
 use Rattle.block.specs.Told.{few-atoms, molecule}
-use Rattle.block.proofs.Filling.{no-row}
 use Rattle.block.specs.declared.Indices.{Indices}
 use Rattle.block.specs.declared.IndicesReply.the-variants as measured
 use Rattle.reach.specs.Reach.{Reached}
@@ -35,9 +34,9 @@ module _ (n : ℕ) (xs : List ℕ) where
   unfolding indicesReply
   refused-reply r e = rw e
 
-  pub sums-refused : (r : Refusal) → blockReply n xs ≡ refused r → (p : Reply) → p ≡ reply.Refused r → record { reply = p; at = emptyRow } ≡ saidSums (sumsReply n xs)
+  pub sums-refused : (r : Refusal) → blockReply n xs ≡ refused r → (p : Reply) → p ≡ reply.Refused r → record { reply = p; at = noRow } ≡ saidSums (sumsReply n xs)
   unfolding sumsReply
-  sums-refused r b p e = rw b (λ j. record { reply = e j; at = no-row j })
+  sums-refused r b p e = rw b (λ j. record { reply = e j; at = noRow })
 
   module _ (fine : blockReply n xs ≡ read tt) where
     pub fine-reply : (x : Indices) → x ≡ indicesOf (graphOf n xs) → measured.Of x ≡ saidIndices (indicesReply n xs)

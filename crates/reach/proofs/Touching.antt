@@ -17,7 +17,8 @@ use Rattle.graph.specs.Graph.{Graph, Bond, Within, Molecule, anyJoins, bonded, 
 use Rattle.graph.specs.Bonds.{both, both-true, one-of, first-of, second-of, same-test, any-out, any-head, any-tail, any-none, bonded-sym}
 use Rattle.graph.specs.Distance.{distance-sym, distance-self, distance-zero, distance-bond, parent}
 use Rattle.graph.specs.Walk.{far-end}
-use Rattle.graph.specs.Sets.{has, has-or, has-alone}
+use Rattle.graph.specs.Sets.{has}
+use Rattle.graph.specs.SetLaws.{has-or, has-alone}
 use Rattle.reply.specs.Read.{read}
 use Rattle.block.specs.Block.{mostAtoms, bondsOf, graphOf, blockReply}
 use Rattle.block.specs.Near.{around}

@@ -1,7 +1,7 @@
 use Prim.Native.Nat.{_-_, _^_, _≤_}
 use mathlib.Core.Path.{_≡_}
 use native.Mathlib.Omega.{arith}
-use Rattle.graph.specs.Sets.{shifted}
+use Rattle.graph.specs.SetLaws.{shifted-one}
 use Rattle.block.specs.Block.{mostAtoms}
 use Rattle.reach.proofs.Leaving.{Leaves, leaves-none, leaves-more}
 use Rattle.reach.proofs.alone.Statement.{statement}
@@ -34,7 +34,7 @@ loop-less c = omega arith
 loop-again : tie.Need-loop-again Inv-loop μ-loop
 loop-again c =
     let l = c .before .loop in
-    (omega arith, rw (shifted mostAtoms (l .i) (omega arith)) (leaves-more _ _ (l .i) (omega arith) (l .inv .1)))
+    (omega arith, rw (shifted-one mostAtoms (l .i) (omega arith)) (leaves-more _ _ (l .i) (omega arith) (l .inv .1)))
 
 returns : tie.Need-returns Inv-loop μ-loop
 returns c =
