@@ -1,7 +1,6 @@
 // Distances by search, level by level: a set of atoms is one number.
 use super::ATOMS;
 use super::Farthest;
-use super::Neighbours;
 use half::Half;
 use half::PAIRS;
 use half::put_row;
@@ -31,7 +30,7 @@ pub(crate) struct Ended {
 
 // The search from atom i: it fills an empty row with the distances. The atoms of level wait until their neighbours were looked at, which go into
 // next; rest is not met yet.
-pub(crate) fn from_atom(near: &Neighbours, n: usize, i: usize, row: &mut [u8]) -> Ended
+pub(crate) fn from_atom(near: &[u64], n: usize, i: usize, row: &mut [u8]) -> Ended
     requires { ⌜ ((g : Graph) × SearchTask g (now near) n i) × (now row ≡ noRow) ⌝ }
     ensures { λ r. ⌜ ((g : Graph) → SearchTask g (now (near .entry)) n i → Searched g i (now (row .exit)) (r .rest) (r .last)) ⌝ }
 {
@@ -55,7 +54,7 @@ pub(crate) fn from_atom(near: &Neighbours, n: usize, i: usize, row: &mut [u8]) -
 }
 
 // Whether every pair of n atoms has a path.
-pub(crate) fn connected(near: &Neighbours, n: usize) -> bool
+pub(crate) fn connected(near: &[u64], n: usize) -> bool
     requires { ⌜ ((xs : List ℕ) × SearchTask (graphOf n xs) (now near) n 1) ⌝ }
     ensures { λ r. ⌜ ((xs : List ℕ) → SearchTask (graphOf n xs) (now (near .entry)) n 1 → r ≡ isConnected (graphOf n xs)) ⌝ }
 {
@@ -65,7 +64,7 @@ pub(crate) fn connected(near: &Neighbours, n: usize) -> bool
 }
 
 // Half of the distances of a block of n atoms, filled row by row, and in what is lent the largest of each row.
-pub(crate) fn from_all(near: &Neighbours, n: usize, far: &mut Farthest) -> Half
+pub(crate) fn from_all(near: &[u64], n: usize, far: &mut Farthest) -> Half
     requires { ⌜ ((xs : List ℕ) × ReadyBlock n xs (now near)) ⌝ }
     ensures half { λ r. ⌜ ((xs : List ℕ) → ReadyBlock n xs (now (near .entry)) → r ≡ halfTable n xs) ⌝ }
     ensures far { λ _. ⌜ ((xs : List ℕ) → ReadyBlock n xs (now (near .entry)) → now (far .exit) ≡ farOf n xs) ⌝ }

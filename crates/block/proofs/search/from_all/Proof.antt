@@ -18,7 +18,7 @@ abbrev μ-loop : tie.MeasureT-loop
 μ-loop near n far all₀ deep₀ i₀ all deep i = n - i
 
 loop-holds : tie.Need-loop-holds Inv-loop μ-loop
-loop-holds c = (omega arith, c .pre .1 .shown .small, λ xs R. rows-start _ xs)
+loop-holds c = (omega arith, c .before .pre .1 .shown .small, λ xs R. rows-start _ xs)
 
 add-from-atom : tie.Need-add-from-atom Inv-loop μ-loop
 add-from-atom c = omega arith
@@ -28,14 +28,14 @@ slice-aggregate-from-atom c = search needs
 
 from-atom-requires : tie.Need-from-atom-requires Inv-loop μ-loop
 from-atom-requires c κs =
-    let s = c .before .before .before in
+    let s = c .before .before .before .before in
     let (xs, R) = s .pre in
     ((graphOf (s .args .n) xs, record { shown = R .shown; size = refl; start = omega arith }), refl)
 
 slice-aggregate-put-row : tie.Need-slice-aggregate-put-row Inv-loop μ-loop
 slice-aggregate-put-row c =
     let l = c .before .before .before .before .before .loop in
-    let (xs, R) = c .before .before .before .before .before .before .pre in
+    let (xs, R) = c .before .before .before .before .before .before .before .pre in
     sym (l .inv .2 xs R .size)
 
 add-put-row : tie.Need-add-put-row Inv-loop μ-loop
@@ -67,7 +67,7 @@ loop-again c =
 
 returns : tie.Need-returns Inv-loop μ-loop
 returns c =
-    let e : c .before .loop .i ≡ c .before .before .args .n = omega arith in
+    let e : c .before .loop .i ≡ c .before .before .before .args .n = omega arith in
     (λ xs R. rows-end _ xs (R .fine) _ _ (rw e at (c .before .loop .inv .2 xs R)) .0, λ xs R. rows-end _ xs (R .fine) _ _ (rw e at (c .before .loop .inv .2 xs R)) .1)
 
 pub from-all-spec : {M : Type 1} → statement M
