@@ -188,11 +188,13 @@ pub fn distances(n: usize, bonds: &[u8], far: &mut Farthest) -> Half
 {
     let mut near = [0u64; ATOMS];
     let reply = admit(n, bonds, &mut near);
+    let mut half = [0u8; PAIRS];
     let Reply::Fine = reply else {
         *far = [0u8; ATOMS];
-        return [0u8; PAIRS];
+        return half;
     };
-    search::from_all(&near, n, far)
+    search::from_all(&near, n, &mut half, far);
+    half
 }
 
 // The distances of a block: those from atom i are row i - 1, and that to atom j stands there at j - 1. All is 0 beyond the atoms, and
@@ -214,15 +216,15 @@ pub fn table(n: usize, bonds: &[u8], half: &mut Half, far: &mut Farthest) -> Ope
 {
     let mut near = [0u64; ATOMS];
     let reply = admit(n, bonds, &mut near);
+    *half = [0u8; PAIRS];
     let Reply::Fine = reply else {
-        *half = [0u8; PAIRS];
         *far = [0u8; ATOMS];
         return Opened {
             reply,
             near: [0u64; ATOMS],
         };
     };
-    *half = search::from_all(&near, n, far);
+    search::from_all(&near, n, half, far);
     Opened { reply, near }
 }
 
@@ -316,7 +318,8 @@ pub fn measure(n: usize, bonds: &[u8]) -> IndicesReply
         Reply::Refused(refusal) => IndicesReply::Refused(refusal),
         Reply::Fine => {
             let mut far = [0u8; ATOMS];
-            let half = search::from_all(&near, n, &mut far);
+            let mut half = [0u8; PAIRS];
+            search::from_all(&near, n, &mut half, &mut far);
             let indices = sums(&half, &far, n);
             IndicesReply::Of(indices)
         }
@@ -374,7 +377,8 @@ pub fn pair_counts(n: usize, bonds: &[u8]) -> Pairs
         };
     };
     let mut far = [0u8; ATOMS];
-    let half = search::from_all(&near, n, &mut far);
+    let mut half = [0u8; PAIRS];
+    search::from_all(&near, n, &mut half, &mut far);
     let at = totals::count_pairs(&half, n);
     Pairs { reply, at }
 }

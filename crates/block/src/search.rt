@@ -1,14 +1,14 @@
 // Distances by search, level by level: a set of atoms is one number.
 use super::ATOMS;
 use super::Farthest;
-use half::Half;
-use half::PAIRS;
 use half::put_row;
 ghost use mathlib.Core.Path.{_≡_};
 ghost use mathlib.Core.List.{List};
 ghost use Prim.Native.Nat.{ℕ};
+ghost use lib.ListN.{replicate};
 ghost use Rattle.graph.specs.Graph.{Graph, Within, connected as isConnected};
 ghost use Rattle.graph.specs.Sets.{firsts};
+ghost use Rattle.half.specs.Half.{allPairs};
 ghost use Rattle.block.specs.Block.{mostAtoms, graphOf};
 ghost use Rattle.block.specs.Rows.{noRow, halfTable, farOf};
 ghost use Rattle.block.specs.Near.{ReadyBlock};
@@ -63,22 +63,20 @@ pub(crate) fn connected(near: &[u64], n: usize) -> bool
     ended.rest == 0
 }
 
-// Half of the distances of a block of n atoms, filled row by row, and in what is lent the largest of each row.
-pub(crate) fn from_all(near: &[u64], n: usize, far: &mut Farthest) -> Half
-    requires { ⌜ ((xs : List ℕ) × ReadyBlock n xs (now near)) ⌝ }
-    ensures half { λ r. ⌜ ((xs : List ℕ) → ReadyBlock n xs (now (near .entry)) → r ≡ halfTable n xs) ⌝ }
+// Half of the distances of a block of n atoms, row by row in what is lent, all 0 before; and the largest of each row.
+pub(crate) fn from_all(near: &[u64], n: usize, half: &mut [u8], far: &mut Farthest)
+    requires { ⌜ ((xs : List ℕ) × ReadyBlock n xs (now near)) × (now half ≡ replicate allPairs 0) ⌝ }
+    ensures half { λ _. ⌜ ((xs : List ℕ) → ReadyBlock n xs (now (near .entry)) → now (half .exit) ≡ halfTable n xs) ⌝ }
     ensures far { λ _. ⌜ ((xs : List ℕ) → ReadyBlock n xs (now (near .entry)) → now (far .exit) ≡ farOf n xs) ⌝ }
 {
-    let mut all = [0u8; PAIRS];
     let mut deep = [0u8; ATOMS];
     let mut i = 0;
     while i < n {
         let mut row = [0u8; ATOMS];
         let ended = from_atom(near, n, i + 1, &mut row);
-        put_row(&mut all, i + 1, &row, n);
+        put_row(half, i + 1, &row, n);
         deep[i] = ended.last;
         i += 1;
     }
     *far = deep;
-    all
 }

@@ -32,13 +32,16 @@ ready c = c .before .before .before .admit .ensures .ready (c .enum-told .given 
 slice-aggregate-from-all : tie.Need-slice-aggregate-from-all
 slice-aggregate-from-all c = search needs
 
+slice-aggregate-from-all-2 : tie.Need-slice-aggregate-from-all-2
+slice-aggregate-from-all-2 c = search needs
+
 from-all-requires : tie.Need-from-all-requires
-from-all-requires c κs = (_, ready (c .before .before))
+from-all-requires c κs = ((_, ready (c .before .before .before)), refl)
 
 returns-2 : tie.Need-returns-2
 returns-2 c =
-    let R = ready (c .before .before .before) in
-    (c .from-all .ensures .0 _ R, c .from-all .ensures .1 _ R)
+    let R = ready (c .before .before .before .before .before) in
+    (c .before .from-all .ensures .0 _ R, c .before .from-all .ensures .1 _ R)
 
 pub distances-spec : {M : Type 1} → statement M
-distances-spec = tie.close (tie.spec slice-aggregate-admit admit-requires enum-told enum-told-2 returns slice-aggregate-from-all from-all-requires returns-2)
+distances-spec = tie.close (tie.spec slice-aggregate-admit admit-requires enum-told enum-told-2 returns slice-aggregate-from-all slice-aggregate-from-all-2 from-all-requires returns-2)

@@ -24,8 +24,11 @@ ready c = c .before .before .before .admit .ensures .ready (c .enum-told .given 
 slice-aggregate-from-all : tie.Need-slice-aggregate-from-all
 slice-aggregate-from-all c = search needs
 
+slice-aggregate-from-all-2 : tie.Need-slice-aggregate-from-all-2
+slice-aggregate-from-all-2 c = search needs
+
 from-all-requires : tie.Need-from-all-requires
-from-all-requires c κs = (_, ready (c .before .before))
+from-all-requires c κs = ((_, ready (c .before .before .before)), refl)
 
 sums-requires : tie.Need-sums-requires
 sums-requires c κs = search needs
@@ -35,10 +38,10 @@ returns c = measure-refused _ _ _ (said-refused _ _ (sym (c .before .reply .give
 
 returns-2 : tie.Need-returns-2
 returns-2 c =
-    let d = c .before .before .before in
-    let R = ready (d .before .before .before) in
+    let d = c .before .before .before .before in
+    let R = ready (d .before .before .before .before) in
     measure-fine _ _ (R .fine) _ (d .from-all .ensures .0 _ R) _ (d .from-all .ensures .1 _ R) _ (c .sums .ensures)
 
 pub measure-spec : {M : Type 1} → statement M
 measure-spec =
-    tie.close (tie.spec slice-aggregate-admit admit-requires enum-known-reply enum-told slice-aggregate-from-all from-all-requires sums-requires returns returns-2)
+    tie.close (tie.spec slice-aggregate-admit admit-requires enum-known-reply enum-told slice-aggregate-from-all slice-aggregate-from-all-2 from-all-requires sums-requires returns returns-2)

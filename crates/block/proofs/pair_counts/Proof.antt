@@ -29,18 +29,21 @@ ready c = c .before .before .before .admit .ensures .ready (c .enum-told .given 
 slice-aggregate-from-all : tie.Need-slice-aggregate-from-all
 slice-aggregate-from-all c = search needs
 
+slice-aggregate-from-all-2 : tie.Need-slice-aggregate-from-all-2
+slice-aggregate-from-all-2 c = search needs
+
 from-all-requires : tie.Need-from-all-requires
-from-all-requires c κs = (_, ready (c .before .before))
+from-all-requires c κs = ((_, ready (c .before .before .before)), refl)
 
 count-pairs-requires : tie.Need-count-pairs-requires
 count-pairs-requires c κs = search needs
 
 returns-2 : tie.Need-returns-2
 returns-2 c =
-    let d = c .before .before .before .before .before in
+    let d = c .before .before .before .before .before .before .before in
     let R = ready d in
-    pairs-fine _ _ (R .fine) _ (c .before .before .from-all .ensures .0 _ R) _ (d .enum-told .given .1) (c .count-pairs .ensures)
+    pairs-fine _ _ (R .fine) _ (c .before .before .before .from-all .ensures .0 _ R) _ (d .enum-told .given .1) (c .count-pairs .ensures)
 
 pub pair-counts-spec : {M : Type 1} → statement M
 pair-counts-spec =
-    tie.close (tie.spec slice-aggregate-admit admit-requires enum-told enum-told-2 returns slice-aggregate-from-all from-all-requires count-pairs-requires returns-2)
+    tie.close (tie.spec slice-aggregate-admit admit-requires enum-told enum-told-2 returns slice-aggregate-from-all slice-aggregate-from-all-2 from-all-requires count-pairs-requires returns-2)
