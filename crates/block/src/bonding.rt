@@ -1,21 +1,21 @@
 // The bonds of a block are read one by one: their faults, and the neighbours of each atom.
 use super::ATOMS;
 use super::LIMIT;
-use super::Neighbours;
-use super::Opened;
 use reply::Refusal;
 use reply::Reply;
 use reply::is_outside;
 ghost use mathlib.Core.Path.{_≡_};
 ghost use mathlib.Core.List.{List};
 ghost use Prim.Native.Nat.{_≤_};
+ghost use lib.ListN.{length};
 ghost use Rattle.graph.specs.Graph.{Bond, bond};
 ghost use Rattle.block.specs.Block.{mostAtoms, bondFault};
+ghost use Rattle.block.specs.Rows.{noRow};
 ghost use Rattle.block.specs.Near.{HoldsBonds, Reading};
 
 // The refusal number of the bond a-b after those that were read, or 0.
-fn fault(n: usize, near: &Neighbours, count: &[u8; ATOMS], a: u8, b: u8) -> usize
-    requires { ⌜ n ≤ mostAtoms ⌝ }
+fn fault(n: usize, near: &[u64], count: &[u8; ATOMS], a: u8, b: u8) -> usize
+    requires { ⌜ (n ≤ mostAtoms) × (length (now near) ≡ mostAtoms) ⌝ }
     ensures { λ r. ⌜ ((bs : List Bond) → HoldsBonds n bs (now (near .entry)) (now (count .entry)) → r ≡ bondFault n bs (bond a b)) ⌝ }
 {
     let u = a as usize;
@@ -41,27 +41,23 @@ fn fault(n: usize, near: &Neighbours, count: &[u8; ATOMS], a: u8, b: u8) -> usiz
     0
 }
 
-// The refusals 3 to 6 of the bonds, and the neighbours.
-pub(crate) fn build(n: usize, bonds: &[u8]) -> Opened
-    requires { ⌜ n ≤ mostAtoms ⌝ }
-    ensures { λ r. ⌜ Reading n (now (bonds .entry)) r ⌝ }
+// The refusals 3 to 6 of the bonds, and in what is lent, empty before, the neighbours.
+pub(crate) fn build(n: usize, bonds: &[u8], near: &mut [u64]) -> Reply
+    requires { ⌜ (n ≤ mostAtoms) × (now near ≡ noRow) ⌝ }
+    ensures { λ r. ⌜ Reading n (now (bonds .entry)) (record { reply = r; near = now (near .exit) }) ⌝ }
 {
-    let mut near = [0u64; ATOMS];
     let mut count = [0u8; ATOMS];
     let m = bonds.len() / 2;
     let mut k = 0;
     while k < m {
         let a = bonds[2 * k];
         let b = bonds[2 * k + 1];
-        let number = fault(n, &near, &count, a, b);
+        let number = fault(n, near, &count, a, b);
         if number != 0 {
-            return Opened {
-                reply: Reply::Refused(Refusal {
-                    number,
-                    place: k + 1,
-                }),
-                near,
-            };
+            return Reply::Refused(Refusal {
+                number,
+                place: k + 1,
+            });
         }
         let u = a as usize - 1;
         let v = b as usize - 1;
@@ -71,8 +67,5 @@ pub(crate) fn build(n: usize, bonds: &[u8]) -> Opened
         count[v] = count[v] + 1;
         k += 1;
     }
-    Opened {
-        reply: Reply::Fine,
-        near,
-    }
+    Reply::Fine
 }

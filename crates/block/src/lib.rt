@@ -4,7 +4,7 @@ ghost use Prim.Native.Nat.{suc, min};
 ghost use Rattle.reply.specs.Read.{refusal, saidReply};
 ghost use Rattle.block.specs.Block.{mostAtoms, blockReply};
 ghost use Rattle.half.specs.Half.{table, halfAt, halfRow};
-ghost use Rattle.block.specs.Rows.{rowsOf, farOf, halfTable, rowReply, saidRow};
+ghost use Rattle.block.specs.Rows.{noRow, rowsOf, farOf, halfTable, rowReply, saidRow};
 ghost use Rattle.block.specs.Index.{indicesReply, saidIndices, vertexReply, saidVertex, distanceReply, saidDistance, pairsReply, saidPairs};
 ghost use Rattle.block.specs.Sums.{entry, indicesBy, vertexBy};
 ghost use Rattle.block.specs.Opened.{openedReply, saidOpened};
@@ -113,18 +113,16 @@ struct Run {
 }
 
 // A refusal at place 0.
-fn refused(number: usize) -> Opened
-    ensures { λ r. ⌜ r .reply ≡ Reply.Refused (refusal number 0) ⌝ }
+fn refused(number: usize) -> Reply
+    ensures { λ r. ⌜ r ≡ Reply.Refused (refusal number 0) ⌝ }
 {
-    Opened {
-        reply: Reply::Refused(Refusal { number, place: 0 }),
-        near: [0u64; ATOMS],
-    }
+    Reply::Refused(Refusal { number, place: 0 })
 }
 
-// The reply to a block and, where it is fine, the neighbours.
-fn admit(n: usize, bonds: &[u8]) -> Opened
-    ensures { λ r. ⌜ Admitting n (now (bonds .entry)) r ⌝ }
+// The reply to a block and, where it is fine, in what is lent, empty before, the neighbours.
+fn admit(n: usize, bonds: &[u8], near: &mut [u64]) -> Reply
+    requires { ⌜ now near ≡ noRow ⌝ }
+    ensures { λ r. ⌜ Admitting n (now (bonds .entry)) (record { reply = r; near = now (near .exit) }) ⌝ }
 {
     if is_outside(ATOMS, n) {
         return refused(1);
@@ -135,13 +133,12 @@ fn admit(n: usize, bonds: &[u8]) -> Opened
     if bonds.len() > BYTES {
         return refused(2);
     }
-    let built = bonding::build(n, bonds);
-    let reply = built.reply;
+    let reply = bonding::build(n, bonds, near);
     let Reply::Fine = reply else {
-        return built;
+        return reply;
     };
-    if search::connected(&built.near, n) {
-        built
+    if search::connected(near, n) {
+        reply
     } else {
         refused(7)
     }
@@ -151,23 +148,23 @@ fn admit(n: usize, bonds: &[u8]) -> Opened
 pub fn neighbours(n: usize, bonds: &[u8]) -> Opened
     ensures { λ r. ⌜ r ≡ saidOpened (openedReply n (now (bonds .entry))) ⌝ }
 {
-    let admitted = admit(n, bonds);
-    let reply = admitted.reply;
+    let mut near = [0u64; ATOMS];
+    let reply = admit(n, bonds, &mut near);
     let Reply::Fine = reply else {
         return Opened {
             reply,
             near: [0u64; ATOMS],
         };
     };
-    admitted
+    Opened { reply, near }
 }
 
 // Whether a block is refused, with which number and where: the bond's number from 1, or 0.
 pub fn check(n: usize, bonds: &[u8]) -> Reply
     ensures { λ r. ⌜ r ≡ saidReply (blockReply n (now (bonds .entry))) ⌝ }
 {
-    let admitted = admit(n, bonds);
-    admitted.reply
+    let mut near = [0u64; ATOMS];
+    admit(n, bonds, &mut near)
 }
 
 // The rows that a half says.
@@ -189,13 +186,15 @@ pub fn distances(n: usize, bonds: &[u8], far: &mut Farthest) -> Half
     ensures half { λ r. ⌜ r ≡ halfTable n (now (bonds .entry)) ⌝ }
     ensures far { λ _. ⌜ now (far .exit) ≡ farOf n (now (bonds .entry)) ⌝ }
 {
-    let admitted = admit(n, bonds);
-    let reply = admitted.reply;
+    let mut near = [0u64; ATOMS];
+    let reply = admit(n, bonds, &mut near);
+    let mut half = [0u8; PAIRS];
     let Reply::Fine = reply else {
         *far = [0u8; ATOMS];
-        return [0u8; PAIRS];
+        return half;
     };
-    search::from_all(&admitted.near, n, far)
+    search::from_all(&near, n, &mut half, far);
+    half
 }
 
 // The distances of a block: those from atom i are row i - 1, and that to atom j stands there at j - 1. All is 0 beyond the atoms, and
@@ -215,26 +214,26 @@ pub fn table(n: usize, bonds: &[u8], half: &mut Half, far: &mut Farthest) -> Ope
     ensures half { λ _. ⌜ now (half .exit) ≡ halfTable n (now (bonds .entry)) ⌝ }
     ensures far { λ _. ⌜ now (far .exit) ≡ farOf n (now (bonds .entry)) ⌝ }
 {
-    let admitted = admit(n, bonds);
-    let reply = admitted.reply;
+    let mut near = [0u64; ATOMS];
+    let reply = admit(n, bonds, &mut near);
+    *half = [0u8; PAIRS];
     let Reply::Fine = reply else {
-        *half = [0u8; PAIRS];
         *far = [0u8; ATOMS];
         return Opened {
             reply,
             near: [0u64; ATOMS],
         };
     };
-    *half = search::from_all(&admitted.near, n, far);
-    admitted
+    search::from_all(&near, n, half, far);
+    Opened { reply, near }
 }
 
 // The distances from atom i of a block and the largest of them, or its refusal; 18 at place 0 where there is no such atom.
 pub fn row(n: usize, bonds: &[u8], i: usize) -> OneRow
     ensures { λ r. ⌜ r ≡ saidRow (rowReply n (now (bonds .entry)) i) ⌝ }
 {
-    let admitted = admit(n, bonds);
-    let reply = admitted.reply;
+    let mut near = [0u64; ATOMS];
+    let reply = admit(n, bonds, &mut near);
     let Reply::Fine = reply else {
         return OneRow {
             reply,
@@ -253,7 +252,7 @@ pub fn row(n: usize, bonds: &[u8], i: usize) -> OneRow
         };
     }
     let mut row = [0u8; ATOMS];
-    let ended = search::from_atom(&admitted.near, n, i, &mut row);
+    let ended = search::from_atom(&near, n, i, &mut row);
     OneRow {
         reply,
         row,
@@ -313,13 +312,14 @@ pub fn around_row(row: &DistanceRow, n: usize, farthest: u8) -> Vertex
 pub fn measure(n: usize, bonds: &[u8]) -> IndicesReply
     ensures { λ r. ⌜ r ≡ saidIndices (indicesReply n (now (bonds .entry))) ⌝ }
 {
-    let admitted = admit(n, bonds);
-    let reply = admitted.reply;
+    let mut near = [0u64; ATOMS];
+    let reply = admit(n, bonds, &mut near);
     match reply {
         Reply::Refused(refusal) => IndicesReply::Refused(refusal),
         Reply::Fine => {
             let mut far = [0u8; ATOMS];
-            let half = search::from_all(&admitted.near, n, &mut far);
+            let mut half = [0u8; PAIRS];
+            search::from_all(&near, n, &mut half, &mut far);
             let indices = sums(&half, &far, n);
             IndicesReply::Of(indices)
         }
@@ -368,8 +368,8 @@ pub fn vertex_sums(n: usize, bonds: &[u8], a: usize) -> VertexReply
 pub fn pair_counts(n: usize, bonds: &[u8]) -> Pairs
     ensures { λ r. ⌜ r ≡ saidPairs (pairsReply n (now (bonds .entry))) ⌝ }
 {
-    let admitted = admit(n, bonds);
-    let reply = admitted.reply;
+    let mut near = [0u64; ATOMS];
+    let reply = admit(n, bonds, &mut near);
     let Reply::Fine = reply else {
         return Pairs {
             reply,
@@ -377,7 +377,8 @@ pub fn pair_counts(n: usize, bonds: &[u8]) -> Pairs
         };
     };
     let mut far = [0u8; ATOMS];
-    let half = search::from_all(&admitted.near, n, &mut far);
+    let mut half = [0u8; PAIRS];
+    search::from_all(&near, n, &mut half, &mut far);
     let at = totals::count_pairs(&half, n);
     Pairs { reply, at }
 }

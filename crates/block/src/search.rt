@@ -1,15 +1,14 @@
 // Distances by search, level by level: a set of atoms is one number.
 use super::ATOMS;
 use super::Farthest;
-use super::Neighbours;
-use half::Half;
-use half::PAIRS;
 use half::put_row;
 ghost use mathlib.Core.Path.{_≡_};
 ghost use mathlib.Core.List.{List};
 ghost use Prim.Native.Nat.{ℕ};
+ghost use lib.ListN.{replicate};
 ghost use Rattle.graph.specs.Graph.{Graph, Within, connected as isConnected};
 ghost use Rattle.graph.specs.Sets.{firsts};
+ghost use Rattle.half.specs.Half.{allPairs};
 ghost use Rattle.block.specs.Block.{mostAtoms, graphOf};
 ghost use Rattle.block.specs.Rows.{noRow, halfTable, farOf};
 ghost use Rattle.block.specs.Near.{ReadyBlock};
@@ -31,7 +30,7 @@ pub(crate) struct Ended {
 
 // The search from atom i: it fills an empty row with the distances. The atoms of level wait until their neighbours were looked at, which go into
 // next; rest is not met yet.
-pub(crate) fn from_atom(near: &Neighbours, n: usize, i: usize, row: &mut [u8]) -> Ended
+pub(crate) fn from_atom(near: &[u64], n: usize, i: usize, row: &mut [u8]) -> Ended
     requires { ⌜ ((g : Graph) × SearchTask g (now near) n i) × (now row ≡ noRow) ⌝ }
     ensures { λ r. ⌜ ((g : Graph) → SearchTask g (now (near .entry)) n i → Searched g i (now (row .exit)) (r .rest) (r .last)) ⌝ }
 {
@@ -55,7 +54,7 @@ pub(crate) fn from_atom(near: &Neighbours, n: usize, i: usize, row: &mut [u8]) -
 }
 
 // Whether every pair of n atoms has a path.
-pub(crate) fn connected(near: &Neighbours, n: usize) -> bool
+pub(crate) fn connected(near: &[u64], n: usize) -> bool
     requires { ⌜ ((xs : List ℕ) × SearchTask (graphOf n xs) (now near) n 1) ⌝ }
     ensures { λ r. ⌜ ((xs : List ℕ) → SearchTask (graphOf n xs) (now (near .entry)) n 1 → r ≡ isConnected (graphOf n xs)) ⌝ }
 {
@@ -64,22 +63,20 @@ pub(crate) fn connected(near: &Neighbours, n: usize) -> bool
     ended.rest == 0
 }
 
-// Half of the distances of a block of n atoms, filled row by row, and in what is lent the largest of each row.
-pub(crate) fn from_all(near: &Neighbours, n: usize, far: &mut Farthest) -> Half
-    requires { ⌜ ((xs : List ℕ) × ReadyBlock n xs (now near)) ⌝ }
-    ensures half { λ r. ⌜ ((xs : List ℕ) → ReadyBlock n xs (now (near .entry)) → r ≡ halfTable n xs) ⌝ }
+// Half of the distances of a block of n atoms, row by row in what is lent, all 0 before; and the largest of each row.
+pub(crate) fn from_all(near: &[u64], n: usize, half: &mut [u8], far: &mut Farthest)
+    requires { ⌜ ((xs : List ℕ) × ReadyBlock n xs (now near)) × (now half ≡ replicate allPairs 0) ⌝ }
+    ensures half { λ _. ⌜ ((xs : List ℕ) → ReadyBlock n xs (now (near .entry)) → now (half .exit) ≡ halfTable n xs) ⌝ }
     ensures far { λ _. ⌜ ((xs : List ℕ) → ReadyBlock n xs (now (near .entry)) → now (far .exit) ≡ farOf n xs) ⌝ }
 {
-    let mut all = [0u8; PAIRS];
     let mut deep = [0u8; ATOMS];
     let mut i = 0;
     while i < n {
         let mut row = [0u8; ATOMS];
         let ended = from_atom(near, n, i + 1, &mut row);
-        put_row(&mut all, i + 1, &row, n);
+        put_row(half, i + 1, &row, n);
         deep[i] = ended.last;
         i += 1;
     }
     *far = deep;
-    all
 }

@@ -5,8 +5,11 @@ use Rattle.block.proofs.Replies.{said-refused}
 use Rattle.block.proofs.neighbours.Statement.{statement}
 use Rattle.block.proofs.neighbours.Tie as tie
 
+slice-aggregate-admit : tie.Need-slice-aggregate-admit
+slice-aggregate-admit c = search needs
+
 admit-requires : tie.Need-admit-requires
-admit-requires c κs = search needs
+admit-requires c κs = refl
 
 enum-told : tie.Need-enum-told
 enum-told c = search needs
@@ -17,12 +20,12 @@ enum-told-2 c = search needs
 returns : tie.Need-returns
 returns c =
     let e = c .enum-told2 .given .1 in
-    opened-refused _ _ _ _ (said-refused _ _ (sym e ∙ c .before .before .admit .ensures .replied)) e refl
+    opened-refused _ _ _ _ (said-refused _ _ (sym e ∙ c .before .before .before .admit .ensures .replied)) e refl
 
 returns-2 : tie.Need-returns-2
 returns-2 c =
     let e = c .enum-told .given .1 in
-    opened-fine _ _ _ (c .before .before .admit .ensures .ready e) e
+    opened-fine _ _ _ (c .before .before .before .admit .ensures .ready e) e
 
 pub neighbours-spec : {M : Type 1} → statement M
-neighbours-spec = tie.close (tie.spec admit-requires enum-told enum-told-2 returns returns-2)
+neighbours-spec = tie.close (tie.spec slice-aggregate-admit admit-requires enum-told enum-told-2 returns returns-2)

@@ -6,8 +6,11 @@ use Rattle.block.proofs.Replies.{said-refused}
 use Rattle.block.proofs.table.Statement.{statement}
 use Rattle.block.proofs.table.Tie as tie
 
+slice-aggregate-admit : tie.Need-slice-aggregate-admit
+slice-aggregate-admit c = search needs
+
 admit-requires : tie.Need-admit-requires
-admit-requires c κs = search needs
+admit-requires c κs = refl
 
 enum-told : tie.Need-enum-told
 enum-told c = search needs
@@ -17,19 +20,22 @@ enum-told-2 c = search needs
 
 returns : tie.Need-returns
 returns c =
-    let e = c .before .before .enum-told2 .given .1 in
-    let b = said-refused _ _ (sym e ∙ c .before .before .before .before .admit .ensures .replied) in
+    let e = c .before .enum-told2 .given .1 in
+    let b = said-refused _ _ (sym e ∙ c .before .before .before .before .before .admit .ensures .replied) in
     (opened-refused _ _ _ _ b e refl, (table-refused _ _ _ b, refused-far _ _ _ b))
 
+slice-aggregate-from-all : tie.Need-slice-aggregate-from-all
+slice-aggregate-from-all c = search needs
+
 from-all-requires : tie.Need-from-all-requires
-from-all-requires c κs = (_, c .before .before .before .before .before .admit .ensures .ready (c .before .before .before .enum-told .given .1))
+from-all-requires c κs = ((_, c .before .before .before .before .before .before .before .admit .ensures .ready (c .before .before .before .enum-told .given .1)), refl)
 
 returns-2 : tie.Need-returns-2
 returns-2 c =
     let d = c .before .before .before .before in
     let e = d .enum-told .given .1 in
-    let R = d .before .before .admit .ensures .ready e in
+    let R = d .before .before .before .before .admit .ensures .ready e in
     (opened-fine _ _ _ R e, (c .from-all .ensures .0 _ R, c .from-all .ensures .1 _ R))
 
 pub table-spec : {M : Type 1} → statement M
-table-spec = tie.close (tie.spec admit-requires enum-told enum-told-2 returns from-all-requires returns-2)
+table-spec = tie.close (tie.spec slice-aggregate-admit admit-requires enum-told enum-told-2 returns slice-aggregate-from-all from-all-requires returns-2)

@@ -1,9 +1,11 @@
 use Prim.Native.Nat.{ℕ, _≤_, _-_}
 use mathlib.Core.List.{List}
-use mathlib.Core.Path.{_≡_, refl, sym}
+use mathlib.Core.Path.{_≡_, refl, sym, ap, _∙_}
 use native.Mathlib.Numerals.{add-one}
 use native.Mathlib.Omega.{arith}
 use borrow.Author.Needs.{needs}
+use lib.ListN.{length, length-replicate}
+use Rattle.half.specs.Half.{allPairs}
 use Rattle.block.specs.Block.{graphOf, mostAtoms}
 use Rattle.block.specs.Near.{ReadyBlock}
 use Rattle.block.specs.Told.{passed}
@@ -12,13 +14,13 @@ use Rattle.block.proofs.search.from_all.Statement.{statement}
 use Rattle.block.proofs.search.from_all.Tie as tie
 
 abbrev Inv-loop : tie.InvT-loop
-Inv-loop near n far all₀ deep₀ i₀ all deep i = (i ≤ n) × (n ≤ mostAtoms) × ((xs : List ℕ) → ReadyBlock n xs near → Rows n xs all deep i)
+Inv-loop near n half₀ far deep₀ i₀ half deep i = (i ≤ n) × (n ≤ mostAtoms) × ((xs : List ℕ) → ReadyBlock n xs near → Rows n xs half deep i)
 
 abbrev μ-loop : tie.MeasureT-loop
-μ-loop near n far all₀ deep₀ i₀ all deep i = n - i
+μ-loop near n half₀ far deep₀ i₀ half deep i = n - i
 
 loop-holds : tie.Need-loop-holds Inv-loop μ-loop
-loop-holds c = (omega arith, c .pre .1 .shown .small, λ xs R. rows-start _ xs)
+loop-holds c = (omega arith, c .before .before .pre .0 .1 .shown .small, λ xs R. rw (c .before .before .pre .1) (rows-start _ xs))
 
 add-from-atom : tie.Need-add-from-atom Inv-loop μ-loop
 add-from-atom c = omega arith
@@ -28,15 +30,9 @@ slice-aggregate-from-atom c = search needs
 
 from-atom-requires : tie.Need-from-atom-requires Inv-loop μ-loop
 from-atom-requires c κs =
-    let s = c .before .before .before in
-    let (xs, R) = s .pre in
+    let s = c .before .before .before .before .before in
+    let (xs, R) = s .pre .0 in
     ((graphOf (s .args .n) xs, record { shown = R .shown; size = refl; start = omega arith }), refl)
-
-slice-aggregate-put-row : tie.Need-slice-aggregate-put-row Inv-loop μ-loop
-slice-aggregate-put-row c =
-    let l = c .before .before .before .before .before .loop in
-    let (xs, R) = c .before .before .before .before .before .before .pre in
-    sym (l .inv .2 xs R .size)
 
 add-put-row : tie.Need-add-put-row Inv-loop μ-loop
 add-put-row c = omega arith
@@ -55,19 +51,24 @@ loop-less c = omega arith
 
 loop-again : tie.Need-loop-again Inv-loop μ-loop
 loop-again c =
-    let f = c .before .before .before .before in
+    let f = c .before .before .before .before .before in
     let l = f .before .before .before .before .loop in (
       omega arith,
       l .inv .1,
       λ xs R.
           let S = f .before .from-atom .ensures _ (record { shown = R .shown; size = refl; start = omega arith }) in
           let w = passed _ xs (R .fine) .whole in
-          rw (c .before .put-row .ensures, add-one (l .i)) (rows-next _ xs _ _ (l .i) _ _ (omega arith) (l .inv .2 xs R) (rw (add-one (l .i)) at (S .far w)) (rw (add-one (l .i)) at (S .deep w))),
+          rw (c .before .before .put-row .ensures, add-one (l .i)) (rows-next _ xs _ _ (l .i) _ _ (omega arith) (l .inv .2 xs R) (rw (add-one (l .i)) at (S .far w)) (rw (add-one (l .i)) at (S .deep w))),
     )
+
+same-length : tie.Need-same-length Inv-loop μ-loop
+same-length c =
+    let (xs, R) = c .before .before .before .before .pre .0 in
+    c .before .loop .inv .2 xs R .size ∙ sym (ap length (c .before .before .before .before .pre .1) ∙ length-replicate {A = ℕ} allPairs 0)
 
 returns : tie.Need-returns Inv-loop μ-loop
 returns c =
-    let e : c .before .loop .i ≡ c .before .before .args .n = omega arith in
+    let e : c .before .loop .i ≡ c .before .before .before .before .args .n = omega arith in
     (λ xs R. rows-end _ xs (R .fine) _ _ (rw e at (c .before .loop .inv .2 xs R)) .0, λ xs R. rows-end _ xs (R .fine) _ _ (rw e at (c .before .loop .inv .2 xs R)) .1)
 
 pub from-all-spec : {M : Type 1} → statement M
@@ -80,11 +81,11 @@ from-all-spec =
     add-from-atom
     slice-aggregate-from-atom
     from-atom-requires
-    slice-aggregate-put-row
     add-put-row
     put-row-requires
     array-write-deep
     add-i
     loop-less
     loop-again
+    same-length
     returns)

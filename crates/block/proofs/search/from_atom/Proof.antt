@@ -27,21 +27,21 @@ begins c =
     (omega (arith, T .shown .small), omega arith)
 
 sub-level : tie.Need-sub-level Inv-loop μ-loop
-sub-level c = omega (arith, begins (c .before))
+sub-level c = omega (arith, begins (c .before .before))
 
 shl-level : tie.Need-shl-level Inv-loop μ-loop
-shl-level c = omega (arith, begins (c .before))
+shl-level c = omega (arith, begins (c .before .before))
 
 all-requires : tie.Need-all-requires Inv-loop μ-loop
-all-requires c κs = begins (c .before) .0
+all-requires c κs = begins (c .before .before) .0
 
 loop-holds : tie.Need-loop-holds Inv-loop μ-loop
-loop-holds c g T = (rw (c .before .before .pre .1, shifted-one mostAtoms _ (shl-level (c .before)), c .all .ensures, T .size) (run-start g _ _ (T .shown) (T .start)), λ e. absurd (omega (arith, e, shifted-one mostAtoms _ (shl-level (c .before)), pow-pos (c .before .before .args .i - 1))))
+loop-holds c g T = (rw (c .before .before .before .pre .1, shifted-one mostAtoms _ (shl-level (c .before)), c .all .ensures, T .size) (run-start g _ _ (T .shown) (T .start)), λ e. absurd (omega (arith, e, shifted-one mostAtoms _ (shl-level (c .before)), pow-pos (c .before .before .before .args .i - 1))))
 
 -- in a turn some atom waits
 small-in : (c : tie.In-loop Inv-loop μ-loop) → (first (c .before .loop .level) < mostAtoms) × (c .before .loop .d < mostAtoms)
 small-in c =
-    let (g, T) = c .before .before .before .before .pre .0 in
+    let (g, T) = c .before .before .before .before .before .pre .0 in
     let R = c .before .loop .inv g T .0 in
     (small g _ _ (T .shown) _ _ _ _ _ R (c .loop-test .taken), shallow g _ _ (T .shown) _ _ _ _ _ R (c .loop-test .taken))
 
@@ -53,14 +53,16 @@ sub-level-2 c = omega (arith, c .loop-test .taken)
 
 slice-write-row : tie.Need-slice-write-row Inv-loop μ-loop
 slice-write-row c =
-    let (g, T) = c .before .before .before .before .pre .0 in
+    let (g, T) = c .before .before .before .before .before .pre .0 in
     omega (arith, small-in c, c .before .loop .inv g T .0 .size)
 
 mul-next : tie.Need-mul-next Inv-loop μ-loop
 mul-next c = omega (arith, small-in c)
 
-element-copy-out-next : tie.Need-element-copy-out-next Inv-loop μ-loop
-element-copy-out-next c = small-in c .0
+shared-slice-read-next : tie.Need-shared-slice-read-next Inv-loop μ-loop
+shared-slice-read-next c =
+    let (g, T) = c .before .before .before .before .before .before .pre .0 in
+    omega (arith, small-in (c .before), T .shown .size)
 
 add-d : tie.Need-add-d Inv-loop μ-loop
 add-d c = omega (arith, small-in (c .before .before))
@@ -68,14 +70,14 @@ add-d c = omega (arith, small-in (c .before .before))
 -- that atom is taken out
 out : (c : tie.In-loop Inv-loop μ-loop) → let l = c .before .loop in bitAnd (l .level) (l .level - 1) ≡ bitXor (l .level) (2 ^ first (l .level))
 out c =
-    let (g, T) = c .before .before .before .before .pre .0 in
+    let (g, T) = c .before .before .before .before .before .pre .0 in
     lowest-dropped mostAtoms _ (omega (arith, c .loop-test .taken)) (fits-level g _ _ (T .shown) _ _ _ _ _ (c .before .loop .inv g T .0))
 
 loop-less : tie.Need-loop-less Inv-loop μ-loop
 loop-less c =
     let d = c .before .before in
     let l = d .before .loop in
-    omega (arith, taken-some (l .rest) (bitOr (l .next) (getD (d .before .before .before .before .args .near .now) (first (l .level)) 0)), d .loop-test .taken)
+    omega (arith, taken-some (l .rest) (bitOr (l .next) (getD (d .before .before .before .before .before .args .near .now) (first (l .level)) 0)), d .loop-test .taken)
 
 loop-again : tie.Need-loop-again Inv-loop μ-loop
 loop-again c g T =
@@ -88,7 +90,7 @@ loop-again c g T =
 loop-less-2 : tie.Need-loop-less-2 Inv-loop μ-loop
 loop-less-2 c =
     let d = c .before .before in
-    let (g, T) = d .before .before .before .before .pre .0 in
+    let (g, T) = d .before .before .before .before .before .pre .0 in
     rw (out d) (omega (arith, less g _ _ (T .shown) _ _ _ _ _ (d .before .loop .inv g T .0) (d .loop-test .taken), pow-pos (first (d .before .loop .level))))
 
 loop-again-2 : tie.Need-loop-again-2 Inv-loop μ-loop
@@ -96,15 +98,15 @@ loop-again-2 c g T =
     let d = c .before .before in
     (rw (out d) (run-looked g _ _ (T .shown) _ _ _ _ _ (d .before .loop .inv g T .0) (d .loop-test .taken)), λ e. absurd (c .if1 .left e))
 
-sub-t19 : tie.Need-sub-t19 Inv-loop μ-loop
-sub-t19 c =
-    let (g, T) = c .before .before .before .before .pre .0 in
+sub-t18 : tie.Need-sub-t18 Inv-loop μ-loop
+sub-t18 c =
+    let (g, T) = c .before .before .before .before .before .pre .0 in
     omega (arith, c .before .loop .inv g T .1 (c .loop-test .left) .some)
 
 same-length : tie.Need-same-length Inv-loop μ-loop
 same-length c =
-    let (g, T) = c .before .before .before .before .pre .0 in
-    omega (arith, c .before .loop .inv g T .0 .size, ap length (c .before .before .before .before .pre .1))
+    let (g, T) = c .before .before .before .before .before .pre .0 in
+    omega (arith, c .before .loop .inv g T .0 .size, ap length (c .before .before .before .before .before .pre .1))
 
 returns : tie.Need-returns Inv-loop μ-loop
 returns c g T =
@@ -126,12 +128,12 @@ from-atom-spec =
     sub-level-2
     slice-write-row
     mul-next
-    element-copy-out-next
+    shared-slice-read-next
     add-d
     loop-less
     loop-again
     loop-less-2
     loop-again-2
-    sub-t19
+    sub-t18
     same-length
     returns)
