@@ -1,9 +1,10 @@
 // One block: its refusals 1 to 7, its distances, indices and vertex sums.
 ghost use mathlib.Core.Path.{_≡_};
 ghost use Prim.Native.Nat.{suc, min};
+ghost use lib.ListN.{replicate};
 ghost use Rattle.reply.specs.Read.{refusal, saidReply};
 ghost use Rattle.block.specs.Block.{mostAtoms, blockReply};
-ghost use Rattle.half.specs.Half.{table, halfAt, halfRow};
+ghost use Rattle.half.specs.Half.{allPairs, table, halfAt, halfRow};
 ghost use Rattle.block.specs.Rows.{noRow, rowsOf, farOf, halfTable, rowReply, saidRow};
 ghost use Rattle.block.specs.Index.{indicesReply, saidIndices, vertexReply, saidVertex, distanceReply, saidDistance, pairsReply, saidPairs};
 ghost use Rattle.block.specs.Sums.{entry, indicesBy, vertexBy};
@@ -180,20 +181,29 @@ fn square(half: &Half) -> DistanceMatrix
     rows
 }
 
+// Half of the distances of a block and how far the farthest is from each atom, in what is lent, the half all 0 before.
+fn fill(n: usize, bonds: &[u8], out: &mut [u8], far: &mut Farthest)
+    requires { ⌜ now out ≡ replicate allPairs 0 ⌝ }
+    ensures half { λ _. ⌜ now (out .exit) ≡ halfTable n (now (bonds .entry)) ⌝ }
+    ensures far { λ _. ⌜ now (far .exit) ≡ farOf n (now (bonds .entry)) ⌝ }
+{
+    let mut near = [0u64; ATOMS];
+    let reply = admit(n, bonds, &mut near);
+    let Reply::Fine = reply else {
+        *far = [0u8; ATOMS];
+        return;
+    };
+    search::from_all(&near, n, out, far);
+}
+
 // Half of the distances of a block, and in what is lent how far the farthest is from each atom. All is 0 beyond the atoms, and where the block
 // is refused.
 pub fn distances(n: usize, bonds: &[u8], far: &mut Farthest) -> Half
     ensures half { λ r. ⌜ r ≡ halfTable n (now (bonds .entry)) ⌝ }
     ensures far { λ _. ⌜ now (far .exit) ≡ farOf n (now (bonds .entry)) ⌝ }
 {
-    let mut near = [0u64; ATOMS];
-    let reply = admit(n, bonds, &mut near);
     let mut half = [0u8; PAIRS];
-    let Reply::Fine = reply else {
-        *far = [0u8; ATOMS];
-        return half;
-    };
-    search::from_all(&near, n, &mut half, far);
+    fill(n, bonds, &mut half, far);
     half
 }
 

@@ -1,47 +1,17 @@
 -- `block::distances` meets its contract. Assumes nothing.
-use mathlib.Core.Path.{refl, sym, _∙_}
+use mathlib.Core.Path.{refl}
 use borrow.Author.Needs.{needs}
-use Rattle.block.specs.Near.{ReadyBlock}
-use Rattle.block.specs.Halved.{table-refused}
-use Rattle.block.proofs.Filling.{refused-far}
-use Rattle.block.proofs.Replies.{said-refused}
 use Rattle.block.proofs.distances.Statement.{statement}
 use Rattle.block.proofs.distances.Tie as tie
 
-slice-aggregate-admit : tie.Need-slice-aggregate-admit
-slice-aggregate-admit c = search needs
+slice-aggregate-fill : tie.Need-slice-aggregate-fill
+slice-aggregate-fill c = search needs
 
-admit-requires : tie.Need-admit-requires
-admit-requires c κs = refl
-
-enum-told : tie.Need-enum-told
-enum-told c = search needs
-
-enum-told-2 : tie.Need-enum-told-2
-enum-told-2 c = search needs
+fill-requires : tie.Need-fill-requires
+fill-requires c κs = refl
 
 returns : tie.Need-returns
-returns c =
-    let d = c .before in
-    let b = said-refused _ _ (sym (d .enum-told2 .given .1) ∙ d .before .before .before .admit .ensures .replied) in
-    (table-refused _ _ _ b, refused-far _ _ _ b)
-
-ready : (c : tie.After-enum-told) → let s = c .before .before .before .before .before .before .args in ReadyBlock (s .n) (s .bonds .now) (c .before .before .before .admit .last .1 .1 .0)
-ready c = c .before .before .before .admit .ensures .ready (c .enum-told .given .1)
-
-slice-aggregate-from-all : tie.Need-slice-aggregate-from-all
-slice-aggregate-from-all c = search needs
-
-slice-aggregate-from-all-2 : tie.Need-slice-aggregate-from-all-2
-slice-aggregate-from-all-2 c = search needs
-
-from-all-requires : tie.Need-from-all-requires
-from-all-requires c κs = ((_, ready (c .before .before .before)), refl)
-
-returns-2 : tie.Need-returns-2
-returns-2 c =
-    let R = ready (c .before .before .before .before .before) in
-    (c .before .from-all .ensures .0 _ R, c .before .from-all .ensures .1 _ R)
+returns c = c .before .fill .ensures
 
 pub distances-spec : {M : Type 1} → statement M
-distances-spec = tie.close (tie.spec slice-aggregate-admit admit-requires enum-told enum-told-2 returns slice-aggregate-from-all slice-aggregate-from-all-2 from-all-requires returns-2)
+distances-spec = tie.close (tie.spec slice-aggregate-fill fill-requires returns)
