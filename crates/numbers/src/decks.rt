@@ -5,8 +5,8 @@ use crate::row;
 use crate::row::FAR;
 use crate::row::Row;
 use crate::told;
-use judging::Verdict;
 use judging::SheetWritten;
+use judging::Verdict;
 use records::Sheet;
 
 // What stands in a lent buffer before it is written to.

@@ -2,9 +2,9 @@
 use crate::row::Row;
 use crate::row::STAYS;
 use block::DistanceReply;
-use block::VertexReply;
 use block::IndicesReply;
 use block::OneRow;
+use block::VertexReply;
 use reply::Refusal;
 use reply::Reply;
 use reply::wide;

@@ -1,6 +1,6 @@
 // A book of summaries, one behind the other: the place of a block's number, and what is refused of an assembly over them.
-use assembly::PLACEMENTS;
 use assembly::JoinSite;
+use assembly::PLACEMENTS;
 use assembly::first_fault;
 use assembly::join_fault;
 use assembly::parent_fault;

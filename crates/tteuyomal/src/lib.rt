@@ -10,13 +10,13 @@ ghost use Rattle.judging.specs.Judging.{judgeReply, saidVerdict, sheetWriteRepl
 ghost use Rattle.tteuyomal.specs.Convention.{mostPlace, code, coded, replyCode, writtenCode, verdictCode, over, Lent};
 ghost use Rattle.tteuyomal.specs.Replies.{indicesList, composedList, placedList, vertexList, valuesList, polynomialList, unlentReply, Contributed};
 use block::DistanceReply;
-use block::VertexReply;
 use block::Indices;
 use block::IndicesReply;
-use judging::Verdict;
+use block::VertexReply;
 use judging::SheetWritten;
-use poly::ValuesReply;
+use judging::Verdict;
 use poly::Values;
+use poly::ValuesReply;
 use records::Sheet;
 use reply::Refusal;
 use reply::Reply;
