@@ -17,7 +17,7 @@ use Rattle.block.specs.Sums.{entry}
 use Rattle.block.specs.Tables.{getD-table}
 use Rattle.block.specs.Told.{few-atoms, molecule}
 use Rattle.block.specs.Numbered.{bondAt, rest, bonds-length, rest-sum, rest-over, few-bytes, least-bonds, bond-within}
-use Rattle.reach.specs.Sums.{sumsOf}
+use Rattle.reach.specs.Sums.{vertexSumsOf}
 use Rattle.balaban.specs.Balaban.{bound, largestRoot, term, reckoned}
 use Rattle.balaban.specs.Work.{unit, mostSum, RootsTask}
 
@@ -29,8 +29,8 @@ module _ (n : ℕ) (xs : List ℕ) (fine : blockReply n xs ≡ read tt) where
   few = few-atoms n xs fine .high
 
   -- the sums are the vertex sums
-  pub task : (sums : List ℕ) → sums ≡ sumsOf g → RootsTask n xs sums
-  unfolding sumsOf
+  pub task : (sums : List ℕ) → sums ≡ vertexSumsOf g → RootsTask n xs sums
+  unfolding vertexSumsOf
   task sums e = record { fine = fine; is = here; low = λ v w. omega (arith, here v w, vertex-most (molecule n xs fine) tame-itself w, mul-le-mul few few) }
     where
       here : (v : ℕ) → Within n v → entry sums v ≡ vertexSum g v

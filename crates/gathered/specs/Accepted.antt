@@ -39,7 +39,7 @@ use Rattle.judging.specs.declared.Verdict.the-variants as verdict
 use Rattle.judging.specs.declared.SheetWritten.the-variants as written
 use Rattle.gathered.specs.Gathered.{behindHead, overRecord, overOutput, sheetTold}
 use Rattle.gathered.specs.Orders.{Order, recordTable, recordBlocks, tableLeft, blocksLeft}
-use Rattle.gathered.specs.Stacked.{Held, blockRecord, blockRecords, further}
+use Rattle.gathered.specs.Stacked.{HeldBlocks, blockRecord, blockRecords, further}
 use Rattle.gathered.specs.Alone.{held, own-composed, own-told}
 use Rattle.gathered.specs.AsDeck.{few, size, as-deck}
 
@@ -61,7 +61,7 @@ placed-fine place (refused r) x y e = absurd (not-read e)
 placed-fine place (read u) x y e = refl
 
 -- a record that is composed over a queue's blocks
-module _ (q : List (Entry Block)) (h : Held q) (d : List ℕ) (x : Indices) (e : overRecord (writtenReply (bookIn q) (payloadAt d 0)) d ≡ read x) where
+module _ (q : List (Entry Block)) (h : HeldBlocks q) (d : List ℕ) (x : Indices) (e : overRecord (writtenReply (bookIn q) (payloadAt d 0)) d ≡ read x) where
   behind : (recordReply (assemblyKind ∷ []) d 0 ≡ read tt) × (behindHead (writtenReply (bookIn q) (payloadAt d 0)) d ≡ read x)
   unfolding overRecord
   behind = let (u, a, f) = then-read (recordReply (assemblyKind ∷ []) d 0) _ e in (a, f)
@@ -96,7 +96,7 @@ module _ (q : List (Entry Block)) (h : Held q) (d : List ℕ) (x : Indices) (e :
   sheet-is s n l = rw (le-ltb longestDeck (length (blockRecords q ++ d)) deck-short, le-ltb n (sheetBytes s) l) fields-are
 
 -- THE SHEET OVER A QUEUE'S BLOCKS is the one that writing gives for the deck of the blocks, as records, and the record
-pub same-sheet : (q : List (Entry Block)) → Held q → (s : Sheet) (d : List ℕ) (n : ℕ) (x : Indices) → overOutput s (writtenReply (bookIn q) (payloadAt d 0)) d n ≡ read x → sheetWriteReply s (blockRecords q ++ d) n ≡ read x
+pub same-sheet : (q : List (Entry Block)) → HeldBlocks q → (s : Sheet) (d : List ℕ) (n : ℕ) (x : Indices) → overOutput s (writtenReply (bookIn q) (payloadAt d 0)) d n ≡ read x → sheetWriteReply s (blockRecords q ++ d) n ≡ read x
 unfolding overOutput
 same-sheet q h s d n x e =
     let (u, a, f) = then-read (refuseIf (ltb longestDeck (length d)) 20 0) _ e in

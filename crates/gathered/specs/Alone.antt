@@ -23,7 +23,7 @@ use Rattle.queues.specs.Blocks.{Block, bookIn, summaryTable, blocks}
 use Rattle.queues.specs.Alone.{tells-blocks}
 use Rattle.gathered.specs.Gathered.{overOutput, sheetTold}
 use Rattle.gathered.specs.Orders.{Order, handed, ordered, recordTable, recordBlocks, tableLeft, blocksLeft}
-use Rattle.gathered.specs.Stacked.{Held}
+use Rattle.gathered.specs.Stacked.{HeldBlocks}
 
 -- the promise of `compose` is what the table tells an order
 pub order-told : (q : Queue) (t : List ℕ) (o : Order) → tableAnswer recordTable q t (compose o) ≡ sheet (handed o (sheetTold t q (o .sheet) (o .asked) (length (o .output))))
@@ -58,7 +58,7 @@ sheets-alone q t long cs = own-calls-only tells-orders q t long cs
 
 -- after the calls of both its places hold its blocks, and composing is told by these
 module _ (q : Queue) (t : List ℕ) (long : tableBytes summaryBytes ≤ length t) (cs : List (Sent Block Order)) where
-  pub held : Held (blocksLeft q cs)
+  pub held : HeldBlocks (blocksLeft q cs)
   unfolding tells-orders
   held =
       let k = keeps-own tells-orders q t long cs in

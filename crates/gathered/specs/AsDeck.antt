@@ -35,7 +35,7 @@ use Rattle.summaries.specs.Written.{writtenReply}
 use Rattle.queues.specs.Blocks.{Block, noBlock, bookIn}
 use Rattle.gathered.specs.Gathered.{behindHead, overRecord}
 use Rattle.gathered.specs.Orders.{recordTable, recordBlocks}
-use Rattle.gathered.specs.Stacked.{Held, blockRecord, blockRecords, further}
+use Rattle.gathered.specs.Stacked.{HeldBlocks, blockRecord, blockRecords, further}
 
 abbrev Blocks : Type 0
 Blocks = List (Entry Block)
@@ -277,7 +277,7 @@ module _ (d : List ℕ) where
       (bs, ap (λ (m : ℕ). blocksFrom m assemblyKind all (length a) done) f ∙ step ∙ t ∙ ap (λ (i : ℕ). blocksFrom fuel assemblyKind all i bs) place, rw (← assoc) u)
 
 -- The reply to the deck of a queue's blocks and a record is the reply over that record, its place counted behind the blocks. (A block record would be one more block.)
-module _ (q : Blocks) (held : Held q) (some : 1 ≤ length q) (d : List ℕ) (other : kindAt d 0 ≡ 1 → ⊥)
+module _ (q : Blocks) (held : HeldBlocks q) (some : 1 ≤ length q) (d : List ℕ) (other : kindAt d 0 ≡ 1 → ⊥)
     (long : length (blockRecords q ++ d) ≤ longestDeck) where
   abbrev all : List ℕ
   all = blockRecords q ++ d

@@ -13,7 +13,7 @@ use Rattle.queues.specs.Blocks.{Block, noBlock}
 use Rattle.gathered.specs.Orders.{recordTable, recordBlocks}
 
 -- what a queue may hold: at most eight blocks that are not refused, each under its own number
-pub record Held (q : List (Entry Block)) : Type 0 where
+pub record HeldBlocks (q : List (Entry Block)) : Type 0 where
   pub proper : AllProper recordTable recordBlocks q
   pub apart : Apart noBlock q
   pub few : length q ≤ places

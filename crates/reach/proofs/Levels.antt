@@ -18,7 +18,7 @@ use Rattle.block.specs.Block.{mostAtoms, graphOf, blockReply}
 use Rattle.block.specs.Index.{indicesOf}
 use Rattle.block.specs.Near.{around}
 use Rattle.block.specs.Told.{few-atoms, molecule}
-use Rattle.reach.specs.Reach.{Own, Reach, Low, Room, Added, Reached, Upto, upTo, fartherOf}
+use Rattle.reach.specs.Reach.{Own, Reach, LowSums, Room, Added, Reached, LevelsUpTo, upTo, fartherOf}
 use Rattle.reach.specs.declared.Both.{Both}
 use Rattle.reach.proofs.Touching.{reach-none, reach-same}
 use Rattle.reach.proofs.Summing.{up-next, up-none, up-most, up-more, up-all, met-all, room, last-is, count-reach, one-each, one-farther, all-wanting}
@@ -28,7 +28,7 @@ pub record Level (n : ℕ) (xs near sets reached : List ℕ) (s : Both) (met d :
   pub sets-size : length sets ≡ mostAtoms
   pub reach : Reach (graphOf n xs) d near
   pub wide : Reach (graphOf n xs) d sets
-  pub upto : Upto (graphOf n xs) d met s
+  pub upto : LevelsUpTo (graphOf n xs) d met s
   pub counts : Reached (graphOf n xs) d reached
 
 -- a set of one atom
@@ -83,7 +83,7 @@ module _ (n : ℕ) (xs : List ℕ) (fine : blockReply n xs ≡ read tt) where
       abbrev deepest : d ≤ 63
       deepest = omega (arith, shallow, few)
 
-      pub low : Low s
+      pub low : LowSums s
       low = record {
         all-low = omega (arith, L .upto .all-is, up-most g itself d mostAtoms (λ x l. omega (arith, deepest)), cube {n = n} {c = mostAtoms} (few .high) (le-refl mostAtoms));
         odd-low = omega (arith, L .upto .odd-is, up-most g oddOf d mostAtoms (λ x l. omega (arith, deepest, tame-odd .tame x)), cube {n = n} {c = mostAtoms} (few .high) (le-refl mostAtoms));

@@ -25,7 +25,7 @@ use Rattle.block.specs.Told.{few-atoms, molecule}
 use Rattle.block.specs.declared.Indices.{Indices}
 use Rattle.block.specs.declared.IndicesReply.the-variants as measured
 use Rattle.reach.specs.Reach.{Reached}
-use Rattle.reach.specs.Sums.{sumsOf, sumsReply, saidSums}
+use Rattle.reach.specs.Sums.{vertexSumsOf, sumsReply, saidSums}
 use Rattle.reach.proofs.Summing.{all-wanting}
 use Rattle.reach.proofs.Leaving.{table-cong}
 
@@ -64,7 +64,7 @@ module _ (n : ℕ) (xs : List ℕ) where
 
       pub sums-fine : (at : List ℕ) → at ≡ table mostAtoms (λ i. cond (ltb i n) (n * (x .largest + 1) - getD reached i 0) 0)
           → (p : Reply) → p ≡ reply.Fine → record { reply = p; at = at } ≡ saidSums (sumsReply n xs)
-      unfolding sumsReply sumsOf
+      unfolding sumsReply vertexSumsOf
       sums-fine at q p d = rw fine (λ j. record { reply = d j; at = (q ∙ table-cong mostAtoms (λ i. here i (decLt i n))) j })
         where
           here : (i : ℕ) → Dec (i < n) → cond (ltb i n) (n * (x .largest + 1) - getD reached i 0) 0 ≡ cond (ltb i n) (vertexSum g (suc i)) 0

@@ -36,13 +36,13 @@ abbrev pub fartherOf : Both → ℕ → ℕ → Both
 fartherOf s d pairs = record { all = s .all + d * pairs; odd = s .odd + oddOf d * pairs; threes = s .threes + isAt 3 d * pairs }
 
 -- sums that leave room for more
-pub record Low (s : Both) : Type 0 where
+pub record LowSums (s : Both) : Type 0 where
   pub all-low : s .all ≤ mostAtoms * (mostAtoms * mostAtoms)
   pub odd-low : s .odd ≤ mostAtoms * (mostAtoms * mostAtoms)
   pub threes-low : s .threes ≤ mostAtoms * (mostAtoms * mostAtoms)
 
 -- the sums over the pairs at most d bonds apart, of which there are met; with one bond less there was another pair
-pub record Upto (g : Graph) (d met : ℕ) (s : Both) : Type 0 where
+pub record LevelsUpTo (g : Graph) (d met : ℕ) (s : Both) : Type 0 where
   pub all-is : s .all ≡ upTo g itself d
   pub odd-is : s .odd ≡ upTo g oddOf d
   pub threes-is : s .threes ≡ upTo g (isAt 3) d

@@ -12,11 +12,11 @@ use Rattle.block.specs.Rows.{noRow}
 use Rattle.reach.specs.declared.VertexSums.{VertexSums}
 
 -- that of atom v at place v - 1
-unfoldable pub sumsOf : Graph → List ℕ
-sumsOf g = table mostAtoms (λ i. cond (ltb i (g .atoms)) (vertexSum g (suc i)) 0)
+unfoldable pub vertexSumsOf : Graph → List ℕ
+vertexSumsOf g = table mostAtoms (λ i. cond (ltb i (g .atoms)) (vertexSum g (suc i)) 0)
 
 unfoldable pub sumsReply : ℕ → List ℕ → Read (List ℕ)
-sumsReply n xs = blockReply n xs then λ _. read (sumsOf (graphOf n xs))
+sumsReply n xs = blockReply n xs then λ _. read (vertexSumsOf (graphOf n xs))
 
 abbrev pub saidSums : Read (List ℕ) → VertexSums
 saidSums (refused r) = record { reply = reply.Refused r; at = noRow }

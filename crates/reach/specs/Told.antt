@@ -7,7 +7,7 @@ use Rattle.reply.specs.Chain.{fine-read, refused-read}
 use Rattle.reply.specs.declared.Refusal.{Refusal}
 use Rattle.reply.specs.declared.Reply.the-variants.{Fine, Refused}
 use Rattle.block.specs.Block.{graphOf, blockReply}
-use Rattle.reach.specs.Sums.{sumsOf, sumsReply, saidSums}
+use Rattle.reach.specs.Sums.{vertexSumsOf, sumsReply, saidSums}
 use Rattle.reach.specs.declared.VertexSums.{VertexSums}
 
 -- the reply beside the sums is the block's
@@ -18,12 +18,12 @@ beside (read u) sums = refl
 module _ (n : ℕ) (xs : List ℕ) (v : VertexSums) (e : v ≡ saidSums (sumsReply n xs)) where
   reply-is : v .reply ≡ saidReply (blockReply n xs)
   unfolding sumsReply
-  reply-is = ap (λ (w : VertexSums). w .reply) e ∙ beside (blockReply n xs) (sumsOf (graphOf n xs))
+  reply-is = ap (λ (w : VertexSums). w .reply) e ∙ beside (blockReply n xs) (vertexSumsOf (graphOf n xs))
 
   pub sums-refusal : (r : Refusal) → v .reply ≡ Refused r → blockReply n xs ≡ refused r
   sums-refusal r q = refused-read (blockReply n xs) r (sym reply-is ∙ q)
 
-  pub sums-told : v .reply ≡ Fine → (blockReply n xs ≡ read tt) × (v .at ≡ sumsOf (graphOf n xs))
+  pub sums-told : v .reply ≡ Fine → (blockReply n xs ≡ read tt) × (v .at ≡ vertexSumsOf (graphOf n xs))
   unfolding sumsReply
   sums-told q =
       let f = fine-read (blockReply n xs) (sym reply-is ∙ q) in

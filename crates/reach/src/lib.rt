@@ -12,7 +12,7 @@ ghost use Rattle.block.specs.Index.{indicesOf, indicesReply, saidIndices};
 ghost use Rattle.block.specs.Near.{around};
 ghost use Rattle.half.specs.Half.{table};
 ghost use Rattle.reach.specs.Sums.{sumsReply, saidSums};
-ghost use Rattle.reach.specs.Reach.{Own, Reach, Low, fartherOf, Room, Added, Reached};
+ghost use Rattle.reach.specs.Reach.{Own, Reach, LowSums, fartherOf, Room, Added, Reached};
 use block::ATOMS;
 use block::Indices;
 use block::IndicesReply;
@@ -103,7 +103,7 @@ fn odd_part(d: u64) -> u64
 
 // With so many more pairs, which are d bonds apart.
 fn farther(s: Both, d: u64, pairs: u64) -> Both
-    requires { ⌜ Low s × (d ≤ mostAtoms) × (pairs ≤ mostAtoms * mostAtoms) ⌝ }
+    requires { ⌜ LowSums s × (d ≤ mostAtoms) × (pairs ≤ mostAtoms * mostAtoms) ⌝ }
     ensures { λ r. ⌜ r ≡ fartherOf s d pairs ⌝ }
 {
     Both {

@@ -3,7 +3,7 @@ use mathlib.Core.Path.{_≡_}
 use borrow.Author.Needs.{needs}
 use Rattle.reply.specs.Read.{read}
 use Rattle.block.specs.Block.{graphOf, blockReply}
-use Rattle.reach.specs.Sums.{sumsOf}
+use Rattle.reach.specs.Sums.{vertexSumsOf}
 use Rattle.reach.specs.Told.{sums-refusal, sums-told}
 use Rattle.balaban.proofs.Blocks.{task}
 use Rattle.balaban.proofs.Reply.{refused-reply, fine-reply}
@@ -21,7 +21,7 @@ enum-told c = search needs
 
 -- the block is fine, and the sums are its vertex sums
 told : (c : tie.After-enum-told) → let a = c .before .before .before .before .args in
-    (blockReply (a .n) (a .bonds .now) ≡ read tt) × (c .before .before .vertex-sums .result .at ≡ sumsOf (graphOf (a .n) (a .bonds .now)))
+    (blockReply (a .n) (a .bonds .now) ≡ read tt) × (c .before .before .vertex-sums .result .at ≡ vertexSumsOf (graphOf (a .n) (a .bonds .now)))
 told c = sums-told _ _ _ (c .before .before .vertex-sums .ensures) (c .enum-told .given .1)
 
 reckon-requires : tie.Need-reckon-requires
