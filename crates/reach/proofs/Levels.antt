@@ -8,7 +8,7 @@ use native.Mathlib.Omega.{arith}
 use lib.Count.{ones, onesIn, ones-cat}
 use lib.ListN.{length, getD, replicate}
 use lib.Pow.{pow-pos}
-use Rattle.graph.specs.Graph.{Graph, Within, distance, sum, total, itself, each, evenOf, oddOf, isAt, vertexSum}
+use Rattle.graph.specs.Graph.{Graph, Within, distance, sum, total, itself, each, evenOf, oddOf, isAt}
 use Rattle.graph.specs.Farthest.{largest}
 use Rattle.graph.specs.Bounds.{tame-odd, tame-at}
 use Rattle.graph.specs.Parts.{parts-of}
@@ -21,7 +21,7 @@ use Rattle.block.specs.Told.{few-atoms, molecule}
 use Rattle.reach.specs.Reach.{Own, Reach, LowSums, Room, Added, Reached, LevelsUpTo, upTo, fartherOf}
 use Rattle.reach.specs.declared.Both.{Both}
 use Rattle.reach.proofs.Touching.{reach-none, reach-same}
-use Rattle.reach.proofs.Summing.{up-next, up-none, up-most, up-more, up-all, met-all, room, last-is, count-reach, one-each, one-farther, all-wanting}
+use Rattle.reach.proofs.Summing.{up-next, up-none, up-most, up-more, up-all, met-all, room, last-is, count-reach, one-each, one-farther}
 
 pub record Level (n : ℕ) (xs near sets reached : List ℕ) (s : Both) (met d : ℕ) : Type 0 where
   pub near-size : length near ≡ mostAtoms
@@ -152,10 +152,6 @@ module _ (n : ℕ) (xs : List ℕ) (fine : blockReply n xs ≡ read tt) where
       threes-twice : s .threes / 2 ≡ total g (isAt 3)
       unfolding isAt
       threes-twice = twice (isAt 3) (s .threes) refl (L .upto .threes-is)
-
-      -- what is wanting to all atoms in all levels is the vertex sum
-      pub vertex-left : (v : ℕ) → Within n v → around reached v + vertexSum g v ≡ n * suc d
-      vertex-left v w = ap (λ (x : ℕ). around reached v + x) (sym (all-wanting g d whole v w)) ∙ L .counts .wanting v w
 
       pub largest-last : largest g ≡ d
       largest-last = last-is g (molecule n xs fine) d (few .low) whole (L .upto .deep)
