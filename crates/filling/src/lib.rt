@@ -12,6 +12,7 @@ use parts::seats;
 use reply::Refusal;
 use reply::Reply;
 use store::put_bytes;
+use summary::HALF;
 use summary::SUMMARY;
 ghost use mathlib.Core.Path.{_≡_};
 ghost use Prim.Native.Nat.{_≤_};
@@ -20,9 +21,6 @@ ghost use Rattle.reply.specs.Read.{saidReply};
 ghost use Rattle.summary.specs.Layout.{summaryBytes};
 ghost use Rattle.filling.specs.Reply.{fillReply, fillBytes};
 ghost use Rattle.filling.specs.Work.{partsOn};
-
-// Where half of the distances stand.
-const HALF: usize = 656;
 
 // All of it, by half of the distances and how far the farthest is from each atom.
 fn put_all(out: &mut [u8], number: u16, half: &Half, far: &Farthest, n: usize)

@@ -8,6 +8,8 @@ use super::store::put_zeros;
 use block::ATOMS;
 use block::Farthest;
 use half::Half;
+use summary::HEAD;
+use summary::SEAT;
 ghost use mathlib.Core.Path.{_≡_};
 ghost use Prim.Native.Nat.{_^_, _≤_, _<_};
 ghost use lib.ListN.{length};
@@ -44,7 +46,7 @@ fn first_seats(out: &mut [u8], half: &Half, far: &Farthest, n: usize, m: usize)
 {
     let mut i = 0;
     while i < m {
-        seat(out, 16 + 10 * i, half, far[i], n, i);
+        seat(out, HEAD + SEAT * i, half, far[i], n, i);
         i += 1;
     }
 }
@@ -56,7 +58,7 @@ pub(crate) fn seats(out: &mut [u8], half: &Half, far: &Farthest, n: usize)
 {
     let m = within(n);
     first_seats(out, half, far, n, m);
-    put_zeros(out, 16 + 10 * m, 10 * (ATOMS - m));
+    put_zeros(out, HEAD + SEAT * m, SEAT * (ATOMS - m));
 }
 
 // The sixteen bytes that it opens with.

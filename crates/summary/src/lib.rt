@@ -15,11 +15,11 @@ ghost use Rattle.summary.specs.Layout.{storedAtoms, storedFields, vertex
 // The bytes of a summary; of the number, counts and fields that it opens with; and of what it keeps of an atom.
 pub const SUMMARY: usize = HEAD + SEAT * ATOMS + PAIRS;
 
-const HEAD: usize = 16;
+pub const HEAD: usize = 16;
 
-const SEAT: usize = 10;
+pub const SEAT: usize = 10;
 
-const HALF: usize = 656;
+pub const HALF: usize = HEAD + SEAT * ATOMS;
 
 fn byte(s: &[u8], at: usize) -> u64
     ensures { λ r. ⌜ r ≡ byteAt (now (s .entry)) at ⌝ }
