@@ -1,5 +1,6 @@
 //! Times libtteuyomal.a beside plain search in the same process, and prints a Markdown table. Run it in release.
 
+#[allow(dead_code)] // the comparison calls every function, this program those it times
 #[path = "../../archive.rs"]
 mod archive;
 mod libraries;
