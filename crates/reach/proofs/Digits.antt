@@ -13,15 +13,15 @@ use Rattle.graph.specs.Graph.{sum}
 use Rattle.graph.specs.Sets.{has}
 use Rattle.graph.specs.Sums.{sum-cong, sum-split}
 
-digit : (x : ℕ) → cond (eqb (x % 2) 1) 1 0 ≡ x % 2
+pub digit : (x : ℕ) → cond (eqb (x % 2) 1) 1 0 ≡ x % 2
 digit x = elim (ℕ-discrete (x % 2) 1) [ yes e ↦ rw (eq-eqb (x % 2) 1 e) (omega arith) | no e ↦ rw (ne-eqb (x % 2) 1 e) (omega arith) ]
 
-lowest : (m : ℕ) → m % 2 ≡ cond (has m 1) 1 0
+pub lowest : (m : ℕ) → m % 2 ≡ cond (has m 1) 1 0
 unfolding has
 lowest m = let e : m / 2 ^ (1 - 1) ≡ m = omega arith in sym (ap (λ (x : ℕ). cond (eqb (x % 2) 1) 1 0) e ∙ digit m)
 
 -- without the lowest digit each stands one place lower
-lower : (m v : ℕ) → 1 ≤ v → has (m / 2) v ≡ has m (1 + v)
+pub lower : (m v : ℕ) → 1 ≤ v → has (m / 2) v ≡ has m (1 + v)
 unfolding has
 lower m v l =
     let e : 1 + (v - 1) ≡ 1 + v - 1 = omega arith in

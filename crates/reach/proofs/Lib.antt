@@ -4,5 +4,8 @@ pub mod Leaving
 pub mod Touching
 pub mod Summing
 pub mod Digits
+pub mod DigitSets
+pub mod Marked
 pub mod Levels
+pub mod ByDigits
 pub mod Reply

@@ -1,4 +1,4 @@
--- The replies to a block, and the vertex sums that are left. Assumes nothing.
+-- The replies to a block and to lent sets, and the vertex sums that are left. Assumes nothing.
 use Prim.Native.Nat.{ℕ, suc, _+_, _-_, _*_, _≤_, _<_}
 use mathlib.Core.Bool.{cond}
 use mathlib.Core.List.{List}
@@ -8,12 +8,12 @@ use native.Mathlib.Numerals.{add-one}
 use native.Mathlib.Omega.{arith}
 use borrow.Author.Tests.{lt-ltb, le-ltb}
 use lib.Dec.{ltb}
-use lib.ListN.{getD}
+use lib.ListN.{length, getD}
 use Rattle.graph.specs.Graph.{Graph, Within, vertexSum}
 use Rattle.graph.specs.Farthest.{largest}
 use Rattle.graph.specs.Largest.{largest-over, largest-below}
 use Rattle.half.specs.Half.{table}
-use Rattle.reply.specs.Read.{refused, read}
+use Rattle.reply.specs.Read.{refused, read, refusal, saidReply}
 use Rattle.reply.specs.declared.Refusal.{Refusal}
 use Rattle.reply.specs.declared.Reply.{Reply}
 use Rattle.reply.specs.declared.Reply.the-variants as reply
@@ -24,6 +24,7 @@ use Rattle.block.specs.Rows.{noRow}
 use Rattle.block.specs.Told.{few-atoms, molecule}
 use Rattle.block.specs.declared.Indices.{Indices}
 use Rattle.block.specs.declared.IndicesReply.the-variants as measured
+use Rattle.reach.specs.DigitSets.{mostDigits, digitSetAt, joinedSets, digitSetsReply, joinedBy, digitSetsAfter}
 use Rattle.reach.specs.Reach.{Reached}
 use Rattle.reach.specs.Sums.{vertexSumsOf, sumsReply, saidSums}
 use Rattle.reach.proofs.Summing.{all-wanting}
@@ -38,10 +39,26 @@ module _ (n : ℕ) (xs : List ℕ) where
   unfolding sumsReply
   sums-refused r b p e = rw b (λ j. record { reply = e j; at = noRow })
 
+  -- a reply to lent sets, and the sets before and after
+  abbrev SetsSaid : Reply → List ℕ → List ℕ → Type 0
+  SetsSaid p old new = (p ≡ saidReply (digitSetsReply n xs (length old))) × (new ≡ digitSetsAfter n xs old)
+
+  pub sets-refused : (r : Refusal) → blockReply n xs ≡ refused r → (p : Reply) → p ≡ reply.Refused r → (old : List ℕ) → SetsSaid p old old
+  unfolding digitSetsReply joinedBy
+  sets-refused r b p e old = rw b (e, refl)
+
   module _ (fine : blockReply n xs ≡ read tt) where
     pub fine-reply : (x : Indices) → x ≡ indicesOf (graphOf n xs) → measured.Of x ≡ saidIndices (indicesReply n xs)
     unfolding indicesReply
     fine-reply x e = rw (fine, e)
+
+    pub sets-short : (old : List ℕ) → length old < mostDigits * n → SetsSaid (reply.Refused (refusal 9 0)) old old
+    unfolding digitSetsReply joinedBy
+    sets-short old l = rw (fine, lt-ltb (length old) (mostDigits * n) l) (refl, refl)
+
+    pub sets-fine : (old : List ℕ) → mostDigits * n ≤ length old → (p : Reply) → p ≡ reply.Fine → (new : List ℕ) → new ≡ joinedSets (digitSetAt (graphOf n xs)) old → SetsSaid p old new
+    unfolding digitSetsReply joinedBy
+    sets-fine old l p e new q = rw (fine, le-ltb (length old) (mostDigits * n) l) (e, q)
 
     abbrev g : Graph
     g = graphOf n xs

@@ -18,6 +18,10 @@ use block::Indices;
 use block::IndicesReply;
 use reply::Reply;
 
+mod marking;
+
+pub use marking::digit_sets;
+
 // A set of atoms for each atom: that of atom v at v - 1.
 type Sets = [u64; ATOMS];
 

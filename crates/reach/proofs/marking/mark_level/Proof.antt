@@ -1,0 +1,61 @@
+use Prim.Native.Nat.{ℕ, _-_, _*_, _/_, _%_, _^_, _≤_}
+use mathlib.Core.Path.{_≡_, ap}
+use native.Mathlib.Omega.{arith}
+use Rattle.reach.specs.DigitSets.{mostDigits}
+use Rattle.reach.specs.Marked.{Joined, levelAt}
+use Rattle.reach.proofs.Marked.{run-fits, halved, level-none, level-more}
+use Rattle.reach.proofs.marking.mark_level.Statement.{statement}
+use Rattle.reach.proofs.marking.mark_level.Tie as tie
+
+abbrev Inv-loop : tie.InvT-loop
+Inv-loop sets near n d out₀ rest₀ base₀ k₀ out rest base k = (k ≤ mostDigits) × (rest ≡ d / 2 ^ k) × (base ≡ k * n) × Joined (levelAt n sets near d k) out₀ out
+
+abbrev μ-loop : tie.MeasureT-loop
+μ-loop sets near n d out₀ rest₀ base₀ k₀ out rest base k = mostDigits - k
+
+loop-holds : tie.Need-loop-holds Inv-loop μ-loop
+loop-holds c = (omega arith, omega arith, omega arith, level-none _ _ _ _ _)
+
+mark-if-requires : tie.Need-mark-if-requires Inv-loop μ-loop
+mark-if-requires c κs =
+    let l = c .before .before .loop in
+    let w = c .before .before .before .before .pre .0 in
+    let f = run-fits _ _ _ (w .high) (c .before .loop-test .taken) (l .inv .2) in
+    (omega arith, w .high, f .0, omega (arith, f .1, l .inv .3 .size, c .before .before .before .before .pre .1))
+
+add-base : tie.Need-add-base Inv-loop μ-loop
+add-base c =
+    let t = c .before .before .before .before in
+    omega (arith, run-fits _ _ _ (t .before .before .before .pre .0 .high) (t .loop-test .taken) (t .before .loop .inv .2), t .before .before .before .pre .0 .high)
+
+add-k : tie.Need-add-k Inv-loop μ-loop
+add-k c = omega arith
+
+loop-less : tie.Need-loop-less Inv-loop μ-loop
+loop-less c = omega arith
+
+loop-again : tie.Need-loop-again Inv-loop μ-loop
+loop-again c =
+    let l = c .before .before .before .before .before .loop in
+    (omega arith, halved _ (l .k) _ (l .inv .1), omega (arith, l .inv .2), level-more _ _ _ _ (l .k) _ (ap (λ (x : ℕ). x % 2) (l .inv .1)) _ _ _ (l .inv .3) (rw (l .inv .2) at (c .before .before .mark-if .ensures)))
+
+same-length : tie.Need-same-length Inv-loop μ-loop
+same-length c = c .before .loop .inv .3 .size
+
+returns : tie.Need-returns Inv-loop μ-loop
+returns c = let e : c .before .loop .k ≡ mostDigits = omega arith in rw e at (c .before .loop .inv .3)
+
+pub mark-level-spec : {M : Type 1} → statement M
+mark-level-spec =
+    tie.close
+    (tie.spec
+    Inv-loop
+    μ-loop
+    loop-holds
+    mark-if-requires
+    add-base
+    add-k
+    loop-less
+    loop-again
+    same-length
+    returns)

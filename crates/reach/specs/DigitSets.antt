@@ -1,0 +1,46 @@
+-- Definitions. Distances by their binary digits: for each atom and each digit the set of the atoms whose distance from it has that digit.
+use Prim.Native.Nat.{ℕ, suc, _*_, _/_, _%_, _^_}
+use mathlib.Core.Bool.{cond}
+use mathlib.Core.List.{List}
+use lib.Bits.{bitOr}
+use lib.Dec.{ltb}
+use lib.ListN.{length, getD}
+use Rattle.graph.specs.Graph.{Graph, distance, sum}
+use Rattle.graph.specs.Sets.{alone}
+use Rattle.half.specs.Half.{table}
+use Rattle.reply.specs.Read.{Read, refused, read, _then_, refuseIf}
+use Rattle.block.specs.Block.{graphOf, blockReply}
+
+-- a distance is below 64, and has six digits
+abbrev pub mostDigits : ℕ
+mostDigits = 6
+
+abbrev pub digit : ℕ → ℕ → ℕ
+digit k d = d / 2 ^ k % 2
+
+-- the set of the atoms 1 to n of which f, 0 or 1, is 1
+unfoldable pub setOf : ℕ → (ℕ → ℕ) → ℕ
+setOf n f = sum n (λ v. f v * alone v)
+
+-- the atoms whose distance from atom v has digit k
+abbrev pub digitSet : Graph → ℕ → ℕ → ℕ
+digitSet g k v = setOf (g .atoms) (λ w. digit k (distance g v w))
+
+-- what comes to the lent set at place p: the set of digit k of atom v where p is atoms * k + v - 1, and nothing behind those of the last digit
+unfoldable pub digitSetAt : Graph → ℕ → ℕ
+digitSetAt g p = cond (ltb p (mostDigits * g .atoms)) (digitSet g (p / g .atoms) (suc (p % g .atoms))) 0
+
+-- lent sets, to each of which another comes
+unfoldable pub joinedSets : (ℕ → ℕ) → List ℕ → List ℕ
+joinedSets f old = table (length old) (λ p. bitOr (getD old p 0) (f p))
+
+-- the block's refusals, then 9 at 0 where too few sets are lent
+unfoldable pub digitSetsReply : ℕ → List ℕ → ℕ → Read (Unit {0})
+digitSetsReply n xs room = blockReply n xs then λ _. refuseIf (ltb room (mostDigits * n)) 9 0
+
+unfoldable pub joinedBy : Read (Unit {0}) → Graph → List ℕ → List ℕ
+joinedBy (refused r) g old = old
+joinedBy (read u) g old = joinedSets (digitSetAt g) old
+
+abbrev pub digitSetsAfter : ℕ → List ℕ → List ℕ → List ℕ
+digitSetsAfter n xs old = joinedBy (digitSetsReply n xs (length old)) (graphOf n xs) old
