@@ -79,6 +79,22 @@ pub third-again : tableAll bytes full (day (drop 3) ∷ day (add two 9) ∷ [])
 unfolding tableAll little seek heldBy roomReply addReply added dropReply dropped
 third-again = refl
 
+-- where less is stored than a place has room for, the bytes behind it stay
+abbrev numbers : Trade ℕ ℕ ℕ ℕ (Read ℕ)
+numbers = record {
+  width = 3;
+  check = λ g. read tt;
+  stored = λ x g. (x % 256) ∷ (x / 256) ∷ [];
+  fieldsOf = λ l. byteAt l 0;
+  composed = λ s x. read 0;
+  said = λ x r. r;
+}
+
+pub stays-behind : tableAll numbers full (day (drop 3) ∷ day (add two 9) ∷ [])
+    ≡ 1 ∷ 0 ∷ 10 ∷ 2 ∷ 0 ∷ 20 ∷ 2 ∷ 1 ∷ 30 ∷ 4 ∷ 0 ∷ 40 ∷ 5 ∷ 0 ∷ 50 ∷ 6 ∷ 0 ∷ 60 ∷ 7 ∷ 0 ∷ 70 ∷ 8 ∷ 0 ∷ 80 ∷ replicate 24 0
+unfolding tableAll little seek heldBy roomReply addReply added dropReply dropped
+stays-behind = refl
+
 -- a short table
 pub short : answersTo bytes Night (replicate 47 0) (night (add zero 256) ∷ day (look 1) ∷ night (look 1) ∷ [])
     ≡ done (refused (refusal 9 0)) ∷ fields (refused (refusal 9 0)) ∷ []

@@ -2,12 +2,12 @@
 use Prim.Native.Nat.{ℕ, zero, suc, _+_, _*_, _≤_, _<_}
 use mathlib.Core.Bool.{Bool, true, false, not, cond}
 use mathlib.Core.List.{List, [], _∷_}
-use mathlib.Core.Path.{_≡_, refl, sym, _∙_, ap}
+use mathlib.Core.Path.{_≡_, refl, sym, _∙_, ap, subst}
 use native.Mathlib.Omega.{arith}
 use borrow.Author.Tests.{eqb-false, leb-false}
 use lib.Dec.{eqb, ltb, leb}
-use lib.ListN.{length, getD}
-use lib.Seq.{sets}
+use lib.ListN.{length, getD, take, drop as rest, length-drop}
+use lib.Seq.{sets, length-take-le, take-take}
 use Rattle.reply.specs.Read.{Read, refused, read, _then_, refuseIf}
 use Rattle.reply.specs.Chain.{then-read, if-read}
 use Rattle.records.specs.Bytes.{part}
@@ -16,12 +16,12 @@ use Rattle.storage.specs.Calls.{CallNumber, Trade, Call, add, look, drop
 use Rattle.storage.specs.Model.{Entry, lookup, has, without, Meaning, toldAdd, toldLook, toldDrop, told, left}
 use Rattle.storage.specs.Seeks.{taken-most}
 use Rattle.storage.specs.Entries.{has-positive, has-number}
-use Rattle.storage.specs.Storage.{Storable, Stores, stores-empty, stores-added, stores-dropped}
+use Rattle.storage.specs.Storage.{Storable, Stores, held-place, place-within, stores-empty, stores-added, stores-dropped}
 use Rattle.storage.specs.Room.{room-by}
 use Rattle.storage.specs.Keeps.{Proper, AllProper, stored, KeepsQueue, HonestTrade}
 
 -- what stands under a number
-module _ {G F O S T : Type 0} (trade : Trade G F O S T) (m : Meaning G F O T) (wide : 2 ≤ trade .width) (size : (x : ℕ) (g : G) → length (trade .stored x g) ≡ trade .width) where
+module _ {G F O S T : Type 0} (trade : Trade G F O S T) (m : Meaning G F O T) (wide : 2 ≤ trade .width) where
   -- what is looked up is proper
   pub lookup-proper : (q : List (Entry G)) (x : ℕ) → AllProper trade m q → 1 ≤ x → lookup (m .nothing) q x .number ≡ x → Proper trade m (lookup (m .nothing) q x)
   unfolding lookup
@@ -36,12 +36,19 @@ module _ {G F O S T : Type 0} (trade : Trade G F O S T) (m : Meaning G F O T) (w
     pub proper-at : Proper trade m (lookup (m .nothing) q x)
     proper-at = lookup-proper q x (k .proper) (has-positive (m .nothing) q x e) (has-number (m .nothing) q x e)
 
-    -- under a number that is held stands what was stored
-    pub stands : placeAt (trade .width) s (placeHolding (trade .width) s x) ≡ trade .stored x (lookup (m .nothing) q x .goods)
+    pub place-long : length (placeAt (trade .width) s (placeHolding (trade .width) s x)) ≡ trade .width
+    place-long =
+        let p = placeHolding (trade .width) s x in
+        let l = place-within (trade .width) p (held-place (numberIn (trade .width) s) x (k .stores .numbers x ∙ e)) in
+        length-take-le (trade .width) (rest (trade .width * p) s) (omega (arith, length-drop (trade .width * p) s, k .stores .size, l))
+
+    -- the place of a number that is held begins with what was stored
+    pub stands : let b = trade .stored x (lookup (m .nothing) q x .goods) in take (length b) (placeAt (trade .width) s (placeHolding (trade .width) s x)) ≡ b
     stands =
-        ap (part s (trade .width * placeHolding (trade .width) s x)) (sym (size (lookup (m .nothing) q x .number) (lookup (m .nothing) q x .goods)))
-        ∙ k .stores .bytes x e
-        ∙ ap (λ (y : ℕ). trade .stored y (lookup (m .nothing) q x .goods)) (has-number (m .nothing) q x e)
+        let g = lookup (m .nothing) q x .goods in
+        let from = trade .width * placeHolding (trade .width) s x in
+        subst (λ (y : ℕ). take (length (trade .stored y g)) (part s from (trade .width)) ≡ trade .stored y g) (has-number (m .nothing) q x e)
+        (take-take (length (trade .stored (lookup (m .nothing) q x .number) g)) (trade .width) (rest from s) (k .stores .each x e .fits) ∙ k .stores .bytes x e)
 
 module _ {G F O S T : Type 0} {trade : Trade G F O S T} {m : Meaning G F O T} (h : HonestTrade trade m) where
   abbrev pub KeptPlaces : List ℕ → List (Entry G) → Type 0
@@ -66,7 +73,9 @@ module _ {G F O S T : Type 0} {trade : Trade G F O S T} {m : Meaning G F O T} (h
       where
         go : (t : Bool) → has (m .nothing) q x ≡ t
             → (refuseIf (not t) 30 0 then λ _. read (trade .fieldsOf (placeAt (trade .width) s (placeHolding (trade .width) s x)))) ≡ (refuseIf (not t) 30 0 then λ _. read (m .fieldsOf (lookup (m .nothing) q x .goods)))
-        go true e = ap read (ap (trade .fieldsOf) (stands trade m (h .wide) (h .size) k x e) ∙ h .fields x (lookup (m .nothing) q x .goods) (proper-at trade m (h .wide) (h .size) k x e .fine))
+        go true e =
+            let b = placeAt (trade .width) s (placeHolding (trade .width) s x) in
+            ap read (h .fields x (lookup (m .nothing) q x .goods) b (proper-at trade m (h .wide) k x e .fine) (stands trade m (h .wide) k x e))
         go false e = refl
 
     -- never more than eight
@@ -103,8 +112,8 @@ module _ {G F O S T : Type 0} {trade : Trade G F O S T} {m : Meaning G F O T} (h
 
     storable : Storable (m .nothing) (trade .width) (h .wide) (stored trade m) entry
     storable = record {
-      fits = omega (arith, h .size (x .value) g);
-      two = omega (arith, h .size (x .value) g, h .wide);
+      fits = h .fits (x .value) g (passes .fine);
+      two = h .two (x .value) g;
       number = h .number (x .value) g (x .small);
       positive = passes .positive;
     }
