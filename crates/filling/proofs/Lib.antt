@@ -1,4 +1,4 @@
 -- What the functions are proved by.
 pub mod Laws
-pub mod Rowing
+pub mod Given
 pub mod Told

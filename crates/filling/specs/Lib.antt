@@ -1,10 +1,11 @@
 -- A block's summary put into lent bytes.
 --
--- | notion                   | meaning                                                                        | the law that matters                                              |
--- | `fillReply`, `fillBytes` | the reply to filling, and the lent bytes after it                              | `unique-fill`                                                     |
--- | `seatsBy`, `headBy`      | what the functions put, by half of the distances and the farthest of each atom | `ones-are-bonds`: as many bonds at an atom as atoms at distance 1 |
+-- | notion                   | meaning                                                            | the law that matters                                              |
+-- | `fillReply`, `fillBytes` | the reply to filling, and the lent bytes after it                  | `unique-fill`                                                     |
+-- | `ShowsDigits`            | sets in which a block's distances stand by their digits            | `atom-put`: an atom's bytes, of its six sets                      |
+-- | `Gives`, `FieldsOf`      | what an atom gives to the fields of its block, and the fields      | `fields-given`: all atoms together give each pair twice           |
+-- | `seatBytes`, `threeSets` | what the functions put of an atom                                  | `ones-are-bonds`: as many bonds at an atom as atoms at distance 1 |
 pub mod Reply
 pub mod Work
-pub mod Rows
 pub mod Ones
 pub mod Unique

@@ -1,47 +1,42 @@
 // The summary of a block, put into lent bytes.
-mod parts;
-mod rows;
+mod atoms;
 mod store;
 
+use atoms::put_atoms;
 use block::ATOMS;
-use block::Farthest;
-use half::Half;
-use half::PAIRS;
-use parts::head;
-use parts::seats;
+use reach::digit_sets;
 use reply::Refusal;
 use reply::Reply;
-use store::put_bytes;
-use summary::HALF;
+use store::put_head;
 use summary::SUMMARY;
 ghost use mathlib.Core.Path.{_≡_};
-ghost use Prim.Native.Nat.{_≤_};
 ghost use lib.ListN.{length};
 ghost use Rattle.reply.specs.Read.{saidReply};
-ghost use Rattle.summary.specs.Layout.{summaryBytes};
 ghost use Rattle.filling.specs.Reply.{fillReply, fillBytes};
-ghost use Rattle.filling.specs.Work.{partsOn};
+ghost use Rattle.filling.specs.Work.{Lent};
 
-// All of it, by half of the distances and how far the farthest is from each atom.
-fn put_all(out: &mut [u8], number: u16, half: &Half, far: &Farthest, n: usize)
-    requires { ⌜ summaryBytes ≤ length (now out) ⌝ }
-    ensures { λ _. ⌜ now (out .exit) ≡ partsOn (now (out .entry)) number (now (half .entry)) (now (far .entry)) n ⌝ }
-{
-    head(out, number, half, far, n);
-    seats(out, half, far, n);
-    put_bytes(out, HALF, half);
+// The sets that are lent for each atom; and the atoms of a small block, for which fewer are cleared.
+const DIGITS: usize = 6;
+
+const SMALL: usize = 8;
+
+const MIDDLE: usize = 32;
+
+// What a summary opens with, besides the number and the atom count.
+struct Fields {
+    pub even: u64,
+    pub odd: u64,
+    pub polarity: u64,
+    pub largest: u64,
 }
 
-// The summary of a block under a number: the first 2,672 bytes become it, and later ones stay. Or it is a refusal, and no byte changes: the block's,
-// then 9 at 0 where there are fewer bytes.
-pub fn fill(number: u16, n: usize, bonds: &[u8], out: &mut [u8]) -> Reply
+// The summary of a block, by lent sets with no atom in them.
+fn fill_by(digits: &mut [u64], number: u16, n: usize, bonds: &[u8], out: &mut [u8]) -> Reply
+    requires { ⌜ Lent n (now digits) ⌝ }
     ensures reply { λ r. ⌜ r ≡ saidReply (fillReply n (now (bonds .entry)) (length (now (out .entry)))) ⌝ }
     ensures bytes { λ _. ⌜ now (out .exit) ≡ fillBytes number n (now (bonds .entry)) (now (out .entry)) ⌝ }
 {
-    let mut half = [0u8; PAIRS];
-    let mut far = [0u8; ATOMS];
-    let opened = block::table(n, bonds, &mut half, &mut far);
-    let reply = opened.reply;
+    let reply = digit_sets(n, bonds, digits);
     let Reply::Fine = reply else {
         return reply;
     };
@@ -51,6 +46,25 @@ pub fn fill(number: u16, n: usize, bonds: &[u8], out: &mut [u8]) -> Reply
             place: 0,
         });
     }
-    put_all(out, number, &half, &far, n);
+    let fields = put_atoms(out, digits, n);
+    put_head(out, number as u64, n as u64, fields);
     Reply::Fine
+}
+
+// The summary of a block under a number: the first bytes become it, 16 and 58 for each atom, and later ones stay. Or it is a refusal, and no byte
+// changes: the block's, then 9 at 0 where there are fewer bytes than a place for a summary has.
+pub fn fill(number: u16, n: usize, bonds: &[u8], out: &mut [u8]) -> Reply
+    ensures reply { λ r. ⌜ r ≡ saidReply (fillReply n (now (bonds .entry)) (length (now (out .entry)))) ⌝ }
+    ensures bytes { λ _. ⌜ now (out .exit) ≡ fillBytes number n (now (bonds .entry)) (now (out .entry)) ⌝ }
+{
+    if n <= SMALL {
+        let mut digits = [0u64; DIGITS * SMALL];
+        return fill_by(&mut digits, number, n, bonds, out);
+    }
+    if n <= MIDDLE {
+        let mut digits = [0u64; DIGITS * MIDDLE];
+        return fill_by(&mut digits, number, n, bonds, out);
+    }
+    let mut digits = [0u64; DIGITS * ATOMS];
+    fill_by(&mut digits, number, n, bonds, out)
 }

@@ -3,8 +3,8 @@ use Prim.Native.Nat.{ℕ, zero, suc, _+_, _*_, _-_, _^_, _≤_, _<_, min}
 use mir.Syntax.{w64}
 use mir.Val.{Fits as Fit}
 use borrow.Author.Needs.{scaled-fits}
-use lib.Dec.{lit<}
-use mathlib.Core.Bool.{Bool, true, false, cond}
+use lib.Dec.{ltb, lit<}
+use mathlib.Core.Bool.{Bool, true, false, _||_, cond}
 use mathlib.Core.List.{List, []}
 use mathlib.Core.Logic.{⊎-elim}
 use native.Mathlib.Nat.{eq-or-lt-of-le}
@@ -14,7 +14,8 @@ use lib.Seq.{getD-set-same, getD-set-other, getD-take, getD-drop}
 use mathlib.Core.Path.{_≡_, refl, sym, _∙_, ap}
 use native.Mathlib.Omega.{arith}
 use Rattle.graph.specs.Graph.{Within}
-use Rattle.half.specs.Half.{mostAtoms, noPair, pairPlace}
+use Rattle.half.specs.Half.{mostAtoms}
+use Rattle.reply.specs.Read.{isOutside}
 use Rattle.records.specs.Bytes.{byteAt, little, le16, part}
 use Rattle.assembly.specs.Placements.{mostPlacements}
 use Rattle.block.specs.declared.Indices.{Indices}
@@ -24,7 +25,7 @@ use Rattle.tables.specs.Table.{Fits}
 use Rattle.tables.specs.Climb.{far-same, far-later, far-earlier, sight-here, sight-there, six-here}
 use Rattle.tables.specs.Bounds.{SmallSight, Bytes, SixHeld, SixBytes, SmallPart, far-most, sight-held, six-held, held-bytes}
 use Rattle.joining.specs.Small.{SmallCounts, SmallFields}
-use Rattle.summary.specs.Layout.{storedAtoms, storedFields, seat, vertexAt, farAt, keptOf}
+use Rattle.summary.specs.Layout.{summaryBytes, storedAtoms, storedFields, seat, vertexAt, digitIn, digitsIn, farAt, keptOf}
 use Rattle.shelf.specs.Shelf.{summaryAt}
 use Rattle.summaries.specs.Ready.{placeIn, keptIn, joinsIn, LentBytes, ReadyShelf, between, sightFrom, sightOfRow, coreAt, Known}
 
@@ -41,6 +42,21 @@ lent-part {b} from n l = record {
   ];
 }
 
+-- six digits say less than 64
+digits-few : (a b c d e f : ℕ) → a < 2 → b < 2 → c < 2 → d < 2 → e < 2 → f < 2 → a + 2 * b + 4 * c + 8 * d + 16 * e + 32 * f < 64
+digits-few a b c d e f p q r s t u = omega arith
+
+far-few : (s : List ℕ) (i j : ℕ) → farAt s i j < 64
+unfolding farAt
+far-few s i j = go (isOutside mostAtoms i || isOutside mostAtoms j || ltb (length s) summaryBytes)
+  where
+    two : (k : ℕ) → digitIn s i j k < 2
+    two k = omega arith
+
+    go : (t : Bool) → cond t 0 (digitsIn s i j) < 64
+    go true = omega arith
+    go false = digits-few (digitIn s i j 0) (digitIn s i j 1) (digitIn s i j 2) (digitIn s i j 3) (digitIn s i j 4) (digitIn s i j 5) (two 0) (two 1) (two 2) (two 3) (two 4) (two 5)
+
 -- what a summary says is small
 module _ {s : List ℕ} (lent : LentBytes s) where
   two : (at : ℕ) → le16 s at < 2 ^ 16
@@ -52,12 +68,7 @@ module _ {s : List ℕ} (lent : LentBytes s) where
   four at = omega (arith, lent .byte at, lent .byte (at + 1), lent .byte (at + 1 + 1), lent .byte (at + 1 + 1 + 1))
 
   far-byte : (i j : ℕ) → farAt s i j < 2 ^ 8
-  unfolding farAt
-  far-byte i j = go (noPair i j)
-    where
-      go : (t : Bool) → cond t 0 (byteAt s (656 + pairPlace i j)) < 2 ^ 8
-      go true = omega arith
-      go false = lent .byte (656 + pairPlace i j)
+  far-byte i j = omega (arith, far-few s i j)
 
   vertex-bytes : (i : ℕ) → Bytes (vertexAt s i)
   unfolding vertexAt
@@ -113,16 +124,16 @@ room-bytes p = record {
 
 module _ {b : List ℕ} {ls : List (List ℕ)} {count : ℕ} (r : ReadyShelf b ls count) where
   all : (k : ℕ) → SmallPart (keptIn b ls k)
-  all k = kept (lent-part (2672 * placeIn ls k) 2672 (r .lent))
+  all k = kept (lent-part (summaryBytes * placeIn ls k) summaryBytes (r .lent))
 
   pub own-small : (p i : ℕ) → SmallCounts (vertexAt (summaryAt b p) i)
-  own-small p i = small-held (omega arith) (held-bytes (kept (lent-part (2672 * p) 2672 (r .lent)) .sight i))
+  own-small p i = small-held (omega arith) (held-bytes (kept (lent-part (summaryBytes * p) summaryBytes (r .lent)) .sight i))
 
   pub block-room : (p : ℕ) → SmallFields (storedFields (summaryAt b p))
-  block-room p = room-bytes (kept (lent-part (2672 * p) 2672 (r .lent)) .six)
+  block-room p = room-bytes (kept (lent-part (summaryBytes * p) summaryBytes (r .lent)) .six)
 
   pub far-small : (p i j : ℕ) → farAt (summaryAt b p) i j < 2 ^ 8
-  far-small p i j = kept (lent-part (2672 * p) 2672 (r .lent)) .far i j
+  far-small p i j = kept (lent-part (summaryBytes * p) summaryBytes (r .lent)) .far i j
 
   pub from-small : (m k : ℕ) → m ≤ mostPlacements → SmallCounts (sightFrom b ls m k)
   from-small m k h = small-held (omega arith) (sight-held (joinsIn ls) all (m - 1) (joinsIn ls k .parent - 1) (joinsIn ls k .site) (omega arith))

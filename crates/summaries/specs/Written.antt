@@ -1,13 +1,15 @@
 -- Laws. Where the summaries are those of the molecules of a book, composing over them replies what the book's assembly does, and its fields are those of the one
 -- molecule with every atom and bond written out. Assumes nothing.
-use Prim.Native.Nat.{ℕ, zero, suc, _+_, _-_, _≤_, _<_}
+use Prim.Native.Nat.{ℕ, zero, suc, _+_, _*_, _-_, _≤_, _<_}
 use mathlib.Core.Bool.{Bool, true, false, _||_, not, cond}
 use mathlib.Core.List.{List}
 use mathlib.Core.Logic.{⊎-elim}
 use mathlib.Core.Path.{_≡_, refl, sym, _∙_, ap}
 use native.Mathlib.Nat.{eq-or-lt-of-le}
 use native.Mathlib.Omega.{arith}
+use borrow.Author.Tests.{ltb-true}
 use lib.Dec.{eqb, leb}
+use lib.ListN.{length, take, drop, length-take, length-drop}
 use Rattle.graph.specs.Graph.{Graph, Within, Molecule, degree}
 use Rattle.graph.specs.Assembly.{written}
 use Rattle.reply.specs.Read.{Read, refused, read, _then_, refuseFor, isOutside}
@@ -23,10 +25,10 @@ use Rattle.assembly.specs.declared.Placement.{Placement}
 use Rattle.tables.specs.Parts.{sixIn}
 use Rattle.tables.specs.Table.{tableOf, sixOf, Told}
 use Rattle.tables.specs.Written.{fields-written}
-use Rattle.summary.specs.Layout.{storedFields, storedDegree, keptOf}
+use Rattle.summary.specs.Layout.{summaryBytes, storedFields, storedDegree, keptOf}
 use Rattle.summary.specs.Summary.{summaryOf}
 use Rattle.summary.specs.Back.{summary-told, ends-told}
-use Rattle.shelf.specs.Shelf.{summaryAt, placeOf, sitesIn, shelfIn}
+use Rattle.shelf.specs.Shelf.{placesIn, summaryAt, placeOf, sitesIn, shelfIn}
 use Rattle.summaries.specs.Composing.{keptOn, composedReply}
 
 -- two that say the same of a block, at the atoms that it has
@@ -127,12 +129,21 @@ composed-written b book xs h = rw (shelf-same (same h) xs) (go (assemblyReply bo
     go (refused r) e = refl
     go (read u) e = ap read (written-fields h xs (whole book xs e))
 
--- A BOOK WHOSE PLACES HOLD BLOCKS' SUMMARIES is honest
-pub honest : (b : List ℕ) (sizes : ℕ → ℕ) (bonds : ℕ → List ℕ) → ((x : ℕ) → shelfIn b .has x ≡ true → (blockReply (sizes x) (bonds x) ≡ read tt) × (summaryAt b (placeOf b x) ≡ summaryOf x (graphOf (sizes x) (bonds x))))
-    → HonestBook b (record { has = shelfIn b .has; graph = λ x. graphOf (sizes x) (bonds x) })
-honest b sizes bonds k = record {
-  has = λ x. refl;
-  molecules = λ x e. molecule (sizes x) (bonds x) (k x e .0);
-  told = λ x e. rw (k x e .1) (summary-told x (sizes x) (bonds x) (k x e .0));
-  ends = λ x a e w. rw (k x e .1) (ends-told x (sizes x) (bonds x) (k x e .0) a w);
-}
+-- A BOOK WHOSE PLACES BEGIN WITH BLOCKS' SUMMARIES is honest
+module _ (b : List ℕ) (sizes : ℕ → ℕ) (bonds : ℕ → List ℕ) where
+  pub record Summarised (x : ℕ) : Type 0 where
+    pub fine : blockReply (sizes x) (bonds x) ≡ read tt
+    pub begins : let s = summaryOf x (graphOf (sizes x) (bonds x)) in take (length s) (summaryAt b (placeOf b x)) ≡ s
+
+  has-long : (x : ℕ) → shelfIn b .has x ≡ true → summaryBytes ≤ length (summaryAt b (placeOf b x))
+  has-long x e =
+      let l = ltb-true (placeOf b x) (placesIn b) e in
+      omega (arith, l, length-take summaryBytes (drop (summaryBytes * placeOf b x) b), length-drop (summaryBytes * placeOf b x) b)
+
+  pub honest : ((x : ℕ) → shelfIn b .has x ≡ true → Summarised x) → HonestBook b (record { has = shelfIn b .has; graph = λ x. graphOf (sizes x) (bonds x) })
+  honest k = record {
+    has = λ x. refl;
+    molecules = λ x e. molecule (sizes x) (bonds x) (k x e .fine);
+    told = λ x e. summary-told x (sizes x) (bonds x) (k x e .fine) (summaryAt b (placeOf b x)) (k x e .begins) (has-long x e);
+    ends = λ x a e w. ends-told x (sizes x) (bonds x) (k x e .fine) (summaryAt b (placeOf b x)) (k x e .begins) a w;
+  }

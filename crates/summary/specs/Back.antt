@@ -1,35 +1,39 @@
--- Laws. Reading the bytes of a block's summary back tells the block. Assumes nothing.
-use Prim.Native.Nat.{ℕ, zero, suc, _+_, _*_, _-_, _/_, _%_, _≤_, _<_}
-use mathlib.Core.Bool.{Bool, true, false, cond}
-use mathlib.Core.List.{List, _++_}
-use mathlib.Core.Logic.{⊎-elim}
+-- Laws. Bytes that begin with a block's summary tell the block, whatever stands behind it. Assumes nothing.
+use Prim.Native.Nat.{ℕ, zero, suc, _+_, _*_, _-_, _/_, _%_, _^_, _≤_, _<_}
+use mathlib.Core.Bool.{Bool, false, cond}
+use mathlib.Core.List.{List, [], _++_}
 use mathlib.Core.Path.{_≡_, refl, sym, _∙_, ap, ap₂}
-use native.Mathlib.Decide.{ℕ-discrete, decLt}
-use native.Mathlib.Nat.{eq-or-lt-of-le, mul-le-mul}
+use native.Mathlib.Nat.{mul-le-mul, mul-suc, zero-add}
 use native.Mathlib.Omega.{arith}
-use borrow.Author.Tests.{le-leb}
-use lib.Dec.{leb}
-use lib.ListN.{length, getD, replicate, length-append, List·getD-append}
-use lib.Seq.{getD-append-add}
+use borrow.Author.Tests.{ne-eqb, le-ltb}
+use lib.ListN.{length, getD, take, length-append, List·getD-append}
+use lib.Pow.{shr-shr, field, mod-mod-pow}
+use lib.Seq.{getD-append-add, getD-take}
 use Rattle.graph.specs.Graph.{Graph, Within, Molecule, distance, degree, evenOf, oddOf, isAt, total, vertex}
 use Rattle.graph.specs.Bounds.{vertex-most, total-most, tame-even, tame-odd, tame-at}
-use Rattle.graph.specs.Distance.{distance-self, distance-sym}
+use Rattle.graph.specs.Distance.{distance-below}
 use Rattle.graph.specs.Parts.{vertex-parts, parts-of}
-use Rattle.reply.specs.Read.{read}
-use Rattle.half.specs.Half.{mostAtoms, noPair, pairPlace, halfAt, halfOf}
-use Rattle.half.specs.Places.{Pair}
-use Rattle.half.specs.Reads.{up-reads, down-reads, self-reads, half-reads}
+use Rattle.graph.specs.Sets.{has}
+use Rattle.reply.specs.Read.{read, isOutside}
+use Rattle.half.specs.Half.{mostAtoms}
 use Rattle.block.specs.Block.{graphOf, blockReply}
 use Rattle.block.specs.Told.{few-atoms, molecule}
 use Rattle.block.specs.Index.{indicesOf, vertexOf}
 use Rattle.block.specs.declared.Indices.{Indices}
 use Rattle.block.specs.declared.Vertex.{Vertex}
+use Rattle.reach.specs.DigitSets.{mostDigits, digit, digitSet}
+use Rattle.reach.proofs.Digits.{digit as whole}
+use Rattle.reach.proofs.DigitSets.{has-digit, digits-back}
 use Rattle.records.specs.Bytes.{byteAt, little, le16, littleBytes}
 use Rattle.tables.specs.Table.{tableOf, totalBy, Told}
 use Rattle.tables.specs.Grow.{same-sight, same-six, total-parts}
 use Rattle.tables.specs.Written.{six-is, sight-is, alone-molecule}
-use Rattle.summary.specs.Layout.{storedNumber, storedAtoms, storedFields, seat, vertexAt, storedDegree, farAt, keptOf}
-use Rattle.summary.specs.Summary.{headOf, seatOf, seatAt, seatsFrom, pairOf, summaryOf}
+use Rattle.summary.specs.Layout.{headBytes, atomBytes, summaryBytes, storedNumber, storedFields, seat, vertexAt, storedDegree, digitIn, farAt, keptOf}
+use Rattle.summary.specs.Summary.{headOf, seatOf, setsFrom, atomOf, atomsFrom, summaryOf}
+
+-- an atom of the block is one of 64
+not-outside : (i : ℕ) → Within mostAtoms i → isOutside mostAtoms i ≡ false
+not-outside i w = rw (ne-eqb i 0 (omega (arith, w .low)), le-ltb mostAtoms i (w .high))
 
 -- numbers of two and of four bytes read back
 two-back : (x : ℕ) → x < 65536 → x % 256 + 256 * (x / 256 % 256) ≡ x
@@ -50,46 +54,117 @@ four-at b p v h e0 e1 e2 e3 =
     let q3 : p + 1 + 1 + 1 ≡ p + 3 = omega arith in
     rw (q3, q2, e0, e1, e2, e3) (omega (arith, four-back v h))
 
--- how long the pieces are
-pub length-head : (x : ℕ) (v : Indices) → length (headOf x v) ≡ 16
+-- pieces of one length, one behind the other
+module _ (w : ℕ) (piece : ℕ → List ℕ) (size : (i : ℕ) → length (piece i) ≡ w) (all : ℕ → ℕ → List ℕ) (none : (i : ℕ) → all i 0 ≡ [])
+    (more : (i left : ℕ) → all i (suc left) ≡ piece i ++ all (suc i) left) where
+  length-pieces : (left i : ℕ) → length (all i left) ≡ w * left
+  length-pieces zero i = ap length (none i) ∙ omega arith
+  length-pieces (suc left) i = ap length (more i left) ∙ length-append (piece i) (all (suc i) left) ∙ omega (arith, size i, length-pieces left (suc i), mul-suc w left)
+
+  piece-back : (m left i s : ℕ) → m < left → s < w → getD (all i left) (w * m + s) 0 ≡ getD (piece (i + m)) s 0
+  piece-back m zero i s h l = absurd (omega arith)
+  piece-back zero (suc left) i s h l =
+      let n : w * 0 + s ≡ s = omega arith in
+      let j : i + 0 ≡ i = omega arith in
+      rw (more i left, n, j) (List·getD-append (piece i) (all (suc i) left) 0 s (omega (arith, size i)))
+  piece-back (suc m) (suc left) i s h l =
+      let n : w * suc m + s ≡ length (piece i) + (w * m + s) = omega (arith, size i, mul-suc w m) in
+      let j : suc i + m ≡ i + suc m = omega arith in
+      rw (more i left, n) (getD-append-add (piece i) (all (suc i) left) (w * m + s) 0 ∙ piece-back m left (suc i) s (omega arith) l ∙ ap (λ (x : ℕ). getD (piece x) s 0) j)
+
+-- how long a summary is
+pub length-head : (x : ℕ) (v : Indices) → length (headOf x v) ≡ headBytes
 unfolding headOf littleBytes
 length-head x v = refl
 
-pub length-seat : (g : Graph) (i : ℕ) → length (seatAt g i) ≡ 10
-unfolding seatAt seatOf littleBytes
-length-seat g i = go (leb i (g .atoms))
-  where
-    go : (t : Bool) → length (cond t (seatOf (vertexOf g i) (degree (g .bonds) i)) (replicate 10 0)) ≡ 10
-    go true = refl
-    go false = refl
+length-seat : (v : Vertex) (d : ℕ) → length (seatOf v d) ≡ 10
+unfolding seatOf littleBytes
+length-seat v d = refl
 
-pub length-seats : (g : Graph) (left i : ℕ) → length (seatsFrom g i left) ≡ 10 * left
-unfolding seatsFrom
-length-seats g zero i = refl
-length-seats g (suc left) i = length-append (seatAt g i) (seatsFrom g (suc i) left) ∙ omega (arith, length-seat g i, length-seats g left (suc i))
+length-set : (g : Graph) (i k : ℕ) → length (littleBytes 8 (digitSet g k i)) ≡ 8
+unfolding littleBytes
+length-set g i k = refl
 
--- atom k's ten bytes among those from atom i on
-seat-back : (g : Graph) (left i k s : ℕ) → i ≤ k → k < i + left → s < 10 → getD (seatsFrom g i left) (10 * (k - i) + s) 0 ≡ getD (seatAt g k) s 0
-unfolding seatsFrom
-seat-back g zero i k s h l m = absurd (omega arith)
-seat-back g (suc left) i k s h l m = ⊎-elim (λ e. here e) (λ e. there e (seat-back g left (suc i) k s (omega arith) (omega arith) m)) (eq-or-lt-of-le h)
-  where
-    here : i ≡ k → getD (seatAt g i ++ seatsFrom g (suc i) left) (10 * (k - i) + s) 0 ≡ getD (seatAt g k) s 0
-    here e =
-        let n : 10 * (k - i) + s ≡ s = omega arith in
-        rw n (List·getD-append (seatAt g i) (seatsFrom g (suc i) left) 0 s (omega (arith, length-seat g i)) ∙ ap (λ (x : ℕ). getD (seatAt g x) s 0) e)
+module _ (g : Graph) where
+  module _ (i : ℕ) where
+    no-set : (k : ℕ) → setsFrom g i k 0 ≡ []
+    unfolding setsFrom
+    no-set k = refl
 
-    there : i < k → getD (seatsFrom g (suc i) left) (10 * (k - suc i) + s) 0 ≡ getD (seatAt g k) s 0 → getD (seatAt g i ++ seatsFrom g (suc i) left) (10 * (k - i) + s) 0 ≡ getD (seatAt g k) s 0
-    there e r =
-        let n : 10 * (k - i) + s ≡ length (seatAt g i) + (10 * (k - suc i) + s) = omega (arith, length-seat g i) in
-        rw n (getD-append-add (seatAt g i) (seatsFrom g (suc i) left) (10 * (k - suc i) + s) 0 ∙ r)
+    next-set : (k left : ℕ) → setsFrom g i k (suc left) ≡ littleBytes 8 (digitSet g k i) ++ setsFrom g i (suc k) left
+    unfolding setsFrom
+    next-set k left = refl
+
+    length-sets : (left k : ℕ) → length (setsFrom g i k left) ≡ 8 * left
+    length-sets = length-pieces 8 (λ k. littleBytes 8 (digitSet g k i)) (length-set g i) (setsFrom g i) no-set next-set
+
+    pub length-atom : length (atomOf g i) ≡ atomBytes
+    unfolding atomOf
+    length-atom =
+        length-append (seatOf (vertexOf g i) (degree (g .bonds) i)) (setsFrom g i 0 mostDigits)
+        ∙ omega (arith, length-seat (vertexOf g i) (degree (g .bonds) i), length-sets mostDigits 0)
+
+  no-atom : (i : ℕ) → atomsFrom g i 0 ≡ []
+  unfolding atomsFrom
+  no-atom i = refl
+
+  next-atom : (i left : ℕ) → atomsFrom g i (suc left) ≡ atomOf g i ++ atomsFrom g (suc i) left
+  unfolding atomsFrom
+  next-atom i left = refl
+
+  pub length-atoms : (left i : ℕ) → length (atomsFrom g i left) ≡ atomBytes * left
+  length-atoms = length-pieces atomBytes (atomOf g) length-atom (atomsFrom g) no-atom next-atom
+
+  pub length-summary : (x : ℕ) → length (summaryOf x g) ≡ headBytes + atomBytes * g .atoms
+  unfolding summaryOf
+  length-summary x = length-append (headOf x (indicesOf g)) (atomsFrom g 1 (g .atoms)) ∙ omega (arith, length-head x (indicesOf g), length-atoms (g .atoms) 1)
+
+  -- a byte of the head, of an atom's first ten, of one of its sets
+  head-byte : (x k : ℕ) → k < headBytes → byteAt (summaryOf x g) k ≡ getD (headOf x (indicesOf g)) k 0
+  unfolding summaryOf
+  head-byte x k h = List·getD-append (headOf x (indicesOf g)) (atomsFrom g 1 (g .atoms)) 0 k (omega (arith, length-head x (indicesOf g)))
+
+  atom-byte : (x i k : ℕ) → Within (g .atoms) i → k < atomBytes → byteAt (summaryOf x g) (seat i + k) ≡ getD (atomOf g i) k 0
+  unfolding summaryOf
+  atom-byte x i k w h =
+      let e : seat i + k ≡ length (headOf x (indicesOf g)) + (atomBytes * (i - 1) + k) = omega (arith, length-head x (indicesOf g)) in
+      let j : 1 + (i - 1) ≡ i = omega (arith, w .low) in
+      ap (byteAt (headOf x (indicesOf g) ++ atomsFrom g 1 (g .atoms))) e
+      ∙ getD-append-add (headOf x (indicesOf g)) (atomsFrom g 1 (g .atoms)) (atomBytes * (i - 1) + k) 0
+      ∙ piece-back atomBytes (atomOf g) length-atom (atomsFrom g) no-atom next-atom (i - 1) (g .atoms) 1 k (omega (arith, w .low, w .high)) h
+      ∙ ap (λ (x : ℕ). getD (atomOf g x) k 0) j
+
+  seat-byte : (i k : ℕ) → k < 10 → getD (atomOf g i) k 0 ≡ getD (seatOf (vertexOf g i) (degree (g .bonds) i)) k 0
+  unfolding atomOf
+  seat-byte i k h =
+      List·getD-append (seatOf (vertexOf g i) (degree (g .bonds) i)) (setsFrom g i 0 mostDigits) 0 k (omega (arith, length-seat (vertexOf g i) (degree (g .bonds) i)))
+
+  set-byte : (i k q : ℕ) → k < mostDigits → q < 8 → getD (atomOf g i) (10 + (8 * k + q)) 0 ≡ getD (littleBytes 8 (digitSet g k i)) q 0
+  unfolding atomOf
+  set-byte i k q h l =
+      let e : 10 + (8 * k + q) ≡ length (seatOf (vertexOf g i) (degree (g .bonds) i)) + (8 * k + q) = omega (arith, length-seat (vertexOf g i) (degree (g .bonds) i)) in
+      ap (byteAt (seatOf (vertexOf g i) (degree (g .bonds) i) ++ setsFrom g i 0 mostDigits)) e
+      ∙ getD-append-add (seatOf (vertexOf g i) (degree (g .bonds) i)) (setsFrom g i 0 mostDigits) (8 * k + q) 0
+      ∙ piece-back 8 (λ k. littleBytes 8 (digitSet g k i)) (length-set g i) (setsFrom g i) (no-set i) (next-set i) k mostDigits 0 q h l
+      ∙ ap (λ (x : ℕ). getD (littleBytes 8 (digitSet g x i)) q 0) (zero-add k)
+
+-- a digit of a byte of a number is a digit of the number
+byte-of : (w m q : ℕ) → q < w → getD (littleBytes w m) q 0 ≡ m / 2 ^ (8 * q) % 256
+unfolding littleBytes
+byte-of zero m q h = absurd (omega arith)
+byte-of (suc w) m zero h = omega arith
+byte-of (suc w) m (suc q) h =
+    let e : 8 + 8 * q ≡ 8 * suc q = omega arith in
+    byte-of w (m / 256) q (omega arith) ∙ ap (λ (x : ℕ). x % 256) (shr-shr m 8 (8 * q) ∙ ap (λ (x : ℕ). m / 2 ^ x) e)
+
+digit-of : (m r : ℕ) → r < 8 → m % 256 / 2 ^ r % 2 ≡ m / 2 ^ r % 2
+digit-of m r h =
+    let e : 7 - r + 1 + r ≡ 8 = omega arith in
+    ap (λ (x : ℕ). m % 2 ^ x / 2 ^ r % 2) (sym e) ∙ ap (λ (x : ℕ). x % 2) (field m (7 - r + 1) r) ∙ mod-mod-pow (m / 2 ^ r) (7 - r) 1
 
 module _ (x n : ℕ) (xs : List ℕ) (fine : blockReply n xs ≡ read tt) where
   abbrev g : Graph
   g = graphOf n xs
-
-  abbrev s : List ℕ
-  s = summaryOf x g
 
   few : Within mostAtoms n
   few = few-atoms n xs fine
@@ -97,99 +172,99 @@ module _ (x n : ℕ) (xs : List ℕ) (fine : blockReply n xs ≡ read tt) where
   mole : Molecule g
   mole = molecule n xs fine
 
-  -- a byte of the head, of an atom's ten, of the half
-  head-at : (k : ℕ) → k < 16 → byteAt s k ≡ getD (headOf x (indicesOf g)) k 0
-  unfolding summaryOf
-  head-at k h = List·getD-append (headOf x (indicesOf g)) (seatsFrom g 1 64 ++ halfOf (pairOf g)) 0 k (omega (arith, length-head x (indicesOf g)))
+  -- a place has room for it
+  pub summary-fits : length (summaryOf x (graphOf n xs)) ≤ summaryBytes
+  summary-fits = omega (arith, few, length-summary g x)
 
-  rest-at : (k : ℕ) → byteAt s (16 + k) ≡ getD (seatsFrom g 1 64 ++ halfOf (pairOf g)) k 0
-  unfolding summaryOf
-  rest-at k =
-      let e : 16 + k ≡ length (headOf x (indicesOf g)) + k = omega (arith, length-head x (indicesOf g)) in
-      ap (λ (k : ℕ). getD (headOf x (indicesOf g) ++ (seatsFrom g 1 64 ++ halfOf (pairOf g))) k 0) e ∙ getD-append-add (headOf x (indicesOf g)) (seatsFrom g 1 64 ++ halfOf (pairOf g)) k 0
+  -- bytes that begin with the summary, whatever stands behind it
+  module _ (b : List ℕ) (begins : take (length (summaryOf x (graphOf n xs))) b ≡ summaryOf x (graphOf n xs)) where
+    same-byte : (k : ℕ) → k < headBytes + atomBytes * n → byteAt b k ≡ byteAt (summaryOf x g) k
+    same-byte k h = sym (getD-take (length (summaryOf x g)) b k 0 (omega (arith, length-summary g x))) ∙ ap (λ (l : List ℕ). byteAt l k) begins
 
-  seat-at : (i k p : ℕ) → Within n i → k < 10 → p ≡ seat i + k → byteAt s p ≡ getD (seatOf (vertexOf g i) (degree (g .bonds) i)) k 0
-  unfolding seatAt
-  seat-at i k p w h q =
-      let e : p ≡ 16 + (10 * (i - 1) + k) = omega (arith, w .low) in
-      let l : 10 * (i - 1) + k < 640 = omega (arith, few, w .high) in
-      ap (byteAt s) e ∙ rest-at (10 * (i - 1) + k)
-      ∙ List·getD-append (seatsFrom g 1 64) (halfOf (pairOf g)) 0 (10 * (i - 1) + k) (omega (arith, length-seats g 64 1))
-      ∙ seat-back g 64 1 i k (w .low) (omega (arith, few, w .high)) h
-      ∙ ap (λ (t : Bool). getD (cond t (seatOf (vertexOf g i) (degree (g .bonds) i)) (replicate 10 0)) k 0) (le-leb i n (w .high))
+    head-at : (k : ℕ) → k < headBytes → byteAt b k ≡ getD (headOf x (indicesOf g)) k 0
+    head-at k h = same-byte k (omega arith) ∙ head-byte g x k h
 
-  half-at : (p : ℕ) → byteAt s (656 + p) ≡ getD (halfOf (pairOf g)) p 0
-  half-at p =
-      let e : 656 + p ≡ 16 + (640 + p) = omega arith in
-      let f : 640 + p ≡ length (seatsFrom g 1 64) + p = omega (arith, length-seats g 64 1) in
-      ap (byteAt s) e ∙ rest-at (640 + p)
-      ∙ ap (λ (k : ℕ). getD (seatsFrom g 1 64 ++ halfOf (pairOf g)) k 0) f ∙ getD-append-add (seatsFrom g 1 64) (halfOf (pairOf g)) p 0
+    atom-at : (i k p : ℕ) → Within n i → k < atomBytes → p ≡ seat i + k → byteAt b p ≡ getD (atomOf g i) k 0
+    atom-at i k p w h q = same-byte p (omega (arith, w .low, w .high)) ∙ ap (byteAt (summaryOf x g)) q ∙ atom-byte g x i k w h
 
-  far-half : (i j : ℕ) → farAt s i j ≡ halfAt (halfOf (pairOf g)) i j
-  unfolding farAt halfAt
-  far-half i j = ap (λ (y : ℕ). cond (noPair i j) 0 y) (half-at (pairPlace i j))
+    seat-at : (i k p : ℕ) → Within n i → k < 10 → p ≡ seat i + k → byteAt b p ≡ getD (seatOf (vertexOf g i) (degree (g .bonds) i)) k 0
+    seat-at i k p w h q = atom-at i k p w (omega arith) q ∙ seat-byte g i k h
 
-  pair-is : (i j : ℕ) → j ≤ n → pairOf g i j ≡ distance g i j
-  pair-is i j h = ap (λ (t : Bool). cond t (distance g i j) 0) (le-leb j n h)
+    digit-told : (i j k : ℕ) → Within n i → Within n j → k < mostDigits → digitIn b i j k ≡ digit k (distance g i j)
+    unfolding has
+    digit-told i j k w v h =
+        let q = (j - 1) / 8 in
+        let r = (j - 1) % 8 in
+        let m = digitSet g k i in
+        let l : q < 8 = omega (arith, few, v .high) in
+        let e : 8 * q + r ≡ j - 1 = omega arith in
+        ap (λ (y : ℕ). y / 2 ^ r % 2) (atom-at i (10 + (8 * k + q)) (seat i + 10 + 8 * k + q) w (omega arith) (omega arith) ∙ set-byte g i k q h l ∙ byte-of 8 m q l)
+        ∙ digit-of (m / 2 ^ (8 * q)) r (omega arith)
+        ∙ ap (λ (y : ℕ). y % 2) (shr-shr m (8 * q) r ∙ ap (λ (y : ℕ). m / 2 ^ y) e)
+        ∙ sym (whole (m / 2 ^ (j - 1))) ∙ ap (λ (t : Bool). cond t 1 0) (has-digit g k i j v) ∙ whole (distance g i j / 2 ^ k)
 
-  pub far-told : (i j : ℕ) → Within n i → Within n j → farAt s i j ≡ distance g i j
-  far-told i j w v = far-half i j ∙ elim (ℕ-discrete i j) [
-    | yes e ↦ ap (halfAt (halfOf (pairOf g)) i) (sym e) ∙ self-reads (halfOf (pairOf g)) i ∙ sym (ap (distance g i) (sym e) ∙ distance-self (mole .sound) w)
-    | no e ↦ elim (decLt i j) [
-      | yes l ↦ let p : Pair i j = record { low = w .low; less = l; high = omega (arith, few, v .high) } in
-          up-reads (halfOf (pairOf g)) p ∙ half-reads (pairOf g) p ∙ pair-is i j (v .high)
-      | no l ↦ let p : Pair j i = record { low = v .low; less = omega arith; high = omega (arith, few, w .high) } in
-          down-reads (halfOf (pairOf g)) p ∙ half-reads (pairOf g) p ∙ pair-is j i (w .high) ∙ distance-sym mole v w
-    ]
-  ]
+    pub far-told : summaryBytes ≤ length b → (i j : ℕ) → Within n i → Within n j → farAt b i j ≡ distance g i j
+    unfolding farAt
+    far-told long i j w v =
+        rw (
+          not-outside i (omega (arith, few, w .low, w .high)),
+          not-outside j (omega (arith, few, v .low, v .high)),
+          le-ltb (length b) summaryBytes long,
+          digit-told i j 0 w v (omega arith),
+          digit-told i j 1 w v (omega arith),
+          digit-told i j 2 w v (omega arith),
+          digit-told i j 3 w v (omega arith),
+          digit-told i j 4 w v (omega arith),
+          digit-told i j 5 w v (omega arith),
+        ) (digits-back (distance g i j) (omega (arith, few, distance-below mole w v)))
 
-  -- the sums of an atom fit two bytes, the block's four
-  small : (v : ℕ) → v ≤ n * n → v < 65536
-  small v h = let q : n * n ≤ 64 * 64 = mul-le-mul (few .high) (few .high) in omega arith
+    -- the sums of an atom fit two bytes, the block's four
+    small : (v : ℕ) → v ≤ n * n → v < 65536
+    small v h = let q : n * n ≤ 64 * 64 = mul-le-mul (few .high) (few .high) in omega arith
 
-  big : (v : ℕ) → v ≤ n * (n * n) → v < 4294967296
-  big v h =
-      let q : n * n ≤ 64 * 64 = mul-le-mul (few .high) (few .high) in
-      let r : n * (n * n) ≤ 64 * (64 * 64) = mul-le-mul (few .high) q in
-      omega arith
+    big : (v : ℕ) → v ≤ n * (n * n) → v < 4294967296
+    big v h =
+        let q : n * n ≤ 64 * 64 = mul-le-mul (few .high) (few .high) in
+        let r : n * (n * n) ≤ 64 * (64 * 64) = mul-le-mul (few .high) q in
+        omega arith
 
-  pub vertex-told : (i : ℕ) → Within n i → vertexAt s i ≡ vertexOf g i
-  unfolding vertexAt vertexOf seatOf littleBytes
-  vertex-told i w =
-      let at = seat i in
-      let E = pair-at s at (vertex g i evenOf) (small _ (vertex-most mole tame-even w)) (seat-at i 0 at w (omega arith) (omega arith)) (seat-at i 1 (at + 1) w (omega arith) (omega arith)) in
-      let O = pair-at s (at + 2) (vertex g i oddOf) (small _ (vertex-most mole tame-odd w)) (seat-at i 2 (at + 2) w (omega arith) (omega arith)) (seat-at i 3 (at + 2 + 1) w (omega arith) (omega arith)) in
-      same-sight
-      (ap₂ _+_ E O ∙ vertex-parts parts-of g i)
-      E
-      O
-      (seat-at i 4 (at + 4) w (omega arith) (omega arith))
-      (seat-at i 5 (at + 5) w (omega arith) (omega arith))
-      (seat-at i 6 (at + 6) w (omega arith) (omega arith))
-      (seat-at i 7 (at + 7) w (omega arith) (omega arith))
-      (seat-at i 8 (at + 8) w (omega arith) (omega arith))
+    pub vertex-told : (i : ℕ) → Within n i → vertexAt b i ≡ vertexOf g i
+    unfolding vertexAt vertexOf seatOf littleBytes
+    vertex-told i w =
+        let at = seat i in
+        let E = pair-at b at (vertex g i evenOf) (small _ (vertex-most mole tame-even w)) (seat-at i 0 at w (omega arith) (omega arith)) (seat-at i 1 (at + 1) w (omega arith) (omega arith)) in
+        let O = pair-at b (at + 2) (vertex g i oddOf) (small _ (vertex-most mole tame-odd w)) (seat-at i 2 (at + 2) w (omega arith) (omega arith)) (seat-at i 3 (at + 2 + 1) w (omega arith) (omega arith)) in
+        same-sight
+        (ap₂ _+_ E O ∙ vertex-parts parts-of g i)
+        E
+        O
+        (seat-at i 4 (at + 4) w (omega arith) (omega arith))
+        (seat-at i 5 (at + 5) w (omega arith) (omega arith))
+        (seat-at i 6 (at + 6) w (omega arith) (omega arith))
+        (seat-at i 7 (at + 7) w (omega arith) (omega arith))
+        (seat-at i 8 (at + 8) w (omega arith) (omega arith))
 
-  pub ends-told : (i : ℕ) → Within n i → storedDegree s i ≡ degree (g .bonds) i
-  unfolding seatOf littleBytes
-  ends-told i w = seat-at i 9 (seat i + 9) w (omega arith) (omega arith)
+    pub ends-told : (i : ℕ) → Within n i → storedDegree b i ≡ degree (g .bonds) i
+    unfolding seatOf littleBytes
+    ends-told i w = seat-at i 9 (seat i + 9) w (omega arith) (omega arith)
 
-  pub fields-told : storedFields s ≡ indicesOf g
-  unfolding storedFields indicesOf headOf littleBytes totalBy total
-  fields-told =
-      let E = four-at s 4 (total g evenOf) (big _ (total-most mole tame-even)) (head-at 4 (omega arith)) (head-at 5 (omega arith)) (head-at 6 (omega arith)) (head-at 7 (omega arith)) in
-      let O = four-at s 8 (total g oddOf) (big _ (total-most mole tame-odd)) (head-at 8 (omega arith)) (head-at 9 (omega arith)) (head-at 10 (omega arith)) (head-at 11 (omega arith)) in
-      let P = four-at s 12 (total g (isAt 3)) (big _ (total-most mole (tame-at 3))) (head-at 12 (omega arith)) (head-at 13 (omega arith)) (head-at 14 (omega arith)) (head-at 15 (omega arith)) in
-      same-six (omega (arith, head-at 2 (omega arith), few)) (ap₂ _+_ E O ∙ sym (total-parts (tableOf g))) E O P (head-at 3 (omega arith))
+    pub fields-told : storedFields b ≡ indicesOf g
+    unfolding storedFields indicesOf headOf littleBytes totalBy total
+    fields-told =
+        let E = four-at b 4 (total g evenOf) (big _ (total-most mole tame-even)) (head-at 4 (omega arith)) (head-at 5 (omega arith)) (head-at 6 (omega arith)) (head-at 7 (omega arith)) in
+        let O = four-at b 8 (total g oddOf) (big _ (total-most mole tame-odd)) (head-at 8 (omega arith)) (head-at 9 (omega arith)) (head-at 10 (omega arith)) (head-at 11 (omega arith)) in
+        let P = four-at b 12 (total g (isAt 3)) (big _ (total-most mole (tame-at 3))) (head-at 12 (omega arith)) (head-at 13 (omega arith)) (head-at 14 (omega arith)) (head-at 15 (omega arith)) in
+        same-six (omega (arith, head-at 2 (omega arith), few)) (ap₂ _+_ E O ∙ sym (total-parts (tableOf g))) E O P (head-at 3 (omega arith))
 
-  pub number-told : x < 65536 → storedNumber s ≡ x
-  unfolding headOf littleBytes
-  number-told h = pair-at s 0 x h (head-at 0 (omega arith)) (head-at 1 (omega arith))
+    pub number-told : x < 65536 → storedNumber b ≡ x
+    unfolding headOf littleBytes
+    number-told h = pair-at b 0 x h (head-at 0 (omega arith)) (head-at 1 (omega arith))
 
-  -- A SUMMARY READ BACK tells the block
-  pub summary-told : Told (keptOf s) (tableOf g)
-  summary-told = record {
-    six = fields-told ∙ sym (six-is g);
-    sight = λ i w. vertex-told i w ∙ sym (sight-is g i);
-    far = far-told;
-    alone = λ i w. alone-molecule mole w;
-  }
+    -- A PLACE THAT BEGINS WITH A BLOCK'S SUMMARY tells the block
+    pub summary-told : summaryBytes ≤ length b → Told (keptOf b) (tableOf g)
+    summary-told long = record {
+      six = fields-told ∙ sym (six-is g);
+      sight = λ i w. vertex-told i w ∙ sym (sight-is g i);
+      far = far-told long;
+      alone = λ i w. alone-molecule mole w;
+    }

@@ -1,24 +1,50 @@
--- Laws. Worked examples, computed: the summary of two bonded atoms, read back. Assumes nothing.
+-- Laws. Worked examples, computed: the summary of two bonded atoms, and what bytes that begin with it say. Assumes nothing.
 use Prim.Native.Nat.{ℕ}
-use mathlib.Core.List.{List, [], _∷_}
+use mathlib.Core.List.{List, [], _∷_, _++_}
 use mathlib.Core.Path.{_≡_, refl}
-use lib.ListN.{take}
+use lib.ListN.{replicate}
 use Rattle.graph.specs.Graph.{Graph, bond, distance, firstFrom, reaches, anyAtom, bonded, anyJoins, joins, degree, sum, sumPairs, evenOf, oddOf, evenOne, oddOne, isAt, total, vertex}
 use Rattle.graph.specs.Farthest.{most, mostPairs, farthest, largest}
-use Rattle.half.specs.Half.{table, rowStart, abovePlace, noPair, pairPlace, halfFrom}
 use Rattle.block.specs.Index.{indicesOf, vertexOf}
+use Rattle.reach.specs.DigitSets.{setOf}
 use Rattle.records.specs.Bytes.{little, littleBytes}
 use Rattle.summary.specs.Layout.{storedNumber, storedDegree, farAt}
-use Rattle.summary.specs.Summary.{headOf, seatOf, seatAt, seatsFrom, summaryOf}
+use Rattle.summary.specs.Summary.{headOf, seatOf, setsFrom, atomOf, atomsFrom, summaryOf}
 
 abbrev pub two : Graph
 two = record { atoms = 2; bonds = bond 1 2 ∷ [] }
 
--- number 7, two atoms, largest distance 1, even part 0, odd part 1, polarity 0
-pub opens : take 16 (summaryOf 7 two) ≡ 7 ∷ 0 ∷ 2 ∷ 1 ∷ 0 ∷ 0 ∷ 0 ∷ 0 ∷ 1 ∷ 0 ∷ 0 ∷ 0 ∷ 0 ∷ 0 ∷ 0 ∷ 0 ∷ []
-unfolding summaryOf headOf littleBytes seatsFrom seatAt seatOf indicesOf vertexOf distance firstFrom reaches anyAtom bonded anyJoins joins degree sum sumPairs evenOf oddOf evenOne oddOne isAt total vertex most mostPairs farthest largest halfFrom table
-opens = refl
+-- the five sets of an atom that has no other at a distance of 2 or more
+abbrev none : List ℕ
+none = 0 ∷ 0 ∷ 0 ∷ 0 ∷ 0 ∷ 0 ∷ 0 ∷ 0 ∷ 0 ∷ 0 ∷ 0 ∷ 0 ∷ 0 ∷ 0 ∷ 0 ∷ 0 ∷ 0 ∷ 0 ∷ 0 ∷ 0 ∷ 0 ∷ 0 ∷ 0 ∷ 0 ∷ 0 ∷ 0 ∷ 0 ∷ 0 ∷ 0 ∷ 0 ∷ 0 ∷ 0 ∷ 0 ∷ 0 ∷ 0 ∷ 0 ∷ 0 ∷ 0 ∷ 0 ∷ 0 ∷ []
 
-pub says : (storedNumber (summaryOf 7 two) ≡ 7) × (storedDegree (summaryOf 7 two) 2 ≡ 1) × (farAt (summaryOf 7 two) 2 1 ≡ 1) × (farAt (summaryOf 7 two) 2 2 ≡ 0)
-unfolding summaryOf headOf littleBytes seatsFrom seatAt seatOf indicesOf vertexOf distance firstFrom reaches anyAtom bonded anyJoins joins degree sum sumPairs evenOf oddOf evenOne oddOne isAt total vertex most mostPairs farthest largest halfFrom table farAt noPair pairPlace abovePlace rowStart little
-says = (refl, refl, refl, refl)
+-- number 7, two atoms, largest distance 1, even part 0, odd part 1, polarity 0
+abbrev head : List ℕ
+head = 7 ∷ 0 ∷ 2 ∷ 1 ∷ 0 ∷ 0 ∷ 0 ∷ 0 ∷ 1 ∷ 0 ∷ 0 ∷ 0 ∷ 0 ∷ 0 ∷ 0 ∷ 0 ∷ []
+
+-- even sum 0, odd sum 1, one even count: itself, one odd, one at 1, none at 2, farthest 1, one bond; then the set of those at an odd distance: the other
+abbrev first : List ℕ
+first = 0 ∷ 0 ∷ 1 ∷ 0 ∷ 1 ∷ 1 ∷ 1 ∷ 0 ∷ 1 ∷ 1 ∷ 2 ∷ 0 ∷ 0 ∷ 0 ∷ 0 ∷ 0 ∷ 0 ∷ 0 ∷ []
+
+abbrev second : List ℕ
+second = 0 ∷ 0 ∷ 1 ∷ 0 ∷ 1 ∷ 1 ∷ 1 ∷ 0 ∷ 1 ∷ 1 ∷ 1 ∷ 0 ∷ 0 ∷ 0 ∷ 0 ∷ 0 ∷ 0 ∷ 0 ∷ []
+
+pub bytes : summaryOf 7 two ≡ head ++ (first ++ (none ++ (second ++ none)))
+unfolding summaryOf headOf littleBytes atomsFrom atomOf setsFrom setOf seatOf indicesOf vertexOf distance firstFrom reaches anyAtom bonded anyJoins joins degree sum sumPairs evenOf oddOf evenOne oddOne isAt total vertex most mostPairs farthest largest
+bytes = refl
+
+-- whatever stands behind it
+abbrev place : List ℕ
+place = head ++ (first ++ (none ++ (second ++ (none ++ replicate 3596 9))))
+
+pub says : (storedNumber place ≡ 7) × (storedDegree place 2 ≡ 1) × (farAt place 2 1 ≡ 1) × (farAt place 1 2 ≡ 1) × (farAt place 2 2 ≡ 0) × (farAt place 2 65 ≡ 0) × (farAt head 2 1 ≡ 0)
+unfolding farAt little
+says = (refl, refl, refl, refl, refl, refl, refl)
+
+-- the six sets of atom 1 have atom 9 where its distance has the digit: 1 + 4 + 32
+abbrev far : List ℕ
+far = head ++ (0 ∷ 0 ∷ 0 ∷ 0 ∷ 0 ∷ 0 ∷ 0 ∷ 0 ∷ 0 ∷ 0 ∷ 255 ∷ 1 ∷ 0 ∷ 0 ∷ 0 ∷ 0 ∷ 0 ∷ 0 ∷ 255 ∷ 254 ∷ 0 ∷ 0 ∷ 0 ∷ 0 ∷ 0 ∷ 0 ∷ 0 ∷ 1 ∷ 0 ∷ 0 ∷ 0 ∷ 0 ∷ 0 ∷ 0 ∷ 0 ∷ 2 ∷ 0 ∷ 0 ∷ 0 ∷ 0 ∷ 0 ∷ 0 ∷ 0 ∷ 4 ∷ 0 ∷ 0 ∷ 0 ∷ 0 ∷ 0 ∷ 0 ∷ 0 ∷ 129 ∷ replicate 3660 0)
+
+pub nine : (farAt far 1 9 ≡ 37) × (farAt far 1 8 ≡ 3) × (farAt far 1 17 ≡ 0)
+unfolding farAt
+nine = (refl, refl, refl)

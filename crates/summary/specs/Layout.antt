@@ -1,17 +1,28 @@
--- Definitions. A summary of a block, 2,672 bytes: its number (2), atom count (1), largest distance (1), even part, odd part and polarity (4 each); for each of
--- 64 atoms 10 bytes: the sums of the even and of the odd distances (2 each), the even and the odd count, how many are at 1 and at 2, the farthest and
--- the bonds at it (1 each); and half a table of distances. What a summary says, whatever its bytes are.
-use Prim.Native.Nat.{ℕ, _+_, _*_, min}
-use mathlib.Core.Bool.{cond}
+-- Definitions. A summary of a block: its number (2 bytes), atom count (1), largest distance (1), even part, odd part and polarity (4 each); then 58 for each atom:
+-- the sums of the even and of the odd distances (2 each), the even and the odd count, how many are at 1 and at 2, the farthest and the bonds at it (1 each), and
+-- six sets of atoms (8 each), in set k those whose distance has binary digit k. A place for a summary has room for 64 atoms. What a summary says, whatever
+-- its bytes are.
+use Prim.Native.Nat.{ℕ, _+_, _-_, _*_, _/_, _%_, _^_, min}
+use mathlib.Core.Bool.{_||_, cond}
 use mathlib.Core.List.{List}
-use Rattle.half.specs.Half.{mostAtoms, noPair, pairPlace}
+use lib.Dec.{ltb}
+use lib.ListN.{length}
+use Rattle.half.specs.Half.{mostAtoms}
+use Rattle.reply.specs.Read.{isOutside}
 use Rattle.records.specs.Bytes.{byteAt, little, le16}
 use Rattle.block.specs.declared.Indices.{Indices}
 use Rattle.block.specs.declared.Vertex.{Vertex}
 use Rattle.tables.specs.Parts.{Part}
 
+-- the bytes that a summary opens with, those of an atom, and those of a place
+abbrev pub headBytes : ℕ
+headBytes = 16
+
+abbrev pub atomBytes : ℕ
+atomBytes = 58
+
 abbrev pub summaryBytes : ℕ
-summaryBytes = 2672
+summaryBytes = headBytes + atomBytes * mostAtoms
 
 abbrev pub storedNumber : List ℕ → ℕ
 storedNumber s = le16 s 0
@@ -32,7 +43,7 @@ storedFields s = record {
 
 -- where what is kept of atom i stands
 abbrev pub seat : ℕ → ℕ
-seat i = 6 + 10 * i
+seat i = headBytes + atomBytes * (i - 1)
 
 unfoldable pub vertexAt : List ℕ → ℕ → Vertex
 vertexAt s i = record {
@@ -50,9 +61,16 @@ vertexAt s i = record {
 abbrev pub storedDegree : List ℕ → ℕ → ℕ
 storedDegree s i = byteAt s (seat i + 9)
 
--- either way round, and 0 for no pair
+-- digit k of the distance of atoms i and j
+abbrev pub digitIn : List ℕ → ℕ → ℕ → ℕ → ℕ
+digitIn s i j k = byteAt s (seat i + 10 + 8 * k + (j - 1) / 8) / 2 ^ ((j - 1) % 8) % 2
+
+abbrev pub digitsIn : List ℕ → ℕ → ℕ → ℕ
+digitsIn s i j = digitIn s i j 0 + 2 * digitIn s i j 1 + 4 * digitIn s i j 2 + 8 * digitIn s i j 3 + 16 * digitIn s i j 4 + 32 * digitIn s i j 5
+
+-- the distance of atoms i and j; 0 where they are not two of 64, or the bytes are fewer than a place has
 unfoldable pub farAt : List ℕ → ℕ → ℕ → ℕ
-farAt s i j = cond (noPair i j) 0 (byteAt s (656 + pairPlace i j))
+farAt s i j = cond (isOutside mostAtoms i || isOutside mostAtoms j || ltb (length s) summaryBytes) 0 (digitsIn s i j)
 
 abbrev pub keptOf : List ℕ → Part
 keptOf s = record { six = storedFields s; sight = vertexAt s; far = farAt s }

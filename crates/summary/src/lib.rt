@@ -2,24 +2,28 @@
 use block::ATOMS;
 use block::Indices;
 use block::Vertex;
-use half::PAIRS;
-use half::place;
 use records::byte_at;
 use records::le16_at;
+use reply::is_outside;
 use reply::wide;
 ghost use mathlib.Core.Path.{_≡_};
-ghost use Prim.Native.Nat.{_^_, _<_};
+ghost use Prim.Native.Nat.{_^_, _≤_, _<_};
+ghost use lib.ListN.{length};
+ghost use Rattle.graph.specs.Graph.{Within};
+ghost use Rattle.half.specs.Half.{mostAtoms};
+ghost use Rattle.reach.specs.DigitSets.{mostDigits};
 ghost use Rattle.records.specs.Bytes.{byteAt, little, le16};
-ghost use Rattle.summary.specs.Layout.{storedAtoms, storedFields, vertexAt, storedDegree, farAt};
+ghost use Rattle.summary.specs.Layout.{summaryBytes, storedAtoms, storedFields, seat, vertexAt, storedDegree, digitIn, digitsIn, farAt};
 
-// The bytes of a summary; of the number, counts and fields that it opens with; and of what it keeps of an atom.
-pub const SUMMARY: usize = HEAD + SEAT * ATOMS + PAIRS;
-
+// The bytes of the number, counts and fields that a summary opens with; those of an atom, of which the first ten are its sums and counts, and the others its
+// six sets; and those of a place for a summary.
 pub const HEAD: usize = 16;
+
+pub const ATOM: usize = 58;
 
 pub const SEAT: usize = 10;
 
-pub const HALF: usize = HEAD + SEAT * ATOMS;
+pub const SUMMARY: usize = HEAD + ATOM * ATOMS;
 
 fn byte(s: &[u8], at: usize) -> u64
     ensures { λ r. ⌜ r ≡ byteAt (now (s .entry)) at ⌝ }
@@ -64,11 +68,22 @@ pub fn fields(s: &[u8]) -> Indices
     }
 }
 
+// Where what is kept of atom i stands.
+fn seat(i: usize) -> usize
+    requires { ⌜ i < 2 ^ 58 ⌝ }
+    ensures { λ r. ⌜ r ≡ seat i ⌝ }
+{
+    if i == 0 {
+        return HEAD;
+    }
+    HEAD + ATOM * (i - 1)
+}
+
 // What is counted from atom i; all 0 beyond the bytes.
 pub fn vertex(s: &[u8], i: usize) -> Vertex
     ensures { λ r. ⌜ r ≡ vertexAt (now (s .entry)) i ⌝ }
 {
-    if s.len() / SEAT < i {
+    if s.len() / ATOM + 1 < i {
         return Vertex {
             sum: 0,
             even: 0,
@@ -80,7 +95,7 @@ pub fn vertex(s: &[u8], i: usize) -> Vertex
             farthest: 0,
         };
     }
-    let at = 6 + SEAT * i;
+    let at = seat(i);
     let even = two(s, at);
     let odd = two(s, at + 2);
     Vertex {
@@ -99,16 +114,41 @@ pub fn vertex(s: &[u8], i: usize) -> Vertex
 pub fn ends(s: &[u8], i: usize) -> usize
     ensures { λ r. ⌜ r ≡ storedDegree (now (s .entry)) i ⌝ }
 {
-    if s.len() / SEAT < i {
+    if s.len() / ATOM + 1 < i {
         return 0;
     }
-    byte_at(s, 6 + SEAT * i + 9) as usize
+    byte_at(s, seat(i) + 9) as usize
 }
 
-// The distance of atoms i and j; 0 where they are no pair.
+// Digit k of the distance of atoms i and j, two of 64.
+fn digit(s: &[u8], i: usize, j: usize, k: usize) -> u64
+    requires { ⌜ Within mostAtoms i × Within mostAtoms j × (k < mostDigits) × (summaryBytes ≤ length (now s)) ⌝ }
+    ensures { λ r. ⌜ (r ≡ digitIn (now (s .entry)) i j k) × (r < 2) ⌝ }
+{
+    (wide(s[HEAD + ATOM * (i - 1) + SEAT + 8 * k + (j - 1) / 8]) >> ((j - 1) % 8)) % 2
+}
+
+// The distance of two of 64 atoms by its digits.
+fn digits(s: &[u8], i: usize, j: usize) -> u64
+    requires { ⌜ Within mostAtoms i × Within mostAtoms j × (summaryBytes ≤ length (now s)) ⌝ }
+    ensures { λ r. ⌜ r ≡ digitsIn (now (s .entry)) i j ⌝ }
+{
+    let low = digit(s, i, j, 0) + 2 * digit(s, i, j, 1) + 4 * digit(s, i, j, 2);
+    low + 8 * digit(s, i, j, 3) + 16 * digit(s, i, j, 4) + 32 * digit(s, i, j, 5)
+}
+
+// The distance of atoms i and j; 0 where they are not two of 64, or the bytes are fewer than a place has.
 pub fn far(s: &[u8], i: usize, j: usize) -> u64
     ensures { λ r. ⌜ r ≡ farAt (now (s .entry)) i j ⌝ }
 {
-    let p = place(i, j);
-    if p < PAIRS { byte(s, HALF + p) } else { 0 }
+    if is_outside(ATOMS, i) {
+        return 0;
+    }
+    if is_outside(ATOMS, j) {
+        return 0;
+    }
+    if s.len() < SUMMARY {
+        return 0;
+    }
+    digits(s, i, j)
 }

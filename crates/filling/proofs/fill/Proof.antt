@@ -1,65 +1,59 @@
 -- `fill` meets its contract.
-use mathlib.Core.Path.{sym, _∙_, ap}
-use lib.ListN.{length}
-use Rattle.reply.specs.Read.{saidReply}
-use Rattle.block.specs.declared.Opened.{Opened}
-use Rattle.filling.proofs.Told.{opened-refused, opened-fine, reply-refused, reply-short, reply-fine, bytes-stay, bytes-put, all-put}
+use native.Mathlib.Omega.{arith}
+use Rattle.filling.proofs.Told.{lent-zeros}
 use borrow.Author.Needs.{needs}
 use Rattle.filling.proofs.fill.Statement.{statement}
 use Rattle.filling.proofs.fill.Tie as tie
 
-table-requires : tie.Need-table-requires
-table-requires c κs = search needs
+slice-aggregate-fill-by : tie.Need-slice-aggregate-fill-by
+slice-aggregate-fill-by c = search needs
 
-enum-told : tie.Need-enum-told
-enum-told c = search needs
-
-enum-told-2 : tie.Need-enum-told-2
-enum-told-2 c = search needs
-
-returns : tie.Need-returns
-returns c =
-    let t = c .before .before in
-    let a = t .before .before .before .before .before .args in
-    let r = c .enum-told2 .given in
-    let e = reply-refused (a .n) (a .bonds .now) (length (a .out .now)) (opened-refused (a .n) (a .bonds .now) _ (r .0 .0) (t .table .ensures .0) (r .1)) in
-    (r .1 ∙ sym (ap saidReply e), bytes-stay (a .n) (a .bonds .now) (a .number) (a .out .now) e)
-
-returns-2 : tie.Need-returns-2
-returns-2 c =
-    let t = c .before .before .before in
-    let a = t .before .before .before .before .before .args in
-    let fine = opened-fine (a .n) (a .bonds .now) _ (t .table .ensures .0) (c .before .enum-told .given .1) in
-    let e = reply-short (a .n) (a .bonds .now) fine (length (a .out .now)) (c .if1 .taken) in
-    (sym (ap saidReply e), bytes-stay (a .n) (a .bonds .now) (a .number) (a .out .now) e)
-
-put-all-requires : tie.Need-put-all-requires
-put-all-requires c κs = search needs
+fill-by-requires : tie.Need-fill-by-requires
+fill-by-requires c κs = lent-zeros _ 48 (λ l. omega arith)
 
 same-length : tie.Need-same-length
 same-length c = search needs
 
+returns : tie.Need-returns
+returns c = search needs
+
+slice-aggregate-fill-by-2 : tie.Need-slice-aggregate-fill-by-2
+slice-aggregate-fill-by-2 c = search needs
+
+fill-by-requires-2 : tie.Need-fill-by-requires-2
+fill-by-requires-2 c κs = lent-zeros _ 192 (λ l. omega arith)
+
+same-length-2 : tie.Need-same-length-2
+same-length-2 c = search needs
+
+returns-2 : tie.Need-returns-2
+returns-2 c = search needs
+
+slice-aggregate-fill-by-3 : tie.Need-slice-aggregate-fill-by-3
+slice-aggregate-fill-by-3 c = search needs
+
+fill-by-requires-3 : tie.Need-fill-by-requires-3
+fill-by-requires-3 c κs = lent-zeros _ 384 (λ l. omega arith)
+
+same-length-3 : tie.Need-same-length-3
+same-length-3 c = search needs
+
 returns-3 : tie.Need-returns-3
-returns-3 c =
-    let i = c .before .before .before .before .before .before in
-    let t = i .before .before .before in
-    let a = t .before .before .before .before .before .args in
-    let fine = opened-fine (a .n) (a .bonds .now) _ (t .table .ensures .0) (i .before .enum-told .given .1) in
-    let e = reply-fine (a .n) (a .bonds .now) fine (length (a .out .now)) (i .if1 .left) in (
-      sym (ap saidReply e),
-      bytes-put (a .n) (a .bonds .now) (a .number) (a .out .now) e
-          (all-put (a .n) (a .bonds .now) fine (a .out .now) (a .number) _ _ (t .table .ensures .1 .0) (t .table .ensures .1 .1) (c .before .before .put-all .ensures) (i .if1 .left)),
-    )
+returns-3 c = search needs
 
 pub fill-spec : {M : Type 1} → statement M
 fill-spec =
     tie.close
     (tie.spec
-    table-requires
-    enum-told
-    enum-told-2
-    returns
-    returns-2
-    put-all-requires
+    slice-aggregate-fill-by
+    fill-by-requires
     same-length
+    returns
+    slice-aggregate-fill-by-2
+    fill-by-requires-2
+    same-length-2
+    returns-2
+    slice-aggregate-fill-by-3
+    fill-by-requires-3
+    same-length-3
     returns-3)

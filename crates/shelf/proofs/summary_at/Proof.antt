@@ -2,6 +2,7 @@
 use Prim.Native.Nat.{_*_}
 use native.Mathlib.Omega.{arith}
 use Rattle.records.proofs.Numbers.{past-end}
+use Rattle.summary.specs.Layout.{summaryBytes}
 use borrow.Author.Needs.{needs}
 use Rattle.shelf.proofs.summary_at.Statement.{statement}
 use Rattle.shelf.proofs.summary_at.Tie as tie
@@ -10,7 +11,7 @@ part-requires : tie.Need-part-requires
 part-requires c κs = search needs
 
 returns : tie.Need-returns
-returns c = let a = c .before .before .before .args in past-end (2672 * a .i) 2672 (omega arith) (omega arith) (c .part .ensures)
+returns c = let a = c .before .before .before .args in past-end (summaryBytes * a .i) summaryBytes (omega arith) (omega arith) (c .part .ensures)
 
 mul-part : tie.Need-mul-part
 mul-part c = search needs
