@@ -45,7 +45,8 @@ pub tells-orders : HonestTrade recordTable recordBlocks
 tells-orders = record {
   wide = tells-blocks .wide;
   check = tells-blocks .check;
-  size = tells-blocks .size;
+  fits = tells-blocks .fits;
+  two = tells-blocks .two;
   number = tells-blocks .number;
   fields = tells-blocks .fields;
   composed = λ s q k o. ap (λ (m : Read Indices). handed o (ordered o m)) (kept-told s q k (payloadAt (o .asked) 0));

@@ -1,12 +1,12 @@
 -- Laws. The replies, test by test. Assumes nothing.
-use Prim.Native.Nat.{ℕ, _+_, _*_, _-_, _≤_, _<_}
+use Prim.Native.Nat.{ℕ, zero, suc, _+_, _*_, _-_, _≤_, _<_}
 use mathlib.Core.Bool.{Bool, true, false}
-use mathlib.Core.List.{List, [], _++_, append-nil, append-assoc}
-use mathlib.Core.Path.{_≡_, refl, sym, _∙_, ap, ap₂}
+use mathlib.Core.List.{List, [], _∷_, _++_, append-assoc}
+use mathlib.Core.Path.{_≡_, refl, sym, _∙_, ap}
 use borrow.Author.Tests.{eq-eqb, ne-eqb, lt-ltb, le-ltb, ltb-true, not-false}
 use native.Mathlib.Omega.{arith}
 use lib.Dec.{eqb, ltb}
-use lib.ListN.{length, take, drop, length-take, length-drop, take-append-drop, drop-of-length-le}
+use lib.ListN.{length, take, drop, length-take, length-drop, take-append-drop}
 use lib.Seq.{sets, sets-eq, drop-drop}
 use Rattle.reply.specs.Read.{Read, refused, read, refusal, _then_, refuseIf, saidReply}
 use Rattle.reply.specs.declared.Refusal.{Refusal}
@@ -18,9 +18,9 @@ use Rattle.storage.specs.Shelf.{places, numberIn, placeHolding, isHeld, heldBy,
 use Rattle.storage.specs.Table.{shelfBytes, tableBytes, shelfStart, shelf, onTable, tableAfter, withShelf, tableReply, zeroed, emptied}
 use Rattle.storage.specs.declared.Queue.{Queue}
 use Rattle.summary.specs.Layout.{summaryBytes}
+use Rattle.summary.specs.Back.{summary-fits}
 use Rattle.queues.specs.Queues.{storedBlock}
 use Rattle.queues.specs.Work.{firstOf, filledIn}
-use Rattle.queues.specs.Alone.{length-stored}
 
 module _ (s : List ℕ) (x : ℕ) where
   pub held-is : (k : ℕ) (b : Bool) → b ≡ isHeld x k → k ≡ placeHolding summaryBytes s x → holds summaryBytes s x ≡ b
@@ -142,18 +142,26 @@ module _ (q : Queue) (t : List ℕ) (a : ℕ) (e : a ≡ shelfStart summaryBytes
   after-on f s h = rw (long-after t q (f (shelf summaryBytes q t)) l, size, e, ← (rw (size, e) at h))
 
 -- what filling does with the part of a shelf that it is lent
-in-place : (w at : ℕ) (s v : List ℕ) → length v ≡ w → at + w ≤ length s → take at s ++ ((v ++ drop w (take w (drop at s))) ++ drop w (drop at s)) ≡ sets s at v
+behind : (n w : ℕ) (d : List ℕ) → n ≤ w → drop n (take w d) ++ drop w d ≡ drop n d
+behind zero w d h = take-append-drop w d
+behind (suc n) zero d h = absurd (omega arith)
+behind (suc n) (suc w) [] h = refl
+behind (suc n) (suc w) (x ∷ d) h = behind n w d (omega arith)
+
+in-place : (w at : ℕ) (s v : List ℕ) → length v ≤ w → at + w ≤ length s → take at s ++ (sets (take w (drop at s)) 0 v ++ drop w (drop at s)) ≡ sets s at v
 in-place w at s v l h =
-    let z : drop w (take w (drop at s)) ≡ [] = drop-of-length-le (take w (drop at s)) {i = w} (omega (arith, length-take w (drop at s))) in
-    ap (λ (t : List ℕ). take at s ++ ((v ++ t) ++ drop w (drop at s))) z
-    ∙ ap₂ (λ (a b : List ℕ). take at s ++ (a ++ b)) (append-nil v) (drop-drop w at s ∙ ap (λ (k : ℕ). drop (at + k) s) (sym l))
+    let d = drop at s in
+    let z : 0 + length v ≤ length (take w d) = omega (arith, length-take w d, length-drop at s) in
+    let n : 0 + length v ≡ length v = omega arith in
+    ap (λ (t : List ℕ). take at s ++ (t ++ drop w d)) (sets-eq v (take w d) 0 z ∙ ap (λ (k : ℕ). v ++ drop k (take w d)) n)
+    ∙ ap (λ (t : List ℕ). take at s ++ t) (append-assoc v (drop (length v) (take w d)) (drop w d) ∙ ap (λ (t : List ℕ). v ++ t) (behind (length v) w d l ∙ drop-drop (length v) at s))
     ∙ sym (append-assoc (take at s) v (drop (at + length v) s))
     ∙ sym (sets-eq v s at (omega arith))
 
 in-place-stays : (w at : ℕ) (s : List ℕ) → take at s ++ (take w (drop at s) ++ drop w (drop at s)) ≡ s
 in-place-stays w at s = ap (λ (t : List ℕ). take at s ++ t) (take-append-drop w (drop at s)) ∙ take-append-drop at s
 
-module _ (s : List ℕ) (x n : ℕ) (bs : List ℕ) (k : ℕ) (e : k ≡ placeHolding summaryBytes s 0) (size : length s ≡ shelfBytes summaryBytes) (l : placeHolding summaryBytes s 0 < places) where
+module _ (s : List ℕ) (x n : ℕ) (bs : List ℕ) (k : ℕ) (e : k ≡ placeHolding summaryBytes s 0) (size : length s ≡ shelfBytes summaryBytes) (l : k < places) where
   abbrev lent : List ℕ
   lent = take (summaryBytes * k + summaryBytes - summaryBytes * k) (drop (summaryBytes * k) s)
 
@@ -161,7 +169,7 @@ module _ (s : List ℕ) (x n : ℕ) (bs : List ℕ) (k : ℕ) (e : k ≡ placeHo
   width = omega arith
 
   long : length lent ≡ summaryBytes
-  long = rw width (length-take summaryBytes (drop (summaryBytes * k) s) ∙ omega (arith, length-drop (summaryBytes * k) s, size, l, e))
+  long = rw width (length-take summaryBytes (drop (summaryBytes * k) s) ∙ omega (arith, length-drop (summaryBytes * k) s, size, l))
 
   fill-is : fillReply n bs (length lent) ≡ blockReply n bs
   unfolding fillReply
@@ -177,17 +185,17 @@ module _ (s : List ℕ) (x n : ℕ) (bs : List ℕ) (k : ℕ) (e : k ≡ placeHo
   pub lent-bytes : (new : List ℕ) → new ≡ fillBytes x n bs lent
       → take (summaryBytes * k) s ++ (new ++ drop (summaryBytes * k + summaryBytes - summaryBytes * k) (drop (summaryBytes * k) s)) ≡ filledIn s x n bs
   unfolding filledIn filledSummary
-  lent-bytes new q = rw (q, fill-is, width) (go (blockReply n bs))
+  lent-bytes new q = rw (q, fill-is, width) (go (blockReply n bs) refl)
     where
       fits : summaryBytes * k + summaryBytes ≤ length s
-      fits = omega (arith, size, l, e)
+      fits = omega (arith, size, l)
 
-      go : (m : Read (Unit {0}))
+      go : (m : Read (Unit {0})) → blockReply n bs ≡ m
           → take (summaryBytes * k) s ++ (filledSummary m x (graphOf n bs) (take summaryBytes (drop (summaryBytes * k) s)) ++ drop summaryBytes (drop (summaryBytes * k) s))
           ≡ unless m s (sets s (summaryBytes * placeHolding summaryBytes s 0) (storedBlock x n bs))
-      go (refused r) = in-place-stays summaryBytes (summaryBytes * k) s
-      go (read u) =
-          in-place summaryBytes (summaryBytes * k) s (storedBlock x n bs) (length-stored x (graphOf n bs)) fits ∙ ap (λ (i : ℕ). sets s (summaryBytes * i) (storedBlock x n bs)) e
+      go (refused r) f = in-place-stays summaryBytes (summaryBytes * k) s
+      go (read u) f =
+          in-place summaryBytes (summaryBytes * k) s (storedBlock x n bs) (summary-fits x n bs f) fits ∙ ap (λ (i : ℕ). sets s (summaryBytes * i) (storedBlock x n bs)) e
 
 -- a refusal that comes first, or last
 pub first-refused : (m : Read (Unit {0})) (r q : Refusal) → m ≡ refused r → firstOf m q ≡ refused r

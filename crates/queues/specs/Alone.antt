@@ -6,20 +6,18 @@ use mathlib.Core.Path.{_≡_, refl, sym, _∙_, ap}
 use native.Mathlib.Omega.{arith}
 use borrow.Author.Tests.{ne-eqb, eqb-false}
 use lib.Dec.{eqb, ltb, lit≤}
-use lib.ListN.{length, length-append}
+use lib.ListN.{length, take}
 use Rattle.graph.specs.Graph.{Graph}
 use Rattle.reply.specs.Read.{Read, read}
-use Rattle.half.specs.Half.{mostAtoms, halfOf}
-use Rattle.half.specs.Reads.{length-half}
 use Rattle.block.specs.Block.{graphOf, blockReply}
 use Rattle.block.specs.Index.{indicesOf}
 use Rattle.block.specs.Told.{molecule}
 use Rattle.block.specs.declared.Indices.{Indices}
 use Rattle.records.specs.Bytes.{little, le16, littleBytes}
 use Rattle.summary.specs.Layout.{summaryBytes, storedFields}
-use Rattle.summary.specs.Summary.{headOf, seatsFrom, pairOf, summaryOf}
-use Rattle.summary.specs.Back.{length-head, length-seats, fields-told, summary-told, ends-told}
-use Rattle.shelf.specs.Shelf.{placeFrom, shelfIn, placeOf as placeIn}
+use Rattle.summary.specs.Summary.{headOf, summaryOf}
+use Rattle.summary.specs.Back.{length-summary, summary-fits, fields-told, summary-told, ends-told}
+use Rattle.shelf.specs.Shelf.{summaryAt, placeFrom, shelfIn, placeOf as placeIn}
 use Rattle.summaries.specs.Composing.{composedReply}
 use Rattle.summaries.specs.Written.{writtenReply, composed-written, HonestBook}
 use Rattle.storage.specs.Shelf.{places, numberIn, seek, heldBy, holds, placeHolding, lookReply}
@@ -28,19 +26,13 @@ use Rattle.storage.specs.Calls.{Sent, own, answersTo, tableAll}
 use Rattle.storage.specs.Model.{Entry, lookup, has, toldLook, toldAll, leftAll}
 use Rattle.storage.specs.Entries.{has-positive}
 use Rattle.storage.specs.Keeps.{KeepsQueue, HonestTrade}
-use Rattle.storage.specs.Kept.{KeptPlaces, proper-at, stands, same-look}
+use Rattle.storage.specs.Kept.{KeptPlaces, proper-at, place-long, stands, same-look}
 use Rattle.storage.specs.Alone.{own-calls-only, keeps-own}
 use Rattle.storage.specs.declared.Queue.{Queue}
 use Rattle.queues.specs.Queues.{storedBlock}
 use Rattle.queues.specs.Blocks.{Block, noBlock, blockIn, bookIn, summaryTable, blocks}
 
--- a summary's bytes
-pub length-stored : (x : ℕ) (g : Graph) → length (summaryOf x g) ≡ summaryBytes
-unfolding summaryOf
-length-stored x g =
-    length-append (headOf x (indicesOf g)) (seatsFrom g 1 mostAtoms ++ halfOf (pairOf g))
-    ∙ omega (arith, length-head x (indicesOf g), length-append (seatsFrom g 1 mostAtoms) (halfOf (pairOf g)), length-seats g mostAtoms 1, length-half (pairOf g))
-
+-- a summary begins with its number
 number-stored : (x : ℕ) (g : Graph) → x < 65536 → le16 (summaryOf x g) 0 ≡ x
 unfolding summaryOf headOf littleBytes little
 number-stored x g h = omega arith
@@ -74,21 +66,24 @@ module _ (s : List ℕ) (size : length s ≡ summaryBytes * places) where
 
 -- a queue's shelf tells its blocks
 module _ (s : List ℕ) (q : List (Entry Block)) (k : KeepsQueue summaryTable blocks (lit≤ tt) s q) where
-  abbrev size : (x : ℕ) (g : Block) → length (storedBlock x (g .atoms) (g .bytes)) ≡ summaryBytes
-  size x g = length-stored x (graphOf (g .atoms) (g .bytes))
-
   fine-at : (x : ℕ) → has noBlock q x ≡ true → blockReply (blockIn q x .atoms) (blockIn q x .bytes) ≡ read tt
-  fine-at x e = proper-at summaryTable blocks (lit≤ tt) size k x e .fine
+  fine-at x e = proper-at summaryTable blocks (lit≤ tt) k x e .fine
 
   there : (x : ℕ) → has noBlock q x ≡ true → placeIn s x ≡ placeHolding summaryBytes s x
   there x e = place-same s (k .stores .size) x (has-positive noBlock q x e)
+
+  begins : (x : ℕ) → has noBlock q x ≡ true → let b = storedBlock x (blockIn q x .atoms) (blockIn q x .bytes) in take (length b) (summaryAt s (placeIn s x)) ≡ b
+  begins x e = rw (there x e) (stands summaryTable blocks (lit≤ tt) k x e)
+
+  long : (x : ℕ) → has noBlock q x ≡ true → summaryBytes ≤ length (summaryAt s (placeIn s x))
+  long x e = rw (there x e) (omega (arith, place-long summaryTable blocks (lit≤ tt) k x e))
 
   tells : HonestBook s (bookIn q)
   tells = record {
     has = λ x. has-same s (k .stores .size) x ∙ k .stores .numbers x;
     molecules = λ x e. molecule (blockIn q x .atoms) (blockIn q x .bytes) (fine-at x e);
-    told = λ x e. rw (there x e, stands summaryTable blocks (lit≤ tt) size k x e) (summary-told x (blockIn q x .atoms) (blockIn q x .bytes) (fine-at x e));
-    ends = λ x a e w. rw (there x e, stands summaryTable blocks (lit≤ tt) size k x e) (ends-told x (blockIn q x .atoms) (blockIn q x .bytes) (fine-at x e) a w);
+    told = λ x e. summary-told x (blockIn q x .atoms) (blockIn q x .bytes) (fine-at x e) (summaryAt s (placeIn s x)) (begins x e) (long x e);
+    ends = λ x a e w. ends-told x (blockIn q x .atoms) (blockIn q x .bytes) (fine-at x e) (summaryAt s (placeIn s x)) (begins x e) a w;
   }
 
 -- THE BYTES SAY WHAT THE BLOCKS MEAN
@@ -96,9 +91,10 @@ pub tells-blocks : HonestTrade summaryTable blocks
 tells-blocks = record {
   wide = lit≤ tt;
   check = λ g. refl;
-  size = λ x g. length-stored x (graphOf (g .atoms) (g .bytes));
+  fits = λ x g f. summary-fits x (g .atoms) (g .bytes) f;
+  two = λ x g. omega (arith, length-summary (graphOf (g .atoms) (g .bytes)) x);
   number = λ x g h. number-stored x (graphOf (g .atoms) (g .bytes)) h;
-  fields = λ x g f. fields-told x (g .atoms) (g .bytes) f;
+  fields = λ x g b f e. fields-told x (g .atoms) (g .bytes) f b e;
   composed = λ s q k xs. composed-written s (bookIn q) xs (tells s q k);
 }
 

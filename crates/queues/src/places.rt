@@ -51,8 +51,9 @@ pub(crate) fn is_held(number: u16, k: usize) -> bool
     number != 0 && k < PLACES
 }
 
-// Refusals 14, 29 and 28 of a number that is to be added.
-pub(crate) fn room_reply(s: &[u8], number: u16) -> Reply
+// Refusals 14, 29 and 28 of a number that is to be added, where k is the first empty place.
+pub(crate) fn room_reply(s: &[u8], number: u16, k: usize) -> Reply
+    requires { ⌜ k ≡ placeHolding summaryBytes (now s) 0 ⌝ }
     ensures { λ r. ⌜ r ≡ saidReply (roomReply summaryBytes (now (s .entry)) number) ⌝ }
 {
     if number == 0 {
@@ -61,7 +62,7 @@ pub(crate) fn room_reply(s: &[u8], number: u16) -> Reply
     if is_held(number, place_of(s, number)) {
         return refused(29);
     }
-    if place_of(s, 0) < PLACES {
+    if k < PLACES {
         return Reply::Fine;
     }
     refused(28)
@@ -78,13 +79,13 @@ fn not_added(n: usize, bonds: &[u8], room: Refusal) -> Reply
     }
 }
 
-// Fills the first empty place.
-fn fill_in(s: &mut [u8], number: u16, n: usize, bonds: &[u8]) -> Reply
-    requires { ⌜ (length (now s) ≡ shelfBytes summaryBytes) × (placeHolding summaryBytes (now s) 0 < places) ⌝ }
+// Fills the first empty place, k.
+fn fill_in(s: &mut [u8], k: usize, number: u16, n: usize, bonds: &[u8]) -> Reply
+    requires { ⌜ (length (now s) ≡ shelfBytes summaryBytes) × (k ≡ placeHolding summaryBytes (now s) 0) × (k < places) ⌝ }
     ensures reply { λ r. ⌜ r ≡ saidReply (blockReply n (now (bonds .entry))) ⌝ }
     ensures bytes { λ _. ⌜ now (s .exit) ≡ filledIn (now (s .entry)) number n (now (bonds .entry)) ⌝ }
 {
-    let start = SUMMARY * place_of(s, 0);
+    let start = SUMMARY * k;
     let end = start + SUMMARY;
     fill(number, n, bonds, &mut s[start..end])
 }
@@ -98,10 +99,11 @@ pub(crate) fn add_to(s: &mut [u8], number: u16, n: usize, bonds: &[u8]) -> Reply
         (storedBlock number n (now (bonds .entry)))
         ⌝ }
 {
-    let room = room_reply(s, number);
+    let k = place_of(s, 0);
+    let room = room_reply(s, number, k);
     match room {
         Reply::Refused(refusal) => not_added(n, bonds, refusal),
-        Reply::Fine => fill_in(s, number, n, bonds),
+        Reply::Fine => fill_in(s, k, number, n, bonds),
     }
 }
 

@@ -4,9 +4,6 @@ use borrow.Author.Needs.{needs}
 use Rattle.queues.proofs.places.fill_in.Statement.{statement}
 use Rattle.queues.proofs.places.fill_in.Tie as tie
 
-place-of-requires : tie.Need-place-of-requires
-place-of-requires c κs = search needs
-
 mul-start : tie.Need-mul-start
 mul-start c = search needs
 
@@ -30,19 +27,17 @@ same-length c = search needs
 
 returns : tie.Need-returns
 returns c =
-    let k = c .before .before .before .before .place-of in
     let f = c .before .before .fill in
-    let p = c .before .before .before .before .before .before .before .before .pre in
-    let a = c .before .before .before .before .before .before .before .before .args in (
-      lent-reply (a .s .now) (a .number) (a .n) (a .bonds .now) (k .result) (k .ensures .0) (p .0) (p .1) (f .result) (f .ensures .0),
-      lent-bytes (a .s .now) (a .number) (a .n) (a .bonds .now) (k .result) (k .ensures .0) (p .0) (p .1) _ (f .ensures .1),
+    let p = c .before .before .before .before .before .before .pre in
+    let a = c .before .before .before .before .before .before .args in (
+      lent-reply (a .s .now) (a .number) (a .n) (a .bonds .now) (a .k) (p .1) (p .0) (p .2) (f .result) (f .ensures .0),
+      lent-bytes (a .s .now) (a .number) (a .n) (a .bonds .now) (a .k) (p .1) (p .0) (p .2) _ (f .ensures .1),
     )
 
 pub fill-in-spec : {M : Type 1} → statement M
 fill-in-spec =
     tie.close
     (tie.spec
-    place-of-requires
     mul-start
     add-end
     sub-fill

@@ -27,21 +27,18 @@ returns-2 c =
     let h = held-is _ _ _ _ (c .before .before .is-held .ensures) (c .before .before .before .place-of .ensures .0) ∙ c .before .if2 .taken in
     c .refused2 .ensures ∙ sym (ap saidReply (room-held _ _ (c .before .before .before .before .if1 .left) h))
 
-place-of-requires-2 : tie.Need-place-of-requires-2
-place-of-requires-2 c κs = search needs
-
 returns-3 : tie.Need-returns-3
 returns-3 c =
-    let h = held-is _ _ _ _ (c .before .before .before .is-held .ensures) (c .before .before .before .before .place-of .ensures .0) ∙ c .before .before .if2 .left in
-    sym (ap saidReply (room-fine _ _ (c .before .before .before .before .before .if1 .left) h (omega (arith, c .if3 .taken, c .before .place-of2 .ensures .0))))
+    let h = held-is _ _ _ _ (c .before .before .is-held .ensures) (c .before .before .before .place-of .ensures .0) ∙ c .before .if2 .left in
+    sym (ap saidReply (room-fine _ _ (c .before .before .before .before .if1 .left) h (omega (arith, c .if3 .taken, c .before .before .before .before .before .before .pre))))
 
 refused-requires-3 : tie.Need-refused-requires-3
 refused-requires-3 c κs = search needs
 
 returns-4 : tie.Need-returns-4
 returns-4 c =
-    let h = held-is _ _ _ _ (c .before .before .before .before .is-held .ensures) (c .before .before .before .before .before .place-of .ensures .0) ∙ c .before .before .before .if2 .left in
-    c .refused3 .ensures ∙ sym (ap saidReply (room-none _ _ (c .before .before .before .before .before .before .if1 .left) h (omega (arith, c .before .if3 .left, c .before .before .place-of2 .ensures .0))))
+    let h = held-is _ _ _ _ (c .before .before .before .is-held .ensures) (c .before .before .before .before .place-of .ensures .0) ∙ c .before .before .if2 .left in
+    c .refused3 .ensures ∙ sym (ap saidReply (room-none _ _ (c .before .before .before .before .before .if1 .left) h (omega (arith, c .before .if3 .left, c .before .before .before .before .before .before .before .pre))))
 
 pub room-reply-spec : {M : Type 1} → statement M
 room-reply-spec =
@@ -53,7 +50,6 @@ room-reply-spec =
     is-held-requires
     refused-requires-2
     returns-2
-    place-of-requires-2
     returns-3
     refused-requires-3
     returns-4)
