@@ -2,7 +2,7 @@
 #   make python                 the Python package with its shared object: python/, for `pip install ./python`
 #   make install PREFIX=/usr    header, archive, shared object and pkg-config file
 #   make test                   the tests of what stands around the library
-VERSION := 2.1.0
+VERSION := 3.0.0
 PREFIX ?= /usr/local
 DESTDIR ?=
 

@@ -126,7 +126,7 @@ class Installed(unittest.TestCase):
                 "include/tteuyomal.h",
                 "lib/libtteuyomal.a",
                 "lib/libtteuyomal.so",
-                "lib/libtteuyomal.so.2",
+                "lib/libtteuyomal.so.3",
                 "lib/pkgconfig/tteuyomal.pc",
             ],
         )

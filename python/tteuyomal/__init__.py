@@ -28,7 +28,7 @@ from .library import NotThere, Refused
 from .library import version as library_version
 from .tables import Queue, Table
 
-__version__ = "2.1.0"
+__version__ = "3.0.0"
 
 __all__ = [
     "Block",
