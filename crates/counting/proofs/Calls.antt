@@ -8,9 +8,9 @@ use Rattle.graph.specs.Sets.{firsts}
 use Rattle.block.specs.Block.{mostAtoms}
 use Rattle.block.specs.Sums.{vertexBy}
 use Rattle.block.specs.declared.Vertex.{Vertex}
-use Rattle.counting.specs.Counting.{said, countedBy, threesBy}
+use Rattle.counting.specs.Counting.{said, countedBy}
 use Rattle.counting.specs.Work.{without, weighed, evenWeighed, oddWeighed, keptOf, digitOf, farOf, highOf, aroundOf}
-use Rattle.counting.proofs.Saying.{none-of, threes-are}
+use Rattle.counting.proofs.Saying.{none-of, ones-cut}
 use Rattle.counting.proofs.Counts.{cut-around}
 
 module _ (p0 p1 p2 p3 p4 p5 : ℕ) where
@@ -48,8 +48,8 @@ module _ (p0 p1 p2 p3 p4 p5 : ℕ) where
       ∙ cut-around k p0 p1 p2 p3 p4 p5
       ∙ ap (λ (k : ℕ). vertexBy k (said p0 p1 p2 p3 p4 p5) (most k (said p0 p1 p2 p3 p4 p5))) a
 
-  pub threes-by : (n k m high x r : ℕ) → k ≡ min n mostAtoms → m ≡ firsts k → high ≡ highOf p2 p3 p4 p5
-      → x ≡ without (bitAnd (bitAnd p0 p1) m) high → r ≡ ones x → r ≡ threesBy n p0 p1 p2 p3 p4 p5
-  unfolding threesBy
-  threes-by n k m high x r a b h e f =
-      f ∙ ap ones (e ∙ ap₂ (λ (m z : ℕ). without (bitAnd (bitAnd p0 p1) m) z) (b ∙ ap firsts a) h) ∙ threes-are (min n mostAtoms) p0 p1 p2 p3 p4 p5
+  pub ones-by : (n k m high x r : ℕ) → k ≡ min n mostAtoms → m ≡ firsts k → high ≡ highOf p2 p3 p4 p5
+      → x ≡ without (bitAnd p0 m) (bitOr p1 high) → r ≡ ones x → r ≡ countedBy n p0 p1 p2 p3 p4 p5 .ones
+  unfolding countedBy vertexBy
+  ones-by n k m high x r a b h e f =
+      f ∙ ap ones (e ∙ ap₂ (λ (m z : ℕ). without (bitAnd p0 m) (bitOr p1 z)) (b ∙ ap firsts a) h) ∙ ones-cut (min n mostAtoms) p0 p1 p2 p3 p4 p5

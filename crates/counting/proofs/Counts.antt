@@ -16,7 +16,7 @@ use Rattle.block.specs.Index.{vertexOf}
 use Rattle.block.specs.Sums.{vertexBy}
 use Rattle.reach.specs.DigitSets.{digit, digitSet}
 use Rattle.reach.proofs.DigitSets.{has-digit, digit-two, digits-back}
-use Rattle.counting.specs.Counting.{bit, said, countedBy, threesBy}
+use Rattle.counting.specs.Counting.{bit, said, countedBy}
 use Rattle.counting.specs.Work.{aroundOf}
 use Rattle.counting.proofs.Saying.{odd-weighed, even-weighed, both-weighed, odds-are, evens-are, ones-are, twos-are, cut, cut-fits}
 use Rattle.counting.proofs.Most.{far-is}
@@ -93,9 +93,3 @@ module _ (g : Graph) (v : ℕ) where
     counted-is =
         ap (λ (n : ℕ). vertexBy n (said (at 0) (at 1) (at 2) (at 3) (at 4) (at 5)) (most n (said (at 0) (at 1) (at 2) (at 3) (at 4) (at 5)))) all-atoms
         ∙ vertex-cong (g .atoms) near
-
-    pub threes-is : threesBy (g .atoms) (at 0) (at 1) (at 2) (at 3) (at 4) (at 5) ≡ vertex g v (isAt 3)
-    unfolding threesBy vertex
-    threes-is =
-        ap (λ (n : ℕ). sum n (λ w. isAt 3 (said (at 0) (at 1) (at 2) (at 3) (at 4) (at 5) w))) all-atoms
-        ∙ sum-cong (g .atoms) (λ w u. ap (isAt 3) (near w u))

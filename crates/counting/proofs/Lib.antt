@@ -3,3 +3,4 @@ pub mod Saying
 pub mod Most
 pub mod Counts
 pub mod Calls
+pub mod Low

@@ -80,7 +80,7 @@ unfolding oddOf
 odd-digit true x = rw (ne-eqb ((1 + 2 * x) % 2) 0 (λ e. omega arith)) refl
 odd-digit false x = rw (eq-eqb ((0 + 2 * x) % 2) 0 (omega arith)) refl
 
-one-each : (d : ℕ) → evenOne d + oddOne d ≡ 1
+pub one-each : (d : ℕ) → evenOne d + oddOne d ≡ 1
 unfolding evenOne oddOne
 one-each d = go (eqb (d % 2) 0)
   where
@@ -135,14 +135,6 @@ at-two false false x = rw (ne-eqb (0 + 4 * x) 2 (λ e. omega arith)) (none (some
 at-two false true zero = refl
 at-two false true (suc x) = rw (ne-eqb (2 + 4 * suc x) 2 (λ e. omega arith)) refl
 
-at-three : (s t : Bool) (x : ℕ) → bit (cond (some x) false (s && t)) ≡ isAt 3 (bit s + 2 * bit t + 4 * x)
-unfolding isAt some
-at-three s t (suc x) = rw (ne-eqb (bit s + 2 * bit t + 4 * suc x) 3 (λ e. omega arith)) refl
-at-three true true zero = refl
-at-three true false zero = refl
-at-three false true zero = refl
-at-three false false zero = refl
-
 module _ (p0 p1 p2 p3 p4 p5 w : ℕ) where
   abbrev half : ℕ
   half = bit (has p1 w) + 2 * bit (has p2 w) + 4 * bit (has p3 w) + 8 * bit (has p4 w) + 16 * bit (has p5 w)
@@ -195,13 +187,15 @@ cut n p w v = has-and p (firsts n) w ∙ ap (λ (t : Bool). has p w && t) (has-f
 pub cut-fits : (n p : ℕ) → bitAnd p (firsts n) < 2 ^ n
 cut-fits n p = mask-lt p n
 
-pub threes-are : (n p0 p1 p2 p3 p4 p5 : ℕ)
-    → ones (without (bitAnd (bitAnd p0 p1) (firsts n)) (highOf p2 p3 p4 p5)) ≡ sum n (λ w. isAt 3 (said p0 p1 p2 p3 p4 p5 w))
-threes-are n p0 p1 p2 p3 p4 p5 =
-    let a = bitAnd (bitAnd p0 p1) (firsts n) in
-    count-atoms n (without a (highOf p2 p3 p4 p5)) (without-fits n a (highOf p2 p3 p4 p5) (cut-fits n (bitAnd p0 p1)))
-    ∙ sum-cong n (λ w h. rw (has-without a (highOf p2 p3 p4 p5) w, cut n (bitAnd p0 p1) w h, has-and p0 p1 w, high-said p0 p1 p2 p3 p4 p5 w)
-    (at-three (has p0 w) (has p1 w) (fourth p0 p1 p2 p3 p4 p5 w) ∙ sym (ap (isAt 3) (by-two p0 p1 p2 p3 p4 p5 w))))
+-- where 1 is said, only the first set is cut
+pub ones-cut : (n p0 p1 p2 p3 p4 p5 : ℕ)
+    → ones (without (bitAnd p0 (firsts n)) (bitOr p1 (highOf p2 p3 p4 p5))) ≡ sum n (λ w. isAt 1 (said p0 p1 p2 p3 p4 p5 w))
+ones-cut n p0 p1 p2 p3 p4 p5 =
+    let a = bitAnd p0 (firsts n) in
+    let b = bitOr p1 (highOf p2 p3 p4 p5) in
+    count-atoms n (without a b) (without-fits n a b (cut-fits n p0))
+    ∙ sum-cong n (λ w h. rw (has-without a b w, cut n p0 w h, has-or p1 (highOf p2 p3 p4 p5) w, high-said p0 p1 p2 p3 p4 p5 w)
+    (at-one (has p0 w) (has p1 w) (fourth p0 p1 p2 p3 p4 p5 w) ∙ sym (ap (isAt 1) (by-two p0 p1 p2 p3 p4 p5 w))))
 
 -- Sets of the atoms 1 to n.
 module _ (n p0 p1 p2 p3 p4 p5 : ℕ) (l0 : p0 < 2 ^ n) (l1 : p1 < 2 ^ n) (l2 : p2 < 2 ^ n) (l3 : p3 < 2 ^ n) (l4 : p4 < 2 ^ n) (l5 : p5 < 2 ^ n) where

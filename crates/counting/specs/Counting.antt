@@ -1,7 +1,6 @@
 -- Definitions. What is counted from an atom, by six sets: set k has the atoms whose distance from it has binary digit k.
 use Prim.Native.Nat.{ℕ, _+_, _*_, min}
 use mathlib.Core.Bool.{Bool, cond}
-use Rattle.graph.specs.Graph.{sum, isAt}
 use Rattle.graph.specs.Farthest.{most}
 use Rattle.graph.specs.Sets.{has}
 use Rattle.block.specs.Block.{mostAtoms}
@@ -20,7 +19,3 @@ said p0 p1 p2 p3 p4 p5 w =
 unfoldable pub countedBy : ℕ → ℕ → ℕ → ℕ → ℕ → ℕ → ℕ → Vertex
 countedBy n p0 p1 p2 p3 p4 p5 =
     vertexBy (min n mostAtoms) (said p0 p1 p2 p3 p4 p5) (most (min n mostAtoms) (said p0 p1 p2 p3 p4 p5))
-
--- of how many of them 3 is said
-unfoldable pub threesBy : ℕ → ℕ → ℕ → ℕ → ℕ → ℕ → ℕ → ℕ
-threesBy n p0 p1 p2 p3 p4 p5 = sum (min n mostAtoms) (λ w. isAt 3 (said p0 p1 p2 p3 p4 p5 w))

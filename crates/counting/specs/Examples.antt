@@ -5,7 +5,7 @@ use Rattle.graph.specs.Graph.{sum, evenOf, oddOf, evenOne, oddOne, isAt}
 use Rattle.graph.specs.Farthest.{most}
 use Rattle.graph.specs.Sets.{has}
 use Rattle.block.specs.Sums.{vertexBy}
-use Rattle.counting.specs.Counting.{said, countedBy, threesBy}
+use Rattle.counting.specs.Counting.{said, countedBy}
 
 -- from its end: atoms 2 and 4 at an odd distance, atoms 3 and 4 at 2 or 3
 pub from-end : countedBy 4 10 12 0 0 0 0 ≡ record { sum = 6; even = 2; odd = 4; evens = 2; odds = 2; ones = 1; twos = 1; farthest = 3 }
@@ -16,10 +16,6 @@ from-end = refl
 pub from-second : countedBy 4 (5 + 16) 8 32 0 0 64 ≡ record { sum = 4; even = 2; odd = 2; evens = 2; odds = 2; ones = 2; twos = 1; farthest = 2 }
 unfolding countedBy vertexBy said has most sum evenOf oddOf evenOne oddOne isAt
 from-second = refl
-
-pub one-at-three : (threesBy 4 10 12 0 0 0 0 ≡ 1) × (threesBy 4 5 8 0 0 0 0 ≡ 0)
-unfolding threesBy said has sum isAt
-one-at-three = (refl, refl)
 
 -- 40 is said of atom 1, 7 of atom 2; and of no atom nothing
 pub high-digits : (most 2 (said 2 2 2 1 0 1) ≡ 40) × (countedBy 0 1 1 1 1 1 1 .farthest ≡ 0)

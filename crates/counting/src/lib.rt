@@ -5,7 +5,7 @@ ghost use Prim.Native.Nat.{min, _+_, _*_, _≤_};
 ghost use lib.Count.{ones};
 ghost use Rattle.graph.specs.Sets.{firsts};
 ghost use Rattle.block.specs.Block.{mostAtoms};
-ghost use Rattle.counting.specs.Counting.{countedBy, threesBy};
+ghost use Rattle.counting.specs.Counting.{countedBy};
 ghost use Rattle.counting.specs.Work.{without, weighed, oddWeighed, evenWeighed, keptOf, digitOf, farOf, highOf, aroundOf};
 use block::ATOMS;
 use block::Vertex;
@@ -154,11 +154,11 @@ pub fn counted(n: usize, p0: u64, p1: u64, p2: u64, p3: u64, p4: u64, p5: u64) -
     around(k as u64, m, p0 & m, p1 & m, p2 & m, p3 & m, p4 & m, p5 & m)
 }
 
-// Of how many of the atoms 1 to n, at most ATOMS, six sets say 3.
-pub fn threes(n: usize, p0: u64, p1: u64, p2: u64, p3: u64, p4: u64, p5: u64) -> u64
-    ensures { λ r. ⌜ r ≡ threesBy n p0 p1 p2 p3 p4 p5 ⌝ }
+// Of how many of them they say 1.
+pub fn ones(n: usize, p0: u64, p1: u64, p2: u64, p3: u64, p4: u64, p5: u64) -> u64
+    ensures { λ r. ⌜ r ≡ countedBy n p0 p1 p2 p3 p4 p5 .ones ⌝ }
 {
     let m = all(within(n));
     let more = high(p2, p3, p4, p5);
-    size(apart(p0 & p1 & m, more))
+    size(apart(p0 & m, p1 | more))
 }

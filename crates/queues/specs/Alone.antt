@@ -83,7 +83,7 @@ module _ (s : List ℕ) (q : List (Entry Block)) (k : KeepsQueue summaryTable bl
     has = λ x. has-same s (k .stores .size) x ∙ k .stores .numbers x;
     molecules = λ x e. molecule (blockIn q x .atoms) (blockIn q x .bytes) (fine-at x e);
     told = λ x e. summary-told x (blockIn q x .atoms) (blockIn q x .bytes) (fine-at x e) (summaryAt s (placeIn s x)) (begins x e) (long x e);
-    ends = λ x a e w. ends-told x (blockIn q x .atoms) (blockIn q x .bytes) (fine-at x e) (summaryAt s (placeIn s x)) (begins x e) a w;
+    ends = λ x a e w. ends-told x (blockIn q x .atoms) (blockIn q x .bytes) (fine-at x e) (summaryAt s (placeIn s x)) (begins x e) (long x e) a w;
   }
 
 -- THE BYTES SAY WHAT THE BLOCKS MEAN

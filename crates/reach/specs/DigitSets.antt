@@ -10,6 +10,8 @@ use Rattle.graph.specs.Sets.{alone}
 use Rattle.half.specs.Half.{table}
 use Rattle.reply.specs.Read.{Read, refused, read, _then_, refuseIf}
 use Rattle.block.specs.Block.{graphOf, blockReply}
+use Rattle.block.specs.Index.{indicesOf}
+use Rattle.block.specs.declared.Indices.{Indices}
 
 -- a distance is below 64, and has six digits
 abbrev pub mostDigits : ℕ
@@ -34,13 +36,13 @@ digitSetAt g p = cond (ltb p (mostDigits * g .atoms)) (digitSet g (p / g .atoms)
 unfoldable pub joinedSets : (ℕ → ℕ) → List ℕ → List ℕ
 joinedSets f old = table (length old) (λ p. bitOr (getD old p 0) (f p))
 
--- the block's refusals, then 9 at 0 where too few sets are lent
-unfoldable pub digitSetsReply : ℕ → List ℕ → ℕ → Read (Unit {0})
-digitSetsReply n xs room = blockReply n xs then λ _. refuseIf (ltb room (mostDigits * n)) 9 0
+-- the block's indices; or its refusal, then 9 at 0 where too few sets are lent
+unfoldable pub digitSetsReply : ℕ → List ℕ → ℕ → Read Indices
+digitSetsReply n xs room = blockReply n xs then λ _. refuseIf (ltb room (mostDigits * n)) 9 0 then λ _. read (indicesOf (graphOf n xs))
 
-unfoldable pub joinedBy : Read (Unit {0}) → Graph → List ℕ → List ℕ
+unfoldable pub joinedBy : Read Indices → Graph → List ℕ → List ℕ
 joinedBy (refused r) g old = old
-joinedBy (read u) g old = joinedSets (digitSetAt g) old
+joinedBy (read x) g old = joinedSets (digitSetAt g) old
 
 abbrev pub digitSetsAfter : ℕ → List ℕ → List ℕ → List ℕ
 digitSetsAfter n xs old = joinedBy (digitSetsReply n xs (length old)) (graphOf n xs) old

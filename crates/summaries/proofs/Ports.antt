@@ -16,7 +16,7 @@ use native.Mathlib.Omega.{arith}
 use Rattle.graph.specs.Graph.{Within}
 use Rattle.half.specs.Half.{mostAtoms}
 use Rattle.reply.specs.Read.{isOutside}
-use Rattle.records.specs.Bytes.{byteAt, little, le16, part}
+use Rattle.records.specs.Bytes.{little, part}
 use Rattle.assembly.specs.Placements.{mostPlacements}
 use Rattle.block.specs.declared.Indices.{Indices}
 use Rattle.block.specs.declared.Vertex.{Vertex}
@@ -25,7 +25,9 @@ use Rattle.tables.specs.Table.{Fits}
 use Rattle.tables.specs.Climb.{far-same, far-later, far-earlier, sight-here, sight-there, six-here}
 use Rattle.tables.specs.Bounds.{SmallSight, Bytes, SixHeld, SixBytes, SmallPart, far-most, sight-held, six-held, held-bytes}
 use Rattle.joining.specs.Small.{SmallCounts, SmallFields}
-use Rattle.summary.specs.Layout.{summaryBytes, storedAtoms, storedFields, seat, vertexAt, digitIn, digitsIn, farAt, keptOf}
+use Rattle.counting.specs.Counting.{countedBy}
+use Rattle.counting.proofs.Low.{LowCounts, counted-low}
+use Rattle.summary.specs.Layout.{summaryBytes, storedAtoms, storedFields, setIn, vertexAt, digitIn, digitsIn, farAt, keptOf}
 use Rattle.shelf.specs.Shelf.{summaryAt}
 use Rattle.summaries.specs.Ready.{placeIn, keptIn, joinsIn, LentBytes, ReadyShelf, between, sightFrom, sightOfRow, coreAt, Known}
 
@@ -57,12 +59,28 @@ far-few s i j = go (isOutside mostAtoms i || isOutside mostAtoms j || ltb (lengt
     go true = omega arith
     go false = digits-few (digitIn s i j 0) (digitIn s i j 1) (digitIn s i j 2) (digitIn s i j 3) (digitIn s i j 4) (digitIn s i j 5) (two 0) (two 1) (two 2) (two 3) (two 4) (two 5)
 
+low-bytes : {v : Vertex} → LowCounts v → Bytes v
+low-bytes l = record {
+  sum = omega (arith, l .sum);
+  even = omega (arith, l .even);
+  odd = omega (arith, l .odd);
+  evens = omega (arith, l .evens);
+  odds = omega (arith, l .odds);
+  ones = omega (arith, l .ones);
+  twos = omega (arith, l .twos);
+  farthest = omega (arith, l .farthest);
+}
+
+vertex-bytes : (s : List ℕ) (i : ℕ) → Bytes (vertexAt s i)
+unfolding vertexAt
+vertex-bytes s i = go (isOutside mostAtoms i || ltb (length s) summaryBytes)
+  where
+    go : (t : Bool) → Bytes (cond t (countedBy 0 0 0 0 0 0 0) (countedBy (storedAtoms s) (setIn s i 0) (setIn s i 1) (setIn s i 2) (setIn s i 3) (setIn s i 4) (setIn s i 5)))
+    go true = low-bytes (counted-low 0 0 0 0 0 0 0)
+    go false = low-bytes (counted-low (storedAtoms s) (setIn s i 0) (setIn s i 1) (setIn s i 2) (setIn s i 3) (setIn s i 4) (setIn s i 5))
+
 -- what a summary says is small
 module _ {s : List ℕ} (lent : LentBytes s) where
-  two : (at : ℕ) → le16 s at < 2 ^ 16
-  unfolding little
-  two at = omega (arith, lent .byte at, lent .byte (at + 1))
-
   four : (at : ℕ) → little 4 s at < 2 ^ 32
   unfolding little
   four at = omega (arith, lent .byte at, lent .byte (at + 1), lent .byte (at + 1 + 1), lent .byte (at + 1 + 1 + 1))
@@ -70,25 +88,12 @@ module _ {s : List ℕ} (lent : LentBytes s) where
   far-byte : (i j : ℕ) → farAt s i j < 2 ^ 8
   far-byte i j = omega (arith, far-few s i j)
 
-  vertex-bytes : (i : ℕ) → Bytes (vertexAt s i)
-  unfolding vertexAt
-  vertex-bytes i = record {
-    sum = omega (arith, two (seat i), two (seat i + 2));
-    even = two (seat i);
-    odd = two (seat i + 2);
-    evens = lent .byte (seat i + 4);
-    odds = lent .byte (seat i + 5);
-    ones = lent .byte (seat i + 6);
-    twos = lent .byte (seat i + 7);
-    farthest = lent .byte (seat i + 8);
-  }
-
   fields-bytes : SixBytes (storedFields s)
   unfolding storedFields
   fields-bytes = record { atoms = omega arith; w = omega (arith, four 4, four 8); even = four 4; odd = four 8; polarity = four 12; largest = lent .byte 3 }
 
   kept : SmallPart (keptOf s)
-  kept = record { six = fields-bytes; sight = vertex-bytes; far = far-byte }
+  kept = record { six = fields-bytes; sight = vertex-bytes s; far = far-byte }
 
 small-held : {n : ℕ} {v : Vertex} → n ≤ 32 → SmallSight n v → SmallCounts v
 small-held h p = record {

@@ -145,5 +145,5 @@ module _ (b : List ℕ) (sizes : ℕ → ℕ) (bonds : ℕ → List ℕ) where
     has = λ x. refl;
     molecules = λ x e. molecule (sizes x) (bonds x) (k x e .fine);
     told = λ x e. summary-told x (sizes x) (bonds x) (k x e .fine) (summaryAt b (placeOf b x)) (k x e .begins) (has-long x e);
-    ends = λ x a e w. ends-told x (sizes x) (bonds x) (k x e .fine) (summaryAt b (placeOf b x)) (k x e .begins) a w;
+    ends = λ x a e w. ends-told x (sizes x) (bonds x) (k x e .fine) (summaryAt b (placeOf b x)) (k x e .begins) (has-long x e) a w;
   }

@@ -3,16 +3,15 @@ use Prim.Native.Nat.{ℕ, zero, suc, _+_, _*_, _-_, _/_, _%_, _^_, _≤_, _<_}
 use mathlib.Core.Bool.{Bool, false, cond}
 use mathlib.Core.List.{List, [], _++_}
 use mathlib.Core.Path.{_≡_, refl, sym, _∙_, ap, ap₂}
-use native.Mathlib.Nat.{mul-le-mul, mul-suc, zero-add}
+use native.Mathlib.Nat.{mul-le-mul, mul-suc, pow-suc, zero-add}
 use native.Mathlib.Omega.{arith}
 use borrow.Author.Tests.{ne-eqb, le-ltb}
 use lib.ListN.{length, getD, take, length-append, List·getD-append}
-use lib.Pow.{shr-shr, field, mod-mod-pow}
+use lib.Pow.{pow-mono, shr-shr, field, mod-mod-pow}
 use lib.Seq.{getD-append-add, getD-take}
-use Rattle.graph.specs.Graph.{Graph, Within, Molecule, distance, degree, evenOf, oddOf, isAt, total, vertex}
-use Rattle.graph.specs.Bounds.{vertex-most, total-most, tame-even, tame-odd, tame-at}
+use Rattle.graph.specs.Graph.{Graph, Within, Molecule, distance, degree, evenOf, oddOf, isAt, total}
+use Rattle.graph.specs.Bounds.{total-most, tame-even, tame-odd, tame-at}
 use Rattle.graph.specs.Distance.{distance-below}
-use Rattle.graph.specs.Parts.{vertex-parts, parts-of}
 use Rattle.graph.specs.Sets.{has}
 use Rattle.reply.specs.Read.{read, isOutside}
 use Rattle.half.specs.Half.{mostAtoms}
@@ -23,13 +22,15 @@ use Rattle.block.specs.declared.Indices.{Indices}
 use Rattle.block.specs.declared.Vertex.{Vertex}
 use Rattle.reach.specs.DigitSets.{mostDigits, digit, digitSet}
 use Rattle.reach.proofs.Digits.{digit as whole}
-use Rattle.reach.proofs.DigitSets.{has-digit, digits-back}
+use Rattle.reach.proofs.DigitSets.{has-digit, digit-fits, digits-back}
+use Rattle.counting.proofs.Counts.{counted-is}
 use Rattle.records.specs.Bytes.{byteAt, little, le16, littleBytes}
 use Rattle.tables.specs.Table.{tableOf, totalBy, Told}
-use Rattle.tables.specs.Grow.{same-sight, same-six, total-parts}
+use Rattle.tables.specs.Grow.{same-six, total-parts}
 use Rattle.tables.specs.Written.{six-is, sight-is, alone-molecule}
-use Rattle.summary.specs.Layout.{headBytes, atomBytes, summaryBytes, storedNumber, storedFields, seat, vertexAt, storedDegree, digitIn, farAt, keptOf}
-use Rattle.summary.specs.Summary.{headOf, seatOf, setsFrom, atomOf, atomsFrom, summaryOf}
+use Rattle.summary.specs.Layout.{headBytes, atomBytes, summaryBytes, storedNumber, storedAtoms, storedFields, seat, setIn, vertexAt, storedDegree, digitIn, farAt, keptOf}
+use Rattle.summary.specs.Summary.{headOf, setsFrom, atomOf, atomsFrom, summaryOf}
+use Rattle.summary.specs.Ones.{ones-are-bonds}
 
 -- an atom of the block is one of 64
 not-outside : (i : ℕ) → Within mostAtoms i → isOutside mostAtoms i ≡ false
@@ -54,6 +55,20 @@ four-at b p v h e0 e1 e2 e3 =
     let q3 : p + 1 + 1 + 1 ≡ p + 3 = omega arith in
     rw (q3, q2, e0, e1, e2, e3) (omega (arith, four-back v h))
 
+-- and of any width
+little-back : (w : ℕ) (b : List ℕ) (p m : ℕ) → m < 256 ^ w → ((q : ℕ) → q < w → byteAt b (p + q) ≡ getD (littleBytes w m) q 0) → little w b p ≡ m
+unfolding little littleBytes
+little-back zero b p m l h = omega arith
+little-back (suc w) b p m l h =
+    let e : p + 0 ≡ p = omega arith in
+    let first : byteAt b p ≡ m % 256 = ap (byteAt b) (sym e) ∙ h 0 (omega arith) in
+    let small : m / 256 < 256 ^ w = omega (arith, l, pow-suc 256 w) in
+    let rest : little w b (p + 1) ≡ m / 256 = little-back w b (p + 1) (m / 256) small (λ q k. next q ∙ h (suc q) (omega arith)) in
+    omega arith
+  where
+    next : (q : ℕ) → byteAt b (p + 1 + q) ≡ byteAt b (p + suc q)
+    next q = let e : p + 1 + q ≡ p + suc q = omega arith in ap (byteAt b) e
+
 -- pieces of one length, one behind the other
 module _ (w : ℕ) (piece : ℕ → List ℕ) (size : (i : ℕ) → length (piece i) ≡ w) (all : ℕ → ℕ → List ℕ) (none : (i : ℕ) → all i 0 ≡ [])
     (more : (i left : ℕ) → all i (suc left) ≡ piece i ++ all (suc i) left) where
@@ -77,10 +92,6 @@ pub length-head : (x : ℕ) (v : Indices) → length (headOf x v) ≡ headBytes
 unfolding headOf littleBytes
 length-head x v = refl
 
-length-seat : (v : Vertex) (d : ℕ) → length (seatOf v d) ≡ 10
-unfolding seatOf littleBytes
-length-seat v d = refl
-
 length-set : (g : Graph) (i k : ℕ) → length (littleBytes 8 (digitSet g k i)) ≡ 8
 unfolding littleBytes
 length-set g i k = refl
@@ -99,10 +110,7 @@ module _ (g : Graph) where
     length-sets = length-pieces 8 (λ k. littleBytes 8 (digitSet g k i)) (length-set g i) (setsFrom g i) no-set next-set
 
     pub length-atom : length (atomOf g i) ≡ atomBytes
-    unfolding atomOf
-    length-atom =
-        length-append (seatOf (vertexOf g i) (degree (g .bonds) i)) (setsFrom g i 0 mostDigits)
-        ∙ omega (arith, length-seat (vertexOf g i) (degree (g .bonds) i), length-sets mostDigits 0)
+    length-atom = length-sets mostDigits 0
 
   no-atom : (i : ℕ) → atomsFrom g i 0 ≡ []
   unfolding atomsFrom
@@ -119,7 +127,7 @@ module _ (g : Graph) where
   unfolding summaryOf
   length-summary x = length-append (headOf x (indicesOf g)) (atomsFrom g 1 (g .atoms)) ∙ omega (arith, length-head x (indicesOf g), length-atoms (g .atoms) 1)
 
-  -- a byte of the head, of an atom's first ten, of one of its sets
+  -- a byte of the head, of an atom, of one of its sets
   head-byte : (x k : ℕ) → k < headBytes → byteAt (summaryOf x g) k ≡ getD (headOf x (indicesOf g)) k 0
   unfolding summaryOf
   head-byte x k h = List·getD-append (headOf x (indicesOf g)) (atomsFrom g 1 (g .atoms)) 0 k (omega (arith, length-head x (indicesOf g)))
@@ -134,18 +142,9 @@ module _ (g : Graph) where
       ∙ piece-back atomBytes (atomOf g) length-atom (atomsFrom g) no-atom next-atom (i - 1) (g .atoms) 1 k (omega (arith, w .low, w .high)) h
       ∙ ap (λ (x : ℕ). getD (atomOf g x) k 0) j
 
-  seat-byte : (i k : ℕ) → k < 10 → getD (atomOf g i) k 0 ≡ getD (seatOf (vertexOf g i) (degree (g .bonds) i)) k 0
-  unfolding atomOf
-  seat-byte i k h =
-      List·getD-append (seatOf (vertexOf g i) (degree (g .bonds) i)) (setsFrom g i 0 mostDigits) 0 k (omega (arith, length-seat (vertexOf g i) (degree (g .bonds) i)))
-
-  set-byte : (i k q : ℕ) → k < mostDigits → q < 8 → getD (atomOf g i) (10 + (8 * k + q)) 0 ≡ getD (littleBytes 8 (digitSet g k i)) q 0
-  unfolding atomOf
+  set-byte : (i k q : ℕ) → k < mostDigits → q < 8 → getD (atomOf g i) (8 * k + q) 0 ≡ getD (littleBytes 8 (digitSet g k i)) q 0
   set-byte i k q h l =
-      let e : 10 + (8 * k + q) ≡ length (seatOf (vertexOf g i) (degree (g .bonds) i)) + (8 * k + q) = omega (arith, length-seat (vertexOf g i) (degree (g .bonds) i)) in
-      ap (byteAt (seatOf (vertexOf g i) (degree (g .bonds) i) ++ setsFrom g i 0 mostDigits)) e
-      ∙ getD-append-add (seatOf (vertexOf g i) (degree (g .bonds) i)) (setsFrom g i 0 mostDigits) (8 * k + q) 0
-      ∙ piece-back 8 (λ k. littleBytes 8 (digitSet g k i)) (length-set g i) (setsFrom g i) (no-set i) (next-set i) k mostDigits 0 q h l
+      piece-back 8 (λ k. littleBytes 8 (digitSet g k i)) (length-set g i) (setsFrom g i) (no-set i) (next-set i) k mostDigits 0 q h l
       ∙ ap (λ (x : ℕ). getD (littleBytes 8 (digitSet g x i)) q 0) (zero-add k)
 
 -- a digit of a byte of a number is a digit of the number
@@ -187,8 +186,14 @@ module _ (x n : ℕ) (xs : List ℕ) (fine : blockReply n xs ≡ read tt) where
     atom-at : (i k p : ℕ) → Within n i → k < atomBytes → p ≡ seat i + k → byteAt b p ≡ getD (atomOf g i) k 0
     atom-at i k p w h q = same-byte p (omega (arith, w .low, w .high)) ∙ ap (byteAt (summaryOf x g)) q ∙ atom-byte g x i k w h
 
-    seat-at : (i k p : ℕ) → Within n i → k < 10 → p ≡ seat i + k → byteAt b p ≡ getD (seatOf (vertexOf g i) (degree (g .bonds) i)) k 0
-    seat-at i k p w h q = atom-at i k p w (omega arith) q ∙ seat-byte g i k h
+    set-at : (i k q : ℕ) → Within n i → k < mostDigits → q < 8 → byteAt b (seat i + 8 * k + q) ≡ getD (littleBytes 8 (digitSet g k i)) q 0
+    set-at i k q w h l = atom-at i (8 * k + q) (seat i + 8 * k + q) w (omega arith) (omega arith) ∙ set-byte g i k q h l
+
+    -- a set of an atom is that of its digit
+    pub set-told : (i k : ℕ) → Within n i → k < mostDigits → setIn b i k ≡ digitSet g k i
+    set-told i k w h =
+        let room : 2 ^ n ≤ 2 ^ 64 = pow-mono {j = 64} (few .high) in
+        little-back 8 b (seat i + 8 * k) (digitSet g k i) (omega (arith, digit-fits g k i, room)) (λ q l. set-at i k q w h l)
 
     digit-told : (i j k : ℕ) → Within n i → Within n j → k < mostDigits → digitIn b i j k ≡ digit k (distance g i j)
     unfolding has
@@ -198,7 +203,7 @@ module _ (x n : ℕ) (xs : List ℕ) (fine : blockReply n xs ≡ read tt) where
         let m = digitSet g k i in
         let l : q < 8 = omega (arith, few, v .high) in
         let e : 8 * q + r ≡ j - 1 = omega arith in
-        ap (λ (y : ℕ). y / 2 ^ r % 2) (atom-at i (10 + (8 * k + q)) (seat i + 10 + 8 * k + q) w (omega arith) (omega arith) ∙ set-byte g i k q h l ∙ byte-of 8 m q l)
+        ap (λ (y : ℕ). y / 2 ^ r % 2) (set-at i k q w h l ∙ byte-of 8 m q l)
         ∙ digit-of (m / 2 ^ (8 * q)) r (omega arith)
         ∙ ap (λ (y : ℕ). y % 2) (shr-shr m (8 * q) r ∙ ap (λ (y : ℕ). m / 2 ^ y) e)
         ∙ sym (whole (m / 2 ^ (j - 1))) ∙ ap (λ (t : Bool). cond t 1 0) (has-digit g k i j v) ∙ whole (distance g i j / 2 ^ k)
@@ -218,35 +223,36 @@ module _ (x n : ℕ) (xs : List ℕ) (fine : blockReply n xs ≡ read tt) where
           digit-told i j 5 w v (omega arith),
         ) (digits-back (distance g i j) (omega (arith, few, distance-below mole w v)))
 
-    -- the sums of an atom fit two bytes, the block's four
-    small : (v : ℕ) → v ≤ n * n → v < 65536
-    small v h = let q : n * n ≤ 64 * 64 = mul-le-mul (few .high) (few .high) in omega arith
-
+    -- the parts of the block fit four bytes
     big : (v : ℕ) → v ≤ n * (n * n) → v < 4294967296
     big v h =
         let q : n * n ≤ 64 * 64 = mul-le-mul (few .high) (few .high) in
         let r : n * (n * n) ≤ 64 * (64 * 64) = mul-le-mul (few .high) q in
         omega arith
 
-    pub vertex-told : (i : ℕ) → Within n i → vertexAt b i ≡ vertexOf g i
-    unfolding vertexAt vertexOf seatOf littleBytes
-    vertex-told i w =
-        let at = seat i in
-        let E = pair-at b at (vertex g i evenOf) (small _ (vertex-most mole tame-even w)) (seat-at i 0 at w (omega arith) (omega arith)) (seat-at i 1 (at + 1) w (omega arith) (omega arith)) in
-        let O = pair-at b (at + 2) (vertex g i oddOf) (small _ (vertex-most mole tame-odd w)) (seat-at i 2 (at + 2) w (omega arith) (omega arith)) (seat-at i 3 (at + 2 + 1) w (omega arith) (omega arith)) in
-        same-sight
-        (ap₂ _+_ E O ∙ vertex-parts parts-of g i)
-        E
-        O
-        (seat-at i 4 (at + 4) w (omega arith) (omega arith))
-        (seat-at i 5 (at + 5) w (omega arith) (omega arith))
-        (seat-at i 6 (at + 6) w (omega arith) (omega arith))
-        (seat-at i 7 (at + 7) w (omega arith) (omega arith))
-        (seat-at i 8 (at + 8) w (omega arith) (omega arith))
+    pub atoms-told : storedAtoms b ≡ n
+    unfolding indicesOf headOf littleBytes
+    atoms-told = omega (arith, head-at 2 (omega arith), few)
 
-    pub ends-told : (i : ℕ) → Within n i → storedDegree b i ≡ degree (g .bonds) i
-    unfolding seatOf littleBytes
-    ends-told i w = seat-at i 9 (seat i + 9) w (omega arith) (omega arith)
+    -- what its sets count is what is counted from an atom
+    pub vertex-told : summaryBytes ≤ length b → (i : ℕ) → Within n i → vertexAt b i ≡ vertexOf g i
+    unfolding vertexAt
+    vertex-told long i w =
+        rw (
+          not-outside i (omega (arith, few, w .low, w .high)),
+          le-ltb (length b) summaryBytes long,
+          atoms-told,
+          set-told i 0 w (omega arith),
+          set-told i 1 w (omega arith),
+          set-told i 2 w (omega arith),
+          set-told i 3 w (omega arith),
+          set-told i 4 w (omega arith),
+          set-told i 5 w (omega arith),
+        ) (counted-is g i mole (few .high) w)
+
+    pub ends-told : summaryBytes ≤ length b → (i : ℕ) → Within n i → storedDegree b i ≡ degree (g .bonds) i
+    unfolding vertexOf
+    ends-told long i w = ap (λ (v : Vertex). v .ones) (vertex-told long i w) ∙ ones-are-bonds n xs fine i w
 
     pub fields-told : storedFields b ≡ indicesOf g
     unfolding storedFields indicesOf headOf littleBytes totalBy total
@@ -254,7 +260,7 @@ module _ (x n : ℕ) (xs : List ℕ) (fine : blockReply n xs ≡ read tt) where
         let E = four-at b 4 (total g evenOf) (big _ (total-most mole tame-even)) (head-at 4 (omega arith)) (head-at 5 (omega arith)) (head-at 6 (omega arith)) (head-at 7 (omega arith)) in
         let O = four-at b 8 (total g oddOf) (big _ (total-most mole tame-odd)) (head-at 8 (omega arith)) (head-at 9 (omega arith)) (head-at 10 (omega arith)) (head-at 11 (omega arith)) in
         let P = four-at b 12 (total g (isAt 3)) (big _ (total-most mole (tame-at 3))) (head-at 12 (omega arith)) (head-at 13 (omega arith)) (head-at 14 (omega arith)) (head-at 15 (omega arith)) in
-        same-six (omega (arith, head-at 2 (omega arith), few)) (ap₂ _+_ E O ∙ sym (total-parts (tableOf g))) E O P (head-at 3 (omega arith))
+        same-six atoms-told (ap₂ _+_ E O ∙ sym (total-parts (tableOf g))) E O P (head-at 3 (omega arith))
 
     pub number-told : x < 65536 → storedNumber b ≡ x
     unfolding headOf littleBytes
@@ -264,7 +270,7 @@ module _ (x n : ℕ) (xs : List ℕ) (fine : blockReply n xs ≡ read tt) where
     pub summary-told : summaryBytes ≤ length b → Told (keptOf b) (tableOf g)
     summary-told long = record {
       six = fields-told ∙ sym (six-is g);
-      sight = λ i w. vertex-told i w ∙ sym (sight-is g i);
+      sight = λ i w. vertex-told long i w ∙ sym (sight-is g i);
       far = far-told long;
       alone = λ i w. alone-molecule mole w;
     }

@@ -1,6 +1,5 @@
--- Definitions. A summary of a block: its number (2 bytes), atom count (1), largest distance (1), even part, odd part and polarity (4 each); then 58 for each atom:
--- the sums of the even and of the odd distances (2 each), the even and the odd count, how many are at 1 and at 2, the farthest and the bonds at it (1 each), and
--- six sets of atoms (8 each), in set k those whose distance has binary digit k. A place for a summary has room for 64 atoms. What a summary says, whatever
+-- Definitions. A summary of a block: its number (2 bytes), atom count (1), largest distance (1), even part, odd part and polarity (4 each); then for each atom six
+-- sets of atoms (8 each), in set k those whose distance from it has binary digit k. A place for a summary has room for 64 atoms. What a summary says, whatever
 -- its bytes are.
 use Prim.Native.Nat.{ℕ, _+_, _-_, _*_, _/_, _%_, _^_, min}
 use mathlib.Core.Bool.{_||_, cond}
@@ -10,6 +9,7 @@ use lib.ListN.{length}
 use Rattle.half.specs.Half.{mostAtoms}
 use Rattle.reply.specs.Read.{isOutside}
 use Rattle.records.specs.Bytes.{byteAt, little, le16}
+use Rattle.counting.specs.Counting.{countedBy}
 use Rattle.block.specs.declared.Indices.{Indices}
 use Rattle.block.specs.declared.Vertex.{Vertex}
 use Rattle.tables.specs.Parts.{Part}
@@ -19,7 +19,7 @@ abbrev pub headBytes : ℕ
 headBytes = 16
 
 abbrev pub atomBytes : ℕ
-atomBytes = 58
+atomBytes = 48
 
 abbrev pub summaryBytes : ℕ
 summaryBytes = headBytes + atomBytes * mostAtoms
@@ -45,25 +45,23 @@ storedFields s = record {
 abbrev pub seat : ℕ → ℕ
 seat i = headBytes + atomBytes * (i - 1)
 
-unfoldable pub vertexAt : List ℕ → ℕ → Vertex
-vertexAt s i = record {
-  sum = le16 s (seat i) + le16 s (seat i + 2);
-  even = le16 s (seat i);
-  odd = le16 s (seat i + 2);
-  evens = byteAt s (seat i + 4);
-  odds = byteAt s (seat i + 5);
-  ones = byteAt s (seat i + 6);
-  twos = byteAt s (seat i + 7);
-  farthest = byteAt s (seat i + 8);
-}
+-- set k of atom i
+abbrev pub setIn : List ℕ → ℕ → ℕ → ℕ
+setIn s i k = little 8 s (seat i + 8 * k)
 
--- how many bonds are at an atom
+-- what is counted from atom i, by its sets; nothing where it is not one of 64 or there are fewer bytes than a place has
+unfoldable pub vertexAt : List ℕ → ℕ → Vertex
+vertexAt s i =
+    cond (isOutside mostAtoms i || ltb (length s) summaryBytes) (countedBy 0 0 0 0 0 0 0)
+    (countedBy (storedAtoms s) (setIn s i 0) (setIn s i 1) (setIn s i 2) (setIn s i 3) (setIn s i 4) (setIn s i 5))
+
+-- how many bonds are at an atom: as many as atoms at distance 1
 abbrev pub storedDegree : List ℕ → ℕ → ℕ
-storedDegree s i = byteAt s (seat i + 9)
+storedDegree s i = vertexAt s i .ones
 
 -- digit k of the distance of atoms i and j
 abbrev pub digitIn : List ℕ → ℕ → ℕ → ℕ → ℕ
-digitIn s i j k = byteAt s (seat i + 10 + 8 * k + (j - 1) / 8) / 2 ^ ((j - 1) % 8) % 2
+digitIn s i j k = byteAt s (seat i + 8 * k + (j - 1) / 8) / 2 ^ ((j - 1) % 8) % 2
 
 abbrev pub digitsIn : List ℕ → ℕ → ℕ → ℕ
 digitsIn s i j = digitIn s i j 0 + 2 * digitIn s i j 1 + 4 * digitIn s i j 2 + 8 * digitIn s i j 3 + 16 * digitIn s i j 4 + 32 * digitIn s i j 5

@@ -2,10 +2,12 @@
 --
 -- | notion                                        | meaning                                      | the law that matters                                         |
 -- | `storedFields`, `vertexAt`, `farAt`           | what bytes say of a block, whatever they are | `summary-told`: where they begin with its summary, the block |
--- | `storedDegree`, `storedAtoms`, `storedNumber` | its bonds at an atom, its atoms, its number  | `ends-told`, `number-told`                                   |
+-- | `setIn`                                       | one of the six sets of an atom               | `set-told`: the digit set of the block                       |
+-- | `storedDegree`, `storedAtoms`, `storedNumber` | its bonds at an atom, its atoms, its number  | `ends-told`, `atoms-told`, `number-told`; `ones-are-bonds`   |
 -- | `summaryOf`                                   | the bytes of a block's summary               | `length-summary`; `fields-told`, `vertex-told`, `far-told`   |
 pub mod Layout
 pub mod Summary
+pub mod Ones
 pub mod Back
 pub mod Unique
 pub mod Examples

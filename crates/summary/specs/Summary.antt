@@ -1,10 +1,9 @@
 -- Definitions. The bytes of a block's summary.
 use Prim.Native.Nat.{ℕ, zero, suc}
 use mathlib.Core.List.{List, [], _∷_, _++_}
-use Rattle.graph.specs.Graph.{Graph, degree}
-use Rattle.block.specs.Index.{indicesOf, vertexOf}
+use Rattle.graph.specs.Graph.{Graph}
+use Rattle.block.specs.Index.{indicesOf}
 use Rattle.block.specs.declared.Indices.{Indices}
-use Rattle.block.specs.declared.Vertex.{Vertex}
 use Rattle.records.specs.Bytes.{littleBytes}
 use Rattle.reach.specs.DigitSets.{mostDigits, digitSet}
 
@@ -12,18 +11,14 @@ use Rattle.reach.specs.DigitSets.{mostDigits, digitSet}
 unfoldable pub headOf : ℕ → Indices → List ℕ
 headOf x s = littleBytes 2 x ++ (s .atoms ∷ s .largest ∷ (littleBytes 4 (s .even) ++ (littleBytes 4 (s .odd) ++ littleBytes 4 (s .polarity))))
 
--- the ten bytes of an atom that counts v and has d bonds
-unfoldable pub seatOf : Vertex → ℕ → List ℕ
-seatOf v d = littleBytes 2 (v .even) ++ (littleBytes 2 (v .odd) ++ (v .evens ∷ v .odds ∷ v .ones ∷ v .twos ∷ v .farthest ∷ d ∷ []))
-
 -- the sets of atom i, digit by digit
 unfoldable pub setsFrom : Graph → ℕ → ℕ → ℕ → List ℕ
 setsFrom g i k zero = []
 setsFrom g i k (suc left) = littleBytes 8 (digitSet g k i) ++ setsFrom g i (suc k) left
 
 -- the bytes of atom i
-unfoldable pub atomOf : Graph → ℕ → List ℕ
-atomOf g i = seatOf (vertexOf g i) (degree (g .bonds) i) ++ setsFrom g i 0 mostDigits
+abbrev pub atomOf : Graph → ℕ → List ℕ
+atomOf g i = setsFrom g i 0 mostDigits
 
 unfoldable pub atomsFrom : Graph → ℕ → ℕ → List ℕ
 atomsFrom g i zero = []

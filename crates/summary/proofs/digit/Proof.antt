@@ -15,20 +15,17 @@ mul-wide c = search needs
 add-wide : tie.Need-add-wide
 add-wide c = search needs
 
-add-wide-2 : tie.Need-add-wide-2
-add-wide-2 c = search needs
-
 mul-wide-2 : tie.Need-mul-wide-2
 mul-wide-2 c = search needs
 
-add-wide-3 : tie.Need-add-wide-3
-add-wide-3 c = search needs
+add-wide-2 : tie.Need-add-wide-2
+add-wide-2 c = search needs
 
 sub-wide-2 : tie.Need-sub-wide-2
 sub-wide-2 c = search needs
 
-add-wide-4 : tie.Need-add-wide-4
-add-wide-4 c = search needs
+add-wide-3 : tie.Need-add-wide-3
+add-wide-3 c = search needs
 
 shared-slice-read-wide : tie.Need-shared-slice-read-wide
 shared-slice-read-wide c = search needs
@@ -52,11 +49,10 @@ digit-spec =
     sub-wide
     mul-wide
     add-wide
-    add-wide-2
     mul-wide-2
-    add-wide-3
+    add-wide-2
     sub-wide-2
-    add-wide-4
+    add-wide-3
     shared-slice-read-wide
     wide-requires
     sub-result

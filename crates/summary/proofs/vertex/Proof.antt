@@ -1,93 +1,83 @@
 -- `summary::vertex` meets its contract. Assumes nothing.
-use Prim.Native.Nat.{_+_, _*_}
-use mathlib.Core.Path.{refl, sym}
+use Prim.Native.Nat.{_≤_}
+use mathlib.Core.Path.{sym, _∙_}
 use native.Mathlib.Omega.{arith}
-use lib.ListN.{List·getD-eq-default}
-use Rattle.records.proofs.Numbers.{past}
-use Rattle.summary.specs.Layout.{seat, vertexAt}
+use lib.ListN.{length}
+use Rattle.graph.specs.Graph.{Within}
+use Rattle.half.specs.Half.{mostAtoms}
+use Rattle.block.specs.declared.Vertex.{Vertex}
+use Rattle.summary.specs.Layout.{summaryBytes}
+use Rattle.summary.proofs.Calls.{told-here, told-none, told-some}
 use borrow.Author.Needs.{needs}
 use Rattle.summary.proofs.vertex.Statement.{statement}
 use Rattle.summary.proofs.vertex.Tie as tie
 
-add-if1 : tie.Need-add-if1
-add-if1 c = search needs
+here : (c : tie.Else1) → let a = c .before .before .before .args in Within mostAtoms (a .i) × (summaryBytes ≤ length (a .s .now))
+here c = let a = c .before .before .before .args in told-here (a .s .now) (a .i) (sym (c .before .is-untold .ensures) ∙ c .if1 .left)
+
+is-untold-requires : tie.Need-is-untold-requires
+is-untold-requires c κs = search needs
+
+counted-requires : tie.Need-counted-requires
+counted-requires c κs = search needs
 
 returns : tie.Need-returns
-unfolding vertexAt
 returns c =
-    let a = c .before .before .args in
-    let d = a .s .now in
-    let at = seat (a .i) in
-    sym (rw (past 2 d at (omega arith), past 2 d (at + 2) (omega arith), List·getD-eq-default d 0 {n = at + 4} (omega arith), List·getD-eq-default d 0 {n = at + 5} (omega arith), List·getD-eq-default d 0 {n = at + 6} (omega arith), List·getD-eq-default d 0 {n = at + 7} (omega arith), List·getD-eq-default d 0 {n = at + 8} (omega arith)) refl)
+    let b = c .before in
+    let a = b .before .before .before .args in
+    told-none (a .s .now) (a .i) (λ (v : Vertex). v) _ (sym (b .before .is-untold .ensures) ∙ b .if1 .taken) (c .counted .ensures)
 
-seat-requires : tie.Need-seat-requires
-seat-requires c κs = search needs
+atoms-requires : tie.Need-atoms-requires
+atoms-requires c κs = search needs
 
-two-requires : tie.Need-two-requires
-two-requires c κs = search needs
+set-requires : tie.Need-set-requires
+set-requires c κs = let (w, l) = here (c .before) in (w, omega arith, l)
 
-add-two : tie.Need-add-two
-add-two c = search needs
+set-requires-2 : tie.Need-set-requires-2
+set-requires-2 c κs = let (w, l) = here (c .before .before) in (w, omega arith, l)
 
-two-requires-2 : tie.Need-two-requires-2
-two-requires-2 c κs = search needs
+set-requires-3 : tie.Need-set-requires-3
+set-requires-3 c κs = let (w, l) = here (c .before .before .before) in (w, omega arith, l)
 
-add-t10 : tie.Need-add-t10
-add-t10 c = let h = c .two2 .ensures in let k = c .before .two .ensures in omega arith
+set-requires-4 : tie.Need-set-requires-4
+set-requires-4 c κs = let (w, l) = here (c .before .before .before .before) in (w, omega arith, l)
 
-add-byte : tie.Need-add-byte
-add-byte c = search needs
+set-requires-5 : tie.Need-set-requires-5
+set-requires-5 c κs = let (w, l) = here (c .before .before .before .before .before) in (w, omega arith, l)
 
-byte-requires : tie.Need-byte-requires
-byte-requires c κs = search needs
+set-requires-6 : tie.Need-set-requires-6
+set-requires-6 c κs = let (w, l) = here (c .before .before .before .before .before .before) in (w, omega arith, l)
 
-add-byte-2 : tie.Need-add-byte-2
-add-byte-2 c = search needs
-
-byte-requires-2 : tie.Need-byte-requires-2
-byte-requires-2 c κs = search needs
-
-add-byte-3 : tie.Need-add-byte-3
-add-byte-3 c = search needs
-
-byte-requires-3 : tie.Need-byte-requires-3
-byte-requires-3 c κs = search needs
-
-add-byte-4 : tie.Need-add-byte-4
-add-byte-4 c = search needs
-
-byte-requires-4 : tie.Need-byte-requires-4
-byte-requires-4 c κs = search needs
-
-add-byte-5 : tie.Need-add-byte-5
-add-byte-5 c = search needs
-
-byte-requires-5 : tie.Need-byte-requires-5
-byte-requires-5 c κs = search needs
+counted-requires-2 : tie.Need-counted-requires-2
+counted-requires-2 c κs = search needs
 
 returns-2 : tie.Need-returns-2
-unfolding vertexAt
-returns-2 c = rw (c .byte5 .ensures, c .before .byte4 .ensures, c .before .before .byte3 .ensures, c .before .before .before .byte2 .ensures, c .before .before .before .before .byte .ensures, c .before .before .before .before .before .two2 .ensures .0, c .before .before .before .before .before .before .two .ensures .0, c .before .before .before .before .before .before .before .seat .ensures) refl
+returns-2 c =
+    let p5 = c .before in
+    let p4 = p5 .before in
+    let p3 = p4 .before in
+    let p2 = p3 .before in
+    let p1 = p2 .before in
+    let p0 = p1 .before in
+    let n = p0 .before in
+    let b = n .before in
+    let a = b .before .before .before .args in
+    told-some (a .s .now) (a .i) (λ (v : Vertex). v) _ _ _ _ _ _ _ _ (sym (b .before .is-untold .ensures) ∙ b .if1 .left) (n .atoms .ensures)
+    (p0 .set .ensures) (p1 .set2 .ensures) (p2 .set3 .ensures) (p3 .set4 .ensures) (p4 .set5 .ensures) (p5 .set6 .ensures) (c .counted2 .ensures)
 
 pub vertex-spec : {M : Type 1} → statement M
 vertex-spec =
     tie.close
     (tie.spec
-    add-if1
+    is-untold-requires
+    counted-requires
     returns
-    seat-requires
-    two-requires
-    add-two
-    two-requires-2
-    add-t10
-    add-byte
-    byte-requires
-    add-byte-2
-    byte-requires-2
-    add-byte-3
-    byte-requires-3
-    add-byte-4
-    byte-requires-4
-    add-byte-5
-    byte-requires-5
+    atoms-requires
+    set-requires
+    set-requires-2
+    set-requires-3
+    set-requires-4
+    set-requires-5
+    set-requires-6
+    counted-requires-2
     returns-2)

@@ -1,20 +1,20 @@
 -- Laws. As many bonds are at an atom of a block as there are atoms at distance 1. Assumes nothing.
-use Prim.Native.Nat.{ℕ, zero, suc, _+_, _≤_, _<_}
+use Prim.Native.Nat.{ℕ, _+_}
 use mathlib.Core.Bool.{Bool, true, false, _&&_, _||_, cond, true≢false}
-use mathlib.Core.List.{List, [], _∷_}
-use mathlib.Core.Logic.{⊎-elim, inl, inr}
+use mathlib.Core.List.{List, _∷_}
+use mathlib.Core.Logic.{⊎-elim}
 use mathlib.Core.Path.{_≡_, refl, sym, _∙_, ap, ap₂}
 use native.Mathlib.Decide.{ℕ-discrete}
 use native.Mathlib.Omega.{arith}
 use borrow.Author.Tests.{eq-eqb, ne-eqb}
 use lib.Dec.{eqb}
-use Rattle.graph.specs.Graph.{Bond, Graph, Within, Molecule, joins, anyJoins, bonded, distance, degree, sum, isAt, vertex, countAt}
-use Rattle.graph.specs.Bonds.{Joins, joins-out, any-out, any-none, anyJoins-sym}
+use Rattle.graph.specs.Graph.{Bond, Within, Molecule, joins, anyJoins, bonded, distance, degree, sum, isAt, vertex, countAt}
+use Rattle.graph.specs.Bonds.{joins-out, any-out, any-none, anyJoins-sym}
 use Rattle.graph.specs.Distance.{distance-self, distance-zero, distance-bond, parent}
 use Rattle.graph.specs.Sums.{sum-cong, sum-add, sum-none, sum-pick}
 use Rattle.reply.specs.Read.{read}
 use Rattle.block.specs.Block.{bondsOf, graphOf, blockReply}
-use Rattle.block.specs.Told.{NewBond, each-bond, molecule}
+use Rattle.block.specs.Told.{each-bond, molecule}
 
 -- the ends that one bond has at an atom
 ends-of : (n : ℕ) (b : Bond) → Within n (b .one) → Within n (b .two) → (b .one ≡ b .two → ⊥) → (a : ℕ)

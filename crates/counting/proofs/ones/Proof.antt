@@ -1,7 +1,7 @@
-use Rattle.counting.proofs.Calls.{threes-by}
+use Rattle.counting.proofs.Calls.{ones-by}
 use borrow.Author.Needs.{needs}
-use Rattle.counting.proofs.threes.Statement.{statement}
-use Rattle.counting.proofs.threes.Tie as tie
+use Rattle.counting.proofs.ones.Statement.{statement}
+use Rattle.counting.proofs.ones.Tie as tie
 
 within-requires : tie.Need-within-requires
 within-requires c κs = search needs
@@ -24,10 +24,10 @@ returns c =
     let h = b .before in
     let m = h .before in
     let a = m .before .before .args in
-    threes-by (a .p0) (a .p1) (a .p2) (a .p3) (a .p4) (a .p5) (a .n) _ _ _ _ _
+    ones-by (a .p0) (a .p1) (a .p2) (a .p3) (a .p4) (a .p5) (a .n) _ _ _ _ _
     (m .before .within .ensures .0) (m .all .ensures) (h .high .ensures) (b .apart .ensures) (c .size .ensures .0)
 
-pub threes-spec : {M : Type 1} → statement M
-threes-spec =
+pub ones-spec : {M : Type 1} → statement M
+ones-spec =
     tie.close
     (tie.spec within-requires all-requires high-requires apart-requires size-requires returns)

@@ -1,0 +1,2 @@
+-- What the functions return, by what they are told at their calls.
+mod Calls
