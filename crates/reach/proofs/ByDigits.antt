@@ -1,35 +1,30 @@
--- Distances by their digits, level by level: what holds before each turn, and what the lent sets have got in the end. Assumes nothing.
+-- Distances by their digits, level by level: what has come to the lent sets before each turn, and in the end. Assumes nothing.
 use Prim.Native.Nat.{ℕ, zero, suc, _+_, _-_, _*_, _/_, _%_, _^_, _≤_, _<_}
-use mathlib.Core.Bool.{Bool, true, false, not, _&&_, _||_, cond, and-true, and-false, or-false, false≢true}
+use mathlib.Core.Bool.{Bool, false, not, _&&_, _||_, cond, and-true, and-false, or-false}
 use mathlib.Core.List.{List}
 use mathlib.Core.Path.{_≡_, refl, sym, ap, ap₂, _∙_}
 use native.Mathlib.Decide.{ℕ-discrete, decLt}
 use native.Mathlib.Nat.{zero-div, mod-lt}
 use native.Mathlib.Numerals.{add-one}
 use native.Mathlib.Omega.{arith}
-use borrow.Author.Tests.{lt-ltb, le-ltb, le-leb, lt-leb, leb-true}
+use borrow.Author.Tests.{lt-ltb, le-ltb, le-leb, lt-leb}
 use lib.Bits.{bitOr, bitXor, or-lt, xor-lt}
 use lib.Dec.{eqb, leb, ltb}
 use lib.ListN.{length, getD}
-use lib.Pow.{pow-pos, ones-lt}
+use lib.Pow.{pow-pos}
 use lib.Seq.{ext-getD}
 use Rattle.graph.specs.Graph.{Graph, Within, distance}
-use Rattle.graph.specs.Distance.{distance-below}
-use Rattle.graph.specs.Sets.{has, alone, firsts}
-use Rattle.graph.specs.SetLaws.{has-or, has-xor, has-none, has-firsts}
+use Rattle.graph.specs.Sets.{has, alone}
+use Rattle.graph.specs.SetLaws.{has-or, has-xor, has-none}
 use Rattle.graph.specs.Sums.{sum-cong}
 use Rattle.half.specs.Half.{table}
-use Rattle.reply.specs.Read.{read}
-use Rattle.block.specs.Block.{mostAtoms, graphOf, blockReply}
 use Rattle.block.specs.Near.{around}
 use Rattle.block.specs.Tables.{length-table, getD-table}
-use Rattle.block.specs.Told.{few-atoms, molecule}
 use Rattle.reach.specs.DigitSets.{mostDigits, digit, setOf, digitSet, digitSetAt, joinedSets}
-use Rattle.reach.specs.Marked.{newWhere, levelAt, inAll, Joined, Copied}
-use Rattle.reach.specs.Reach.{Own, Reach}
-use Rattle.reach.proofs.DigitSets.{same-set, set-fits, has-set, is-set, digit-two}
-use Rattle.reach.proofs.Marked.{joined-more, joined-none, level-in, level-out, all-below, all-in, all-of}
-use Rattle.reach.proofs.Touching.{reach-none, reach-same}
+use Rattle.reach.specs.Marked.{newWhere, levelAt, digitSetOf, Joined}
+use Rattle.reach.specs.Reach.{Reach}
+use Rattle.reach.proofs.DigitSets.{set-fits, has-set, is-set, digit-two}
+use Rattle.reach.proofs.Marked.{joined-more, joined-none, level-in, level-out}
 
 -- a distance up to d, and 0 for a longer one
 abbrev pub cut : ℕ → ℕ → ℕ
@@ -87,10 +82,6 @@ module _ (g : Graph) where
   abbrev part : ℕ → ℕ → ℕ → ℕ
   part d k v = setOf n (λ w. digit k (cut d (distance g v w)))
 
-  -- these for all places, as `digitSetAt` has them of all atoms
-  unfoldable pub upToAt : ℕ → ℕ → ℕ
-  upToAt d p = cond (ltb p (mostDigits * n)) (part d (p / n) (suc (p % n))) 0
-
   part-none : (k v : ℕ) → part 0 k v ≡ 0
   part-none k v =
       sym (is-set (λ w. digit k (cut 0 (distance g v w))) (λ w. digit-two k (cut 0 (distance g v w))) n 0 (pow-pos n)
@@ -117,104 +108,65 @@ module _ (g : Graph) where
   unfolding setOf
   part-all d k v h = sum-cong n (λ w b. ap (λ (x : ℕ). digit k x * alone w) (cut-in d (distance g v w) (h w b)))
 
-  up-in : (d p : ℕ) → p < mostDigits * n → upToAt d p ≡ part d (p / n) (suc (p % n))
-  unfolding upToAt
-  up-in d p l = rw (lt-ltb p (mostDigits * n) l) refl
+  module _ (digits : ℕ) where
+    -- these for all places, as `digitSetOf` has them of all atoms
+    unfoldable pub upToAt : ℕ → ℕ → ℕ
+    upToAt d p = cond (ltb p (digits * n)) (part d (p / n) (suc (p % n))) 0
 
-  up-out : (d p : ℕ) → mostDigits * n ≤ p → upToAt d p ≡ 0
-  unfolding upToAt
-  up-out d p l = rw (le-ltb p (mostDigits * n) l) refl
+    up-in : (d p : ℕ) → p < digits * n → upToAt d p ≡ part d (p / n) (suc (p % n))
+    unfolding upToAt
+    up-in d p l = rw (lt-ltb p (digits * n) l) refl
 
-  pub up-none : (p : ℕ) → upToAt 0 p ≡ 0
-  up-none p = elim (decLt p (mostDigits * n)) [
-    | yes l ↦ up-in 0 p l ∙ part-none (p / n) (suc (p % n))
-    | no l ↦ up-out 0 p (omega arith)
-  ]
+    up-out : (d p : ℕ) → digits * n ≤ p → upToAt d p ≡ 0
+    unfolding upToAt
+    up-out d p l = rw (le-ltb p (digits * n) l) refl
 
-  module _ (some : 1 ≤ n) where
-    atom : (p : ℕ) → Within n (suc (p % n))
-    atom p = record { low = omega arith; high = mod-lt p some }
-
-    pub up-next : (d : ℕ) (sets near : List ℕ) → Reach g (suc d) sets → Reach g d near → (p : ℕ)
-        → bitOr (upToAt d p) (levelAt n sets near (suc d) mostDigits p) ≡ upToAt (suc d) p
-    up-next d sets near R N p = elim (decLt p (mostDigits * n)) [
-      | yes l ↦
-          let e : suc (p % n) - 1 ≡ p % n = omega arith in
-          ap₂ bitOr (up-in d p l) (level-in n sets near (suc d) mostDigits p l ∙ ap (newWhere (digit (p / n) (suc d)) sets near) (sym e))
-          ∙ part-next d (p / n) (suc (p % n)) (atom p) sets near R N
-          ∙ sym (up-in (suc d) p l)
-      | no l ↦ ap₂ bitOr (up-out d p (omega arith)) (level-out n sets near (suc d) mostDigits p (omega arith)) ∙ sym (up-out (suc d) p (omega arith))
+    up-none : (p : ℕ) → upToAt 0 p ≡ 0
+    up-none p = elim (decLt p (digits * n)) [
+      | yes l ↦ up-in 0 p l ∙ part-none (p / n) (suc (p % n))
+      | no l ↦ up-out 0 p (omega arith)
     ]
 
-    pub up-all : (d : ℕ) → ((v w : ℕ) → Within n v → Within n w → distance g v w ≤ d) → (p : ℕ) → upToAt d p ≡ digitSetAt g p
-    unfolding digitSetAt
-    up-all d h p = elim (decLt p (mostDigits * n)) [
-      | yes l ↦ up-in d p l ∙ part-all d (p / n) (suc (p % n)) (λ w b. h (suc (p % n)) w (atom p) b) ∙ rw (lt-ltb p (mostDigits * n) l) refl
-      | no l ↦ up-out d p (omega arith) ∙ rw (le-ltb p (mostDigits * n) (omega arith)) refl
-    ]
+    module _ (some : 1 ≤ n) where
+      atom : (p : ℕ) → Within n (suc (p % n))
+      atom p = record { low = omega arith; high = mod-lt p some }
 
-pub record Levelled (n : ℕ) (xs near sets old out : List ℕ) (met d : ℕ) : Type 0 where
-  pub near-size : length near ≡ mostAtoms
-  pub sets-size : length sets ≡ mostAtoms
-  pub reach : Reach (graphOf n xs) d near
-  pub wide : Reach (graphOf n xs) d sets
-  pub joined : Joined (upToAt (graphOf n xs) d) old out
-  pub known : (v w : ℕ) → Within n v → Within n w → has met w ≡ true → distance (graphOf n xs) v w ≤ d
-  pub last : 1 ≤ d → n ≤ d → met ≡ firsts n
+      up-next : (d : ℕ) (sets near : List ℕ) → Reach g (suc d) sets → Reach g d near → (p : ℕ)
+          → bitOr (upToAt d p) (levelAt n sets near (suc d) digits p) ≡ upToAt (suc d) p
+      up-next d sets near R N p = elim (decLt p (digits * n)) [
+        | yes l ↦
+            let e : suc (p % n) - 1 ≡ p % n = omega arith in
+            ap₂ bitOr (up-in d p l) (level-in n sets near (suc d) digits p l ∙ ap (newWhere (digit (p / n) (suc d)) sets near) (sym e))
+            ∙ part-next d (p / n) (suc (p % n)) (atom p) sets near R N
+            ∙ sym (up-in (suc d) p l)
+        | no l ↦ ap₂ bitOr (up-out d p (omega arith)) (level-out n sets near (suc d) digits p (omega arith)) ∙ sym (up-out (suc d) p (omega arith))
+      ]
 
-module _ (n : ℕ) (xs : List ℕ) (fine : blockReply n xs ≡ read tt) where
-  abbrev h : Graph
-  h = graphOf n xs
+      up-all : (d : ℕ) → ((v w : ℕ) → Within n v → Within n w → distance g v w ≤ d) → (p : ℕ) → upToAt d p ≡ digitSetOf g digits p
+      unfolding digitSetOf
+      up-all d h p = elim (decLt p (digits * n)) [
+        | yes l ↦ up-in d p l ∙ part-all d (p / n) (suc (p % n)) (λ w b. h (suc (p % n)) w (atom p) b) ∙ rw (lt-ltb p (digits * n) l) refl
+        | no l ↦ up-out d p (omega arith) ∙ rw (le-ltb p (digits * n) (omega arith)) refl
+      ]
 
-  pub some-atoms : Within mostAtoms n
-  some-atoms = few-atoms n xs fine
+      -- one bond farther
+      pub sets-next : {old out : List ℕ} (out′ sets near : List ℕ) {d : ℕ} → Joined (upToAt d) old out → Reach g (suc d) sets → Reach g d near
+          → (level : ℕ) → level ≡ suc d → Joined (levelAt n sets near level digits) out out′ → Joined (upToAt (d + 1)) old out′
+      sets-next out′ sets near {d} J R N level e M = rw (add-one d) (joined-more (upToAt (suc d)) J (rw e at M) (up-next d sets near R N))
 
-  pub levelled-start : (near old : List ℕ) → Own n near → Levelled n xs near near old old 0 0
-  levelled-start near old O =
-      let R : Reach h 0 near = reach-none h (molecule n xs fine) near O in
-      record {
-        near-size = O .size;
-        sets-size = O .size;
-        reach = R;
-        wide = R;
-        joined = joined-none old (up-none h);
-        known = λ v w a b e. absurd (false≢true (sym (has-none w) ∙ e));
-        last = λ l m. absurd (omega arith);
-      }
+      -- all atoms are within reach of all
+      pub sets-end : {old out : List ℕ} {d : ℕ} → Joined (upToAt d) old out → ((v w : ℕ) → Within n v → Within n w → distance g v w ≤ d) → out ≡ joinedSets (digitSetOf g digits) old
+      unfolding joinedSets
+      sets-end {old} {out} {d} J whole =
+          ext-getD 0 out (table (length old) (λ p. bitOr (getD old p 0) (digitSetOf g digits p))) (J .size ∙ sym (length-table (length old) (λ p. bitOr (getD old p 0) (digitSetOf g digits p))))
+          (λ p l. J .joined p
+          ∙ ap (bitOr (getD old p 0)) (up-all d whole p)
+          ∙ sym (getD-table (length old) (λ p. bitOr (getD old p 0) (digitSetOf g digits p)) p 0 (omega (arith, J .size))))
 
-  module _ {near sets old out : List ℕ} {met d : ℕ} (L : Levelled n xs near sets old out met d) where
-    pub deeper : (met ≡ firsts n → ⊥) → d < n
-    deeper ne = elim (decLt d n) [ yes l ↦ l | no l ↦ absurd (ne (L .last (omega (arith, some-atoms .low)) (omega arith))) ]
+    pub sets-start : (old : List ℕ) → Joined (upToAt 0) old old
+    sets-start old = joined-none old up-none
 
-    -- one bond farther
-    pub levelled-next : (near′ sets′ out′ : List ℕ) → length sets′ ≡ mostAtoms → Reach h (suc d) sets′ → (level : ℕ) → level ≡ suc d
-        → Joined (levelAt n sets′ near level mostDigits) out out′ → (met′ : ℕ) → met′ ≡ inAll sets′ (firsts n) n → Copied sets′ near′ n → Levelled n xs near′ sets′ old out′ met′ (d + 1)
-    levelled-next near′ sets′ out′ size R level a J met′ is C = rw (add-one d) (record {
-      near-size = C .size;
-      sets-size = size;
-      reach = reach-same h (suc d) sets′ near′ (λ v a. C .same (v - 1) (omega arith)) R;
-      wide = R;
-      joined = joined-more (upToAt h (suc d)) (L .joined) (rw a at J) (up-next h (some-atoms .low) d sets′ near R (L .reach));
-      known = λ v w a b e.
-          leb-true (distance h v w) (suc d)
-          (sym (R .holds v w a b) ∙ all-in sets′ (firsts n) n (v - 1) w (omega arith) (ap (λ (x : ℕ). has x w) (sym is) ∙ e));
-      last = λ l m.
-          is
-          ∙ same-set n (inAll sets′ (firsts n) n) (firsts n) (omega (arith, all-below sets′ (firsts n) n, ones-lt n)) (ones-lt n)
-          (λ w b. all-of sets′ (firsts n) n w (has-firsts n w b) (λ i l. within i w l b m) ∙ sym (has-firsts n w b));
-    })
-      where
-        within : (i w : ℕ) → i < n → Within n w → n ≤ suc d → has (getD sets′ i 0) w ≡ true
-        within i w l b m =
-            let e : suc i - 1 ≡ i = omega arith in
-            let a : Within n (suc i) = record { low = omega arith; high = omega arith } in
-            rw e at (R .holds (suc i) w a b) ∙ le-leb (distance h (suc i) w) (suc d) (omega (arith, distance-below (molecule n xs fine) a b))
-
-    -- all atoms are within reach of all
-    pub levelled-end : met ≡ firsts n → out ≡ joinedSets (digitSetAt h) old
-    unfolding joinedSets
-    levelled-end e =
-        ext-getD 0 out (table (length old) (λ p. bitOr (getD old p 0) (digitSetAt h p))) (L .joined .size ∙ sym (length-table (length old) (λ p. bitOr (getD old p 0) (digitSetAt h p))))
-        (λ p l. L .joined .joined p
-        ∙ ap (bitOr (getD old p 0)) (up-all h (some-atoms .low) d (λ v w a b. L .known v w a b (ap (λ (x : ℕ). has x w) e ∙ has-firsts n w b)) p)
-        ∙ sym (getD-table (length old) (λ p. bitOr (getD old p 0) (digitSetAt h p)) p 0 (omega (arith, L .joined .size))))
+  -- with all digits these are the sets that are promised
+  pub all-digits : digitSetOf g mostDigits ≡ digitSetAt g
+  unfolding digitSetOf digitSetAt
+  all-digits = refl

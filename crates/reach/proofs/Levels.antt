@@ -31,6 +31,15 @@ pub record Level (n : ℕ) (xs near sets reached : List ℕ) (s : Both) (met d :
   pub upto : LevelsUpTo (graphOf n xs) d met s
   pub counts : Reached (graphOf n xs) d reached
 
+-- what a turn finds: the sets one bond farther, copied, and how many atoms they have
+pub record Turned (n : ℕ) (xs : List ℕ) (d : ℕ) (reached near sets more : List ℕ) (met : ℕ) : Type 0 where
+  pub near-size : length near ≡ mostAtoms
+  pub sets-size : length sets ≡ mostAtoms
+  pub wide : Reach (graphOf n xs) (suc d) sets
+  pub copied : (v : ℕ) → Within n v → around near v ≡ around sets v
+  pub counts : Added n sets reached more
+  pub met-is : met ≡ sum n (λ v. ones (around sets v))
+
 -- a set of one atom
 ones-alone : (p : ℕ) → ones (2 ^ p) ≡ 1
 unfolding ones onesIn
@@ -94,11 +103,9 @@ module _ (n : ℕ) (xs : List ℕ) (fine : blockReply n xs ≡ read tt) where
       spare = let h : suc d ≤ mostAtoms = omega (arith, deepest) in record { room = λ v w. omega (arith, L .counts .wanting v w, mul-le-mul (few .high) h) }
 
       -- one bond farther
-      module _ (near′ sets′ reached′ : List ℕ) (a : length near′ ≡ mostAtoms) (b : length sets′ ≡ mostAtoms) (R : Reach g (suc d) sets′)
-          (copied : (v : ℕ) → Within n v → around near′ v ≡ around sets′ v) (added′ : Added n sets′ reached reached′)
-          (met′ : ℕ) (is : met′ ≡ sum n (λ v. ones (around sets′ v))) where
+      module _ {near′ sets′ reached′ : List ℕ} {met′ : ℕ} (T : Turned n xs d reached near′ sets′ reached′ met′) where
         here : met′ ≡ upTo g each (suc d)
-        here = is ∙ count-reach g (suc d) sets′ R
+        here = T .met-is ∙ count-reach g (suc d) sets′ (T .wide)
 
         pub grows : met ≤ met′
         grows = omega (arith, here, L .upto .met-is, up-more g d)
@@ -114,10 +121,10 @@ module _ (n : ℕ) (xs : List ℕ) (fine : blockReply n xs ≡ read tt) where
 
         pub level-next : Level n xs near′ sets′ reached′ (fartherOf s (d + 1) (met′ - met)) met′ (d + 1)
         level-next = rw (add-one d) (record {
-          near-size = a;
-          sets-size = b;
-          reach = reach-same g (suc d) sets′ near′ copied R;
-          wide = R;
+          near-size = T .near-size;
+          sets-size = T .sets-size;
+          reach = reach-same g (suc d) sets′ near′ (T .copied) (T .wide);
+          wide = T .wide;
           upto = record {
             all-is = added itself (s .all) (L .upto .all-is);
             odd-is = added oddOf (s .odd) (L .upto .odd-is);
@@ -125,12 +132,12 @@ module _ (n : ℕ) (xs : List ℕ) (fine : blockReply n xs ≡ read tt) where
             met-is = here;
             deep = λ k e. let q : d ≡ k = omega arith in omega (arith, more, L .upto .met-is, ap (upTo g each) q);
           };
-          counts = record { size = added′ .size; wanting = λ v w. omega (arith, added′ .added v w, L .counts .wanting v w, one-farther g d sets′ R v w) };
+          counts = record { size = T .counts .size; wanting = λ v w. omega (arith, T .counts .added v w, L .counts .wanting v w, one-farther g d sets′ (T .wide) v w) };
         })
 
     -- no pair is left
     module _ (over : n * n ≤ met) where
-      whole : (i j : ℕ) → Within n i → Within n j → distance g i j ≤ d
+      pub whole : (i j : ℕ) → Within n i → Within n j → distance g i j ≤ d
       whole = met-all g d (omega (arith, L .upto .met-is))
 
       twice : (f : ℕ → ℕ) (u : ℕ) → f 0 ≡ 0 → u ≡ upTo g f d → u / 2 ≡ total g f

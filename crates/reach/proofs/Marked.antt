@@ -1,6 +1,5 @@
--- Sets that come to lent sets: to a run of them, and digit by digit to all; the atoms that all sets have. Assumes nothing.
-use Prim.Native.Nat.{ℕ, zero, suc, _+_, _-_, _*_, _/_, _%_, _^_, _≤_, _<_, max}
-use mathlib.Core.Bool.{true}
+-- Sets that come to lent sets: to a run of them, and digit by digit to all. Assumes nothing.
+use Prim.Native.Nat.{ℕ, suc, _+_, _-_, _*_, _/_, _%_, _^_, _≤_, _<_, max}
 use mathlib.Core.List.{List}
 use mathlib.Core.Path.{_≡_, refl, sym, ap, ap₂, _∙_}
 use native.Mathlib.Decide.{ℕ-discrete, decLt}
@@ -9,16 +8,13 @@ use native.Mathlib.Numerals.{add-one}
 use native.Mathlib.Omega.{arith}
 use borrow.Author.Tests.{lt-ltb, le-ltb}
 use lib.Arith.{bin-ind, digits-mod}
-use lib.Bits.{bitAnd, bitOr, or-step, or-shr, or-zero-r, and-le-l}
+use lib.Bits.{bitOr, or-step, or-shr, or-zero-r}
 use lib.ListN.{length, getD, set, length-set}
 use lib.Pow.{shr-shr}
 use lib.Seq.{getD-set-same, getD-set-other}
-use Rattle.graph.specs.Bonds.{both, both-true}
-use Rattle.graph.specs.Sets.{has}
-use Rattle.graph.specs.SetLaws.{has-and}
 use Rattle.block.specs.Block.{mostAtoms}
 use Rattle.reach.specs.DigitSets.{mostDigits, digit}
-use Rattle.reach.specs.Marked.{newIn, newWhere, levelAt, inAll, Marks, Joined, Copied}
+use Rattle.reach.specs.Marked.{newIn, newWhere, levelAt, Marks, Joined}
 
 -- a run of sets
 module _ {f : ℕ → ℕ} {base : ℕ} {old : List ℕ} where
@@ -88,8 +84,10 @@ place n k p l h =
     let e : p / n ≡ k = div-eq-of-lt-le n l (omega arith) in
     (e, omega (arith, rw e at (div-add-mod p n)))
 
-pub run-fits : (n k base : ℕ) → n ≤ mostAtoms → k < mostDigits → base ≡ k * n → (base ≤ mostDigits * mostAtoms) × (base + n ≤ mostDigits * n)
-run-fits n k base l h e = let m : suc k * n ≤ mostDigits * n = mul-le-mul h (le-refl n) in (omega arith, omega arith)
+pub run-fits : (n k digits base : ℕ) → n ≤ mostAtoms → digits ≤ mostDigits → k < digits → base ≡ k * n → (base ≤ mostDigits * mostAtoms) × (base + n ≤ digits * n)
+run-fits n k digits base l d h e =
+    let m : suc k * n ≤ digits * n = mul-le-mul h (le-refl n) in
+    (omega (arith, mul-le-mul d l), omega arith)
 
 pub halved : (d k rest : ℕ) → rest ≡ d / 2 ^ k → rest / 2 ≡ d / 2 ^ (k + 1)
 halved d k rest e = ap (λ (x : ℕ). x / 2) e ∙ shr-shr d k 1
@@ -120,37 +118,3 @@ module _ (n : ℕ) (sets near : List ℕ) (d : ℕ) where
           ∙ ap₂ bitOr (J .joined p ∙ ap (bitOr (getD old p 0)) (level-out k p (omega arith)) ∙ or-zero-r (getD old p 0))
           (ap₂ (λ (x y : ℕ). newWhere x sets near y) (q ∙ ap (λ (x : ℕ). digit x d) (sym u)) (sym v) ∙ sym (level-in (suc k) p (omega arith)))
       at p (no l) (no h) = M .higher p (omega arith) ∙ J .joined p ∙ ap (bitOr (getD old p 0)) (level-out k p (omega arith) ∙ sym (level-out (suc k) p (omega arith)))
-
--- the atoms that all sets have
-module _ (sets : List ℕ) (some : ℕ) where
-  pub all-below : (n : ℕ) → inAll sets some n ≤ some
-  unfolding inAll
-  all-below zero = omega arith
-  all-below (suc n) = omega (arith, and-le-l (inAll sets some n) (getD sets n 0), all-below n)
-
-  pub all-in : (n i w : ℕ) → i < n → has (inAll sets some n) w ≡ true → has (getD sets i 0) w ≡ true
-  unfolding inAll
-  all-in zero i w l h = absurd (omega arith)
-  all-in (suc n) i w l h =
-      let (a, b) = both (has (inAll sets some n) w) (has (getD sets n 0) w) (sym (has-and (inAll sets some n) (getD sets n 0) w) ∙ h) in
-      elim (ℕ-discrete i n) [ yes e ↦ rw e b | no ne ↦ all-in n i w (omega arith) a ]
-
-  pub all-of : (n w : ℕ) → has some w ≡ true → ((i : ℕ) → i < n → has (getD sets i 0) w ≡ true) → has (inAll sets some n) w ≡ true
-  unfolding inAll
-  all-of zero w s h = s
-  all-of (suc n) w s h =
-      has-and (inAll sets some n) (getD sets n 0) w
-      ∙ both-true (has (inAll sets some n) w) (has (getD sets n 0) w) (all-of n w s (λ i l. h i (omega arith))) (h n (omega arith))
-
-  pub all-next : (i met : ℕ) → met ≡ inAll sets some i → bitAnd met (getD sets i 0) ≡ inAll sets some (i + 1)
-  unfolding inAll
-  all-next i met e = rw (add-one i) (ap (λ (x : ℕ). bitAnd x (getD sets i 0)) e)
-
-pub copied-more : (sets near : List ℕ) (i : ℕ) → i < mostAtoms → Copied sets near i → Copied sets (set near i (getD sets i 0)) (i + 1)
-copied-more sets near i l C = record {
-  size = length-set near i (getD sets i 0) ∙ C .size;
-  same = λ p h. elim (ℕ-discrete p i) [
-    | yes e ↦ rw (e, getD-set-same near i (getD sets i 0) 0 (omega (arith, C .size))) refl
-    | no ne ↦ getD-set-other near i p (getD sets i 0) 0 ne ∙ C .same p (omega arith)
-  ];
-}

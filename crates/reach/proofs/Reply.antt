@@ -13,7 +13,7 @@ use Rattle.graph.specs.Graph.{Graph, Within, vertexSum}
 use Rattle.graph.specs.Farthest.{largest}
 use Rattle.graph.specs.Largest.{largest-over, largest-below}
 use Rattle.half.specs.Half.{table}
-use Rattle.reply.specs.Read.{refused, read, refusal, saidReply}
+use Rattle.reply.specs.Read.{refused, read, refusal}
 use Rattle.reply.specs.declared.Refusal.{Refusal}
 use Rattle.reply.specs.declared.Reply.{Reply}
 use Rattle.reply.specs.declared.Reply.the-variants as reply
@@ -23,11 +23,14 @@ use Rattle.block.specs.Near.{around}
 use Rattle.block.specs.Rows.{noRow}
 use Rattle.block.specs.Told.{few-atoms, molecule}
 use Rattle.block.specs.declared.Indices.{Indices}
+use Rattle.block.specs.declared.IndicesReply.{IndicesReply}
 use Rattle.block.specs.declared.IndicesReply.the-variants as measured
-use Rattle.reach.specs.DigitSets.{mostDigits, digitSetAt, joinedSets, digitSetsReply, joinedBy, digitSetsAfter}
+use Rattle.reach.specs.DigitSets.{mostDigits, joinedSets, digitSetsReply, joinedBy, digitSetsAfter}
+use Rattle.reach.specs.Marked.{digitSetOf}
 use Rattle.reach.specs.Reach.{Reached}
 use Rattle.reach.specs.Sums.{vertexSumsOf, sumsReply, saidSums}
 use Rattle.reach.proofs.Summing.{all-wanting}
+use Rattle.reach.proofs.ByDigits.{all-digits}
 use Rattle.reach.proofs.Leaving.{table-cong}
 
 module _ (n : ℕ) (xs : List ℕ) where
@@ -40,25 +43,28 @@ module _ (n : ℕ) (xs : List ℕ) where
   sums-refused r b p e = rw b (λ j. record { reply = e j; at = noRow })
 
   -- a reply to lent sets, and the sets before and after
-  abbrev SetsSaid : Reply → List ℕ → List ℕ → Type 0
-  SetsSaid p old new = (p ≡ saidReply (digitSetsReply n xs (length old))) × (new ≡ digitSetsAfter n xs old)
+  abbrev SetsSaid : IndicesReply → List ℕ → List ℕ → Type 0
+  SetsSaid p old new = (p ≡ saidIndices (digitSetsReply n xs (length old))) × (new ≡ digitSetsAfter n xs old)
 
-  pub sets-refused : (r : Refusal) → blockReply n xs ≡ refused r → (p : Reply) → p ≡ reply.Refused r → (old : List ℕ) → SetsSaid p old old
+  pub sets-refused : (r : Refusal) → blockReply n xs ≡ refused r → (old : List ℕ) → SetsSaid (measured.Refused r) old old
   unfolding digitSetsReply joinedBy
-  sets-refused r b p e old = rw b (e, refl)
+  sets-refused r b old = rw b (refl, refl)
 
   module _ (fine : blockReply n xs ≡ read tt) where
     pub fine-reply : (x : Indices) → x ≡ indicesOf (graphOf n xs) → measured.Of x ≡ saidIndices (indicesReply n xs)
     unfolding indicesReply
     fine-reply x e = rw (fine, e)
 
-    pub sets-short : (old : List ℕ) → length old < mostDigits * n → SetsSaid (reply.Refused (refusal 9 0)) old old
+    pub sets-short : (old : List ℕ) → length old < mostDigits * n → SetsSaid (measured.Refused (refusal 9 0)) old old
     unfolding digitSetsReply joinedBy
     sets-short old l = rw (fine, lt-ltb (length old) (mostDigits * n) l) (refl, refl)
 
-    pub sets-fine : (old : List ℕ) → mostDigits * n ≤ length old → (p : Reply) → p ≡ reply.Fine → (new : List ℕ) → new ≡ joinedSets (digitSetAt (graphOf n xs)) old → SetsSaid p old new
+    pub sets-fine : (old : List ℕ) → mostDigits * n ≤ length old → (x : Indices) → x ≡ indicesOf (graphOf n xs) → (new : List ℕ)
+        → new ≡ joinedSets (digitSetOf (graphOf n xs) mostDigits) old → SetsSaid (measured.Of x) old new
     unfolding digitSetsReply joinedBy
-    sets-fine old l p e new q = rw (fine, le-ltb (length old) (mostDigits * n) l) (e, q)
+    sets-fine old l x e new q =
+        rw (fine, le-ltb (length old) (mostDigits * n) l)
+        (ap measured.Of e, q ∙ ap (λ (f : ℕ → ℕ). joinedSets f old) (all-digits (graphOf n xs)))
 
     abbrev g : Graph
     g = graphOf n xs

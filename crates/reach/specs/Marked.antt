@@ -1,13 +1,13 @@
--- Work. Lent sets to which others come, and the atoms that all sets have.
-use Prim.Native.Nat.{ℕ, zero, suc, _+_, _*_, _/_, _%_, _≤_, _<_}
+-- Work. Lent sets to which others come.
+use Prim.Native.Nat.{ℕ, suc, _+_, _*_, _/_, _%_, _≤_, _<_}
 use mathlib.Core.Bool.{cond}
 use mathlib.Core.List.{List}
 use mathlib.Core.Path.{_≡_}
-use lib.Bits.{bitAnd, bitOr, bitXor}
+use lib.Bits.{bitOr, bitXor}
 use lib.Dec.{ltb}
 use lib.ListN.{length, getD}
-use Rattle.block.specs.Block.{mostAtoms}
-use Rattle.reach.specs.DigitSets.{digit}
+use Rattle.graph.specs.Graph.{Graph}
+use Rattle.reach.specs.DigitSets.{digit, digitSet}
 
 -- what one set has and the other has not, of two that hold one another
 abbrev pub newIn : List ℕ → List ℕ → ℕ → ℕ
@@ -33,11 +33,6 @@ pub record Joined (f : ℕ → ℕ) (old new : List ℕ) : Type 0 where
 unfoldable pub levelAt : ℕ → List ℕ → List ℕ → ℕ → ℕ → ℕ → ℕ
 levelAt n sets near d k p = cond (ltb p (k * n)) (newWhere (digit (p / n) d) sets near (p % n)) 0
 
--- those of some atoms that the first n sets all have
-unfoldable pub inAll : List ℕ → ℕ → ℕ → ℕ
-inAll sets some zero = some
-inAll sets some (suc i) = bitAnd (inAll sets some i) (getD sets i 0)
-
-pub record Copied (sets near : List ℕ) (i : ℕ) : Type 0 where
-  pub size : length near ≡ mostAtoms
-  pub same : (p : ℕ) → p < i → getD near p 0 ≡ getD sets p 0
+-- what comes to the lent sets of the first digits: `digitSetAt`, for as many digits as are asked for
+unfoldable pub digitSetOf : Graph → ℕ → ℕ → ℕ
+digitSetOf g digits p = cond (ltb p (digits * g .atoms)) (digitSet g (p / g .atoms) (suc (p % g .atoms))) 0

@@ -3,9 +3,7 @@ use Prim.Native.Nat.{ℕ}
 use mathlib.Core.List.{List}
 use mathlib.Core.Path.{_≡_}
 use lib.ListN.{length}
-use Rattle.reply.specs.Read.{saidReply}
 use Rattle.reply.specs.Chain.{unique}
-use Rattle.reply.specs.declared.Reply.{Reply}
 use Rattle.block.specs.Index.{indicesReply, saidIndices}
 use Rattle.block.specs.declared.IndicesReply.{IndicesReply}
 use Rattle.reach.specs.DigitSets.{digitSetsReply, digitSetsAfter}
@@ -18,6 +16,6 @@ unique-measure n xs r s = unique
 pub unique-vertex-sums : (n : ℕ) (xs : List ℕ) (r s : VertexSums) → r ≡ saidSums (sumsReply n xs) → s ≡ saidSums (sumsReply n xs) → r ≡ s
 unique-vertex-sums n xs r s = unique
 
-pub unique-digit-sets : (n : ℕ) (xs old : List ℕ) (r s : Reply) (a b : List ℕ) → r ≡ saidReply (digitSetsReply n xs (length old)) → s ≡ saidReply (digitSetsReply n xs (length old))
-    → a ≡ digitSetsAfter n xs old → b ≡ digitSetsAfter n xs old → (r ≡ s) × (a ≡ b)
+pub unique-digit-sets : (n : ℕ) (xs old : List ℕ) (r s : IndicesReply) (a b : List ℕ) → r ≡ saidIndices (digitSetsReply n xs (length old))
+    → s ≡ saidIndices (digitSetsReply n xs (length old)) → a ≡ digitSetsAfter n xs old → b ≡ digitSetsAfter n xs old → (r ≡ s) × (a ≡ b)
 unique-digit-sets n xs old r s a b p q u v = (unique p q, unique u v)

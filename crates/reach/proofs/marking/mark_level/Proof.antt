@@ -1,17 +1,16 @@
 use Prim.Native.Nat.{ℕ, _-_, _*_, _/_, _%_, _^_, _≤_}
 use mathlib.Core.Path.{_≡_, ap}
 use native.Mathlib.Omega.{arith}
-use Rattle.reach.specs.DigitSets.{mostDigits}
 use Rattle.reach.specs.Marked.{Joined, levelAt}
 use Rattle.reach.proofs.Marked.{run-fits, halved, level-none, level-more}
 use Rattle.reach.proofs.marking.mark_level.Statement.{statement}
 use Rattle.reach.proofs.marking.mark_level.Tie as tie
 
 abbrev Inv-loop : tie.InvT-loop
-Inv-loop sets near n d out₀ rest₀ base₀ k₀ out rest base k = (k ≤ mostDigits) × (rest ≡ d / 2 ^ k) × (base ≡ k * n) × Joined (levelAt n sets near d k) out₀ out
+Inv-loop sets near n d digits out₀ rest₀ base₀ k₀ out rest base k = (k ≤ digits) × (rest ≡ d / 2 ^ k) × (base ≡ k * n) × Joined (levelAt n sets near d k) out₀ out
 
 abbrev μ-loop : tie.MeasureT-loop
-μ-loop sets near n d out₀ rest₀ base₀ k₀ out rest base k = mostDigits - k
+μ-loop sets near n d digits out₀ rest₀ base₀ k₀ out rest base k = digits - k
 
 loop-holds : tie.Need-loop-holds Inv-loop μ-loop
 loop-holds c = (omega arith, omega arith, omega arith, level-none _ _ _ _ _)
@@ -19,14 +18,15 @@ loop-holds c = (omega arith, omega arith, omega arith, level-none _ _ _ _ _)
 mark-if-requires : tie.Need-mark-if-requires Inv-loop μ-loop
 mark-if-requires c κs =
     let l = c .before .before .loop in
-    let w = c .before .before .before .before .pre .0 in
-    let f = run-fits _ _ _ (w .high) (c .before .loop-test .taken) (l .inv .2) in
-    (omega arith, w .high, f .0, omega (arith, f .1, l .inv .3 .size, c .before .before .before .before .pre .1))
+    let p = c .before .before .before .before .pre in
+    let f = run-fits _ _ _ _ (p .0 .high) (p .1) (c .before .loop-test .taken) (l .inv .2) in
+    (omega arith, p .0 .high, f .0, omega (arith, f .1, l .inv .3 .size, p .2))
 
 add-base : tie.Need-add-base Inv-loop μ-loop
 add-base c =
     let t = c .before .before .before .before in
-    omega (arith, run-fits _ _ _ (t .before .before .before .pre .0 .high) (t .loop-test .taken) (t .before .loop .inv .2), t .before .before .before .pre .0 .high)
+    let p = t .before .before .before .pre in
+    omega (arith, run-fits _ _ _ _ (p .0 .high) (p .1) (t .loop-test .taken) (t .before .loop .inv .2), p .0 .high)
 
 add-k : tie.Need-add-k Inv-loop μ-loop
 add-k c = omega arith
@@ -43,7 +43,7 @@ same-length : tie.Need-same-length Inv-loop μ-loop
 same-length c = c .before .loop .inv .3 .size
 
 returns : tie.Need-returns Inv-loop μ-loop
-returns c = let e : c .before .loop .k ≡ mostDigits = omega arith in rw e at (c .before .loop .inv .3)
+returns c = let e : c .before .loop .k ≡ c .before .before .before .args .digits = omega arith in rw e at (c .before .loop .inv .3)
 
 pub mark-level-spec : {M : Type 1} → statement M
 mark-level-spec =
