@@ -1,3 +1,4 @@
 -- Laws that the proofs of the functions cite.
 pub mod Ports
 pub mod Links
+pub mod Owns

@@ -10,7 +10,7 @@ use Rattle.assembly.specs.declared.Placement.{Placement}
 use Rattle.block.specs.declared.Vertex.{Vertex}
 use Rattle.tables.specs.Parts.{Part, farIn, sightIn}
 use Rattle.tables.specs.Table.{Fits}
-use Rattle.summary.specs.Layout.{storedAtoms, keptOf}
+use Rattle.summary.specs.Layout.{storedAtoms, vertexAt, keptOf}
 use Rattle.shelf.specs.Shelf.{summaryAt, placeOf}
 
 abbrev pub linkOf : List ℕ → Placement → List ℕ
@@ -46,6 +46,10 @@ between b ls x y = farIn (keptIn b ls) (joinsIn ls) 31 (joinsIn ls x .parent - 1
 abbrev pub sightFrom : List ℕ → List (List ℕ) → ℕ → ℕ → Vertex
 sightFrom b ls m k = sightIn (keptIn b ls) (joinsIn ls) (m - 1) (joinsIn ls k .parent - 1) (joinsIn ls k .site)
 
+-- what the placement at k counts from its own atom
+abbrev pub ownFrom : List ℕ → List (List ℕ) → ℕ → Vertex
+ownFrom b ls k = vertexAt (summaryAt b (placeIn ls k)) (joinsIn ls k .own)
+
 -- what is kept of the joins before k
 abbrev pub sightOfRow : List ℕ → Vertex
 sightOfRow l = record {
@@ -64,3 +68,7 @@ coreAt cs k = sightOfRow (getD cs k [])
 
 pub record Known (b : List ℕ) (ls cs : List (List ℕ)) (k : ℕ) : Type 0 where
   pub known : (m : ℕ) → 1 ≤ m → m < k → coreAt cs m ≡ sightFrom b ls m m
+
+-- and what those placements count from their own atoms
+pub record OwnKnown (b : List ℕ) (ls os : List (List ℕ)) (k : ℕ) : Type 0 where
+  pub counted : (m : ℕ) → 1 ≤ m → m < k → coreAt os m ≡ ownFrom b ls m

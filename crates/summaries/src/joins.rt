@@ -17,7 +17,7 @@ ghost use Rattle.assembly.specs.Placements.{mostPlacements, placementAt};
 ghost use Rattle.tables.specs.Parts.{sixIn};
 ghost use Rattle.summary.specs.Layout.{storedFields, vertexAt, farAt};
 ghost use Rattle.shelf.specs.Shelf.{summaryAt};
-ghost use Rattle.summaries.specs.Ready.{linkOf, keptIn, joinsIn, between, sightFrom, sightOfRow, coreAt, LinkedUpTo, ReadyShelf, Known};
+ghost use Rattle.summaries.specs.Ready.{linkOf, keptIn, joinsIn, between, sightFrom, sightOfRow, coreAt, LinkedUpTo, ReadyShelf, Known, OwnKnown};
 
 // A placement: the place of its summary, its parent's number, the parent's atom, its own atom.
 pub(crate) type Link = [usize; 4];
@@ -163,38 +163,37 @@ fn begun(book: &[u8], links: &Links, count: usize, cores: &Rows, k: usize) -> Ve
     )
 }
 
-// And as far as the placement before.
-fn core_of(book: &[u8], links: &Links, count: usize, cores: &Rows, k: usize) -> Vertex
+// And as far as the placement before. The first placement has no own atom: the loop begins after the parent, so its row is never asked for.
+fn core_of(book: &[u8], links: &Links, count: usize, cores: &Rows, owns: &Rows, k: usize) -> Vertex
     requires { ⌜ ReadyShelf (now book) (now links) count × Within (count - 1) k × Known (now book) (now links) (now cores) k ⌝ }
+    requires { ⌜ OwnKnown (now book) (now links) (now owns) k ⌝ }
     ensures { λ r. ⌜ r ≡ sightFrom (now (book .entry)) (now (links .entry)) k k ⌝ }
 {
     let mut v = begun(book, links, count, cores, k);
     let mut m = links[k][PARENT];
     while m < k {
-        let q = links[m];
-        v = grown(
-            v,
-            apart(book, links, count, m, k),
-            vertex_at(book, q[AT], q[OWN]),
-        );
+        v = grown(v, apart(book, links, count, m, k), core_at(owns, m));
         m += 1;
     }
     v
 }
 
-// The six fields of the first `count` placements.
+// The six fields of the first `count` placements. What each counts is kept for the later ones: from its parent's atom and from its own.
 pub(crate) fn composed(book: &[u8], links: &Links, count: usize) -> Indices
     requires { ⌜ ReadyShelf (now book) (now links) count ⌝ }
     ensures { λ r. ⌜ r ≡ sixIn (keptIn (now (book .entry)) (now (links .entry))) (joinsIn (now (links .entry))) (count - 1) ⌝ }
 {
     let mut s = fields_at(book, links[0][AT]);
     let mut cores = [[0u64; 8]; PLACEMENTS];
+    let mut owns = [[0u64; 8]; PLACEMENTS];
     let mut k: usize = 1;
     while k < count {
         let q = links[k];
-        let c = core_of(book, links, count, &cores, k);
-        s = joined(s, fields_at(book, q[AT]), c, vertex_at(book, q[AT], q[OWN]));
+        let c = core_of(book, links, count, &cores, &owns, k);
+        let own = vertex_at(book, q[AT], q[OWN]);
+        s = joined(s, fields_at(book, q[AT]), c, own);
         cores[k] = row_of(c);
+        owns[k] = row_of(own);
         k += 1;
     }
     s

@@ -13,47 +13,35 @@ use Rattle.summaries.proofs.joins.core_of.Statement.{statement}
 use Rattle.summaries.proofs.joins.core_of.Tie as tie
 
 abbrev Inv-loop : tie.InvT-loop
-Inv-loop book links count cores k v₀ m₀ v m = (joinsIn links k .parent ≤ m) × (m ≤ k) × (v ≡ sightFrom book links m k)
+Inv-loop book links count cores owns k v₀ m₀ v m = (joinsIn links k .parent ≤ m) × (m ≤ k) × (v ≡ sightFrom book links m k)
 
 abbrev μ-loop : tie.MeasureT-loop
-μ-loop book links count cores k v₀ m₀ v m = k - m
+μ-loop book links count cores owns k v₀ m₀ v m = k - m
 
 begun-requires : tie.Need-begun-requires Inv-loop μ-loop
-begun-requires c κs = c .before .pre
+begun-requires c κs = c .before .pre .0
 
 mul-m : tie.Need-mul-m Inv-loop μ-loop
-mul-m c = row-at (small (c .before .before .pre .0) (c .before .before .pre .1))
+mul-m c = row-at (small (c .before .before .pre .0 .0) (c .before .before .pre .0 .1))
 
 index-1-m : tie.Need-index-1-m Inv-loop μ-loop
-index-1-m c = small (c .before .before .pre .0) (c .before .before .pre .1)
+index-1-m c = small (c .before .before .pre .0 .0) (c .before .before .pre .0 .1)
 
 index-2-m : tie.Need-index-2-m Inv-loop μ-loop
 index-2-m c = lit< tt
 
 loop-holds : tie.Need-loop-holds Inv-loop μ-loop
-loop-holds c = (omega arith, earlier (c .before .before .before .pre .0) (c .before .before .before .pre .1) .high, c .before .begun .ensures)
+loop-holds c = (omega arith, earlier (c .before .before .before .pre .0 .0) (c .before .before .before .pre .0 .1) .high, c .before .begun .ensures)
 
 -- the placement at index m has joined before
 joined : (c : tie.In-loop Inv-loop μ-loop) → Within (c .before .before .before .before .before .args .count - 1) (c .before .loop .m)
-joined c = let p = c .before .before .before .before .before .pre in omega (arith, earlier (p .0) (p .1), p .1, c .before .loop .inv .0, c .loop-test .taken)
-
-mul-q : tie.Need-mul-q Inv-loop μ-loop
-mul-q c = row-at (small (c .before .before .before .before .before .pre .0) (joined c))
-
-element-copy-out-q : tie.Need-element-copy-out-q Inv-loop μ-loop
-element-copy-out-q c = small (c .before .before .before .before .before .pre .0) (joined c)
+joined c = let p = c .before .before .before .before .before .pre .0 in omega (arith, earlier (p .0) (p .1), p .1, c .before .loop .inv .0, c .loop-test .taken)
 
 apart-requires : tie.Need-apart-requires Inv-loop μ-loop
-apart-requires c κs = (c .before .before .before .before .before .before .pre .0, joined (c .before), c .before .before .before .before .before .before .pre .1)
+apart-requires c κs = let p = c .before .before .before .before .before .pre .0 in (p .0, joined c, p .1)
 
-array-read-vertex-at : tie.Need-array-read-vertex-at Inv-loop μ-loop
-array-read-vertex-at c = lit< tt
-
-array-read-vertex-at-2 : tie.Need-array-read-vertex-at-2 Inv-loop μ-loop
-array-read-vertex-at-2 c = lit< tt
-
-vertex-at-requires : tie.Need-vertex-at-requires Inv-loop μ-loop
-vertex-at-requires c κs = search needs
+core-at-requires : tie.Need-core-at-requires Inv-loop μ-loop
+core-at-requires c κs = small (c .before .before .before .before .before .before .pre .0 .0) (joined (c .before))
 
 grown-requires : tie.Need-grown-requires Inv-loop μ-loop
 grown-requires c κs = search needs
@@ -66,18 +54,20 @@ loop-less c = omega arith
 
 loop-again : tie.Need-loop-again Inv-loop μ-loop
 loop-again c =
-    let s = c .before .before .before .before .before .before .before .before .before in
-    let p = s .pre in
+    let t = c .before .before .before in
+    let s = t .before .before .before .before .before in
+    let p = s .pre .0 in
     let l = s .args .links .now in
-    let i = c .before .before .before .before .before .loop .inv in
-    let m = c .before .before .before .before .before .loop .m in
-    let k = s .args .k in (
+    let i = t .before .loop .inv in
+    let m = t .before .loop .m in
+    let k = s .args .k in
+    let o = c .before .core-at .ensures ∙ s .pre .1 .counted m (joined t .low) (t .loop-test .taken) in (
       omega arith,
       omega arith,
       c .grown .ensures
-          ∙ rw (i .2, c .before .before .apart .ensures, c .before .vertex-at .ensures)
+          ∙ rw (i .2, c .before .before .apart .ensures, o)
           (grown-small (from-small (p .0) m k (omega (arith, i .1, small (p .0) (p .1)))) (omega (arith, between-small (p .0) m k)) (own-small (p .0) (placeIn l m) (joinsIn l m .own))
-          ∙ from-next (p .0) (p .1) m (i .0) (c .before .before .before .before .loop-test .taken)),
+          ∙ from-next (p .0) (p .1) m (i .0) (t .loop-test .taken)),
     )
 
 returns : tie.Need-returns Inv-loop μ-loop
@@ -97,12 +87,8 @@ core-of-spec =
     index-1-m
     index-2-m
     loop-holds
-    mul-q
-    element-copy-out-q
     apart-requires
-    array-read-vertex-at
-    array-read-vertex-at-2
-    vertex-at-requires
+    core-at-requires
     grown-requires
     add-m
     loop-less
