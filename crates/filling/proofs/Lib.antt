@@ -1,4 +1,4 @@
 -- What the functions are proved by.
 pub mod Laws
-pub mod Given
+pub mod Putting
 pub mod Told

@@ -1,10 +1,9 @@
 -- A block's summary put into lent bytes.
 --
--- | notion                   | meaning                                                            | the law that matters                                              |
--- | `fillReply`, `fillBytes` | the reply to filling, and the lent bytes after it                  | `unique-fill`                                                     |
--- | `ShowsDigits`            | sets in which a block's distances stand by their digits            | `atom-put`: an atom's bytes, of its six sets                      |
--- | `Gives`, `FieldsOf`      | what an atom gives to the fields of its block, and the fields      | `fields-given`: all atoms together give each pair twice           |
--- | `seatBytes`, `threeSets` | what the functions put of an atom                                  |                                                                   |
+-- | notion                   | meaning                                                 | the law that matters                         |
+-- | `fillReply`, `fillBytes` | the reply to filling, and the lent bytes after it       | `unique-fill`                                |
+-- | `Lent`, `ShowsDigits`    | cleared sets; a block's distances in them by their digits | `lent-shows`: what comes to cleared sets   |
+-- | `threeSets`, `headOn`    | what the functions put                                  | `atom-put`, `all-put`: they are the summary  |
 pub mod Reply
 pub mod Work
 pub mod Unique

@@ -4,6 +4,7 @@ mod store;
 
 use atoms::put_atoms;
 use block::ATOMS;
+use block::IndicesReply;
 use reach::digit_sets;
 use reply::Refusal;
 use reply::Reply;
@@ -22,14 +23,6 @@ const SMALL: usize = 8;
 
 const MIDDLE: usize = 32;
 
-// What a summary opens with, besides the number and the atom count.
-struct Fields {
-    pub even: u64,
-    pub odd: u64,
-    pub polarity: u64,
-    pub largest: u64,
-}
-
 // The summary of a block, by lent sets with no atom in them.
 fn fill_by(digits: &mut [u64], number: u16, n: usize, bonds: &[u8], out: &mut [u8]) -> Reply
     requires { ⌜ Lent n (now digits) ⌝ }
@@ -37,21 +30,23 @@ fn fill_by(digits: &mut [u64], number: u16, n: usize, bonds: &[u8], out: &mut [u
     ensures bytes { λ _. ⌜ now (out .exit) ≡ fillBytes number n (now (bonds .entry)) (now (out .entry)) ⌝ }
 {
     let reply = digit_sets(n, bonds, digits);
-    let Reply::Fine = reply else {
-        return reply;
-    };
-    if out.len() < SUMMARY {
-        return Reply::Refused(Refusal {
-            number: 9,
-            place: 0,
-        });
+    match reply {
+        IndicesReply::Refused(refusal) => Reply::Refused(refusal),
+        IndicesReply::Of(indices) => {
+            if out.len() < SUMMARY {
+                return Reply::Refused(Refusal {
+                    number: 9,
+                    place: 0,
+                });
+            }
+            put_head(out, number as u64, indices);
+            put_atoms(out, digits, n);
+            Reply::Fine
+        }
     }
-    let fields = put_atoms(out, digits, n);
-    put_head(out, number as u64, n as u64, fields);
-    Reply::Fine
 }
 
-// The summary of a block under a number: the first bytes become it, 16 and 58 for each atom, and later ones stay. Or it is a refusal, and no byte
+// The summary of a block under a number: the first bytes become it, 16 and 48 for each atom, and later ones stay. Or it is a refusal, and no byte
 // changes: the block's, then 9 at 0 where there are fewer bytes than a place for a summary has.
 pub fn fill(number: u16, n: usize, bonds: &[u8], out: &mut [u8]) -> Reply
     ensures reply { λ r. ⌜ r ≡ saidReply (fillReply n (now (bonds .entry)) (length (now (out .entry)))) ⌝ }

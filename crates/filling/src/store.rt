@@ -1,13 +1,11 @@
 // Numbers put into lent bytes at a place that is there. Each is told in bytes, one behind the other, so that they are stored at once.
-use super::Fields;
-use block::Vertex;
+use block::Indices;
 ghost use mathlib.Core.Path.{_≡_};
-ghost use mathlib.Core.List.{[], _∷_, _++_};
 ghost use Prim.Native.Nat.{_+_, _%_, _≤_, _<_};
 ghost use lib.ListN.{length, set};
 ghost use lib.Seq.{sets};
 ghost use Rattle.records.specs.Bytes.{littleBytes};
-ghost use Rattle.filling.specs.Work.{seatBytes, threeSets, firstBytes, totalBytes};
+ghost use Rattle.filling.specs.Work.{threeSets, firstBytes, totalBytes, headOn};
 
 fn low(x: u64) -> u8
     ensures { λ r. ⌜ r ≡ x % 256 ⌝ }
@@ -46,26 +44,6 @@ fn put8(out: &mut [u8], at: usize, x: u64)
     put4(out, at + 4, x / 256 / 256 / 256 / 256);
 }
 
-fn put3(out: &mut [u8], at: usize, x: u64, y: u64, z: u64)
-    requires { ⌜ at + 3 ≤ length (now out) ⌝ }
-    ensures { λ _. ⌜ now (out .exit) ≡ sets (now (out .entry)) at (x % 256 ∷ y % 256 ∷ z % 256 ∷ []) ⌝ }
-{
-    put1(out, at, x);
-    put1(out, at + 1, y);
-    put1(out, at + 2, z);
-}
-
-// The ten bytes of an atom that counts v: it has as many bonds as atoms at distance 1.
-pub(crate) fn put_seat(out: &mut [u8], at: usize, v: Vertex)
-    requires { ⌜ at + 10 ≤ length (now out) ⌝ }
-    ensures { λ _. ⌜ now (out .exit) ≡ sets (now (out .entry)) at (seatBytes v) ⌝ }
-{
-    put2(out, at, v.even);
-    put2(out, at + 2, v.odd);
-    put3(out, at + 4, v.evens, v.odds, v.ones);
-    put3(out, at + 7, v.twos, v.farthest, v.ones);
-}
-
 // Three sets of atoms.
 pub(crate) fn put_three(out: &mut [u8], at: usize, x: u64, y: u64, z: u64)
     requires { ⌜ at + 24 ≤ length (now out) ⌝ }
@@ -95,10 +73,10 @@ fn put_totals(out: &mut [u8], even: u64, odd: u64, polarity: u64)
 }
 
 // The sixteen bytes that a summary opens with.
-pub(crate) fn put_head(out: &mut [u8], number: u64, n: u64, s: Fields)
+pub(crate) fn put_head(out: &mut [u8], number: u64, s: Indices)
     requires { ⌜ 16 ≤ length (now out) ⌝ }
-    ensures { λ _. ⌜ now (out .exit) ≡ sets (now (out .entry)) 0 (firstBytes number n (s .largest) ++ totalBytes (s .even) (s .odd) (s .polarity)) ⌝ }
+    ensures { λ _. ⌜ now (out .exit) ≡ sets (now (out .entry)) 0 (headOn number s) ⌝ }
 {
-    put_first(out, number, n, s.largest);
+    put_first(out, number, s.atoms, s.largest);
     put_totals(out, s.even, s.odd, s.polarity);
 }

@@ -14,7 +14,7 @@ same-length : tie.Need-same-length
 same-length c = search needs
 
 returns : tie.Need-returns
-returns c = let a = c .before .before .before .before .before .before .before .before .before .args in head-put (a .out .now) (a .number) (a .n) (a .s .largest) (a .s .even) (a .s .odd) (a .s .polarity) (c .before .before .before .before .before .before .put-first .ensures) (c .before .before .put-totals .ensures)
+returns c = let a = c .before .before .before .before .before .before .before .before .before .args in head-put (a .out .now) (a .number) (a .s) (c .before .before .before .before .before .before .put-first .ensures) (c .before .before .put-totals .ensures)
 
 pub put-head-spec : {M : Type 1} → statement M
 put-head-spec = tie.close (tie.spec put-first-requires put-totals-requires same-length returns)
