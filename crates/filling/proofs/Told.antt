@@ -5,7 +5,7 @@ use mathlib.Core.Bool.{false}
 use mathlib.Core.Path.{_≡_, refl, sym, _∙_, ap}
 use native.Mathlib.Omega.{arith}
 use borrow.Author.Tests.{lt-ltb, le-ltb}
-use lib.Bits.{bitOr, or-zero-l}
+use lib.Bits.{bitXor, xor-zero-l}
 use lib.Dec.{ltb}
 use lib.ListN.{length, replicate, length-replicate}
 use lib.Seq.{sets}
@@ -89,7 +89,7 @@ module _ (n : ℕ) (xs : List ℕ) where
           record {
             fine = t .block;
             room = omega (arith, t .room, t .size);
-            shown = λ k i l h. t .sets k i l h ∙ ap (λ (x : ℕ). bitOr x (digitSet (graphOf n xs) k (suc i))) (L .none (n * k + i)) ∙ or-zero-l (digitSet (graphOf n xs) k (suc i));
+            shown = λ k i l h. t .sets k i l h ∙ ap (λ (x : ℕ). bitXor x (digitSet (graphOf n xs) k (suc i))) (L .none (n * k + i)) ∙ xor-zero-l (digitSet (graphOf n xs) k (suc i));
           },
           i,
         )

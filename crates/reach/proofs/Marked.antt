@@ -1,27 +1,27 @@
--- Sets that come to lent sets: to a run of them, and digit by digit to all. Assumes nothing.
-use Prim.Native.Nat.{ℕ, suc, _+_, _-_, _*_, _/_, _%_, _^_, _≤_, _<_, max}
+-- Sets that change sides in lent sets: in a run of them, and digit by digit in all. Assumes nothing.
+use Prim.Native.Nat.{ℕ, zero, suc, _+_, _-_, _*_, _/_, _%_, _^_, _≤_, _<_}
 use mathlib.Core.List.{List}
 use mathlib.Core.Path.{_≡_, refl, sym, ap, ap₂, _∙_}
 use native.Mathlib.Decide.{ℕ-discrete, decLt}
-use native.Mathlib.Nat.{div-eq-of-lt-le, div-add-mod, mul-le-mul, le-refl}
+use native.Mathlib.Nat.{div-eq-of-lt-le, div-add-mod, mul-le-mul, le-refl, pow-suc}
 use native.Mathlib.Numerals.{add-one}
 use native.Mathlib.Omega.{arith}
-use borrow.Author.Tests.{lt-ltb, le-ltb}
+use borrow.Author.Tests.{lt-ltb, le-ltb, eq-eqb, ne-eqb}
 use lib.Arith.{bin-ind, digits-mod}
-use lib.Bits.{bitOr, or-step, or-shr, or-zero-r}
+use lib.Bits.{bitAnd, bitXor, differ, and-mask, xor-step, xor-shr, xor-zero-r}
 use lib.ListN.{length, getD, set, length-set}
-use lib.Pow.{shr-shr}
+use lib.Pow.{pow-pos, pow-mono}
 use lib.Seq.{getD-set-same, getD-set-other}
 use Rattle.block.specs.Block.{mostAtoms}
-use Rattle.reach.specs.DigitSets.{mostDigits, digit}
-use Rattle.reach.specs.Marked.{newIn, newWhere, levelAt, Marks, Joined}
+use Rattle.reach.specs.DigitSets.{mostDigits}
+use Rattle.reach.specs.Marked.{outside, outsideWhere, levelAt, Marks, Joined}
 
 -- a run of sets
 module _ {f : ℕ → ℕ} {base : ℕ} {old : List ℕ} where
   pub marks-none : Marks f base old old 0
   marks-none = record { size = refl; inside = λ p l. absurd (omega arith); lower = λ p l. refl; higher = λ p l. refl }
 
-  pub marks-more : {out : List ℕ} (i : ℕ) → base + i < length old → Marks f base old out i → Marks f base old (set out (base + i) (bitOr (getD out (base + i) 0) (f i))) (i + 1)
+  pub marks-more : {out : List ℕ} (i : ℕ) → base + i < length old → Marks f base old out i → Marks f base old (set out (base + i) (bitXor (getD out (base + i) 0) (f i))) (i + 1)
   marks-more {out} i l M = record {
     size = length-set out (base + i) more ∙ M .size;
     inside = λ p h. elim (ℕ-discrete p i) [
@@ -33,50 +33,63 @@ module _ {f : ℕ → ℕ} {base : ℕ} {old : List ℕ} where
   }
     where
       more : ℕ
-      more = bitOr (getD out (base + i) 0) (f i)
+      more = bitXor (getD out (base + i) 0) (f i)
 
--- with the digit 0 nothing comes, with 1 all
-module _ (sets near : List ℕ) (base : ℕ) (old : List ℕ) (n : ℕ) where
-  pub marks-idle : (b : ℕ) → b ≡ 0 → Marks (newWhere b sets near) base old old n
-  marks-idle b z = record {
+-- where the lower digits are 0 all of it, else nothing
+module _ (near : List ℕ) (base : ℕ) (old : List ℕ) (n : ℕ) where
+  pub marks-idle : (low : ℕ) → (low ≡ 0 → ⊥) → Marks (outsideWhere low n near) base old old n
+  marks-idle low z = record {
     size = refl;
-    inside = λ p l. sym (ap (bitOr (getD old (base + p) 0)) (ap (λ (x : ℕ). x * newIn sets near p) z ∙ omega arith) ∙ or-zero-r (getD old (base + p) 0));
+    inside = λ p l. sym (rw (ne-eqb low 0 z) (xor-zero-r (getD old (base + p) 0)));
     lower = λ p l. refl;
     higher = λ p l. refl;
   }
 
-  pub marks-all : (b : ℕ) → b ≡ 1 → (new : List ℕ) → Marks (newIn sets near) base old new n → Marks (newWhere b sets near) base old new n
-  marks-all b o new M = record {
+  pub marks-all : (low : ℕ) → low ≡ 0 → (new : List ℕ) → Marks (outside n near) base old new n → Marks (outsideWhere low n near) base old new n
+  marks-all low z new M = record {
     size = M .size;
-    inside = λ p l. M .inside p l ∙ ap (bitOr (getD old (base + p) 0)) (sym (ap (λ (x : ℕ). x * newIn sets near p) o ∙ omega arith));
+    inside = λ p l. M .inside p l ∙ sym (rw (eq-eqb low 0 z) refl);
     lower = M .lower;
     higher = M .higher;
   }
 
 -- one after the other
-or-assoc : (a b c : ℕ) → bitOr (bitOr a b) c ≡ bitOr a (bitOr b c)
-or-assoc =
-    bin-ind (λ (n : ℕ). (b c : ℕ) → bitOr (bitOr n b) c ≡ bitOr n (bitOr b c)) (λ b c. refl)
+xor-assoc : (a b c : ℕ) → bitXor (bitXor a b) c ≡ bitXor a (bitXor b c)
+xor-assoc =
+    bin-ind (λ (n : ℕ). (b c : ℕ) → bitXor (bitXor n b) c ≡ bitXor n (bitXor b c)) (λ b c. refl)
     (λ n ih b c.
-    or-step (bitOr n b) c
-    ∙ ap₂ (λ (x y : ℕ). x * 2 + y) (ap (λ (x : ℕ). bitOr x (c / 2)) (or-shr n b 1) ∙ ih (b / 2) (c / 2) ∙ ap (bitOr (n / 2)) (sym (or-shr b c 1)))
-    (ap (λ (x : ℕ). max x (c % 2)) (last n b) ∙ bits (n % 2) (b % 2) (c % 2) ∙ ap (max (n % 2)) (sym (last b c)))
-    ∙ sym (or-step n (bitOr b c)))
+    xor-step (bitXor n b) c
+    ∙ ap₂ (λ (x y : ℕ). x * 2 + y) (ap (λ (x : ℕ). bitXor x (c / 2)) (xor-shr n b 1) ∙ ih (b / 2) (c / 2) ∙ ap (bitXor (n / 2)) (sym (xor-shr b c 1)))
+    (ap (λ (x : ℕ). differ x (c % 2)) (last n b) ∙ bits (n % 2) (b % 2) (c % 2) (omega arith) (omega arith) (omega arith) ∙ ap (differ (n % 2)) (sym (last b c)))
+    ∙ sym (xor-step n (bitXor b c)))
   where
-    bits : (x y z : ℕ) → max (max x y) z ≡ max x (max y z)
-    bits x y z = omega arith
+    bits : (x y z : ℕ) → x < 2 → y < 2 → z < 2 → differ (differ x y) z ≡ differ x (differ y z)
+    bits zero y z l m h = refl
+    bits (suc zero) zero z l m h = refl
+    bits (suc zero) (suc zero) zero l m h = refl
+    bits (suc zero) (suc zero) (suc zero) l m h = refl
+    bits (suc zero) (suc zero) (suc (suc z)) l m h = absurd (omega arith)
+    bits (suc zero) (suc (suc y)) z l m h = absurd (omega arith)
+    bits (suc (suc x)) y z l m h = absurd (omega arith)
 
-    last : (a b : ℕ) → bitOr a b % 2 ≡ max (a % 2) (b % 2)
-    last a b = ap (λ (x : ℕ). x % 2) (or-step a b) ∙ digits-mod (bitOr (a / 2) (b / 2)) (omega arith)
+    small : (x y : ℕ) → x < 2 → y < 2 → differ x y < 2
+    small zero y l m = m
+    small (suc zero) zero l m = l
+    small (suc zero) (suc zero) l m = omega arith
+    small (suc zero) (suc (suc y)) l m = absurd (omega arith)
+    small (suc (suc x)) y l m = absurd (omega arith)
 
-pub joined-more : {f h : ℕ → ℕ} {a b c : List ℕ} (k : ℕ → ℕ) → Joined f a b → Joined h b c → ((p : ℕ) → bitOr (f p) (h p) ≡ k p) → Joined k a c
+    last : (a b : ℕ) → bitXor a b % 2 ≡ differ (a % 2) (b % 2)
+    last a b = ap (λ (x : ℕ). x % 2) (xor-step a b) ∙ digits-mod (bitXor (a / 2) (b / 2)) (small (a % 2) (b % 2) (omega arith) (omega arith))
+
+pub joined-more : {f h : ℕ → ℕ} {a b c : List ℕ} (k : ℕ → ℕ) → Joined f a b → Joined h b c → ((p : ℕ) → bitXor (f p) (h p) ≡ k p) → Joined k a c
 joined-more {f} {h} {a} k F H e = record {
   size = H .size ∙ F .size;
-  joined = λ p. H .joined p ∙ ap (λ (x : ℕ). bitOr x (h p)) (F .joined p) ∙ or-assoc (getD a p 0) (f p) (h p) ∙ ap (bitOr (getD a p 0)) (e p);
+  joined = λ p. H .joined p ∙ ap (λ (x : ℕ). bitXor x (h p)) (F .joined p) ∙ xor-assoc (getD a p 0) (f p) (h p) ∙ ap (bitXor (getD a p 0)) (e p);
 }
 
 pub joined-none : {f : ℕ → ℕ} (old : List ℕ) → ((p : ℕ) → f p ≡ 0) → Joined f old old
-joined-none old z = record { size = refl; joined = λ p. sym (ap (bitOr (getD old p 0)) (z p) ∙ or-zero-r (getD old p 0)) }
+joined-none old z = record { size = refl; joined = λ p. sym (ap (bitXor (getD old p 0)) (z p) ∙ xor-zero-r (getD old p 0)) }
 
 -- the place p is that of digit k
 pub place : (n k p : ℕ) → k * n ≤ p → p < k * n + n → (p / n ≡ k) × (p % n ≡ p - k * n)
@@ -89,32 +102,39 @@ run-fits n k digits base l d h e =
     let m : suc k * n ≤ digits * n = mul-le-mul h (le-refl n) in
     (omega (arith, mul-le-mul d l), omega arith)
 
-pub halved : (d k rest : ℕ) → rest ≡ d / 2 ^ k → rest / 2 ≡ d / 2 ^ (k + 1)
-halved d k rest e = ap (λ (x : ℕ). x / 2) e ∙ shr-shr d k 1
+-- the lower digits, by a number that has them all
+pub lower-digits : (d k lower : ℕ) → lower ≡ 2 ^ k - 1 → bitAnd d lower ≡ d % 2 ^ k
+lower-digits d k lower e = ap (bitAnd d) e ∙ and-mask d k
 
-module _ (n : ℕ) (sets near : List ℕ) (d : ℕ) where
-  pub level-in : (k p : ℕ) → p < k * n → levelAt n sets near d k p ≡ newWhere (digit (p / n) d) sets near (p % n)
+pub lower-more : (k lower : ℕ) → lower ≡ 2 ^ k - 1 → 2 * lower + 1 ≡ 2 ^ (k + 1) - 1
+lower-more k lower e = rw (add-one k) (omega (arith, pow-suc 2 k, pow-pos k))
+
+pub lower-fits : (k digits lower : ℕ) → k < digits → digits ≤ mostDigits → lower ≡ 2 ^ k - 1 → lower < 64
+lower-fits k digits lower h l e = omega (arith, pow-mono {i = k} {j = 6} (omega arith), pow-pos k)
+
+module _ (n : ℕ) (near : List ℕ) (d : ℕ) where
+  pub level-in : (k p : ℕ) → p < k * n → levelAt n near d k p ≡ outsideWhere (d % 2 ^ (p / n)) n near (p % n)
   unfolding levelAt
   level-in k p l = rw (lt-ltb p (k * n) l) refl
 
-  pub level-out : (k p : ℕ) → k * n ≤ p → levelAt n sets near d k p ≡ 0
+  pub level-out : (k p : ℕ) → k * n ≤ p → levelAt n near d k p ≡ 0
   unfolding levelAt
   level-out k p l = rw (le-ltb p (k * n) l) refl
 
-  pub level-none : (old : List ℕ) → Joined (levelAt n sets near d 0) old old
+  pub level-none : (old : List ℕ) → Joined (levelAt n near d 0) old old
   level-none old = joined-none old (λ p. level-out 0 p (omega arith))
 
   -- one digit more
-  pub level-more : (k b : ℕ) → b ≡ digit k d → (old out new : List ℕ) → Joined (levelAt n sets near d k) old out → Marks (newWhere b sets near) (k * n) out new n
-      → Joined (levelAt n sets near d (k + 1)) old new
-  level-more k b q old out new J M = rw (add-one k) (record { size = M .size ∙ J .size; joined = λ p. at p (decLt p (k * n)) (decLt p (k * n + n)) })
+  pub level-more : (k low : ℕ) → low ≡ d % 2 ^ k → (old out new : List ℕ) → Joined (levelAt n near d k) old out → Marks (outsideWhere low n near) (k * n) out new n
+      → Joined (levelAt n near d (k + 1)) old new
+  level-more k low q old out new J M = rw (add-one k) (record { size = M .size ∙ J .size; joined = λ p. at p (decLt p (k * n)) (decLt p (k * n + n)) })
     where
-      at : (p : ℕ) → Dec (p < k * n) → Dec (p < k * n + n) → getD new p 0 ≡ bitOr (getD old p 0) (levelAt n sets near d (suc k) p)
-      at p (yes l) h = M .lower p l ∙ J .joined p ∙ ap (bitOr (getD old p 0)) (level-in k p l ∙ sym (level-in (suc k) p (omega arith)))
+      at : (p : ℕ) → Dec (p < k * n) → Dec (p < k * n + n) → getD new p 0 ≡ bitXor (getD old p 0) (levelAt n near d (suc k) p)
+      at p (yes l) h = M .lower p l ∙ J .joined p ∙ ap (bitXor (getD old p 0)) (level-in k p l ∙ sym (level-in (suc k) p (omega arith)))
       at p (no l) (yes h) =
           let (u, v) = place n k p (omega arith) h in
           let e : k * n + (p - k * n) ≡ p = omega arith in
           rw e at (M .inside (p - k * n) (omega arith))
-          ∙ ap₂ bitOr (J .joined p ∙ ap (bitOr (getD old p 0)) (level-out k p (omega arith)) ∙ or-zero-r (getD old p 0))
-          (ap₂ (λ (x y : ℕ). newWhere x sets near y) (q ∙ ap (λ (x : ℕ). digit x d) (sym u)) (sym v) ∙ sym (level-in (suc k) p (omega arith)))
-      at p (no l) (no h) = M .higher p (omega arith) ∙ J .joined p ∙ ap (bitOr (getD old p 0)) (level-out k p (omega arith) ∙ sym (level-out (suc k) p (omega arith)))
+          ∙ ap₂ bitXor (J .joined p ∙ ap (bitXor (getD old p 0)) (level-out k p (omega arith)) ∙ xor-zero-r (getD old p 0))
+          (ap₂ (λ (x y : ℕ). outsideWhere x n near y) (q ∙ ap (λ (x : ℕ). d % 2 ^ x) (sym u)) (sym v) ∙ sym (level-in (suc k) p (omega arith)))
+      at p (no l) (no h) = M .higher p (omega arith) ∙ J .joined p ∙ ap (bitXor (getD old p 0)) (level-out k p (omega arith) ∙ sym (level-out (suc k) p (omega arith)))

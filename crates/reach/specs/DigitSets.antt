@@ -2,7 +2,7 @@
 use Prim.Native.Nat.{ℕ, suc, _*_, _/_, _%_, _^_}
 use mathlib.Core.Bool.{cond}
 use mathlib.Core.List.{List}
-use lib.Bits.{bitOr}
+use lib.Bits.{bitXor}
 use lib.Dec.{ltb}
 use lib.ListN.{length, getD}
 use Rattle.graph.specs.Graph.{Graph, distance, sum}
@@ -28,13 +28,13 @@ setOf n f = sum n (λ v. f v * alone v)
 abbrev pub digitSet : Graph → ℕ → ℕ → ℕ
 digitSet g k v = setOf (g .atoms) (λ w. digit k (distance g v w))
 
--- what comes to the lent set at place p: the set of digit k of atom v where p is atoms * k + v - 1, and nothing behind those of the last digit
+-- what changes sides in the lent set at place p: the set of digit k of atom v where p is atoms * k + v - 1, and nothing behind those of the last digit
 unfoldable pub digitSetAt : Graph → ℕ → ℕ
 digitSetAt g p = cond (ltb p (mostDigits * g .atoms)) (digitSet g (p / g .atoms) (suc (p % g .atoms))) 0
 
--- lent sets, to each of which another comes
+-- lent sets in each of which the atoms of another change sides: they come, or go where they were there
 unfoldable pub joinedSets : (ℕ → ℕ) → List ℕ → List ℕ
-joinedSets f old = table (length old) (λ p. bitOr (getD old p 0) (f p))
+joinedSets f old = table (length old) (λ p. bitXor (getD old p 0) (f p))
 
 -- the block's indices; or its refusal, then 9 at 0 where too few sets are lent
 unfoldable pub digitSetsReply : ℕ → List ℕ → ℕ → Read Indices

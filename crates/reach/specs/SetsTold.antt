@@ -1,11 +1,11 @@
--- Laws. What a reply to lent sets tells: the sets are as they were, or the block is fine, the indices are its, and to each set comes its digit of the distances. Assumes nothing.
+-- Laws. What a reply to lent sets tells: the sets are as they were, or the block is fine, the indices are its, and in each set its digit of the distances changes sides. Assumes nothing.
 use Prim.Native.Nat.{ℕ, suc, _+_, _*_, _/_, _%_, _≤_, _<_}
 use mathlib.Core.List.{List}
 use mathlib.Core.Path.{_≡_, refl, sym, ap, ap₂, _∙_}
 use native.Mathlib.Nat.{mul-add-div, mul-add-mod-self-left, div-eq-of-lt, mod-eq-of-lt, mul-le-mul, le-refl}
 use native.Mathlib.Omega.{arith}
 use borrow.Author.Tests.{lt-ltb, ltb-false}
-use lib.Bits.{bitOr}
+use lib.Bits.{bitXor}
 use lib.Dec.{ltb}
 use lib.ListN.{length, getD}
 use Rattle.graph.specs.Graph.{Graph}
@@ -26,7 +26,7 @@ pub record SetsTold (n : ℕ) (xs old new : List ℕ) : Type 0 where
   pub block : blockReply n xs ≡ read tt
   pub room : mostDigits * n ≤ length old
   pub size : length new ≡ length old
-  pub sets : (k i : ℕ) → k < mostDigits → i < n → getD new (n * k + i) 0 ≡ bitOr (getD old (n * k + i) 0) (digitSet (graphOf n xs) k (suc i))
+  pub sets : (k i : ℕ) → k < mostDigits → i < n → getD new (n * k + i) 0 ≡ bitXor (getD old (n * k + i) 0) (digitSet (graphOf n xs) k (suc i))
 
 -- the place of digit k of an atom
 pub set-at : (g : Graph) (k i : ℕ) → k < mostDigits → i < g .atoms → digitSetAt g (g .atoms * k + i) ≡ digitSet g k (suc i)
@@ -55,7 +55,7 @@ module _ (n : ℕ) (xs old new : List ℕ) (r : IndicesReply) (e : r ≡ saidInd
   unfolding joinedBy
   digit-sets-refusal f p = let b = refusal-read (digitSetsReply n xs (length old)) f (sym e ∙ p) in (b, q ∙ rw b refl)
 
-  -- THE INDICES ARE THE BLOCK'S, and to each lent set comes its digit of the distances
+  -- THE INDICES ARE THE BLOCK'S, and in each lent set the atoms of its digit of the distances change sides
   pub digit-sets-told : (x : Indices) → r ≡ Of x → SetsTold n xs old new × (x ≡ indicesOf (graphOf n xs))
   unfolding digitSetsReply joinedBy joinedSets
   digit-sets-told x p =
@@ -63,7 +63,7 @@ module _ (n : ℕ) (xs old new : List ℕ) (r : IndicesReply) (e : r ≡ saidInd
       let (u, fine, d) = then-read (blockReply n xs) (λ _. refuseIf (ltb (length old) (mostDigits * n)) 9 0 then λ _. read (indicesOf (graphOf n xs))) b in
       let (v, c, i) = then-read (refuseIf (ltb (length old) (mostDigits * n)) 9 0) (λ _. read (indicesOf (graphOf n xs))) d in
       let l : mostDigits * n ≤ length old = ltb-false (length old) (mostDigits * n) (if-read (ltb (length old) (mostDigits * n)) 9 0 c) in
-      let f : ℕ → ℕ = λ p. bitOr (getD old p 0) (digitSetAt (graphOf n xs) p) in
+      let f : ℕ → ℕ = λ p. bitXor (getD old p 0) (digitSetAt (graphOf n xs) p) in
       let is : new ≡ table (length old) f = q ∙ rw b refl in (
         record {
           block = fine;
@@ -73,7 +73,7 @@ module _ (n : ℕ) (xs old new : List ℕ) (r : IndicesReply) (e : r ≡ saidInd
               let m : suc k * n ≤ mostDigits * n = mul-le-mul a (le-refl n) in
               ap (λ (t : List ℕ). getD t (n * k + i) 0) is
               ∙ getD-table (length old) f (n * k + i) 0 (omega arith)
-              ∙ ap (bitOr (getD old (n * k + i) 0)) (set-at (graphOf n xs) k i a h);
+              ∙ ap (bitXor (getD old (n * k + i) 0)) (set-at (graphOf n xs) k i a h);
         },
         sym (read-same (indicesOf (graphOf n xs)) x i),
       )

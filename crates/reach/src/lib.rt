@@ -143,7 +143,7 @@ fn summed(n: usize, bonds: &[u8], reached: &mut [u64], digits: usize, out: &mut 
     let mut d: u64 = 0;
     while met < pairs {
         spread(&near, n, bonds, &mut sets);
-        mark_level(&sets, &near, n, d + 1, digits, out);
+        mark_level(&near, n, d + 1, digits, out);
         let reached = settled(&sets, n, &mut near, reached);
         d += 1;
         s = farther(s, d, reached - met);
@@ -174,7 +174,7 @@ pub fn measure(n: usize, bonds: &[u8]) -> IndicesReply
     }
 }
 
-// The indices of a block; and to the sets that are lent comes, at n * k + v - 1, the set of the atoms whose distance from atom v has binary digit k.
+// The indices of a block; and in the lent set at n * k + v - 1 the atoms whose distance from atom v has binary digit k change sides.
 // Or it is a refusal, and no set changes: the block's, then 9 at 0 where fewer than 6 * n sets are lent.
 pub fn digit_sets(n: usize, bonds: &[u8], out: &mut [u64]) -> IndicesReply
     ensures reply { λ r. ⌜ r ≡ saidIndices (digitSetsReply n (now (bonds .entry)) (length (now (out .entry)))) ⌝ }

@@ -1,47 +1,49 @@
-// Distances by their binary digits: a level's new atoms go to the sets of the digits that the level has.
+// Distances by their binary digits, counted up: from one level to the next few digits change, and each for all atoms that are not yet within reach.
 ghost use mathlib.Core.Path.{_≡_};
-ghost use Prim.Native.Nat.{_+_, _*_, _≤_, _<_};
+ghost use Prim.Native.Nat.{_+_, _*_, _≤_};
 ghost use lib.ListN.{length};
 ghost use Rattle.graph.specs.Graph.{Within};
 ghost use Rattle.block.specs.Block.{mostAtoms};
 ghost use Rattle.reach.specs.DigitSets.{mostDigits};
-ghost use Rattle.reach.specs.Marked.{newIn, newWhere, levelAt, Marks, Joined};
+ghost use Rattle.reach.specs.Marked.{outside, outsideWhere, levelAt, Marks, Joined};
 use super::Sets;
+use block::ATOMS;
 
-// To the n lent sets from base on come the atoms that are new. No branch is inside, so that several sets are done at once.
-fn mark(sets: &Sets, near: &Sets, n: usize, base: usize, out: &mut [u64])
-    requires { ⌜ (n ≤ mostAtoms) × (base ≤ mostDigits * mostAtoms) × (base + n ≤ length (now out)) ⌝ }
-    ensures { λ _. ⌜ Marks (newIn (now (sets .entry)) (now (near .entry))) base (now (out .entry)) (now (out .exit)) n ⌝ }
+// In the n lent sets from base on the atoms that are not within reach change sides. No branch is inside, so that several sets are done at once.
+fn mark(near: &Sets, n: usize, base: usize, out: &mut [u64])
+    requires { ⌜ Within mostAtoms n × (base ≤ mostDigits * mostAtoms) × (base + n ≤ length (now out)) ⌝ }
+    ensures { λ _. ⌜ Marks (outside n (now (near .entry))) base (now (out .entry)) (now (out .exit)) n ⌝ }
 {
+    let whole = u64::MAX >> (ATOMS - n);
     let mut i = 0;
     while i < n {
-        out[base + i] = out[base + i] | (sets[i] ^ near[i]);
+        out[base + i] = out[base + i] ^ (whole ^ near[i]);
         i += 1;
     }
 }
 
-// The same where a digit is 1.
-fn mark_if(digit: u64, sets: &Sets, near: &Sets, n: usize, base: usize, out: &mut [u64])
-    requires { ⌜ (digit < 2) × (n ≤ mostAtoms) × (base ≤ mostDigits * mostAtoms) × (base + n ≤ length (now out)) ⌝ }
-    ensures { λ _. ⌜ Marks (newWhere digit (now (sets .entry)) (now (near .entry))) base (now (out .entry)) (now (out .exit)) n ⌝ }
+// The same where the lower digits are 0.
+fn mark_if(low: u64, near: &Sets, n: usize, base: usize, out: &mut [u64])
+    requires { ⌜ Within mostAtoms n × (base ≤ mostDigits * mostAtoms) × (base + n ≤ length (now out)) ⌝ }
+    ensures { λ _. ⌜ Marks (outsideWhere low n (now (near .entry))) base (now (out .entry)) (now (out .exit)) n ⌝ }
 {
-    if digit == 0 {
+    if low != 0 {
         return;
     }
-    mark(sets, near, n, base, out);
+    mark(near, n, base, out);
 }
 
-// What is new at level d comes to the lent sets of each digit that d has, of as many digits as are asked for.
-pub(crate) fn mark_level(sets: &Sets, near: &Sets, n: usize, d: u64, digits: usize, out: &mut [u64])
+// What is not within reach before level d changes sides in the lent sets of each digit that changes from d - 1 to d, of as many digits as are asked for.
+pub(crate) fn mark_level(near: &Sets, n: usize, d: u64, digits: usize, out: &mut [u64])
     requires { ⌜ Within mostAtoms n × (digits ≤ mostDigits) × (digits * n ≤ length (now out)) ⌝ }
-    ensures { λ _. ⌜ Joined (levelAt n (now (sets .entry)) (now (near .entry)) d digits) (now (out .entry)) (now (out .exit)) ⌝ }
+    ensures { λ _. ⌜ Joined (levelAt n (now (near .entry)) d digits) (now (out .entry)) (now (out .exit)) ⌝ }
 {
-    let mut rest = d;
+    let mut lower: u64 = 0;
     let mut base = 0;
     let mut k: usize = 0;
     while k < digits {
-        mark_if(rest % 2, sets, near, n, base, out);
-        rest = rest / 2;
+        mark_if(d & lower, near, n, base, out);
+        lower = 2 * lower + 1;
         base += n;
         k += 1;
     }

@@ -44,68 +44,68 @@ spread-requires : tie.Need-spread-requires Inv-loop μ-loop
 spread-requires c κs = (fine-in (c .before .before), c .before .before .before .loop .inv .1 .sets-size)
 
 add-mark-level : tie.Need-add-mark-level Inv-loop μ-loop
-add-mark-level c = let t = c .before .before .before .before .before .before in omega (arith, shallow-in t, few _ _ (fine-in t))
+add-mark-level c = let t = c .before .before .before .before .before in omega (arith, shallow-in t, few _ _ (fine-in t))
 
 mark-level-requires : tie.Need-mark-level-requires Inv-loop μ-loop
 mark-level-requires c κs =
-    let t = c .before .before .before .before .before .before .before in
+    let t = c .before .before .before .before .before .before in
     let p = t .before .before .before .before .before .before .pre in
     (few _ _ (fine-in t), p .2, omega (arith, p .3, t .before .loop .inv .2 .size))
 
 slice-aggregate-settled : tie.Need-slice-aggregate-settled Inv-loop μ-loop
-slice-aggregate-settled c = sym (c .before .before .before .before .before .before .before .before .before .before .before .before .before .loop .inv .1 .near-size)
+slice-aggregate-settled c = sym (c .before .before .before .before .before .before .before .before .before .before .before .before .loop .inv .1 .near-size)
 
 settled-requires : tie.Need-settled-requires Inv-loop μ-loop
 settled-requires c κs =
-    let t = c .before .before .before .before .before .before .before .before .before .before .before .before .before in
+    let t = c .before .before .before .before .before .before .before .before .before .before .before .before in
     let L = t .before .loop .inv .1 in
     (few _ _ (fine-in t) .high, L .near-size, L .counts .size, spare _ _ (fine-in t) L (more-in t))
 
 -- what a turn finds
 found : (c : tie.After-slice-known4 Inv-loop μ-loop) →
-    let t = c .before .before .before .before .before .before .before .before .before .before .before .before .before .before .before .before .before in
+    let t = c .before .before .before .before .before .before .before .before .before .before .before .before .before .before .before .before in
     let l = t .before .loop in
     let a = t .before .before .before .before .before .before .args in
     let m = c .before .before .before .settled in
-    Turned (a .n) (a .bonds .now) (l .d) (l .reached) (m .last .1 .1 .0) (c .before .before .before .before .before .before .before .before .before .before .before .before .before .before .spread .last .1 .1 .1 .0) (m .last .1 .1 .1 .0) (m .result)
+    Turned (a .n) (a .bonds .now) (l .d) (l .reached) (m .last .1 .1 .0) (c .before .before .before .before .before .before .before .before .before .before .before .before .before .spread .last .1 .1 .1 .0) (m .last .1 .1 .1 .0) (m .result)
 found c =
-    let l = c .before .before .before .before .before .before .before .before .before .before .before .before .before .before .before .before .before .before .loop in
+    let l = c .before .before .before .before .before .before .before .before .before .before .before .before .before .before .before .before .before .loop in
     let m = c .before .before .before .settled .ensures in
     record {
       near-size = c .before .before .near4 .given;
-      sets-size = c .before .before .before .before .before .before .before .before .before .before .before .before .before .sets2 .given;
-      wide = c .before .before .before .before .before .before .before .before .before .before .before .before .before .before .spread .ensures (l .d) (l .inv .1 .reach) (l .inv .1 .wide);
+      sets-size = c .before .before .before .before .before .before .before .before .before .before .before .before .sets2 .given;
+      wide = c .before .before .before .before .before .before .before .before .before .before .before .before .before .spread .ensures (l .d) (l .inv .1 .reach) (l .inv .1 .wide);
       copied = m .1 .0;
       counts = m .1 .1;
       met-is = m .0;
     }
 
 add-d : tie.Need-add-d Inv-loop μ-loop
-add-d c = let t = c .before .before .before .before .before .before .before .before .before .before .before .before .before .before .before .before .before in omega (arith, shallow-in t, few _ _ (fine-in t))
+add-d c = let t = c .before .before .before .before .before .before .before .before .before .before .before .before .before .before .before .before in omega (arith, shallow-in t, few _ _ (fine-in t))
 
 sub-farther : tie.Need-sub-farther Inv-loop μ-loop
-sub-farther c = let t = c .before .before .before .before .before .before .before .before .before .before .before .before .before .before .before .before .before in grows _ _ (fine-in t) (t .before .loop .inv .1) (more-in t) (found c)
+sub-farther c = let t = c .before .before .before .before .before .before .before .before .before .before .before .before .before .before .before .before in grows _ _ (fine-in t) (t .before .loop .inv .1) (more-in t) (found c)
 
 farther-requires : tie.Need-farther-requires Inv-loop μ-loop
 farther-requires c κs =
-    let t = c .before .before .before .before .before .before .before .before .before .before .before .before .before .before .before .before .before in
+    let t = c .before .before .before .before .before .before .before .before .before .before .before .before .before .before .before .before in
     let f = fine-in t in
     let L = t .before .loop .inv .1 in
     (low _ _ f L (more-in t), omega (arith, shallow-in t, few _ _ f), fits _ _ f L (more-in t) (found c))
 
 loop-less : tie.Need-loop-less Inv-loop μ-loop
-loop-less c = omega (arith, shallow-in (c .before .before .before .before .before .before .before .before .before .before .before .before .before .before .before .before .before .before))
+loop-less c = omega (arith, shallow-in (c .before .before .before .before .before .before .before .before .before .before .before .before .before .before .before .before .before))
 
 loop-again : tie.Need-loop-again Inv-loop μ-loop
 loop-again c =
-    let t = c .before .before .before .before .before .before .before .before .before .before .before .before .before .before .before .before .before .before in
+    let t = c .before .before .before .before .before .before .before .before .before .before .before .before .before .before .before .before .before in
     let f = fine-in t in
     let l = t .before .loop in
     let T = found (c .before) in
-    (refl, rw (c .farther .ensures) (level-next _ _ f (l .inv .1) (more-in t) T), sets-next _ _ (few _ _ f .low) _ _ _ (l .inv .2) (T .wide) (l .inv .1 .reach) _ (omega arith) (c .before .before .before .before .before .before .before .before .before .before .mark-level .ensures))
+    (refl, rw (c .farther .ensures) (level-next _ _ f (l .inv .1) (more-in t) T), sets-next _ _ (few _ _ f .low) _ _ (l .inv .2) (l .inv .1 .reach) _ (omega arith) (c .before .before .before .before .before .before .before .before .before .before .mark-level .ensures))
 
-sub-t33 : tie.Need-sub-t33 Inv-loop μ-loop
-sub-t33 c = let p = c .before .before .before .before in odd-less _ _ (p .before .before .before .before .before .pre .0) (p .loop .inv .1) (omega (arith, p .loop .inv .0, c .before .before .before .loop-test .left))
+sub-t32 : tie.Need-sub-t32 Inv-loop μ-loop
+sub-t32 c = let p = c .before .before .before .before in odd-less _ _ (p .before .before .before .before .before .pre .0) (p .loop .inv .1) (omega (arith, p .loop .inv .0, c .before .before .before .loop-test .left))
 
 same-length : tie.Need-same-length Inv-loop μ-loop
 same-length c = let p = c .before .before .before .before .before .before in omega (arith, p .loop .inv .1 .counts .size, ap length (p .before .before .before .before .before .pre .1))
@@ -142,7 +142,7 @@ summed-spec =
     farther-requires
     loop-less
     loop-again
-    sub-t33
+    sub-t32
     same-length
     same-length-2
     returns)

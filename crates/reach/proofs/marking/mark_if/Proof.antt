@@ -1,11 +1,10 @@
-use native.Mathlib.Omega.{arith}
 use Rattle.reach.proofs.Marked.{marks-idle, marks-all}
 use borrow.Author.Needs.{needs}
 use Rattle.reach.proofs.marking.mark_if.Statement.{statement}
 use Rattle.reach.proofs.marking.mark_if.Tie as tie
 
 returns : tie.Need-returns
-returns c = let a = c .before .before .args in marks-idle (a .sets .now) (a .near .now) _ _ _ _ (c .if1 .taken)
+returns c = let a = c .before .before .args in marks-idle (a .near .now) _ _ _ _ (c .if1 .taken)
 
 mark-requires : tie.Need-mark-requires
 mark-requires c κs = search needs
@@ -16,7 +15,7 @@ same-length c = search needs
 returns-2 : tie.Need-returns-2
 returns-2 c =
     let p = c .before .before .before .before .before .before in
-    marks-all (p .args .sets .now) (p .args .near .now) _ _ _ _ (omega (arith, p .pre .0, c .before .before .before .before .if1 .left)) _ (c .before .before .mark .ensures)
+    marks-all (p .args .near .now) _ _ _ _ (c .before .before .before .before .if1 .left) _ (c .before .before .mark .ensures)
 
 pub mark-if-spec : {M : Type 1} → statement M
 mark-if-spec = tie.close (tie.spec returns mark-requires same-length returns-2)
