@@ -9,13 +9,7 @@ ghost use Rattle.counting.specs.Counting.{countedBy};
 ghost use Rattle.counting.specs.Work.{without, weighed, oddWeighed, evenWeighed, keptOf, digitOf, farOf, highOf, aroundOf};
 use block::ATOMS;
 use block::Vertex;
-
-// How many atoms a set has.
-fn size(set: u64) -> u64
-    ensures { λ r. ⌜ (r ≡ ones set) × (r ≤ mostAtoms) ⌝ }
-{
-    u64::count_ones(set) as u64
-}
+use reach::size;
 
 // The atoms of three digits, with their weights.
 fn weigh(a: u64, b: u64, c: u64) -> u64

@@ -5,6 +5,7 @@ mod store;
 use atoms::put_atoms;
 use block::ATOMS;
 use block::IndicesReply;
+use reach::DIGITS;
 use reach::digit_sets;
 use reply::Refusal;
 use reply::Reply;
@@ -16,9 +17,7 @@ ghost use Rattle.reply.specs.Read.{saidReply};
 ghost use Rattle.filling.specs.Reply.{fillReply, fillBytes};
 ghost use Rattle.filling.specs.Work.{Lent};
 
-// The sets that are lent for each atom; and the atoms of a small block, for which fewer are cleared.
-const DIGITS: usize = 6;
-
+// The atoms of a small block and of a middling one, for which fewer sets are cleared.
 const SMALL: usize = 8;
 
 const MIDDLE: usize = 32;

@@ -20,11 +20,11 @@ use Rattle.graph.specs.Sums.{sum-cong}
 use Rattle.half.specs.Half.{table}
 use Rattle.block.specs.Near.{around}
 use Rattle.block.specs.Tables.{length-table, getD-table}
-use Rattle.reach.specs.DigitSets.{mostDigits, digit, setOf, digitSet, digitSetAt, joinedSets}
-use Rattle.reach.specs.Marked.{outsideWhere, levelAt, digitSetOf, Joined}
+use Rattle.reach.specs.DigitSets.{mostDigits, digit, setOf, digitSet, digitSetAt, changedSets}
+use Rattle.reach.specs.Marked.{outsideWhere, levelAt, digitSetOf, Changed}
 use Rattle.reach.specs.Reach.{Reach}
 use Rattle.reach.proofs.DigitSets.{set-fits, has-set, is-set, digit-two}
-use Rattle.reach.proofs.Marked.{joined-more, joined-none, level-in, level-out}
+use Rattle.reach.proofs.Marked.{changed-more, changed-none, level-in, level-out}
 
 -- COUNTING UP, a digit stays where the lower ones are not all 1, and changes where they are; there the next number has them all 0
 stays : (k d : ℕ) → suc (d % 2 ^ k) < 2 ^ k → (suc d / 2 ^ k ≡ d / 2 ^ k) × (suc d % 2 ^ k ≡ suc (d % 2 ^ k))
@@ -179,21 +179,21 @@ module _ (g : Graph) where
       ]
 
       -- one bond farther
-      pub sets-next : {old out : List ℕ} (out′ near : List ℕ) {d : ℕ} → Joined (upToAt d) old out → Reach g d near
-          → (level : ℕ) → level ≡ suc d → Joined (levelAt n near level digits) out out′ → Joined (upToAt (d + 1)) old out′
-      sets-next out′ near {d} J N level e M = rw (add-one d) (joined-more (upToAt (suc d)) J (rw e at M) (up-next d near N))
+      pub sets-next : {old out : List ℕ} (out′ near : List ℕ) {d : ℕ} → Changed (upToAt d) old out → Reach g d near
+          → (level : ℕ) → level ≡ suc d → Changed (levelAt n near level digits) out out′ → Changed (upToAt (d + 1)) old out′
+      sets-next out′ near {d} J N level e M = rw (add-one d) (changed-more (upToAt (suc d)) J (rw e at M) (up-next d near N))
 
       -- all atoms are within reach of all
-      pub sets-end : {old out : List ℕ} {d : ℕ} → Joined (upToAt d) old out → ((v w : ℕ) → Within n v → Within n w → distance g v w ≤ d) → out ≡ joinedSets (digitSetOf g digits) old
-      unfolding joinedSets
+      pub sets-end : {old out : List ℕ} {d : ℕ} → Changed (upToAt d) old out → ((v w : ℕ) → Within n v → Within n w → distance g v w ≤ d) → out ≡ changedSets (digitSetOf g digits) old
+      unfolding changedSets
       sets-end {old} {out} {d} J whole =
           ext-getD 0 out (table (length old) (λ p. bitXor (getD old p 0) (digitSetOf g digits p))) (J .size ∙ sym (length-table (length old) (λ p. bitXor (getD old p 0) (digitSetOf g digits p))))
-          (λ p l. J .joined p
+          (λ p l. J .changed p
           ∙ ap (bitXor (getD old p 0)) (up-all d whole p)
           ∙ sym (getD-table (length old) (λ p. bitXor (getD old p 0) (digitSetOf g digits p)) p 0 (omega (arith, J .size))))
 
-    pub sets-start : (old : List ℕ) → Joined (upToAt 0) old old
-    sets-start old = joined-none old up-none
+    pub sets-start : (old : List ℕ) → Changed (upToAt 0) old old
+    sets-start old = changed-none old up-none
 
   -- with all digits these are the sets that are promised
   pub all-digits : digitSetOf g mostDigits ≡ digitSetAt g

@@ -14,7 +14,7 @@ use lib.Pow.{pow-pos, pow-mono}
 use lib.Seq.{getD-set-same, getD-set-other}
 use Rattle.block.specs.Block.{mostAtoms}
 use Rattle.reach.specs.DigitSets.{mostDigits}
-use Rattle.reach.specs.Marked.{outside, outsideWhere, levelAt, Marks, Joined}
+use Rattle.reach.specs.Marked.{outside, outsideWhere, levelAt, Marks, Changed}
 
 -- a run of sets
 module _ {f : ℕ → ℕ} {base : ℕ} {old : List ℕ} where
@@ -82,14 +82,14 @@ xor-assoc =
     last : (a b : ℕ) → bitXor a b % 2 ≡ differ (a % 2) (b % 2)
     last a b = ap (λ (x : ℕ). x % 2) (xor-step a b) ∙ digits-mod (bitXor (a / 2) (b / 2)) (small (a % 2) (b % 2) (omega arith) (omega arith))
 
-pub joined-more : {f h : ℕ → ℕ} {a b c : List ℕ} (k : ℕ → ℕ) → Joined f a b → Joined h b c → ((p : ℕ) → bitXor (f p) (h p) ≡ k p) → Joined k a c
-joined-more {f} {h} {a} k F H e = record {
+pub changed-more : {f h : ℕ → ℕ} {a b c : List ℕ} (k : ℕ → ℕ) → Changed f a b → Changed h b c → ((p : ℕ) → bitXor (f p) (h p) ≡ k p) → Changed k a c
+changed-more {f} {h} {a} k F H e = record {
   size = H .size ∙ F .size;
-  joined = λ p. H .joined p ∙ ap (λ (x : ℕ). bitXor x (h p)) (F .joined p) ∙ xor-assoc (getD a p 0) (f p) (h p) ∙ ap (bitXor (getD a p 0)) (e p);
+  changed = λ p. H .changed p ∙ ap (λ (x : ℕ). bitXor x (h p)) (F .changed p) ∙ xor-assoc (getD a p 0) (f p) (h p) ∙ ap (bitXor (getD a p 0)) (e p);
 }
 
-pub joined-none : {f : ℕ → ℕ} (old : List ℕ) → ((p : ℕ) → f p ≡ 0) → Joined f old old
-joined-none old z = record { size = refl; joined = λ p. sym (ap (bitXor (getD old p 0)) (z p) ∙ xor-zero-r (getD old p 0)) }
+pub changed-none : {f : ℕ → ℕ} (old : List ℕ) → ((p : ℕ) → f p ≡ 0) → Changed f old old
+changed-none old z = record { size = refl; changed = λ p. sym (ap (bitXor (getD old p 0)) (z p) ∙ xor-zero-r (getD old p 0)) }
 
 -- the place p is that of digit k
 pub place : (n k p : ℕ) → k * n ≤ p → p < k * n + n → (p / n ≡ k) × (p % n ≡ p - k * n)
@@ -121,20 +121,20 @@ module _ (n : ℕ) (near : List ℕ) (d : ℕ) where
   unfolding levelAt
   level-out k p l = rw (le-ltb p (k * n) l) refl
 
-  pub level-none : (old : List ℕ) → Joined (levelAt n near d 0) old old
-  level-none old = joined-none old (λ p. level-out 0 p (omega arith))
+  pub level-none : (old : List ℕ) → Changed (levelAt n near d 0) old old
+  level-none old = changed-none old (λ p. level-out 0 p (omega arith))
 
   -- one digit more
-  pub level-more : (k low : ℕ) → low ≡ d % 2 ^ k → (old out new : List ℕ) → Joined (levelAt n near d k) old out → Marks (outsideWhere low n near) (k * n) out new n
-      → Joined (levelAt n near d (k + 1)) old new
-  level-more k low q old out new J M = rw (add-one k) (record { size = M .size ∙ J .size; joined = λ p. at p (decLt p (k * n)) (decLt p (k * n + n)) })
+  pub level-more : (k low : ℕ) → low ≡ d % 2 ^ k → (old out new : List ℕ) → Changed (levelAt n near d k) old out → Marks (outsideWhere low n near) (k * n) out new n
+      → Changed (levelAt n near d (k + 1)) old new
+  level-more k low q old out new J M = rw (add-one k) (record { size = M .size ∙ J .size; changed = λ p. at p (decLt p (k * n)) (decLt p (k * n + n)) })
     where
       at : (p : ℕ) → Dec (p < k * n) → Dec (p < k * n + n) → getD new p 0 ≡ bitXor (getD old p 0) (levelAt n near d (suc k) p)
-      at p (yes l) h = M .lower p l ∙ J .joined p ∙ ap (bitXor (getD old p 0)) (level-in k p l ∙ sym (level-in (suc k) p (omega arith)))
+      at p (yes l) h = M .lower p l ∙ J .changed p ∙ ap (bitXor (getD old p 0)) (level-in k p l ∙ sym (level-in (suc k) p (omega arith)))
       at p (no l) (yes h) =
           let (u, v) = place n k p (omega arith) h in
           let e : k * n + (p - k * n) ≡ p = omega arith in
           rw e at (M .inside (p - k * n) (omega arith))
-          ∙ ap₂ bitXor (J .joined p ∙ ap (bitXor (getD old p 0)) (level-out k p (omega arith)) ∙ xor-zero-r (getD old p 0))
+          ∙ ap₂ bitXor (J .changed p ∙ ap (bitXor (getD old p 0)) (level-out k p (omega arith)) ∙ xor-zero-r (getD old p 0))
           (ap₂ (λ (x y : ℕ). outsideWhere x n near y) (q ∙ ap (λ (x : ℕ). d % 2 ^ x) (sym u)) (sym v) ∙ sym (level-in (suc k) p (omega arith)))
-      at p (no l) (no h) = M .higher p (omega arith) ∙ J .joined p ∙ ap (bitXor (getD old p 0)) (level-out k p (omega arith) ∙ sym (level-out (suc k) p (omega arith)))
+      at p (no l) (no h) = M .higher p (omega arith) ∙ J .changed p ∙ ap (bitXor (getD old p 0)) (level-out k p (omega arith) ∙ sym (level-out (suc k) p (omega arith)))

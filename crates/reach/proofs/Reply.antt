@@ -25,7 +25,7 @@ use Rattle.block.specs.Told.{few-atoms, molecule}
 use Rattle.block.specs.declared.Indices.{Indices}
 use Rattle.block.specs.declared.IndicesReply.{IndicesReply}
 use Rattle.block.specs.declared.IndicesReply.the-variants as measured
-use Rattle.reach.specs.DigitSets.{mostDigits, joinedSets, digitSetsReply, joinedBy, digitSetsAfter}
+use Rattle.reach.specs.DigitSets.{mostDigits, changedSets, digitSetsReply, changedBy, digitSetsAfter}
 use Rattle.reach.specs.Marked.{digitSetOf}
 use Rattle.reach.specs.Reach.{Reached}
 use Rattle.reach.specs.Sums.{vertexSumsOf, sumsReply, saidSums}
@@ -47,7 +47,7 @@ module _ (n : ℕ) (xs : List ℕ) where
   SetsSaid p old new = (p ≡ saidIndices (digitSetsReply n xs (length old))) × (new ≡ digitSetsAfter n xs old)
 
   pub sets-refused : (r : Refusal) → blockReply n xs ≡ refused r → (old : List ℕ) → SetsSaid (measured.Refused r) old old
-  unfolding digitSetsReply joinedBy
+  unfolding digitSetsReply changedBy
   sets-refused r b old = rw b (refl, refl)
 
   module _ (fine : blockReply n xs ≡ read tt) where
@@ -56,15 +56,15 @@ module _ (n : ℕ) (xs : List ℕ) where
     fine-reply x e = rw (fine, e)
 
     pub sets-short : (old : List ℕ) → length old < mostDigits * n → SetsSaid (measured.Refused (refusal 9 0)) old old
-    unfolding digitSetsReply joinedBy
+    unfolding digitSetsReply changedBy
     sets-short old l = rw (fine, lt-ltb (length old) (mostDigits * n) l) (refl, refl)
 
     pub sets-fine : (old : List ℕ) → mostDigits * n ≤ length old → (x : Indices) → x ≡ indicesOf (graphOf n xs) → (new : List ℕ)
-        → new ≡ joinedSets (digitSetOf (graphOf n xs) mostDigits) old → SetsSaid (measured.Of x) old new
-    unfolding digitSetsReply joinedBy
+        → new ≡ changedSets (digitSetOf (graphOf n xs) mostDigits) old → SetsSaid (measured.Of x) old new
+    unfolding digitSetsReply changedBy
     sets-fine old l x e new q =
         rw (fine, le-ltb (length old) (mostDigits * n) l)
-        (ap measured.Of e, q ∙ ap (λ (f : ℕ → ℕ). joinedSets f old) (all-digits (graphOf n xs)))
+        (ap measured.Of e, q ∙ ap (λ (f : ℕ → ℕ). changedSets f old) (all-digits (graphOf n xs)))
 
     abbrev g : Graph
     g = graphOf n xs

@@ -33,16 +33,16 @@ unfoldable pub digitSetAt : Graph → ℕ → ℕ
 digitSetAt g p = cond (ltb p (mostDigits * g .atoms)) (digitSet g (p / g .atoms) (suc (p % g .atoms))) 0
 
 -- lent sets in each of which the atoms of another change sides: they come, or go where they were there
-unfoldable pub joinedSets : (ℕ → ℕ) → List ℕ → List ℕ
-joinedSets f old = table (length old) (λ p. bitXor (getD old p 0) (f p))
+unfoldable pub changedSets : (ℕ → ℕ) → List ℕ → List ℕ
+changedSets f old = table (length old) (λ p. bitXor (getD old p 0) (f p))
 
 -- the block's indices; or its refusal, then 9 at 0 where too few sets are lent
 unfoldable pub digitSetsReply : ℕ → List ℕ → ℕ → Read Indices
 digitSetsReply n xs room = blockReply n xs then λ _. refuseIf (ltb room (mostDigits * n)) 9 0 then λ _. read (indicesOf (graphOf n xs))
 
-unfoldable pub joinedBy : Read Indices → Graph → List ℕ → List ℕ
-joinedBy (refused r) g old = old
-joinedBy (read x) g old = joinedSets (digitSetAt g) old
+unfoldable pub changedBy : Read Indices → Graph → List ℕ → List ℕ
+changedBy (refused r) g old = old
+changedBy (read x) g old = changedSets (digitSetAt g) old
 
 abbrev pub digitSetsAfter : ℕ → List ℕ → List ℕ → List ℕ
-digitSetsAfter n xs old = joinedBy (digitSetsReply n xs (length old)) (graphOf n xs) old
+digitSetsAfter n xs old = changedBy (digitSetsReply n xs (length old)) (graphOf n xs) old

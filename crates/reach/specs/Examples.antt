@@ -4,7 +4,7 @@ use mathlib.Core.List.{List, [], _∷_}
 use mathlib.Core.Path.{_≡_, refl}
 use Rattle.graph.specs.Graph.{Graph, bond, distance, firstFrom, reaches, anyAtom, bonded, anyJoins, joins, sum}
 use Rattle.half.specs.Half.{table}
-use Rattle.reach.specs.DigitSets.{setOf, digitSet, digitSetAt, joinedSets}
+use Rattle.reach.specs.DigitSets.{setOf, digitSet, digitSetAt, changedSets}
 
 abbrev pub path : Graph
 path = record { atoms = 4; bonds = bond 1 2 ∷ bond 2 3 ∷ bond 3 4 ∷ [] }

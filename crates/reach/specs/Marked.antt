@@ -26,9 +26,9 @@ pub record Marks (f : ℕ → ℕ) (base : ℕ) (old new : List ℕ) (i : ℕ) :
   pub higher : (p : ℕ) → base + i ≤ p → getD new p 0 ≡ getD old p 0
 
 -- f changed sides in all sets
-pub record Joined (f : ℕ → ℕ) (old new : List ℕ) : Type 0 where
+pub record Changed (f : ℕ → ℕ) (old new : List ℕ) : Type 0 where
   pub size : length new ≡ length old
-  pub joined : (p : ℕ) → getD new p 0 ≡ bitXor (getD old p 0) (f p)
+  pub changed : (p : ℕ) → getD new p 0 ≡ bitXor (getD old p 0) (f p)
 
 -- what changes sides at level d, in the sets of the first k digits: a digit changes where the lower digits of d are 0
 unfoldable pub levelAt : ℕ → List ℕ → ℕ → ℕ → ℕ → ℕ

@@ -19,7 +19,7 @@ use Rattle.block.specs.Tables.{length-table, getD-table}
 use Rattle.block.specs.declared.Indices.{Indices}
 use Rattle.block.specs.declared.IndicesReply.{IndicesReply}
 use Rattle.block.specs.declared.IndicesReply.the-variants.{Of, Refused}
-use Rattle.reach.specs.DigitSets.{mostDigits, digitSet, digitSetAt, joinedSets, digitSetsReply, joinedBy, digitSetsAfter}
+use Rattle.reach.specs.DigitSets.{mostDigits, digitSet, digitSetAt, changedSets, digitSetsReply, changedBy, digitSetsAfter}
 
 -- lent sets after a call that is not refused
 pub record SetsTold (n : ℕ) (xs old new : List ℕ) : Type 0 where
@@ -52,12 +52,12 @@ read-same x y e = cc
 
 module _ (n : ℕ) (xs old new : List ℕ) (r : IndicesReply) (e : r ≡ saidIndices (digitSetsReply n xs (length old))) (q : new ≡ digitSetsAfter n xs old) where
   pub digit-sets-refusal : (f : Refusal) → r ≡ Refused f → (digitSetsReply n xs (length old) ≡ refused f) × (new ≡ old)
-  unfolding joinedBy
+  unfolding changedBy
   digit-sets-refusal f p = let b = refusal-read (digitSetsReply n xs (length old)) f (sym e ∙ p) in (b, q ∙ rw b refl)
 
   -- THE INDICES ARE THE BLOCK'S, and in each lent set the atoms of its digit of the distances change sides
   pub digit-sets-told : (x : Indices) → r ≡ Of x → SetsTold n xs old new × (x ≡ indicesOf (graphOf n xs))
-  unfolding digitSetsReply joinedBy joinedSets
+  unfolding digitSetsReply changedBy changedSets
   digit-sets-told x p =
       let b = of-read (digitSetsReply n xs (length old)) x (sym e ∙ p) in
       let (u, fine, d) = then-read (blockReply n xs) (λ _. refuseIf (ltb (length old) (mostDigits * n)) 9 0 then λ _. read (indicesOf (graphOf n xs))) b in

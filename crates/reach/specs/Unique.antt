@@ -1,7 +1,8 @@
--- Laws. The promises of `measure`, `vertex_sums` and `digit_sets` determine the reply, and the lent sets after it. Assumes nothing.
+-- Laws. The promises of `size`, `measure`, `vertex_sums` and `digit_sets` determine the reply, and the lent sets after it. Assumes nothing.
 use Prim.Native.Nat.{ℕ}
 use mathlib.Core.List.{List}
 use mathlib.Core.Path.{_≡_}
+use lib.Count.{ones}
 use lib.ListN.{length}
 use Rattle.reply.specs.Chain.{unique}
 use Rattle.block.specs.Index.{indicesReply, saidIndices}
@@ -9,6 +10,9 @@ use Rattle.block.specs.declared.IndicesReply.{IndicesReply}
 use Rattle.reach.specs.DigitSets.{digitSetsReply, digitSetsAfter}
 use Rattle.reach.specs.Sums.{sumsReply, saidSums}
 use Rattle.reach.specs.declared.VertexSums.{VertexSums}
+
+pub unique-size : (m r s : ℕ) → r ≡ ones m → s ≡ ones m → r ≡ s
+unique-size m r s = unique
 
 pub unique-measure : (n : ℕ) (xs : List ℕ) (r s : IndicesReply) → r ≡ saidIndices (indicesReply n xs) → s ≡ saidIndices (indicesReply n xs) → r ≡ s
 unique-measure n xs r s = unique

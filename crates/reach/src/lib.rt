@@ -12,7 +12,7 @@ ghost use Rattle.block.specs.Index.{indicesOf, indicesReply, saidIndices};
 ghost use Rattle.block.specs.Near.{around};
 ghost use Rattle.half.specs.Half.{table};
 ghost use Rattle.reach.specs.Sums.{sumsReply, saidSums};
-ghost use Rattle.reach.specs.DigitSets.{mostDigits, joinedSets, digitSetsReply, digitSetsAfter};
+ghost use Rattle.reach.specs.DigitSets.{mostDigits, changedSets, digitSetsReply, digitSetsAfter};
 ghost use Rattle.reach.specs.Marked.{digitSetOf};
 ghost use Rattle.reach.specs.Reach.{Own, Reach, LowSums, fartherOf, Room, Added, Reached};
 use block::ATOMS;
@@ -25,7 +25,7 @@ use reply::Reply;
 mod marking;
 
 // A distance is below 64, and has six digits.
-const DIGITS: usize = 6;
+pub const DIGITS: usize = 6;
 
 // A set of atoms for each atom: that of atom v at v - 1.
 type Sets = [u64; ATOMS];
@@ -76,7 +76,7 @@ fn spread(near: &Sets, n: usize, bonds: &[u8], sets: &mut [u64])
 }
 
 // How many atoms a set has.
-fn size(set: u64) -> u64
+pub fn size(set: u64) -> u64
     ensures { λ r. ⌜ (r ≡ ones set) × (r ≤ mostAtoms) ⌝ }
 {
     u64::count_ones(set) as u64
@@ -129,7 +129,7 @@ fn summed(n: usize, bonds: &[u8], reached: &mut [u64], digits: usize, out: &mut 
         × (digits ≤ mostDigits) × (digits * n ≤ length (now out)) ⌝ }
     ensures indices { λ r. ⌜ r ≡ indicesOf (graphOf n (now (bonds .entry))) ⌝ }
     ensures reached { λ r. ⌜ Reached (graphOf n (now (bonds .entry))) (r .largest) (now (reached .exit)) ⌝ }
-    ensures sets { λ _. ⌜ now (out .exit) ≡ joinedSets (digitSetOf (graphOf n (now (bonds .entry))) digits) (now (out .entry)) ⌝ }
+    ensures sets { λ _. ⌜ now (out .exit) ≡ changedSets (digitSetOf (graphOf n (now (bonds .entry))) digits) (now (out .entry)) ⌝ }
 {
     let pairs = n as u64 * n as u64;
     let mut near = alone(n);

@@ -5,7 +5,7 @@ ghost use lib.ListN.{length};
 ghost use Rattle.graph.specs.Graph.{Within};
 ghost use Rattle.block.specs.Block.{mostAtoms};
 ghost use Rattle.reach.specs.DigitSets.{mostDigits};
-ghost use Rattle.reach.specs.Marked.{outside, outsideWhere, levelAt, Marks, Joined};
+ghost use Rattle.reach.specs.Marked.{outside, outsideWhere, levelAt, Marks, Changed};
 use super::Sets;
 use block::ATOMS;
 
@@ -36,7 +36,7 @@ fn mark_if(low: u64, near: &Sets, n: usize, base: usize, out: &mut [u64])
 // What is not within reach before level d changes sides in the lent sets of each digit that changes from d - 1 to d, of as many digits as are asked for.
 pub(crate) fn mark_level(near: &Sets, n: usize, d: u64, digits: usize, out: &mut [u64])
     requires { ⌜ Within mostAtoms n × (digits ≤ mostDigits) × (digits * n ≤ length (now out)) ⌝ }
-    ensures { λ _. ⌜ Joined (levelAt n (now (near .entry)) d digits) (now (out .entry)) (now (out .exit)) ⌝ }
+    ensures { λ _. ⌜ Changed (levelAt n (now (near .entry)) d digits) (now (out .entry)) (now (out .exit)) ⌝ }
 {
     let mut lower: u64 = 0;
     let mut base = 0;

@@ -5,7 +5,7 @@ use native.Mathlib.Omega.{arith}
 use lib.ListN.{length}
 use Rattle.reply.specs.Read.{read}
 use Rattle.block.specs.Block.{graphOf, blockReply}
-use Rattle.reach.specs.Marked.{Joined}
+use Rattle.reach.specs.Marked.{Changed}
 use Rattle.reach.proofs.ByDigits.{upToAt, sets-start, sets-next, sets-end}
 use Rattle.reach.proofs.Levels.{Level, Turned, few, level-start, shallow, low, spare, grows, fits, level-next, whole, odd-less, level-end}
 use Rattle.reach.proofs.summed.Statement.{statement}
@@ -13,7 +13,7 @@ use Rattle.reach.proofs.summed.Tie as tie
 
 abbrev Inv-loop : tie.InvT-loop
 Inv-loop n bonds reached₀ digits out₀ pairs near₀ sets₀ s₀ met₀ d₀ reached out near sets s met d =
-    (pairs ≡ n * n) × Level n bonds near sets reached s met d × Joined (upToAt (graphOf n bonds) digits d) out₀ out
+    (pairs ≡ n * n) × Level n bonds near sets reached s met d × Changed (upToAt (graphOf n bonds) digits d) out₀ out
 
 abbrev μ-loop : tie.MeasureT-loop
 μ-loop n bonds reached₀ digits out₀ pairs near₀ sets₀ s₀ met₀ d₀ reached out near sets s met d = n - d

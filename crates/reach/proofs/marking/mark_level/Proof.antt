@@ -1,13 +1,13 @@
 use Prim.Native.Nat.{_-_, _*_, _^_, _≤_}
 use mathlib.Core.Path.{_≡_}
 use native.Mathlib.Omega.{arith}
-use Rattle.reach.specs.Marked.{Joined, levelAt}
+use Rattle.reach.specs.Marked.{Changed, levelAt}
 use Rattle.reach.proofs.Marked.{run-fits, lower-digits, lower-more, lower-fits, level-none, level-more}
 use Rattle.reach.proofs.marking.mark_level.Statement.{statement}
 use Rattle.reach.proofs.marking.mark_level.Tie as tie
 
 abbrev Inv-loop : tie.InvT-loop
-Inv-loop near n d digits out₀ lower₀ base₀ k₀ out lower base k = (k ≤ digits) × (lower ≡ 2 ^ k - 1) × (base ≡ k * n) × Joined (levelAt n near d k) out₀ out
+Inv-loop near n d digits out₀ lower₀ base₀ k₀ out lower base k = (k ≤ digits) × (lower ≡ 2 ^ k - 1) × (base ≡ k * n) × Changed (levelAt n near d k) out₀ out
 
 abbrev μ-loop : tie.MeasureT-loop
 μ-loop near n d digits out₀ lower₀ base₀ k₀ out lower base k = digits - k
