@@ -24,6 +24,7 @@ $(STATIC): $(PROVED)
 
 # the whole archive as one shared object
 $(SHARED): $(STATIC)
+	@case "$$($(CC) -dumpmachine)" in x86_64-*) ;; *) echo "libtteuyomal.a is x86-64 code, and $(CC) makes none: set CC, or run '.ci/x86_64 make python' for an emulator" >&2; exit 1 ;; esac
 	$(CC) -shared -o $@ -Wl,-soname,$(SONAME) -Wl,--whole-archive $< -Wl,--no-whole-archive
 
 $(PACKED): $(SHARED)
