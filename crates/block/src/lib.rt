@@ -17,6 +17,7 @@ mod totals;
 
 use half::Half;
 use half::PAIRS;
+use half::within;
 use reply::Refusal;
 use reply::Reply;
 use reply::is_outside;
@@ -274,7 +275,7 @@ pub fn row(n: usize, bonds: &[u8], i: usize) -> OneRow
 pub fn sums(half: &Half, far: &Farthest, n: usize) -> Indices
     ensures { λ r. ⌜ r ≡ indicesBy (min n mostAtoms) (halfAt (now (half .entry))) (entry (now (far .entry))) ⌝ }
 {
-    let m = totals::within(n);
+    let m = within(n);
     let mut w: u64 = 0;
     let mut odd: u64 = 0;
     let mut threes: u64 = 0;
@@ -304,7 +305,7 @@ pub fn sums(half: &Half, far: &Farthest, n: usize) -> Indices
 pub fn around_row(row: &DistanceRow, n: usize, farthest: u8) -> Vertex
     ensures { λ r. ⌜ r ≡ vertexBy (min n mostAtoms) (entry (now (row .entry))) farthest ⌝ }
 {
-    let m = totals::within(n);
+    let m = within(n);
     let t = totals::along(row, m);
     Vertex {
         sum: t.even + t.odd,

@@ -4,6 +4,7 @@ use super::DistanceRow;
 use super::Run;
 use super::Tally;
 use half::Half;
+use half::within;
 use reply::wide;
 ghost use mathlib.Core.Path.{_≡_};
 ghost use Prim.Native.Nat.{min, max, _+_, _*_, _≤_};
@@ -45,13 +46,6 @@ pub(crate) fn along(row: &DistanceRow, k: usize) -> Tally
         ones,
         twos,
     }
-}
-
-// n, at most ATOMS.
-pub(crate) fn within(n: usize) -> usize
-    ensures { λ r. ⌜ r ≡ min n mostAtoms ⌝ }
-{
-    if n < ATOMS { n } else { ATOMS }
 }
 
 // The larger of two numbers.

@@ -9,6 +9,7 @@ ghost use Rattle.counting.specs.Counting.{countedBy};
 ghost use Rattle.counting.specs.Work.{without, weighed, oddWeighed, evenWeighed, keptOf, digitOf, farOf, highOf, aroundOf};
 use block::ATOMS;
 use block::Vertex;
+use half::within;
 use reach::size;
 
 // The atoms of three digits, with their weights.
@@ -83,13 +84,6 @@ fn farthest(m: u64, p0: u64, p1: u64, p2: u64, p3: u64, p4: u64, p5: u64) -> u64
         + 4 * digit(m3, p2)
         + 2 * digit(m2, p1)
         + digit(m1, p0)
-}
-
-// n, at most ATOMS.
-fn within(n: usize) -> usize
-    ensures { λ r. ⌜ (r ≡ min n mostAtoms) × (r ≤ mostAtoms) ⌝ }
-{
-    if n < ATOMS { n } else { ATOMS }
 }
 
 // The set of the atoms 1 to n.

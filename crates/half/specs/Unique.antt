@@ -1,9 +1,12 @@
 -- Laws. Each promise determines the reply: two replies that satisfy it are equal. Assumes nothing.
-use Prim.Native.Nat.{ℕ}
+use Prim.Native.Nat.{ℕ, min}
 use mathlib.Core.List.{List}
 use mathlib.Core.Path.{_≡_}
 use Rattle.reply.specs.Chain.{unique}
-use Rattle.half.specs.Half.{pairPlace, halfAt, halfWith, halfRow, halfWithRow}
+use Rattle.half.specs.Half.{mostAtoms, pairPlace, halfAt, halfWith, halfRow, halfWithRow}
+
+pub unique-within : (n r s : ℕ) → r ≡ min n mostAtoms → s ≡ min n mostAtoms → r ≡ s
+unique-within n r s = unique
 
 module _ (i j : ℕ) where
   pub unique-place : (r s : ℕ) → r ≡ pairPlace i j → s ≡ pairPlace i j → r ≡ s

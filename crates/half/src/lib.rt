@@ -119,7 +119,7 @@ pub fn row(half: &Half, i: usize) -> Line
 }
 
 // n, at most ATOMS.
-fn within(n: usize) -> usize
+pub fn within(n: usize) -> usize
     ensures { λ r. ⌜ (r ≡ min n mostAtoms) × (r ≤ mostAtoms) ⌝ }
 {
     if n < ATOMS { n } else { ATOMS }

@@ -21,7 +21,7 @@ wide-requires c κs = search needs
 returns : tie.Need-returns
 returns c =
     let d = c .before in
-    vertex-total _ _ _ _ _ (d .before .along .ensures) (c .wide .ensures .0) ∙ ap (λ (m : ℕ). vertexBy m (entry (d .before .before .before .args .row .now)) (d .before .before .before .args .farthest)) (d .before .before .within .ensures)
+    vertex-total _ _ _ _ _ (d .before .along .ensures) (c .wide .ensures .0) ∙ ap (λ (m : ℕ). vertexBy m (entry (d .before .before .before .args .row .now)) (d .before .before .before .args .farthest)) (d .before .before .within .ensures .0)
 
 pub around-row-spec : {M : Type 1} → statement M
 around-row-spec = tie.close (tie.spec within-requires along-requires add-t6 wide-requires returns)

@@ -93,7 +93,7 @@ returns c =
     let w = c .before .before .within in
     let e : l .i ≡ w .result = omega arith in
     let s = c .before .before .before .args in
-    sums-end _ _ _ _ _ _ _ (rw e at (l .inv .3)) ∙ ap (λ (m : ℕ). indicesBy m (halfAt (s .half .now)) (entry (s .far .now))) (w .ensures)
+    sums-end _ _ _ _ _ _ _ (rw e at (l .inv .3)) ∙ ap (λ (m : ℕ). indicesBy m (halfAt (s .half .now)) (entry (s .far .now))) (w .ensures .0)
 
 pub sums-spec : {M : Type 1} → statement M
 sums-spec =

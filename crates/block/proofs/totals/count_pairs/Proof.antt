@@ -61,7 +61,7 @@ returns c =
     let l = c .before .loop in
     let w = c .before .before .within in
     let e : l .i ≡ w .result = omega arith in
-    pairs-end _ _ _ (rw e at (l .inv .3)) ∙ ap (λ (m : ℕ). countsBy m (halfAt (c .before .before .before .args .half .now))) (w .ensures)
+    pairs-end _ _ _ (rw e at (l .inv .3)) ∙ ap (λ (m : ℕ). countsBy m (halfAt (c .before .before .before .args .half .now))) (w .ensures .0)
 
 pub count-pairs-spec : {M : Type 1} → statement M
 count-pairs-spec =
