@@ -48,7 +48,8 @@ int main(int count, char **words) {
     else if (!strcmp(words[1], "ring20")) ring(20);
     else if (!strcmp(words[1], "path64")) path(64);
     else if (!strcmp(words[1], "torus")) torus();
-    else cube();
+    else if (!strcmp(words[1], "cube")) cube();
+    else return 2;
     /* seven of a queue's eight places are taken */
     tteuyomal_queue_empty(table, sizeof table);
     for (uint16_t number = 1; number < 8; number++) tteuyomal_queue_add(table, sizeof table, 1, number, 1, bonds, 0);
