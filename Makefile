@@ -1,5 +1,7 @@
-# What callers in other languages use, made from the proved library.
-#   make python                 the Python package with its shared object: python/, for `pip install ./python`
+# What callers use, in any language.
+#   make                        the Python package with its shared object, from the code in made/: seconds, with a C compiler and no kit
+#   make prove                  the same, of what is proved on this machine first: minutes, and needs the Rattle kit
+#   make made                   the code in made/, of what is proved on this machine: for who changes the library
 #   make install PREFIX=/usr    header, archive, shared object and pkg-config file
 #   make test                   the tests of what stands around the library
 VERSION := 3.0.0
@@ -11,23 +13,32 @@ SONAME := libtteuyomal.so.$(firstword $(subst ., ,$(VERSION)))
 STATIC := target/staticlib/libtteuyomal.a
 SHARED := target/staticlib/libtteuyomal.so
 PACKED := python/tteuyomal/libtteuyomal.so
-PROVED := crates.txt $(shell find crates -name '*.rt' -o -name '*.antt')
 
-.PHONY: shared python install test
+.PHONY: python prove made shared install test
 
-shared: $(SHARED)
 python: $(PACKED)
+shared: $(SHARED)
 
-# the archive is proved again when a source is newer
-$(STATIC): $(PROVED)
-	rt staticlib tteuyomal
+# an archive that was proved here stays until made/ has newer code
+$(STATIC): $(wildcard made/*.s)
+	CC='$(CC)' AR='$(AR)' made/code assemble
 
-# the whole archive as one shared object
+prove:
+	made/code prove
+	$(MAKE) python
+
+made:
+	made/code prove
+	made/code write
+	$(MAKE) python
+
+# the whole archive as one shared object; made.txt says which code it is
 $(SHARED): $(STATIC)
-	@case "$$($(CC) -dumpmachine)" in x86_64-*) ;; *) echo "libtteuyomal.a is x86-64 code, and $(CC) makes none: set CC, or run '.ci/x86_64 make python' for an emulator" >&2; exit 1 ;; esac
 	$(CC) -shared -o $@ -Wl,-soname,$(SONAME) -Wl,--whole-archive $< -Wl,--no-whole-archive
+	{ cat target/staticlib/code.txt; echo "object $$(sha256sum <$@ | cut -d' ' -f1)"; } >target/staticlib/made.txt
 
 $(PACKED): $(SHARED)
+	cp target/staticlib/made.txt python/tteuyomal/
 	cp $< $@
 
 install: $(SHARED)

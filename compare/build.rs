@@ -15,6 +15,6 @@ fn main() {
     println!("cargo:rustc-link-search=native={}", folder.display());
     println!("cargo:rustc-env=TTEUYOMAL_ARCHIVE={}", archive.display());
     if !archive.is_file() {
-        println!("cargo:warning=no libtteuyomal.a: write it by `rt staticlib tteuyomal`, or name its folder in TTEUYOMAL_LIB. `cargo test --lib` needs none.");
+        println!("cargo:warning=no libtteuyomal.a: `make` writes it of the code in made/, `make prove` of what is proved here; or name its folder in TTEUYOMAL_LIB. `cargo test --lib` needs none.");
     }
 }

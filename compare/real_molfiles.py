@@ -1,7 +1,7 @@
 """Real molfiles against RDKit, by hand: atoms, bonds and W of every file, and of the first record of every SDF.
 
     apt-get install python3-rdkit rdkit-data openbabel
-    make python && PYTHONPATH=python /usr/bin/python3 compare/real_molfiles.py FOLDER..
+    make && PYTHONPATH=python /usr/bin/python3 compare/real_molfiles.py FOLDER..
 
 Of a list of SMILES (.smi) RDKit writes each molecule as a molfile, once with all its hydrogens and once without.
 A file that the library reads must have the atoms, the bonds and W that RDKit's own reader finds once each H with one
@@ -17,7 +17,7 @@ import time
 from rdkit import Chem, RDLogger
 
 import tteuyomal
-from tteuyomal import library
+from tteuyomal import native
 
 RDLogger.DisableLog("rdApp.*")
 ENDINGS = (".mol", ".sdf", ".sd", ".mdl", ".smi")
@@ -100,8 +100,8 @@ def main(folders):
             told["records"] += 1
             begin = time.perf_counter()
             try:
-                block = library.read_molfile(record)
-                fields = library.indices(block.atoms, block.bonds)
+                block = native.read_molfile(record)
+                fields = native.indices(block.atoms, block.bonds)
                 refused = None
             except tteuyomal.Refused as fault:
                 refused = fault

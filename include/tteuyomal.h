@@ -1,11 +1,13 @@
 /* Tteuyomal: distance numbers of molecules, and a judge of the sheets that give them.
  *
- * Link with libtteuyomal.a (x86-64 Linux). No function allocates, keeps anything between calls or touches memory
- * that was not lent to it. Every function answers for every input; none has a precondition beyond C's own:
+ * Link with libtteuyomal.a or -ltteuyomal (Linux on x86-64 or Arm). No function allocates, keeps anything between calls or
+ * touches memory that was not lent to it, so any number of threads may call any of them at the same time; only a table that
+ * one of them writes to is lent to no other meanwhile. Every function answers for every input; none has a precondition beyond
+ * C's own:
  *   - a pointer and the length behind it name that many readable (for an output: writable) entries;
  *   - no pointer is NULL, also where its length is 0: lend any valid address then;
  *   - an output overlaps no input and no other output;
- *   - up to 256 KiB of stack are there.
+ *   - up to 32 KiB of stack are there.
  *
  * A BLOCK is an atom count, 1 to 64, and a list of bonds, two bytes each: the numbers of its two atoms, from 1,
  * either first. At most 192 bonds, at most 6 at an atom, and a path between any two atoms.
@@ -17,7 +19,10 @@
  *           the first placement has 0 in its last three fields
  *   kind 3, sheet (one, only in a deck to be judged): atom count (4), W, even part, odd part, polarity (8 each)
  *   kind 4, sheet of six fields (instead of kind 3): the same, and the largest distance (4)
- * A deck has at most 32,768 bytes.
+ *   kind 5, library (instead of kind 2, and nothing behind it): core's block number (2), site count, 1 to 4 (2), then for each
+ *           site its atom in the core (1) and its candidate count, 1 to 8 (1), and for each candidate its block number (2) and
+ *           the atom that joins (1). A product is the core with one candidate at each site
+ * A deck has at most TTEUYOMAL_DECK_BYTES.
  *
  * THE FIVE FIELDS of a block or of the whole molecule of a deck, in this order: the number of atoms; W, the sum of
  * the distances of all pairs; its even and its odd part, the sums of the even and of the odd distances; the
@@ -47,6 +52,15 @@ typedef uint64_t tteuyomal_reply;
 #define TTEUYOMAL_FINE 0
 #define TTEUYOMAL_DONE 254
 #define TTEUYOMAL_DIFFERS 255
+
+/* Sizes in bytes, for who lends: a sheet of kind 3 and of kind 4, the bonds of the largest block, a molfile and a neighbour
+ * text of the largest block as they are written, the longest deck. TTEUYOMAL_TABLE_BYTES stands with the queues. */
+#define TTEUYOMAL_SHEET_BYTES 40
+#define TTEUYOMAL_SIX_BYTES 44
+#define TTEUYOMAL_BONDS_BYTES 384
+#define TTEUYOMAL_MOLFILE_BYTES 8754
+#define TTEUYOMAL_NEIGHBOURS_BYTES 1024
+#define TTEUYOMAL_DECK_BYTES 32768
 
 /* What is wrong, by number. The first refusal in a function's order is the one that is told. */
 enum tteuyomal_refusal {
@@ -89,8 +103,8 @@ enum tteuyomal_refusal {
 };
 
 /* The place of a refusal. Lone block: the number of the bond, from 1, for 3 to 6, else 0. Deck: the first byte of
- * the record, from 0; of the bond for 3 to 6; of the placement for 16 to 19, 23 and 24, but of the record for all of a library; the deck's length where a
- * record is expected and the deck ends; the first byte too many. Molfile: for 25 to 27 the first byte of
+ * the record, from 0; of the bond for 3 to 6; of the placement for 16 to 19, 23 and 24, but of the record for all of a
+ * library; the deck's length where a record is expected and the deck ends; the first byte too many. Molfile: for 25 to 27 the first byte of
  * the line, or the file's length where it is missing; for 3 to 6 the number of the kept bond. Neighbour
  * text: for 21 and 22 that byte or the number's first, or the text's length where it ends too early; for 3 to 6 the
  * number of the bond. 0 for 8, 9, 10, 20, 28, 29, 30 and 34. */
@@ -100,6 +114,50 @@ static inline unsigned tteuyomal_what(tteuyomal_reply reply) { return (unsigned)
 
 /* The place of a refusal; for TTEUYOMAL_DIFFERS the first wrong field, 1 to 6. */
 static inline uint64_t tteuyomal_where(tteuyomal_reply reply) { return reply / 256; }
+
+/* What the number of a refusal says, in the words of the list above: a table, no proved function. "" for a number that no
+ * refusal has. */
+static inline const char *tteuyomal_words(unsigned number)
+{
+    static const char *const words[] = {
+        "",
+        "the atom count is 0 or above 64",
+        "the bond bytes are odd in number, or more than 384",
+        "a bond end is 0 or above the atom count",
+        "both ends are the same atom",
+        "the bond was listed before, either way round",
+        "the bond is one too many for an atom: its seventh",
+        "some pair of atoms has no path",
+        "the common denominator is above 1,000,000",
+        "a lent output is too short",
+        "x is 0, negative, above 1 or a NaN",
+        "a record is cut off, the deck ends early, or bytes follow its last record",
+        "a kind that may not stand there",
+        "a payload length that is not its kind's",
+        "a block number that is 0 or used before, or a 17th block",
+        "the placement count is 0 or above 32",
+        "the placement's block is not in the deck",
+        "the first placement has a join field that is not 0",
+        "a join atom is 0 or above its block's atom count; at place 0: no such placement or atom as was asked about",
+        "the join is one bond too many for an atom: its seventh, earlier joins counted",
+        "the deck is longer than 32,768 bytes",
+        "a byte of the neighbour text is no digit, blank, tab, CR or LF, or a number is above 999",
+        "the neighbour text ends before its last 0, or a number follows it",
+        "a later placement has the parent 0",
+        "a later placement has a parent that is not earlier",
+        "a line of the molfile is missing or too short",
+        "a count or a bond end of the molfile isn't blanks, then at least one digit",
+        "a bond end of the molfile is outside its atom list",
+        "the queue holds eight blocks already",
+        "the queue holds a block under this number already",
+        "the queue holds no block under this number",
+        "a library's site count is 0 or above 4",
+        "a site's candidate count is 0 or above 8",
+        "a site's atom was used by an earlier site",
+        "the block's bonds are not one fewer than its atoms",
+    };
+    return number < sizeof words / sizeof words[0] ? words[number] : "";
+}
 
 /* Whether it is a refusal. */
 static inline int tteuyomal_is_refusal(tteuyomal_reply reply)
@@ -202,9 +260,9 @@ tteuyomal_reply tteuyomal_polynomial(size_t atoms, const uint8_t *bonds, size_t 
 
 /* Reads a V2000 molfile, or the first record of an SDF, as a block: writes its bonds, two bytes each, and two numbers,
  * the atom count and the number of bonds. An atom with symbol H and exactly one bond, to an atom that isn't H, is left
- * out, and the others are numbered in order. Any bytes may be lent, of any length; up to 64 KiB of stack are used.
+ * out, and the others are numbered in order. Any bytes may be lent, of any length.
  * Refusals: 25, 26 and 27 in file order, the block's over the kept bonds, then 9 (bonds_len below two bytes a kept
- * bond, or counts_len below 2). 512 bytes are room for the bonds of every block. */
+ * bond, or counts_len below 2). TTEUYOMAL_BONDS_BYTES are room for the bonds of every block. */
 tteuyomal_reply tteuyomal_read_molfile(const uint8_t *text, size_t text_len, uint8_t *bonds, size_t bonds_len,
                                        uint64_t *counts, size_t counts_len);
 
@@ -221,14 +279,15 @@ tteuyomal_reply tteuyomal_write_molfile(size_t atoms, const uint8_t *bonds, size
  * text, and two numbers, the atom count and the number of bonds. A neighbour smaller than its label is passed over, an
  * equal one is 4. Any bytes may be lent, of any length.
  * Refusals: 21 over the whole text, 22, the block's, among them 3 for a described label above the atom count, in its turn
- * among the bonds, then 9 (bonds_len below two bytes a bond, or counts_len below 2). 512 bytes are room for the bonds of
- * every block. */
+ * among the bonds, then 9 (bonds_len below two bytes a bond, or counts_len below 2). TTEUYOMAL_BONDS_BYTES are room for the
+ * bonds of every block. */
 tteuyomal_reply tteuyomal_read_neighbours(const uint8_t *text, size_t text_len, uint8_t *bonds, size_t bonds_len,
                                           uint64_t *counts, size_t counts_len);
 
 /* Writes a block as a neighbour text and one number, its length: a line for the atom count, for each atom that has
  * greater neighbours with these, and for the last 0; labels and neighbours ascending. Reading it gives the block's bonds
- * in that order, smaller end first, and writing those gives the same bytes. 1024 bytes are room for every block.
+ * in that order, smaller end first, and writing those gives the same bytes. TTEUYOMAL_NEIGHBOURS_BYTES are
+ * room for every block.
  * Refusals: the block's, then 9 (text_len below that length, or length_len 0). */
 tteuyomal_reply tteuyomal_write_neighbours(size_t atoms, const uint8_t *bonds, size_t bonds_len, uint8_t *text,
                                            size_t text_len, uint64_t *length, size_t length_len);

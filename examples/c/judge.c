@@ -1,5 +1,5 @@
 /* Judges the deck on standard input; the exit status is 0 for accepted, 1 for differs, 2 for the rest.
- * From the root of the repository, after `rt staticlib tteuyomal`:
+ * From the root of the repository, after `make`:
  *     gcc -O2 -Iinclude examples/c/judge.c target/staticlib/libtteuyomal.a -o target/judge-c
  *     target/judge-c < DECK
  */

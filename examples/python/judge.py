@@ -1,6 +1,6 @@
 """Builds a deck of a ring of 6 with a ring of 3 on it, has its sheet written, and has it judged, right and wrong.
 
-From the root of the repository, after `make python`:
+From the root of the repository, after `make`:
     PYTHONPATH=python python3 examples/python/judge.py
 """
 

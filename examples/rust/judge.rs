@@ -1,5 +1,5 @@
 //! Judges the deck on standard input; the exit status is 0 for accepted, 1 for differs, 2 for the rest.
-//! From the root of the repository, after `rt staticlib tteuyomal`:
+//! From the root of the repository, after `make`:
 //!     rustc -O examples/rust/judge.rs -L native=target/staticlib -l static=tteuyomal -o target/judge-rust
 //!     target/judge-rust < DECK
 use std::io::{self, Read, Write};

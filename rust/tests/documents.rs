@@ -1,0 +1,68 @@
+//! The numbers that the documents print, through the crate.
+use tteuyomal::*;
+
+const RING: [u8; 12] = [1, 2, 2, 3, 3, 4, 4, 5, 5, 6, 6, 1];
+
+/// Two rings of 6 joined by a bond.
+fn deck() -> Vec<u8> {
+    let mut deck = vec![18, 0, 1, 0, 1, 0, 6, 0, 6, 0];
+    deck.extend(RING);
+    deck.extend([14, 0, 2, 0, 2, 0, 1, 0, 0, 0, 0, 0, 1, 0, 1, 0, 1, 1]);
+    deck
+}
+
+#[test]
+fn decks() {
+    assert_eq!(compose_six(&deck()), Ok([12, 198, 96, 102, 14, 7]));
+    assert_eq!(placed_distance(&deck(), (1, 4), (2, 4)), Ok(7));
+    let mut judged = deck();
+    judged.extend(write_sheet(&deck()).unwrap());
+    assert_eq!(judge(&judged), Verdict::Accepted);
+    judged[40 + 4 + 4] += 1;
+    assert_eq!(judge(&judged), Verdict::Differs(2));
+    assert_eq!(judge(&deck()), Verdict::Refused(Refusal { number: 11, place: 40 }));
+    assert_eq!(judge(&deck()).to_string().split(':').next(), Some("refused 11 at 40"));
+}
+
+#[test]
+fn blocks() {
+    assert_eq!(indices(6, &RING), Ok([6, 27, 12, 15, 3]));
+    assert_eq!(farthest(6, &RING, 1), Ok(3));
+    assert_eq!(balaban(6, &RING), Ok(1_999_999_998));
+    assert_eq!(count_sets(6, &RING), Err(Refusal { number: 34, place: 0 }));
+    assert_eq!(count_sets(4, &[1, 2, 2, 3, 3, 4]), Ok(Sets { bonds: 5, atoms: 8 }));
+    let given = contributions(6, &RING).unwrap();
+    assert_eq!(given.shares.iter().sum::<u64>(), 27 * given.denominator);
+    assert_eq!(szeged(6, &RING).map(|x| x.index), Ok(54));
+    assert_eq!(check_block(2, &[]), Err(Refusal { number: 7, place: 0 }));
+}
+
+#[test]
+fn texts() {
+    let block = read_molfile(&write_molfile(6, &RING).unwrap()).unwrap();
+    assert_eq!((block.atoms, &block.bonds[..]), (6, &RING[..]));
+    assert_eq!(read_neighbours(b"2 1 2 0 0").map(|x| x.bonds), Ok(vec![1, 2]));
+}
+
+#[test]
+fn libraries() {
+    let mut deck = vec![18, 0, 1, 0, 1, 0, 6, 0, 6, 0];
+    deck.extend(RING);
+    deck.extend([6, 0, 1, 0, 2, 0, 1, 0, 0, 0]);
+    deck.extend([17, 0, 5, 0, 1, 0, 2, 0, 1, 2, 2, 0, 1, 1, 0, 1, 4, 1, 2, 0, 1]);
+    assert_eq!(library_count(&deck), Ok(2));
+    let mut out = [0; 80];
+    assert_eq!(library_run(&deck, Kind::Five, 0, &mut out), Ok(Some(2)));
+    assert_eq!(u64::from_le_bytes(out[48..56].try_into().unwrap()), 252);
+    assert_eq!(library_step(&deck, Kind::Five, 2, &mut out), Ok(None));
+}
+
+#[test]
+fn queues() {
+    let mut table = Table::new();
+    table.add(Queue::Day, 1, 6, &RING).unwrap();
+    assert_eq!(table.look(Queue::Day, 1), Ok([6, 27, 12, 15, 3, 3]));
+    assert_eq!(table.look(Queue::Night, 1), Err(Refusal { number: 30, place: 0 }));
+    let sheet = table.compose(Queue::Day, Kind::Six, &deck()[22..]).unwrap();
+    assert_eq!(sheet, write_six(&deck()).unwrap());
+}
