@@ -1,7 +1,7 @@
 """Judging on a fleet: a real Dask scheduler and two workers on this machine, one of them killed on the way.
 
     apt-get install -y python3-distributed        # where it is not there
-    make python && /usr/bin/python3 tests/fleet.py
+    make && /usr/bin/python3 tests/fleet.py
 
 The last line is 'N passed, M failed'.
 """

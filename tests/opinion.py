@@ -1,7 +1,7 @@
 """The command against the second opinion: random decks in a folder, `tteuyomal judge --json` on it, every verdict and every field
 compared with what compare/ says of the same bytes. The last line is 'N passed, M failed'.
 
-    make python && python3 tests/opinion.py [CASES [SEED]]
+    make && python3 tests/opinion.py [CASES [SEED]]
 """
 
 import json
@@ -23,8 +23,7 @@ def told(line):
         words += f" {said['field']}"
     if said["verdict"] == "refused":
         return f"{words} {said['refusal']['number']} at {said['refusal']['place']}"
-    names = {"atoms": "atoms", "w": "W", "even": "even", "odd": "odd", "polarity": "polarity", "largest": "largest"}
-    return f"{words} | {' '.join(f'{names[key]} {number}' for key, number in said['worked_out'].items())}"
+    return f"{words} | {' '.join(f'{key} {number}' for key, number in said['worked_out'].items())}"
 
 
 def main(words):

@@ -1,5 +1,5 @@
 """Runs the tests of what stands around the library (C header, examples, Python) against the archive and the shared object in
-target/staticlib and the package in python/; `make python` makes all of them. The last line is 'N passed, M failed'; the exit status
+target/staticlib and the package in python/; `make` makes all of them. The last line is 'N passed, M failed'; the exit status
 is 0 when nothing failed.
 
     python3 tests/run.py [NAME..]      the test files, by name without .py; all of them when none is named

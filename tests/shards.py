@@ -1,7 +1,7 @@
 """Libraries on a fleet: a real Dask scheduler and two workers on this machine; the shards are ranges of positions.
 
     apt-get install -y python3-distributed        # where it is not there
-    make python && /usr/bin/python3 tests/shards.py
+    make && /usr/bin/python3 tests/shards.py
 
 Each worker gets every second range; what they list, joined, is what one run lists, and the best of the ranges' best are the best of
 all. One worker is killed on the way: no product is lost and none is told twice. The last line is 'N passed, M failed'.

@@ -1,6 +1,6 @@
 """How many small decks (two rings of 6) the command and the package judge in a second.
 
-    make python && python3 tests/speed.py [DECKS]
+    make && python3 tests/speed.py [DECKS]
 
 Prints the time on the clock, the processor time of all processes together, and decks a second by each: on a machine that does other
 work too, the processor time says what two free cores would do.

@@ -6,7 +6,9 @@ import io
 import json
 import os
 import random
+import shutil
 import signal
+import stat
 import subprocess
 import sys
 import tempfile
@@ -14,9 +16,9 @@ import time
 import unittest
 from unittest import mock
 
-from common import FORTY, JUDGED, PYTHON, RIGHT, RIGHT_SIX, ROOT, sheet, sheet_of_six
+from common import FORTY, JUDGED, LIBRARY, PYTHON, RIGHT, RIGHT_SIX, ROOT, sheet, sheet_of_six
 
-from tteuyomal import command, decktext, files, judging, library
+from tteuyomal import command, decktext, files, judging, native
 from tteuyomal.decks import Block, Deck, Placement, Sheet
 
 GOOD, WRONG = FORTY + RIGHT, FORTY + sheet(12, 198, 97, 101, 14)
@@ -105,13 +107,13 @@ class Judging(Room):
         os.symlink("nowhere", os.path.join(self.decks, "e"))
         status, said = self.run_command("judge", "--json", self.decks)
         accepted, differs, refused, long, unread = map(json.loads, said.splitlines())
-        right = {"atoms": 12, "w": 198, "even": 96, "odd": 102, "polarity": 14}
+        right = {"atoms": 12, "W": 198, "even": 96, "odd": 102, "polarity": 14}
         self.assertEqual(status, 2)
         self.assertEqual((accepted["verdict"], accepted["claimed"], accepted["worked_out"]), ("accepted", right, right))
         self.assertEqual(accepted["sha256"], hashlib.sha256(GOOD).hexdigest())
         self.assertEqual((differs["verdict"], differs["field"]), ("differs", 3))
         self.assertEqual((differs["claimed"], differs["worked_out"]), (right | {"even": 97, "odd": 101}, right))
-        refusal = {"number": 4, "place": 12 if REFUSAL_AT_BOND else 0, "words": library.WORDS[4]}
+        refusal = {"number": 4, "place": 12 if REFUSAL_AT_BOND else 0, "words": native.WORDS[4]}
         self.assertEqual((refused["verdict"], refused["refusal"]), ("refused", refusal))
         self.assertEqual((long["refusal"]["number"], long["sha256"]), (20, hashlib.sha256(bytes(40000)).hexdigest()))
         self.assertEqual((unread["verdict"], unread["sha256"]), ("cannot be read", None))
@@ -123,10 +125,18 @@ class Judging(Room):
         status, said = self.run_command("judge", self.decks)
         self.assertEqual(status, 0)
         names = sorted(line[len(self.decks) + 1 : -len(": accepted")] for line in said.splitlines())
-        self.assertEqual(names, sorted(["<script>", "back\\slash", "no \\xff utf-8", "two\\nlines: accepted", "żółć"]))
+        self.assertEqual(names, sorted(["<script>", "back\\\\slash", "no \\xff utf-8", "two\\nlines: accepted", "żółć"]))
         objects = [json.loads(line) for line in self.run_command("judge", "--json", self.decks)[1].splitlines()]
         exact = {bytes.fromhex(one["file_bytes"]).rsplit(b"/", 1)[1] for one in objects if "file_bytes" in one}
         self.assertEqual(exact, {b"two\nlines: accepted", b"no \xff utf-8"})
+
+    def test_no_two_names_are_alike(self):
+        names = [b"lit\\n", b"lit\n", b"\\x85", b"\x85", "\x85".encode(), b"\\", b"\\\\", b"\x1b", b"\\x1b", b"\xc2", "Â".encode(), b"tab\t", b"tab\\t"]
+        for name in names:
+            self.put(os.fsdecode(name), GOOD)
+        said = self.run_command("judge", self.decks)[1].splitlines()
+        self.assertEqual(len(set(said)), len(names))
+        self.assertEqual({files.meant(line[len(self.decks) + 1 : -len(": accepted")]) for line in said}, {os.fsdecode(name) for name in names})
 
     def test_nothing_is_passed_over(self):
         self.put(".hidden", GOOD)
@@ -174,7 +184,7 @@ class Judging(Room):
             one = self.process("judge", deck, stdout=subprocess.PIPE, stderr=subprocess.PIPE)
             out, fault = one.communicate()
         self.assertEqual((one.returncode, out), (2, b""))
-        self.assertIn(b"make python", fault)
+        self.assertIn(b"`make`", fault)
 
     def test_standard_input(self):
         one = self.process("judge", "-", stdin=subprocess.PIPE, stdout=subprocess.PIPE)
@@ -204,7 +214,7 @@ class Explaining(Room):
                       "differs 3: the first wrong field is even part; wrong too: odd part."):  # fmt: skip
             self.assertIn(words, said)
         said = self.run_command("explain", self.put("a", REFUSED))[1]
-        self.assertIn(f"refused 4 at {12 if REFUSAL_AT_BOND else 0}: {library.WORDS[4]}.", said)
+        self.assertIn(f"refused 4 at {12 if REFUSAL_AT_BOND else 0}: {native.WORDS[4]}.", said)
         self.assertIn("block 1", said)
         nobody = bytearray(GOOD)
         nobody[34] = 9  # placement 2 asks for block 9
@@ -232,7 +242,7 @@ class Sheets(Room):
         self.assertEqual(self.run_command("sheet", deck, self.put("b", GOOD)), (2, line + f"{self.decks}/b: refused 11 at 40\n"))
         self.assertEqual(self.run_command("sheet")[0], 2)
         said = json.loads(self.run_command("sheet", "--json", deck)[1])
-        self.assertEqual(said["worked_out"], {"atoms": 12, "w": 198, "even": 96, "odd": 102, "polarity": 14})
+        self.assertEqual(said["worked_out"], {"atoms": 12, "W": 198, "even": 96, "odd": 102, "polarity": 14})
 
     def test_six_fields(self):
         deck, other = self.put("a", FORTY), os.path.join(self.room, "b")
@@ -247,6 +257,8 @@ class Sheets(Room):
     def test_append(self):
         deck, other = self.put("a", FORTY), os.path.join(self.room, "b")
         self.assertEqual(self.run_command("sheet", deck, "--append", other), (0, ""))
+        self.assertEqual(self.fault, f"tteuyomal: {other} has the library's own sheet: to judge it accepts it, and checks no program\n")
+        self.assertIn("checks no program", " ".join(self.run_command("sheet", "--help")[1].split()))
         self.assertEqual((self.read(other), self.read(deck)), (GOOD, FORTY))
         os.link(deck, os.path.join(self.room, "hard"))
         os.symlink(deck, os.path.join(self.room, "soft"))
@@ -282,17 +294,45 @@ class Measuring(Room):
 
     def test_refusals(self):
         good, bad = self.put("a.mol", self.NAPHTHALENE.molfile()), self.put("b.mol", b"no molfile")
-        status, said = self.run_command("measure", good, bad, os.path.join(self.decks, "missing"))
+        status, said = self.run_command("measure", good, bad, os.path.join(self.decks, "missing.mol"))
         self.assertEqual((status, [": refused 25 at " in line for line in said.splitlines()]), (2, [False, True, False]))
         self.assertIn("cannot be read: no such file", said)
         self.assertEqual(json.loads(self.run_command("measure", "--json", bad)[1])["refusal"]["number"], 25)
         self.assertEqual(self.run_command("measure")[0], 2)
 
-    @unittest.skipUnless(library.has("read_neighbours"), "the library reads no neighbour texts yet")
+    @unittest.skipUnless(native.has("read_neighbours"), "the library reads no neighbour texts yet")
     def test_neighbours(self):
         file = self.put("a.txt", b"2\n1 2 0\n0\n")
         for words in ([], ["--as", "neighbours"]):
             self.assertTrue(self.run_command("measure", *words, file)[1].startswith(f"{file}: atoms 2 bonds 1 W 1 "))
+
+    def test_never_guessed(self):
+        """The name's ending says what a file is, or --as does: 21 is told of a neighbour text, 25 of an empty molfile."""
+        for name, data, words in (
+            ("a.txt", b"2 1 2 0 0 x", "refused 21 at 10: "), ("b.nb", b"2 1 2 0 0\x1a", "refused 21 at 9: "),
+            ("c.txt", b"\xef\xbb\xbf2 1 2 0 0", "refused 21 at 0: "), ("d.mol", b"", "refused 25 at 0: "),
+            ("e.txt", b"", "refused 22 at 0: "), ("f.MOL", b"2 1 2 0 0", "refused 25 at 9: "), ("g", b"2 1 2 0 0", "its name ends in none of"),
+        ):  # fmt: skip
+            status, said = self.run_command("measure", self.put(name, data))
+            self.assertEqual(status, 2)
+            self.assertIn(f"{name}: {words}", said)
+        self.assertEqual(self.run_command("measure", "--as", "neighbours", os.path.join(self.decks, "g"))[0], 0)
+        one = self.process("measure", "-", stdin=subprocess.PIPE, stdout=subprocess.PIPE, stderr=subprocess.DEVNULL)
+        self.assertIn(b"say --as", one.communicate(b"2 1 2 0 0")[0])
+        self.assertEqual(one.returncode, 2)
+
+    def test_a_line_for_who_edits(self):
+        text = b"\n\n\n  2  1  0\n" + 2 * (b" " * 31 + b"C\n") + b"  1  x\nM  END\n"
+        self.assertIn("molfile isn't blanks, then at least one digit (line 7)", self.run_command("measure", self.put("a.mol", text))[1])
+
+    @unittest.skipUnless(native.has("read_neighbours"), "the library reads no neighbour texts yet")
+    def test_neighbour_texts_of_blocks(self):
+        block = Block.from_neighbours(self.NAPHTHALENE.neighbours())
+        self.assertEqual((Block.from_neighbours(block.neighbours()), block.measure()), (block, self.NAPHTHALENE.measure()))
+        self.assertEqual(native.read_neighbours(native.write_neighbours(3, [(1, 2), (2, 3)])), (3, [(1, 2), (2, 3)]))
+        self.put("naphthalene.nb", block.neighbours())
+        text = "[[block]]\nnumber = 1\nneighbours = 'naphthalene.nb'\n[[placement]]\nblock = 1\n"
+        self.assertEqual(decktext.made(text, self.decks), bytes(Deck({1: block}, [Placement(1)])))
 
     def test_decks_of_molfiles(self):
         self.put("ring.mol", Block(6, [(1, 2), (2, 3), (3, 4), (4, 5), (5, 6), (6, 1)]).molfile())
@@ -303,6 +343,50 @@ class Measuring(Room):
         self.assertEqual(self.read(made), FORTY)
         missing = self.put("b.toml", text.replace("ring", "nowhere").encode())
         self.assertEqual(self.run_command("deck", missing, "-o", made)[0], 2)
+
+
+class Making(Room):
+    """`deck` and decks that the library refuses."""
+
+    def made(self, text, *words):
+        output = os.path.join(self.room, "out")
+        status, _ = self.run_command("deck", self.put("d.toml", text.encode()), "-o", output, *words)
+        data = self.read(output) if os.path.exists(output) else None
+        if data is not None:
+            os.unlink(output)
+        return status, data
+
+    def test_refused(self):
+        apart = "[[block]]\nnumber = 1\natoms = 6\n[[placement]]\nblock = 1\n"
+        for text, words in (("", "refused 12 at 0"), (apart, "refused 7 at 0: some pair of atoms has no path"), ("bytes = '00'", "refused 11 at 0")):
+            self.assertEqual(self.made(text), (2, None))
+            self.assertIn(words, self.fault)
+            self.assertIn("not written", self.fault)
+            status, data = self.made(text, "--refused-too")
+            self.assertEqual((status, data), (2, decktext.made(text)))
+        self.assertEqual(self.made(decktext.shown(GOOD)), (0, GOOD))
+        self.assertEqual(self.made(decktext.shown(WRONG)), (0, WRONG), "a wrong claim is a claim")
+        self.assertEqual(self.made(decktext.shown(LIBRARY)), (0, LIBRARY))
+        self.assertEqual(self.made(decktext.shown(LIBRARY[:-1]))[0], 2)
+
+    def test_a_refused_molfile_is_named(self):
+        self.put("good.mol", Block(1).molfile())
+        self.put("bad.mol", b"\n\n\n  x  0\n")
+        text = "[[block]]\nnumber = 1\nmolfile = 'good.mol'\n[[block]]\nnumber = 2\nmolfile = 'bad.mol'\n"
+        self.assertEqual(self.made(text), (2, None))
+        self.assertIn("block 2 of the text: molfile bad.mol: refused 26 at 3: ", self.fault)
+        self.assertIn("(line 4)", self.fault)
+
+    def test_texts_that_nobody_means(self):
+        bond = "[[block]]\nnumber = 1\natoms = 10\nbonds = ['{}']\n"
+        for text in (
+            "[[block]]\nnumber = 1\nmolfile = 'a\\u0000b'\n".replace("'", '"'), "x = " + "[" * 20_000, "[[block]]\nnumber = " + "9" * 5_000,
+            "[[block]]\nnumber = 1\natoms = 0x" + "f" * 5_000, bond.format("1_0-2"), bond.format("1-٢"), bond.format("+1-2"), bond.format("1 -2"),
+            "[[block]]\nnumber = 1\nneighbours = '2 1 2 0 0'\n",
+        ):  # fmt: skip
+            with self.subTest(text[:60]):
+                self.assertEqual(self.made(text), (2, None))
+                self.assertTrue(self.fault.startswith("tteuyomal: ") and self.fault.count("\n") == 1, self.fault)
 
 
 class Texts(Room):
@@ -374,8 +458,8 @@ class Notices(Room):
         self.put("sub/b", GOOD)
         text = self.notice(0)
         self.assertIn("All 2 decks were checked and accepted", text)
-        self.assertIn(f"{hashlib.sha256(GOOD).hexdigest()}  accepted  sub/b\n", text)
-        self.assertIn(f"Tteuyomal {library.version()}\n", text)
+        self.assertTrue(text.endswith(f"\naccepted:\n{hashlib.sha256(GOOD).hexdigest()}  a\n{hashlib.sha256(GOOD).hexdigest()}  sub/b\n"))
+        self.assertIn(f"Tteuyomal {native.version()}\n", text)
         for data, status in ((WRONG, 1), (REFUSED, 2)):
             self.put("c", data)
             self.assertNotIn("checked and accepted", self.notice(status))
@@ -385,11 +469,11 @@ class Notices(Room):
     def test_again(self):
         for name, data in (("a", GOOD), ("b", WRONG), ("c", b"")):
             self.put(name, data)
-        dated = lambda text: [line for line in text.splitlines() if not line.startswith("Date: ")]
-        first = self.notice(2)
-        time.sleep(0.01)
-        self.assertEqual(dated(self.notice(2)), dated(first))
-        self.assertEqual(len(dated(first)) + 1, len(first.splitlines()))
+        alike = lambda text: [line for line in text.splitlines() if not line.startswith(("Date: ", "Run: "))]
+        first, second = self.notice(2), self.notice(2)
+        self.assertEqual(alike(first), alike(second))
+        self.assertNotEqual(first, second, "two runs are two notices")
+        self.assertEqual(len(alike(first)) + 2, len(first.splitlines()))
 
 
 class Boards(Room):
@@ -406,7 +490,7 @@ class Boards(Room):
         self.put("c<script>", REFUSED)
         text = self.board(2)
         self.assertIn("2 of 3 decks not accepted", text)
-        order = [text.index(f'<article class="{kind}"') for kind in ("refused", "differs", "accepted")]
+        order = [text.index(f'<details class="deck {kind}"') for kind in ("refused", "differs", "accepted")]
         self.assertEqual(order, sorted(order))
         self.assertIn("c&lt;script&gt;", text)
         self.assertNotIn("c<script>", text)
@@ -423,9 +507,9 @@ class Boards(Room):
         self.assertIn("All 2 decks are accepted", self.board(0))
         deck = self.put("c", wrong)
         text = self.board(1)
-        self.assertEqual([text.count(f"<tr><th>{name}</th>") for name in ("polarity", "largest distance")], [3, 2])
-        self.assertIn('<tr><th>largest distance</th><td class="wrong">6</td><td>7</td></tr>', text)
-        self.assertIn("differs</span>: largest distance", text)
+        self.assertEqual([text.count(f'<th scope="row">{name}</th>') for name in ("polarity", "largest distance")], [3, 2])
+        self.assertIn('<th scope="row">largest distance</th><td class="wrong">6</td><td>7</td><td>−1</td></tr>', text)
+        self.assertIn("differs: largest distance", text)
         status, said = self.run_command("explain", deck)
         self.assertEqual((status, said.splitlines()[-1]), (1, "differs 6: the first wrong field is largest distance."))
         self.assertIn("wrong", next(line for line in said.splitlines() if line.startswith("largest distance")))
@@ -433,7 +517,7 @@ class Boards(Room):
         self.assertEqual((said["field"], said["claimed"]["largest"], said["worked_out"]["largest"]), (6, 6, 7))
         output = os.path.join(self.room, "notice.txt")
         self.assertEqual(self.run_command("notice", self.decks, "-o", output)[0], 1)
-        self.assertIn(f"{hashlib.sha256(wrong).hexdigest()}  differs 6  c\n", self.read(output).decode())
+        self.assertIn(f"\ndiffers 6:\n{hashlib.sha256(wrong).hexdigest()}  c\n", self.read(output).decode())
         self.assertIn("largest distance  ", self.run_command("explain", self.put("d", FORTY))[1])
 
     def test_an_empty_folder_is_no_green_board(self):
@@ -485,6 +569,107 @@ class Outputs(Room):
         with files.written(path) as file:
             file.write(b"after")
         self.assertEqual((self.read(path), os.stat(path).st_mode & 0o777), (b"after", 0o640))
+
+    def notice(self, output, **more):
+        """A process that writes a notice, and what it printed."""
+        self.put("a", GOOD)
+        one = self.process("notice", self.decks, "-o", output, stdout=subprocess.PIPE, stderr=subprocess.PIPE, **more)
+        said, self.fault = one.communicate(timeout=60)
+        self.status = one.returncode
+        return said
+
+    def test_a_link_is_followed(self):
+        real = self.put("real", b"before", self.room)
+        os.symlink("real", os.path.join(self.room, "latest"))
+        os.symlink("new", os.path.join(self.room, "dangling"))
+        for link, target in (("latest", real), ("dangling", os.path.join(self.room, "new"))):
+            self.notice(os.path.join(self.room, link))
+            self.assertEqual(self.status, 0)
+            self.assertTrue(os.path.islink(os.path.join(self.room, link)))
+            self.assertTrue(self.read(target).startswith(b"Notice of judged decks"))
+        os.symlink(os.path.join(self.decks, "a"), os.path.join(self.room, "input"))
+        self.notice(os.path.join(self.room, "input"))
+        self.assertEqual((self.status, self.read(os.path.join(self.decks, "a"))), (2, GOOD))
+
+    def test_a_pipe_is_written_to(self):
+        pipe = os.path.join(self.room, "pipe")
+        os.mkfifo(pipe)
+        with subprocess.Popen(["cat", pipe], stdout=subprocess.PIPE) as reader:
+            self.notice(pipe)
+            self.assertTrue(reader.communicate(timeout=60)[0].startswith(b"Notice of judged decks"))
+        self.assertEqual((self.status, stat.S_ISFIFO(os.stat(pipe).st_mode)), (0, True))
+
+    def test_a_device_is_written_to(self):
+        device = os.path.join(self.room, "null")
+        try:
+            os.mknod(device, 0o666 | stat.S_IFCHR, os.makedev(1, 3))
+            with open(device, "wb"):
+                pass
+        except OSError:
+            self.skipTest("no rights to make a device")
+        self.notice(device)
+        self.assertEqual((self.status, stat.S_ISCHR(os.stat(device).st_mode)), (0, True))
+
+    def test_standard_output(self):
+        for output in ("-", "/dev/stdout"):
+            self.assertTrue(self.notice(output).startswith(b"Notice of judged decks"))
+            self.assertEqual(self.status, 0)
+        here = os.path.join(self.room, "here")
+        with open(here, "wb") as file:
+            one = self.process("notice", self.decks, "-o", "/dev/stdout", stdout=file, stderr=subprocess.DEVNULL)
+            self.assertEqual(one.wait(), 0)
+            os.write(file.fileno(), b"the end")
+        self.assertTrue(self.read(here).startswith(b"Notice") and self.read(here).endswith(b"the end"))
+        self.assertFalse(os.path.exists("-"))
+
+    def test_faults_name_what_was_asked_for(self):
+        for output, why in ((os.path.join(self.room, "no", "where"), "no such file or directory"), (self.room, "is a directory")):
+            self.notice(output)
+            self.assertEqual((self.status, self.fault.decode()), (2, f"tteuyomal: {output}: cannot be written: {why}\n"))
+        self.notice("/dev/full")
+        self.assertEqual((self.status, self.fault), (2, b"tteuyomal: /dev/full: cannot be written: no space left on device\n"))
+        self.assertEqual(os.listdir(self.room), ["decks"])
+
+
+class Streams(Room):
+    """Standard streams that are closed, and whatever fails before the command begins."""
+
+    def shell(self, words, environment=None):
+        run = f'exec "{sys.executable}" -m tteuyomal {words}'
+        return subprocess.run(["bash", "-c", run], capture_output=True, env=os.environ | {"PYTHONPATH": PYTHON} | (environment or {}))
+
+    def test_closed(self):
+        deck = self.put("a", GOOD)
+        one = self.shell(f"judge {deck} 2>&-")
+        self.assertEqual((one.returncode, one.stdout.decode()), (0, f"{deck}: accepted\n"))
+        one = self.shell("judge - <&-")
+        self.assertEqual((one.returncode, one.stdout), (2, b"-: cannot be read\n"))
+        self.assertNotIn(b"Traceback", one.stderr)
+        self.assertEqual(self.shell("judge --no-such 2>&-").returncode, 2)
+        self.assertEqual(self.shell("judge - --json <&- 2>&-").returncode, 2)
+        for words in ("--version", "--help", "judge --help"):
+            self.assertEqual(self.shell(f"{words} >/dev/full").returncode, 2)
+
+    def test_what_fails_before_the_command(self):
+        deck = self.put("a", GOOD)
+        package = os.path.join(self.room, "python")
+        shutil.copytree(PYTHON, package, ignore=shutil.ignore_patterns("__pycache__"))
+        for module in ("decks.py", "native.py", "command.py", "commands/judge.py", "public.py"):
+            path = os.path.join(package, "tteuyomal", module)
+            kept = self.read(path)
+            for broken in (b"import no_such_module\n", b"def\n"):
+                with open(path, "wb") as file:
+                    file.write(broken)
+                one = self.shell(f"judge {deck}", {"PYTHONPATH": package})
+                self.assertEqual((one.returncode, one.stdout), (2, b""), module)
+            with open(path, "wb") as file:
+                file.write(kept)
+        self.assertEqual(self.shell(f"judge {deck}", {"PYTHONPATH": package}).returncode, 0)
+        for words in (f"judge {deck}", "--version", f"board {self.decks} -o {self.room}/b"):
+            one = self.shell(words, {"TTEUYOMAL_SO": "/no/where.so"})
+            self.assertEqual((one.returncode, one.stdout), (2, b""))
+            self.assertIn(b"the library can't be loaded", one.stderr)
+        self.assertIn("The run failed", self.read(os.path.join(self.room, "b")).decode())
 
 
 REFUSAL_AT_BOND = judging.judge_bytes("", REFUSED, "").place != 0  # the place of 3 to 6 in a deck

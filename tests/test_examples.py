@@ -12,7 +12,7 @@ WARNED = {"gcc": ["-Wall", "-Wextra", "-Wpedantic", "-Werror"], "rustc": ["-D", 
 
 
 def build_command(*path):
-    """The command after `rt staticlib tteuyomal` in an example's first lines, with its warnings turned to errors."""
+    """The command after `make` in an example's first lines, with its warnings turned to errors."""
     words = re.search(r"^\W+((?:gcc|rustc) .*)$", text(*path), re.M).group(1).split()
     return words[:1] + WARNED[words[0]] + words[1:]
 

@@ -7,7 +7,7 @@ import unittest
 from common import ARCHIVE, HEADER, text
 
 WARNINGS = ["-Wall", "-Wextra", "-Wpedantic", "-Wconversion", "-Wshadow", "-Wundef", "-Werror", "-fsyntax-only"]
-CALLER = '#include "tteuyomal.h"\nint main(void) { return tteuyomal_is_refusal(0) + (int)tteuyomal_where(0) + (int)tteuyomal_what(0); }\n'
+CALLER = '#include "tteuyomal.h"\nint main(void) { return tteuyomal_is_refusal(0) + (int)tteuyomal_where(0) + (int)tteuyomal_what(0) + *tteuyomal_words(1); }\n'
 
 
 class Header(unittest.TestCase):

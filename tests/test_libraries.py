@@ -6,8 +6,8 @@ from collections import deque
 
 from common import FORTY  # noqa: F401  (the path to the package)
 
-from tteuyomal import library
-from tteuyomal.library import Refused
+from tteuyomal import native
+from tteuyomal.native import Refused
 
 LIMIT = 6
 
@@ -111,7 +111,7 @@ def some_deck(rng):
     blocks = {number: some_block(rng) for number in range(1, rng.randint(2, 5))}
     if rng.random() < 0.3:
         blocks[9] = (LIMIT + 1, [(1, atom) for atom in range(2, LIMIT + 2)])
-    front = b"".join(library.block_record(number, atoms, bonds) for number, (atoms, bonds) in blocks.items())
+    front = b"".join(native.block_record(number, atoms, bonds) for number, (atoms, bonds) in blocks.items())
     core = rng.choice(list(blocks))
     places = rng.sample(range(1, blocks[core][0] + 1), rng.randint(1, min(4, blocks[core][0])))
     xs = core.to_bytes(2, "little") + len(places).to_bytes(2, "little")
@@ -148,7 +148,7 @@ class Libraries(unittest.TestCase):
             deck, answer = bytes(deck), read(deck, blocks, at)
             if isinstance(answer[1], int):
                 seen.add(answer[0])
-                for call in (library.library_count, lambda d: library.library_step(d, 0), lambda d: library.library_run(d, 2**60, 4)):
+                for call in (native.library_count, lambda d: native.library_step(d, 0), lambda d: native.library_run(d, 2**60, 4)):
                     with self.assertRaises(Refused) as caught:
                         call(deck)
                     self.assertEqual((caught.exception.number, caught.exception.place), answer)
@@ -157,15 +157,15 @@ class Libraries(unittest.TestCase):
             count = 1
             for _, candidates in sites:
                 count *= len(candidates)
-            self.assertEqual(library.library_count(deck), count)
-            sheets, following = library.library_run(deck, 0, 4)
+            self.assertEqual(native.library_count(deck), count)
+            sheets, following = native.library_run(deck, 0, 4)
             self.assertEqual((len(sheets), following), (count, count))
             for position in sorted({0, count - 1, rng.randrange(count)}):
                 sheet = sheets[position]
                 told = [int.from_bytes(sheet[a : a + w], "little") for a, w in ((4, 4), (8, 8), (16, 8), (24, 8), (32, 8), (40, 4))]
                 self.assertEqual(told, product(blocks, core, sites, position))
-                self.assertEqual(library.library_step(deck, position, 4), (sheet, position + 1))
-            self.assertIsNone(library.library_step(deck, count))
+                self.assertEqual(native.library_step(deck, position, 4), (sheet, position + 1))
+            self.assertIsNone(native.library_step(deck, count))
         self.assertLessEqual({11, 13, 16, 18, 19, 31, 32, 33}, seen)
 
 

@@ -1,6 +1,7 @@
 """The package: blocks, decks, sheets and verdicts as values; and what `pip install` and `make install` put in place."""
 
 import os
+import pathlib
 import pickle
 import re
 import shutil
@@ -12,7 +13,7 @@ import unittest
 from common import FORTY, HEADER, JUDGED, PYTHON, RIGHT, RING, ROOT, sheet, text
 
 import tteuyomal
-from tteuyomal import Block, Deck, NotThere, Placement, Refused, Sheet, Verdict, library
+from tteuyomal import Block, Deck, NotThere, Placement, Refused, Sheet, Verdict, native
 
 RING_OF_6 = Block(6, RING)
 TWO_RINGS = Deck({1: RING_OF_6}, [Placement(1), Placement(1, parent=1, parent_atom=1, atom=1)])
@@ -46,6 +47,11 @@ class Values(unittest.TestCase):
                 self.assertEqual(bool(verdict), line == "accepted")
                 self.assertEqual(tteuyomal.judge_many([data]), [verdict])
         self.assertEqual(tteuyomal.judge(TWO_RINGS.with_sheet()), Verdict())
+        many = [TWO_RINGS.with_sheet(), FORTY, bytearray(FORTY + RIGHT), list(FORTY + RIGHT)]
+        self.assertEqual([str(one) for one in tteuyomal.judge_many(many)], ["accepted", "refused 11 at 40", "accepted", "accepted"])
+        for wrong in (["a"], [None], [3]):
+            self.assertRaises(TypeError, tteuyomal.judge_many, wrong)
+        self.assertEqual(repr(tteuyomal.judge(FORTY)), "<Verdict: refused 11 at 40>")
         self.assertEqual(tteuyomal.judge(TWO_RINGS).refusal, Refused(11, 40))
         self.assertEqual(pickle.loads(pickle.dumps(tteuyomal.judge(FORTY))), tteuyomal.judge(FORTY))
 
@@ -70,6 +76,11 @@ class Values(unittest.TestCase):
         self.assertEqual(Block.from_molfile(RING_OF_6.molfile()), RING_OF_6)
         self.assertEqual(Block.from_molfile(RING_OF_6.molfile().decode()), RING_OF_6)
         self.assertRaises(Refused, Block.from_molfile, "")
+        with self.assertRaisesRegex(ValueError, "the text of a molfile is meant.*'benzene.mol'"):
+            Block.from_molfile("benzene.mol")
+        for make in (Block.from_molfile, Block.from_neighbours):
+            with self.assertRaisesRegex(TypeError, "a text is meant"):
+                make(pathlib.Path("benzene.mol"))
 
     def test_indices(self):
         self.assertEqual(RING_OF_6.balaban(), 1_999_999_998)
@@ -82,12 +93,34 @@ class Values(unittest.TestCase):
         written = [tteuyomal.__version__]
         for pattern, path in ((r'^version = "(.*)"$', ("python", "pyproject.toml")), (r"^VERSION := (.*)$", ("Makefile",))):
             written.append(re.search(pattern, text(*path), re.M).group(1))
-        self.assertEqual(written, [library.version()] * 3)
+        self.assertEqual(written, [native.version()] * 3)
 
     def test_a_function_that_the_library_has_not(self):
         with self.assertRaisesRegex(NotThere, "tteuyomal_no_such"):
-            library._function("no_such", [])()
-        self.assertFalse(library.has("no_such"))
+            native._function("no_such", [])()
+        self.assertFalse(native.has("no_such"))
+
+
+class Code(unittest.TestCase):
+    """Which code judges: what made.txt beside the shared object says, if it speaks of that one."""
+
+    def said_of(self, note):
+        with tempfile.TemporaryDirectory() as folder:
+            shutil.copy(native.SHARED_OBJECT, folder)
+            with open(os.path.join(folder, "made.txt"), "w", encoding="ascii") as file:
+                file.write(note)
+            there = os.environ | {"PYTHONPATH": PYTHON, "TTEUYOMAL_SO": os.path.join(folder, os.path.basename(native.SHARED_OBJECT))}
+            run = subprocess.run([sys.executable, "-m", "tteuyomal", "--version"], capture_output=True, text=True, env=there)
+        self.assertEqual((run.returncode, run.stderr), (0, ""))
+        return run.stdout
+
+    def test_note(self):
+        note = f"code {'ab' * 32}\nmachine x86_64\nproved by the gate\nobject {native.SHA256}\n"
+        self.assertIn(f", code {'ab' * 32} for x86_64, proved by the gate\n", self.said_of(note))
+
+    def test_note_of_another_object(self):
+        for note in ("", "code\n", f"code {'ab' * 32}\nmachine x86_64\nproved here\nobject {'cd' * 32}\n"):
+            self.assertIn("code unknown", self.said_of(note))
 
 
 class Rdkit(unittest.TestCase):
@@ -100,7 +133,13 @@ class Rdkit(unittest.TestCase):
             for mol in (Chem.MolFromSmiles(smiles), Chem.AddHs(Chem.MolFromSmiles(smiles))):
                 self.assertEqual(Block.from_rdkit(mol).measure().fields(), fields)
         self.assertEqual(Block.from_rdkit(Chem.MolFromSmiles("[H][H]")), Block(2, [(1, 2)]))
+        for smiles in ("[2H]C", "[2H]C([3H])O", "[2H][2H]", "[H]C", "[2H]", "C[H]C"):
+            mol = Chem.MolFromSmiles(smiles, sanitize=False)
+            mol.UpdatePropertyCache(strict=False)
+            self.assertEqual(Block.from_rdkit(mol), Block.from_molfile(Chem.MolToMolBlock(mol, kekulize=False)), smiles)
         self.assertEqual(Block.from_rdkit(Chem.MolFromSmiles("[2H]C", sanitize=False)).atoms, 1)
+        spelled = Block(2, [(1, 2)]).molfile().replace(b" C  ", b" D  ", 1)
+        self.assertEqual(Block.from_molfile(spelled), Block(2, [(1, 2)]), "a symbol D is no H")
 
 
 class Installed(unittest.TestCase):

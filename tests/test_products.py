@@ -12,7 +12,7 @@ from common import FORTY, LIBRARY, RIGHT
 from test_command import Room
 from test_libraries import some_deck
 
-from tteuyomal import Block, Library, Refused, Site, command, decktext, explain, judging, library
+from tteuyomal import Block, Library, NoProduct, Refused, Site, command, decktext, explain, judging, native
 from tteuyomal.libraries import Piece, pieces
 
 LINES = "0: 2@1 2@1 atoms 8 W 62 even 28 odd 34 polarity 7\n1: 1@1 2@1 atoms 13 W 252 even 124 odd 128 polarity 16\n"
@@ -97,7 +97,7 @@ class Listing(Room):
         for place, byte, number in ((38, 5, 31), (41, 9, 32), (48, 1, 33), (36, 9, 16), (44, 2, 18), (32, 16, 13)):
             bad = self.put("bad", LIBRARY[:place] + bytes([byte]) + LIBRARY[place + 1 :] if number != 13 else LIBRARY[:32] + b"\x03\0\5\0\1\0\2")
             self.assertEqual(self.run_command("library", bad, "-o", self.output), (2, ""))
-            self.assertEqual(self.fault, f"tteuyomal: {bad}: refused {number} at 32: {library.WORDS[number]}\n")
+            self.assertEqual(self.fault, f"tteuyomal: {bad}: refused {number} at 32: {native.WORDS[number]}\n")
         for data, number, place in ((FORTY, 12, 22), (FORTY + RIGHT, 12, 22), (b"", 11, 0), (bytes(40000), 20, 0), (LIBRARY + b"\0", 11, 53)):
             self.assertEqual(self.run_command("library", self.put("bad", data)), (2, ""))
             self.assertIn(f"refused {number} at {place}: ", self.fault)
@@ -126,14 +126,14 @@ class Listing(Room):
 
     def test_whole_or_not_there(self):
         self.put("out", b"before", self.room)
-        run = library.library_run
+        run = native.library_run
 
         def stopped(deck, position, *more):
             if position >= 512:
                 raise KeyboardInterrupt
             return run(deck, position, *more)
 
-        with mock.patch.object(library, "library_run", stopped):
+        with mock.patch.object(native, "library_run", stopped):
             self.assertEqual(self.run_command("library", self.put("large", bytes(large())), "-o", self.output), (command.INTERRUPTED, ""))
         self.assertEqual((self.read(self.output), sorted(os.listdir(self.room))), (b"before", ["decks", "out"]))
         with open("/dev/full", "wb") as full:
@@ -143,15 +143,27 @@ class Listing(Room):
 
     def test_in_batches(self):
         """No call asks for more than a batch, and none is made past what was asked for."""
-        run, rooms = library.library_run, []
+        run, rooms = native.library_run, []
 
         def counted(deck, position, kind, room):
             rooms.append((position, room))
             return run(deck, position, kind, room)
 
-        with mock.patch.object(library, "library_run", counted):
+        with mock.patch.object(native, "library_run", counted):
             self.rows("--from", "10", "--count", "600")
         self.assertEqual(rooms, [(10, 256), (266, 256), (522, 88)])
+
+
+class Positions(Room):
+    def test_past_the_end(self):
+        """Where the rules say that a library is done there is no choice, and none is invented."""
+        deck = Library.from_bytes(LIBRARY)
+        self.assertEqual([deck.choice(k) for k in (0, 1)], [((2, 1), (2, 1)), ((1, 1), (2, 1))])
+        for position in (2, 3, 2**64, -1):
+            for ask in (deck.choice, deck.assembly):
+                with self.subTest(position), self.assertRaisesRegex(NoProduct, f"no product at position {position}: there are 2"):
+                    ask(position)
+        self.assertRaises(NoProduct, Library(deck.blocks, 1, [(1, [])]).choice, 0)
 
 
 class Words(Room):
@@ -183,7 +195,9 @@ class Words(Room):
         self.put("a", LIBRARY)
         board = os.path.join(self.room, "board.html")
         self.assertEqual(self.run_command("board", self.decks, "-o", board)[0], 2)
-        self.assertIn(f"refused</span> 12 at 32: {library.WORDS[12]} (a library deck has no sheet to judge", self.read(board).decode())
+        text = self.read(board).decode()
+        self.assertIn(f"refused 12: {native.WORDS[12]}", text)
+        self.assertIn("at 32 (a library deck has no sheet to judge", text)
 
     def test_texts(self):
         chance = random.Random(3)
@@ -230,7 +244,7 @@ class Values(unittest.TestCase):
         while tried < 60:
             data = bytes(some_deck(chance)[2])
             try:
-                library.library_count(data)
+                native.library_count(data)
             except Refused:
                 continue
             tried += 1

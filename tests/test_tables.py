@@ -6,7 +6,7 @@ import unittest
 
 from common import FORTY, RIGHT, RIGHT_SIX, RING, text
 
-from tteuyomal import Block, Deck, Placement, Refused, Sheet, Table, library
+from tteuyomal import Block, Deck, Placement, Refused, Sheet, Table, native
 
 RING_OF_6, ONE_ATOM = Block(6, RING), Block(1)
 ASSEMBLY = FORTY[22:]
@@ -77,7 +77,7 @@ class Tables(unittest.TestCase):
         again.night.drop(7)
         self.assertEqual(table.night.look(7).w, 27)
         self.assertRaises(ValueError, Table.from_bytes, bytes(table)[:-1])
-        self.assertRaises(TypeError, library.queue_empty, bytes(library.TABLE_BYTES))
+        self.assertRaises(TypeError, native.queue_empty, bytes(native.TABLE_BYTES))
 
     def test_numbers(self):
         table = Table()
@@ -88,10 +88,10 @@ class Tables(unittest.TestCase):
 
     def test_records(self):
         """Composing takes one record, as if it began at byte 0."""
-        table = bytearray(library.TABLE_BYTES)
-        library.queue_add(table, library.DAY, 1, 6, RING)
-        self.assertEqual(library.queue_compose(table, library.DAY, ASSEMBLY), RIGHT)
-        self.assertEqual(library.queue_compose(table, library.DAY, ASSEMBLY, 4), RIGHT_SIX)
+        table = bytearray(native.TABLE_BYTES)
+        native.queue_add(table, native.DAY, 1, 6, RING)
+        self.assertEqual(native.queue_compose(table, native.DAY, ASSEMBLY), RIGHT)
+        self.assertEqual(native.queue_compose(table, native.DAY, ASSEMBLY, 4), RIGHT_SIX)
         for record, number, place in (
             (b"", 11, 0),
             (ASSEMBLY[:-1], 11, 0),
@@ -107,9 +107,9 @@ class Tables(unittest.TestCase):
             (bytes(32769), 20, 0),
         ):
             with self.subTest((number, place)):
-                self.refuses(number, place, library.queue_compose, table, library.DAY, record)
+                self.refuses(number, place, native.queue_compose, table, native.DAY, record)
 
-        self.refuses(16, 6, library.queue_compose, table, library.NIGHT, ASSEMBLY)
+        self.refuses(16, 6, native.queue_compose, table, native.NIGHT, ASSEMBLY)
 
     def test_a_queue_depends_on_its_own_calls(self):
         """Calls of both queues in turn, each told what a table of its own tells."""
@@ -131,16 +131,16 @@ class Tables(unittest.TestCase):
 
     def test_the_size(self):
         """The library, the header, Python and the second opinion have one."""
-        size = library.TABLE_BYTES
+        size = native.TABLE_BYTES
         self.assertEqual(int(re.search(r"#define TTEUYOMAL_TABLE_BYTES (\d+)", text("include", "tteuyomal.h")).group(1)), size)
         self.assertIn(f"pub const TABLE: usize = {size:_};", text("compare", "src", "queues.rs"))
-        library.queue_empty(bytearray(size))
-        self.refuses(9, 0, library.queue_empty, bytearray(size - 1))
+        native.queue_empty(bytearray(size))
+        self.refuses(9, 0, native.queue_empty, bytearray(size - 1))
         longer = bytearray(b"\xff" * (size + 3))
-        library.queue_empty(longer)
+        native.queue_empty(longer)
         self.assertEqual(longer, bytes(size) + b"\xff" * 3)
         for short in (bytearray(), bytearray(size - 1)):
-            self.refuses(9, 0, library.queue_add, short, library.DAY, 0, 0, b"\x01")
-            self.refuses(9, 0, library.queue_look, short, library.NIGHT, 0)
-            self.refuses(9, 0, library.queue_drop, short, library.NIGHT, 0)
-            self.refuses(9, 0, library.queue_compose, short, library.DAY, bytes(32769))
+            self.refuses(9, 0, native.queue_add, short, native.DAY, 0, 0, b"\x01")
+            self.refuses(9, 0, native.queue_look, short, native.NIGHT, 0)
+            self.refuses(9, 0, native.queue_drop, short, native.NIGHT, 0)
+            self.refuses(9, 0, native.queue_compose, short, native.DAY, bytes(32769))

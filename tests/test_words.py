@@ -22,10 +22,14 @@ class Words(unittest.TestCase):
         self.assertLessEqual({1, 20}, set(words))
         self.assertTrue(all(1 <= number <= 253 for number in words))
 
-    def test_python(self):
-        from tteuyomal import library
+    def test_c(self):
+        listed = re.search(r"words\[\] = \{\n\s*\"\",\n(.*?)\n\s*\};", text("include", "tteuyomal.h"), re.S).group(1)
+        self.assertEqual(dict(enumerate(re.findall(r'"(.*?)",', listed), 1)), header_words())
 
-        self.assertEqual(library.WORDS, header_words())
+    def test_python(self):
+        from tteuyomal import native
+
+        self.assertEqual(native.WORDS, header_words())
 
     def test_readme(self):
         rows = re.findall(r"^\| (\d+) \| (.*?) \|$", text("README.md"), re.M)

@@ -7,48 +7,29 @@
     deck.compose()                      # the fields that the library works out
     judge(deck.with_sheet())            # true only for accepted
 
-All numbers and verdicts come from the proved library, through `tteuyomal.library` (one function for each C function).
+All numbers and verdicts come from the proved library, through `tteuyomal.native` (one function for each C function).
 """
 
-from .decks import (
-    Block,
-    Deck,
-    Placement,
-    Sheet,
-    Verdict,
-    compose,
-    contributions,
-    judge,
-    judge_many,
-    measure,
-    values,
-)
-from .libraries import Candidate, Library, Product, Site
-from .library import NotThere, Refused
-from .library import version as library_version
-from .tables import Queue, Table
+from __future__ import annotations
+
+import importlib
+from typing import TYPE_CHECKING, Any
 
 __version__ = "3.0.0"
 
-__all__ = [
-    "Block",
-    "Candidate",
-    "Deck",
-    "Library",
-    "NotThere",
-    "Placement",
-    "Product",
-    "Queue",
-    "Refused",
-    "Sheet",
-    "Site",
-    "Table",
-    "Verdict",
-    "compose",
-    "contributions",
-    "judge",
-    "judge_many",
-    "library_version",
-    "measure",
-    "values",
-]
+if TYPE_CHECKING:
+    from .public import *  # noqa: F403
+
+
+def __getattr__(name: str) -> Any:
+    """The names of `public`, loaded when the first is asked for: the command starts here too, and a fault in a module must not end
+    it with Python's own status 1, which says that a sheet differs."""
+    public = importlib.import_module(".public", __name__)
+    names = getattr(public, "__all__", [])  # none yet where its own modules ask
+    if name == "__all__":
+        return names
+    if name in names:
+        return getattr(public, name)
+    if name in globals():  # a module that came along
+        return globals()[name]
+    raise AttributeError(f"module {__name__!r} has no attribute {name!r}")

@@ -2,16 +2,17 @@
 
 from __future__ import annotations
 
+import os
 import struct
 from collections.abc import Iterable, Iterator, Mapping
 from dataclasses import dataclass
 from typing import Any, NamedTuple
 
-from . import library
-from .library import Contributions, Fields, Refused, Sets, Szeged, Values, Vertex
+from . import native
+from .native import Contributions, Fields, Refused, Sets, Szeged, Values, Vertex
 
 BLOCK, ASSEMBLY, SHEET, SIX, LIBRARY = 1, 2, 3, 4, 5  # kinds of records
-FIELD_NAMES = library.SHEET_NAMES
+FIELD_NAMES = native.SHEET_NAMES
 SHORT_NAMES = ("atoms", "W", "even", "odd", "polarity", "largest")  # the same, as they stand in lines and texts
 
 
@@ -26,24 +27,27 @@ class Block:
     bonds: tuple[tuple[int, int], ...]
 
     def __init__(self, atoms: int, bonds: Iterable[tuple[int, int]] = ()) -> None:
-        pairs = tuple((first, second) for _, first, second in library._pairs(bonds))
+        pairs = tuple((first, second) for _, first, second in native._pairs(bonds))
         object.__setattr__(self, "atoms", atoms)
         object.__setattr__(self, "bonds", pairs)
 
     @classmethod
     def from_molfile(cls, text: bytes | str) -> Block:
         """The block of a V2000 molfile's text, without its hydrogens (those with one bond, to an atom that is no H)."""
-        return cls(*library.read_molfile(_encoded(text)))
+        if isinstance(text, str) and text and "\n" not in text:
+            raise ValueError(f"the text of a molfile is meant, and it has several lines; to read the file of this name, open it: {text[:200]!r}")
+        return cls(*native.read_molfile(_encoded(text)))
 
     @classmethod
     def from_neighbours(cls, text: bytes | str) -> Block:
         """The block of a neighbour text: the atom count, then for each atom its label, its neighbours and a 0, and a last 0."""
-        return cls(*library.read_neighbours(_encoded(text)))
+        return cls(*native.read_neighbours(_encoded(text)))
 
     @classmethod
     def from_rdkit(cls, mol: Any) -> Block:
-        """The block of an RDKit molecule. A hydrogen is left out by the molfile rule: an H with exactly one bond, to an atom that
-        is no H; the others keep their order."""
+        """The block of an RDKit molecule, which is that of the molfile that RDKit writes of it: an H with exactly one bond, to an atom
+        that is no H, is left out, and the others keep their order. RDKit has no symbols D and T: it says H with an isotope, which is
+        an H. A file that has such symbols is read by `from_molfile`."""
         atoms = list(mol.GetAtoms())
         kept = [atom.GetIdx() for atom in atoms if not _left_out(atom)]
         numbers = {index: number for number, index in enumerate(kept, 1)}
@@ -52,51 +56,51 @@ class Block:
 
     def check(self) -> None:
         """Raises `Refused` unless the block is good."""
-        library.check_block(self.atoms, self.bonds)
+        native.check_block(self.atoms, self.bonds)
 
     def measure(self) -> Sheet:
         """Atom count, W, even part, odd part, polarity."""
-        return Sheet(*library.indices(self.atoms, self.bonds))
+        return Sheet(*native.indices(self.atoms, self.bonds))
 
     def vertex(self, atom: int) -> Vertex:
         """The sums and counts of one atom's distances."""
-        return library.vertex(self.atoms, self.bonds, atom)
+        return native.vertex(self.atoms, self.bonds, atom)
 
     def contributions(self) -> Contributions:
         """The common denominator D, and for each bond D times its contribution to W."""
-        return library.contributions(self.atoms, self.bonds)
+        return native.contributions(self.atoms, self.bonds)
 
     def values(self, x: float) -> Values:
         """The even and the odd polynomial value at x, above 0 and at most 1."""
-        return library.polynomial(self.atoms, self.bonds, x)
+        return native.polynomial(self.atoms, self.bonds, x)
 
     def balaban(self) -> int:
-        """Balaban's J times 10^9, rounded down."""
-        return library.balaban(self.atoms, self.bonds)
+        """Balaban's J in units of 10^-9, each bond's root rounded down."""
+        return native.balaban(self.atoms, self.bonds)
 
     def szeged(self) -> Szeged:
         """The Szeged index, with its terms bond by bond."""
-        return library.szeged(self.atoms, self.bonds)
+        return native.szeged(self.atoms, self.bonds)
 
     def sets(self) -> Sets:
         """The Hosoya index and the Merrifield-Simmons index of a tree."""
-        return library.count_sets(self.atoms, self.bonds)
+        return native.count_sets(self.atoms, self.bonds)
 
     def farthest(self, atom: int) -> int:
         """The largest distance from an atom."""
-        return library.farthest(self.atoms, self.bonds, atom)
+        return native.farthest(self.atoms, self.bonds, atom)
 
     def molfile(self) -> bytes:
         """The block as a V2000 molfile of carbons and single bonds."""
-        return library.write_molfile(self.atoms, self.bonds)
+        return native.write_molfile(self.atoms, self.bonds)
 
     def neighbours(self) -> bytes:
         """The block as a neighbour text."""
-        return library.write_neighbours(self.atoms, self.bonds)
+        return native.write_neighbours(self.atoms, self.bonds)
 
     def record(self, number: int) -> bytes:
         """The block as a record of a deck, under a number."""
-        return library.block_record(number, self.atoms, self.bonds)
+        return native.block_record(number, self.atoms, self.bonds)
 
 
 @dataclass(frozen=True)
@@ -131,7 +135,7 @@ class Sheet:
 
     def record(self) -> bytes:
         """The sheet as a record of a deck."""
-        return library.sheet_record(self.fields())
+        return native.sheet_record(self.fields())
 
     def __str__(self) -> str:
         return " ".join(f"{word} {number}" for word, number in zip(SHORT_NAMES, self.fields()))
@@ -150,6 +154,9 @@ class Verdict(NamedTuple):
 
     def __bool__(self) -> bool:
         return self.word == "accepted"
+
+    def __repr__(self) -> str:
+        return f"<Verdict: {self}>"
 
     def __str__(self) -> str:
         if self.refusal:
@@ -177,13 +184,13 @@ class Deck:
         object.__setattr__(self, "sheet", sheet)
 
     @classmethod
-    def from_bytes(cls, data: library.Bytes) -> Deck:
+    def from_bytes(cls, data: native.Bytes) -> Deck:
         """The deck that some bytes spell; ValueError where they are not blocks, an assembly and perhaps a sheet."""
-        return _parse(library._bytes(data))
+        return _parse(native._bytes(data))
 
     def __bytes__(self) -> bytes:
         records = [block.record(number) for number, block in self.blocks]
-        records.append(library.assembly_record(placement.numbers() for placement in self.placements))
+        records.append(native.assembly_record(placement.numbers() for placement in self.placements))
         if self.sheet is not None:
             records.append(self.sheet.record())
         return b"".join(records)
@@ -206,20 +213,20 @@ class Deck:
 
     def distance(self, k: int, i: int, l: int, j: int) -> int:
         """The distance of atom i of placement k and atom j of placement l in the whole molecule."""
-        return library.placed_distance(bytes(self.without_sheet()), k, i, l, j)
+        return native.placed_distance(bytes(self.without_sheet()), k, i, l, j)
 
 
-def judge(deck: Deck | library.Bytes) -> Verdict:
+def judge(deck: Deck | native.Bytes) -> Verdict:
     """The library's verdict on a deck with a sheet. A refusal is a verdict too: nothing is raised for it."""
     try:
-        return Verdict(library.judge(_deck_bytes(deck)))
+        return Verdict(native.judge(_deck_bytes(deck)))
     except Refused as refusal:
         return Verdict(refusal=refusal)
 
 
-def judge_many(decks: Iterable[bytes]) -> list[Verdict]:
-    """The verdicts on many decks, each of them bytes."""
-    return [verdict_of(reply) for reply in library.judge_many(decks)]
+def judge_many(decks: Iterable[Deck | native.Bytes]) -> list[Verdict]:
+    """The verdicts on many decks."""
+    return [verdict_of(reply) for reply in native.judge_many(map(_deck_bytes, decks))]
 
 
 _ACCEPTED = Verdict()
@@ -233,9 +240,9 @@ def verdict_of(reply: int) -> Verdict:
     return Verdict(where) if what == 255 else Verdict(refusal=Refused(what, where))
 
 
-def compose(deck: Deck | library.Bytes, six: bool = False) -> Sheet:
+def compose(deck: Deck | native.Bytes, six: bool = False) -> Sheet:
     """The five fields of the molecule of a deck without a sheet, or six of them; raises `Refused`."""
-    return Sheet(*(library.compose_six if six else library.compose)(_deck_bytes(deck)))
+    return Sheet(*(native.compose_six if six else native.compose)(_deck_bytes(deck)))
 
 
 def measure(block: Block) -> Sheet:
@@ -315,19 +322,19 @@ def _sheet(at: int, kind: int, payload: bytes) -> Sheet:
     return Sheet(*struct.unpack(form, payload))
 
 
-def _deck_bytes(deck: Deck | library.Bytes) -> library.Bytes:
+def _deck_bytes(deck: Deck | native.Bytes) -> native.Bytes:
     return bytes(deck) if isinstance(deck, Deck) else deck
 
 
 def _encoded(text: bytes | str) -> bytes:
+    if isinstance(text, os.PathLike):
+        raise TypeError(f"a text is meant, not the name of a file: open {os.fspath(text)!r} and read it")
     return text.encode("utf-8", "surrogateescape") if isinstance(text, str) else text
 
 
 def _left_out(atom: Any) -> bool:
     """Whether an RDKit atom is a hydrogen that a block leaves out."""
-    if atom.GetSymbol() != "H" or atom.GetDegree() != 1:
-        return False
-    return atom.GetNeighbors()[0].GetSymbol() != "H"
+    return bool(atom.GetSymbol() == "H" and atom.GetDegree() == 1 and atom.GetNeighbors()[0].GetSymbol() != "H")
 
 
 __all__ = [

@@ -42,14 +42,18 @@ for all bytes.
 from __future__ import annotations
 
 import os
+import re
 import tomllib
 from collections.abc import Callable, Iterable, Iterator
 from typing import Any
 
 from .decks import SHORT_NAMES, Block, Deck, Placement, Sheet
+from .files import reason, shown as shown_name
 from .libraries import Library
+from .native import Refused
 
 _BLOCK_KEYS = {"number", "atoms", "bonds", "molfile", "neighbours"}
+_NUMBERS = {sign: re.compile(f"([0-9]{{1,9}}){sign}([0-9]{{1,9}})") for sign in "-@"}
 _PLACEMENT_KEYS = {"block", "parent", "parent_atom", "atom"}
 
 
@@ -95,12 +99,9 @@ def _tables(deck: Deck) -> Iterator[str]:
 
 
 def made(text: str, folder: str = ".", reader: Callable[[str], bytes] | None = None) -> bytes:
-    """The bytes of the deck that a text tells; molfiles and neighbour texts that it names stand in the folder. Raises `BadText`, or
-    `Refused` where the library refuses a molfile."""
-    try:
-        tables = tomllib.loads(text)
-    except tomllib.TOMLDecodeError as fault:
-        raise BadText(str(fault)) from None
+    """The bytes of the deck that a text tells; molfiles and neighbour texts that it names stand in the folder. Raises `BadText`,
+    also where a file can't be read or the library refuses it."""
+    tables = _parsed(text)
     if "bytes" in tables:
         return _raw(tables)
     of_library = "library" in tables or "site" in tables
@@ -116,11 +117,20 @@ def made(text: str, folder: str = ".", reader: Callable[[str], bytes] | None = N
         raise BadText(str(fault)) from None
 
 
+def _parsed(text: str) -> dict[str, Any]:
+    try:
+        return tomllib.loads(text)
+    except ValueError as fault:  # no TOML, or a number of more digits than Python reads
+        raise BadText(str(fault)) from None
+    except RecursionError:
+        raise BadText("it is nested too deeply") from None
+
+
 def named_files(text: str, folder: str) -> list[str]:
     """The files that a text names."""
     try:
-        tables = _list(tomllib.loads(text), "block")
-    except (tomllib.TOMLDecodeError, BadText):
+        tables = _list(_parsed(text), "block")
+    except BadText:
         return []
     return [os.path.join(folder, str(table[key])) for table in tables for key in ("molfile", "neighbours") if key in table]
 
@@ -171,7 +181,19 @@ def _block(table: dict[str, Any], place: int, read: Callable[[str], bytes]) -> t
     name = table[named[0]]
     if not isinstance(name, str):
         raise BadText(f"{what}: `{named[0]}` is no name of a file")
-    return number, make(read(name))
+    try:
+        data = read(name)
+        return number, make(data)
+    except Refused as refusal:
+        raise BadText(f"{what}: {named[0]} {shown_name(name)}: {refusal}{line_of(data, refusal)}") from None
+    except (OSError, ValueError) as fault:  # a name with a NUL in it, too
+        raise BadText(f"{what}: {named[0]} {shown_name(name)}: cannot be read: {reason(fault)}") from None
+
+
+def line_of(text: bytes, refusal: Refused) -> str:
+    """The line that a refusal of a text is about, for who looks at it in an editor."""
+    line = text[: refusal.place].count(b"\n") + 1
+    return f" (line {line})" if refusal.number in (21, 22, 25, 26, 27) else ""
 
 
 def _bonds(table: dict[str, Any], what: str) -> list[tuple[int, int]]:
@@ -182,12 +204,12 @@ def _bonds(table: dict[str, Any], what: str) -> list[tuple[int, int]]:
 
 
 def _bond(bond: Any, what: str) -> tuple[int, int]:
-    ends = bond.split("-") if isinstance(bond, str) else bond
-    try:
-        first, second = (int(end) for end in ends)
-    except (TypeError, ValueError):
-        raise BadText(f'{what} is no pair of atom numbers, as "1-2": {bond!r}') from None
-    return first, second
+    if isinstance(bond, list) and [type(end) for end in bond] == [int, int]:
+        return bond[0], bond[1]
+    ends = _NUMBERS["-"].fullmatch(bond) if isinstance(bond, str) else None
+    if ends is None:
+        raise BadText(f'{what} is no pair of atom numbers, as "1-2": {bond!r}')
+    return int(ends[1]), int(ends[2])
 
 
 def _placement(table: dict[str, Any], place: int) -> Placement:
@@ -218,11 +240,10 @@ def _site(table: dict[str, Any], place: int) -> tuple[int, list[tuple[int, int]]
 
 
 def _candidate(one: Any, what: str) -> tuple[int, int]:
-    try:
-        block, atom = (int(number) for number in one.split("@"))
-    except (AttributeError, ValueError):
-        raise BadText(f'{what} is no block and atom, as "2@1": {one!r}') from None
-    return block, atom
+    numbers = _NUMBERS["@"].fullmatch(one) if isinstance(one, str) else None
+    if numbers is None:
+        raise BadText(f'{what} is no block and atom, as "2@1": {one!r}')
+    return int(numbers[1]), int(numbers[2])
 
 
 def _sheet(tables: dict[str, Any]) -> Sheet | None:

@@ -5,10 +5,10 @@ from __future__ import annotations
 import struct
 from collections.abc import Iterator
 
-from . import files, judging, libraries, library
+from . import files, judging, libraries, native
 from .decks import ASSEMBLY, BLOCK, FIELD_NAMES, LIBRARY, SHEET, SIX, Placement
 from .judging import ACCEPTED, REFUSED, Judged
-from .library import Refused
+from .native import Refused
 
 KIND_NAMES = {BLOCK: "a block", ASSEMBLY: "the assembly", SHEET: "a sheet", SIX: "a sheet of six fields", LIBRARY: "a library"}
 
@@ -103,7 +103,7 @@ def _library(data: bytes) -> Iterator[str]:
     """What a library deck is, for who judges it."""
     yield ""
     try:
-        count = library.library_count(data)
+        count = native.library_count(data)
     except Refused as refusal:
         yield f"This is a library deck, which has no sheet to judge; as a library it is {refusal}."
         return

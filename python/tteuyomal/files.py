@@ -3,9 +3,11 @@
 from __future__ import annotations
 
 import contextlib
+import errno
 import hashlib
 import heapq
 import os
+import re
 import stat
 import sys
 import tempfile
@@ -20,11 +22,17 @@ class Unread(Exception):
     """A file that could not be read, with the reason."""
 
 
+class Unwritten(Exception):
+    """An output that could not be written, with its name and the reason."""
+
+
 class Found(NamedTuple):
-    """A file to be read, or the reason why it can't be."""
+    """A file to be read, or the reason why it can't be. Its name is told as it was given; it is read from the folder, where one is
+    named: who reads it may be another process in another folder."""
 
     name: str
     fault: str = ""
+    folder: str = ""
 
 
 class Contents(NamedTuple):
@@ -97,8 +105,10 @@ def read(found: Found, most: int = LONGEST) -> Contents:
         raise Unread(found.fault)
     try:
         if found.name == "-":
+            if sys.stdin is None:
+                raise Unread("standard input is closed")
             return contents(sys.stdin.fileno(), most)
-        file = os.open(found.name, os.O_RDONLY | os.O_CLOEXEC)
+        file = os.open(os.path.join(found.folder, found.name), os.O_RDONLY | os.O_CLOEXEC)
         try:
             return contents(file, most)
         finally:
@@ -128,16 +138,39 @@ def reason(fault: Exception) -> str:
 
 
 def shown(name: str) -> str:
-    """A name as it is printed: on one line, and never as bytes that a terminal or a reader of lines would take for something else."""
-    if name.isprintable():
+    """A name as it is printed: on one line, never as bytes that a terminal or a reader of lines would take for something else, and
+    never as another name is printed. `meant` is its inverse."""
+    if name.isprintable() and "\\" not in name:
         return name
     return "".join(letter if letter.isprintable() and letter != "\\" else _escaped(letter) for letter in name)
 
 
+_SHORT = {"\\": "\\\\", "\n": "\\n", "\r": "\\r", "\t": "\\t"}
+_ESCAPE = re.compile(r"\\(?:([\\nrt])|x([0-9a-f]{2})|u([0-9a-f]{4})|U([0-9a-f]{8}))")
+
+
 def _escaped(letter: str) -> str:
-    if 0xDC80 <= ord(letter) <= 0xDCFF:  # a byte that is no UTF-8
-        return f"\\x{ord(letter) - 0xDC00:02x}"
-    return letter.encode("unicode_escape").decode("ascii") if letter != "\\" else "\\\\"
+    """`\\x` is a byte: one below 128, or one that is no UTF-8. Other letters have four or eight digits."""
+    code = ord(letter)
+    if letter in _SHORT:
+        return _SHORT[letter]
+    if 0xDC80 <= code <= 0xDCFF:
+        return f"\\x{code - 0xDC00:02x}"
+    return f"\\x{code:02x}" if code < 0x80 else f"\\u{code:04x}" if code < 0x10000 else f"\\U{code:08x}"
+
+
+def meant(text: str) -> str:
+    """The name that is printed so."""
+    return _ESCAPE.sub(_letter, text)
+
+
+def _letter(found: re.Match[str]) -> str:
+    short, byte, four, eight = found.groups()
+    if short:
+        return {"n": "\n", "r": "\r", "t": "\t"}.get(short, short)
+    if byte:
+        return chr(int(byte, 16) + (0xDC00 if byte >= "80" else 0))
+    return chr(min(int(four or eight, 16), sys.maxunicode))
 
 
 class OverInput(Exception):
@@ -146,12 +179,21 @@ class OverInput(Exception):
 
 def apart(output: str, inputs: Iterable[str]) -> None:
     """Raises `OverInput` where the output is one of the inputs, by whatever name or link, or stands in a folder that is one."""
+    if output == "-":
+        return
     for path in inputs:
         if path != "-" and os.path.exists(path):
             if os.path.exists(output) and os.path.samefile(path, output):
                 raise OverInput(f"{shown(output)} is an input: the output must be another file")
             if os.path.isdir(path) and _holds(path, output):
                 raise OverInput(f"{shown(output)} would stand among the decks of {shown(path)}: write it elsewhere")
+
+
+def same(one: str, other: str) -> bool:
+    """Whether two outputs are one file. A device may be written to twice."""
+    if one == "-" or other == "-":
+        return one == other
+    return os.path.realpath(one) == os.path.realpath(other) and not (os.path.exists(one) and not os.path.isfile(one))
 
 
 def _holds(folder: str, output: str) -> bool:
@@ -161,9 +203,41 @@ def _holds(folder: str, output: str) -> bool:
 
 @contextlib.contextmanager
 def written(path: str) -> Iterator[IO[bytes]]:
-    """A file to write to. It gets its name when all is written; after a fault or an interrupt nothing of it is left, and what
-    stood under the name before stands there still."""
-    folder, name = os.path.split(os.path.abspath(path))
+    """A file to write to; raises `Unwritten` with the name that was asked for. `-` is standard output, a link is followed, and what
+    stands there and is no regular file (a device, a pipe) is written to. A regular file gets its name when all is written: after a
+    fault or an interrupt nothing of it is left, and what stood under the name before stands there still."""
+    try:
+        with _direct(path) or _beside(os.path.realpath(path)) as file:
+            yield file
+    except OSError as fault:
+        raise Unwritten(f"{shown(path)}: cannot be written: {reason(fault)}") from None
+
+
+def _direct(path: str) -> IO[bytes] | None:
+    """The open file for what can't be replaced: standard output by any name, and whatever is no regular file."""
+    if path == "-":
+        return _standard_output()
+    try:
+        there = os.stat(path)
+    except FileNotFoundError:
+        return None
+    with contextlib.suppress(OSError):
+        if os.path.samestat(there, os.fstat(1)):
+            return _standard_output()
+    return None if stat.S_ISREG(there.st_mode) else os.fdopen(os.open(path, os.O_WRONLY | os.O_CLOEXEC), "wb")
+
+
+def _standard_output() -> IO[bytes]:
+    if sys.stdout is None:
+        raise OSError(errno.EBADF, "standard output is closed")
+    sys.stdout.flush()
+    return os.fdopen(os.dup(sys.stdout.fileno()), "wb")
+
+
+@contextlib.contextmanager
+def _beside(path: str) -> Iterator[IO[bytes]]:
+    """A file under another name until it is whole."""
+    folder, name = os.path.split(path)
     handle, part = tempfile.mkstemp(prefix=f".{name[:80]}.", suffix=".part", dir=folder)
     try:
         with os.fdopen(handle, "wb") as file:

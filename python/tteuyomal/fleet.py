@@ -7,19 +7,18 @@ given to another one by the scheduler; its lines are printed once, when they are
 from __future__ import annotations
 
 import os
-from collections.abc import Callable, Iterable, Iterator
+from collections.abc import Callable, Generator, Iterable, Iterator
 from typing import Any
 
-from . import files, library, work
+from . import files, native, work
+from .console import Stop
 from .files import Found
 
 BATCH = 1000  # decks handed to a worker at a time
 
 
-def over(address: str, paths: Iterable[str], function: Callable[[list[Found]], Any]) -> Iterator[Any]:
+def over(address: str, paths: Iterable[str], function: Callable[[list[Found]], Any]) -> Generator[Any, None, None]:
     """The function's answer for each batch of the files, in order."""
-    from .command import Stop
-
     try:
         from distributed import Client
     except ImportError:
@@ -36,8 +35,6 @@ def over(address: str, paths: Iterable[str], function: Callable[[list[Found]], A
 
 
 def _answers(client: Any, paths: list[str], function: Callable[[list[Found]], Any]) -> Iterator[Any]:
-    from .command import Stop
-
     here = identity()
     under_way = 2 * max(1, sum(client.nthreads().values())) + 2
     tasks = work.batches(files.find(paths), BATCH)
@@ -56,11 +53,11 @@ def _answers(client: Any, paths: list[str], function: Callable[[list[Found]], An
 
 
 def _on_worker(function: Callable[[list[Found]], Any], folder: str, batch: list[Found]) -> tuple[str, Any]:
-    """What a worker does with a batch. Names are told as they were given, and read from the folder of who asked."""
-    os.chdir(folder)
-    return identity(), function(batch)
+    """What a worker does with a batch. Names are told as they were given, and read from the folder of who asked: a worker has several
+    threads and several users, and one working folder, which nobody changes."""
+    return identity(), function([found._replace(folder=folder) for found in batch])
 
 
 def identity() -> str:
     """Which library this is: its version and the SHA-256 of the shared object."""
-    return f"{library.version()} {files.read(Found(library.SHARED_OBJECT)).sha256}"
+    return f"{native.version()} {native.SHA256}"

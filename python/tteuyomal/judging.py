@@ -6,10 +6,10 @@ import json
 import os
 from typing import Any, NamedTuple
 
-from . import decks, files, library
+from . import decks, files, native
 from .decks import FIELD_NAMES, Sheet, Verdict
 from .files import Found, Unread
-from .library import Refused
+from .native import Refused
 
 ACCEPTED, DIFFERS, REFUSED, UNREAD = "accepted", "differs", "refused", "cannot be read"
 WORDS = (ACCEPTED, DIFFERS, REFUSED, UNREAD)
@@ -67,27 +67,33 @@ class Judged(NamedTuple):
 
     def json(self) -> str:
         """One object on one line."""
-        said: dict[str, Any] = {"file": files.shown(self.name), "sha256": self.sha256 or None, "verdict": self.word}
-        if not self.name.isprintable():
-            said["file_bytes"] = os.fsencode(self.name).hex()
+        said = about(self.name) | {"sha256": self.sha256 or None, "verdict": self.word}
         if self.word == DIFFERS:
             said["field"] = self.field
         if self.claimed:
             said["claimed"] = named(self.claimed)
             said["worked_out"] = named(self.worked)
         if self.word == REFUSED:
-            said["refusal"] = {"number": self.number, "place": self.place, "words": self.words}
+            said["refusal"] = told(Refused(self.number, self.place))
         if self.fault:
             said["fault"] = self.fault
         return json.dumps(said)
 
 
-JSON_NAMES = ("atoms", "w", "even", "odd", "polarity", "largest")
+def about(name: str) -> dict[str, Any]:
+    """How an object begins: the file's name as it is printed, and its bytes where those can't be printed."""
+    said: dict[str, Any] = {"file": files.shown(name), "sha256": None}
+    return said if name.isprintable() else said | {"file_bytes": os.fsencode(name).hex()}
+
+
+def told(refusal: Refused) -> dict[str, Any]:
+    """A refusal in an object."""
+    return {"number": refusal.number, "place": refusal.place, "words": refusal.words}
 
 
 def named(fields: tuple[int, ...]) -> dict[str, int]:
-    """The fields under their names."""
-    return dict(zip(JSON_NAMES, fields))
+    """The fields under their names, those of every line, text and object."""
+    return dict(zip(decks.SHORT_NAMES, fields))
 
 
 def kind_at(data: bytes, place: int) -> int:
@@ -106,7 +112,7 @@ def judge_file(found: Found, fields: bool = True) -> Judged:
 
 def judge_bytes(name: str, data: bytes, sha256: str, fields: bool = True) -> Judged:
     """Judges a deck that was read."""
-    reply = library.judge_reply(data)
+    reply = native.judge_reply(data)
     what, where = reply % 256, reply // 256
     if what not in (0, 255):
         return Judged(name, REFUSED, sha256, len(data), number=what, place=where, data=data)
@@ -120,7 +126,7 @@ def judge_bytes(name: str, data: bytes, sha256: str, fields: bool = True) -> Jud
 
 def worked_out(deck: bytes, count: int = 5) -> tuple[int, ...]:
     """The five or six fields of a deck without a sheet, as the library works them out; raises `Refused`."""
-    return tuple(library.compose_six(deck) if count == 6 else library.compose(deck))
+    return tuple(native.compose_six(deck) if count == 6 else native.compose(deck))
 
 
 class Tally:

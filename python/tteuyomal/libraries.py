@@ -3,12 +3,14 @@ read here (which candidate stands at which site) is read to be shown."""
 
 from __future__ import annotations
 
+import math
+import operator
 import struct
 from collections.abc import Iterable, Iterator, Mapping
 from dataclasses import dataclass
 from typing import NamedTuple
 
-from . import decks, library
+from . import decks, native
 from .decks import BLOCK, LIBRARY, Block, Deck, Placement, Sheet
 
 BATCH = 256  # products that are asked for at a time
@@ -22,6 +24,10 @@ class Candidate(NamedTuple):
 
     def __str__(self) -> str:
         return f"{self.block}@{self.atom}"
+
+
+class NoProduct(IndexError, ValueError):
+    """A position before the first product or past the last, where the rules say that a library is done."""
 
 
 class Site(NamedTuple):
@@ -74,11 +80,11 @@ class Library:
         object.__setattr__(self, "sites", tuple(Site(atom, tuple(Candidate(*one) for one in those)) for atom, those in sites))
 
     @classmethod
-    def from_bytes(cls, data: library.Bytes) -> Library:
+    def from_bytes(cls, data: native.Bytes) -> Library:
         """The library that some bytes spell; ValueError where they are not blocks and one library's record."""
         blocks: list[tuple[int, Block]] = []
         found: tuple[int, list[Site]] | None = None
-        for at, kind, payload in decks.records(library._bytes(data)):
+        for at, kind, payload in decks.records(native._bytes(data)):
             if found is not None or kind not in (BLOCK, LIBRARY):
                 raise ValueError(f"the record at byte {at} has kind {kind}, which may not stand there")
             if kind == BLOCK:
@@ -90,14 +96,17 @@ class Library:
         return cls(blocks, *found)
 
     def __bytes__(self) -> bytes:
-        return b"".join(block.record(number) for number, block in self.blocks) + library.library_record(self.core, self.sites)
+        return b"".join(block.record(number) for number, block in self.blocks) + native.library_record(self.core, self.sites)
 
     def count(self) -> int:
         """How many products there are; raises `Refused`."""
-        return library.library_count(bytes(self))
+        return native.library_count(bytes(self))
 
     def choice(self, position: int) -> tuple[Candidate, ...]:
-        """The candidate at each site of the product at a position: the last site turns fastest."""
+        """The candidate at each site of the product at a position, the last site turning fastest; raises `NoProduct` past the last."""
+        count = math.prod(len(site.candidates) for site in self.sites)
+        if not 0 <= operator.index(position) < count:
+            raise NoProduct(f"no product at position {position}: there are {count}, from 0 on")
         chosen = []
         for site in reversed(self.sites):
             position, digit = divmod(position, len(site.candidates))
@@ -119,7 +128,7 @@ class Library:
         data, position = bytes(self), first
         while count is None or position < first + count:
             room = BATCH if count is None else min(BATCH, first + count - position)
-            told = library.library_run(data, position, 4 if six else 3, room)
+            told = native.library_run(data, position, 4 if six else 3, room)
             if told is None:
                 return
             sheets, following = told
@@ -170,4 +179,4 @@ def sites_of(at: int, payload: bytes) -> tuple[int, list[Site]]:
     return core, sites
 
 
-__all__ = ["Candidate", "Library", "Piece", "Product", "Site", "columns", "pieces", "sites_of"]
+__all__ = ["Candidate", "Library", "NoProduct", "Piece", "Product", "Site", "columns", "pieces", "sites_of"]

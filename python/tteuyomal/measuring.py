@@ -3,33 +3,53 @@
 from __future__ import annotations
 
 import json
+import os
+import re
 from collections.abc import Callable
 from typing import Any
 
-from . import files, library
+from . import files, judging, native
 from .decks import Block, Deck, Placement
+from .decktext import line_of
 from .files import Found, Unread
-from .library import NotThere, Refused
+from .native import NotThere, Refused
 
-LONGEST_TEXT = 4 << 20  # bytes of a molfile or neighbour text
-_NUMBERS = b"0123456789 \t\r\n"
+MOLFILE, NEIGHBOURS = "molfile", "neighbours"
+ENDINGS = {".mol": MOLFILE, ".sdf": MOLFILE, ".sd": MOLFILE, ".mdl": MOLFILE, ".txt": NEIGHBOURS, ".nb": NEIGHBOURS}
+LONGEST_TEXT = 1 << 30  # bytes of a file that are held
 TREES_ONLY = 34
 
 # what is measured besides the five fields: its name, and how a block answers it
 INDICES: list[tuple[str, str, Callable[[Block], Any]]] = [
     ("largest", "compose_six", lambda block: Deck({1: block}, [Placement(1)]).compose(six=True).largest),
-    ("J", "balaban", lambda block: f"{block.balaban() // 10**9}.{block.balaban() % 10**9:09d}"),
+    ("J", "balaban", lambda block: "{}.{:09d}".format(*divmod(block.balaban(), 10**9))),
     ("Szeged", "szeged", lambda block: block.szeged().index),
     ("Hosoya", "count_sets", lambda block: block.sets().bonds),
     ("Merrifield-Simmons", "count_sets", lambda block: block.sets().atoms),
 ]
 
 
-def read_block(data: bytes, form: str = "auto") -> Block:
-    """The block of a molfile or a neighbour text. A text of digits, blanks and line ends alone is a neighbour text."""
-    if form == "auto":
-        form = "neighbours" if not data.translate(None, _NUMBERS) else "molfile"
-    return Block.from_neighbours(data) if form == "neighbours" else Block.from_molfile(data)
+class Unknown(Exception):
+    """A file of which nobody said what it is."""
+
+
+def form_of(name: str, form: str | None) -> str:
+    """What a file is: what was said, or what its name ends in. Its bytes are not asked: to guess would hide a refusal."""
+    found = form or ENDINGS.get(os.path.splitext(name)[1].lower())
+    if found is None:
+        raise Unknown(f"its name ends in none of {' '.join(ENDINGS)}: say --as molfile or --as neighbours")
+    return found
+
+
+def read_block(data: bytes, form: str) -> Block:
+    """The block of a molfile or a neighbour text."""
+    return Block.from_neighbours(data) if form == NEIGHBOURS else Block.from_molfile(data)
+
+
+def more_records(data: bytes) -> int:
+    """How many records of an SDF stand behind the first: whatever is not blank behind a line that begins with `$$$$`."""
+    parts = re.split(rb"^\$\$\$\$[^\n]*\n?", data, flags=re.M)
+    return sum(bool(part.strip()) for part in parts[1:])
 
 
 def measured(block: Block) -> dict[str, Any]:
@@ -38,7 +58,7 @@ def measured(block: Block) -> dict[str, Any]:
     found: dict[str, Any] = {"atoms": sheet.atoms, "bonds": len(block.bonds), "W": sheet.w, "even": sheet.even}
     found |= {"odd": sheet.odd, "polarity": sheet.polarity}
     for name, function, answer in INDICES:
-        if library.has(function):
+        if native.has(function):
             try:
                 found[name] = answer(block)
             except Refused as refusal:
@@ -55,29 +75,31 @@ def details(block: Block) -> dict[str, Any]:
         denominator, shares = block.contributions()
         found |= {"denominator": denominator, "contributions": shares}
     except Refused as refusal:
-        found["contributions_refused"] = {"number": refusal.number, "place": refusal.place, "words": refusal.words}
-    if library.has("szeged"):
+        found["contributions_refused"] = judging.told(refusal)
+    if native.has("szeged"):
         found["szeged_terms"] = block.szeged().terms
     return found
 
 
-def measure_file(found: Found, form: str, as_json: bool) -> tuple[str, bool]:
-    """The line of one file, and whether it could be measured."""
-    name = files.shown(found.name)
-    said: dict[str, Any] = {"file": name, "sha256": None}
+def measure_file(found: Found, form: str | None, as_json: bool) -> tuple[str, bool]:
+    """The line or the object of one file, and whether all of it was measured."""
+    said = judging.about(found.name)
+    name, data = said["file"], b""
     try:
+        kind = form_of(found.name, form)
         data, said["sha256"] = files.read(found, LONGEST_TEXT)
         if len(data) > LONGEST_TEXT:
             raise Unread(f"longer than {LONGEST_TEXT} bytes")
-        block = read_block(data, form)
+        more = more_records(data) if kind == MOLFILE else 0
+        block = read_block(data, kind)
         indices = measured(block)
     except Unread as fault:
         return (json.dumps(said | {"fault": str(fault)}) if as_json else f"{name}: cannot be read: {fault}"), False
     except Refused as refusal:
-        told = {"number": refusal.number, "place": refusal.place, "words": refusal.words}
-        return (json.dumps(said | {"refusal": told}) if as_json else f"{name}: {refusal}"), False
-    except NotThere as fault:
+        return (json.dumps(said | {"refusal": judging.told(refusal)}) if as_json else f"{name}: {refusal}{line_of(data, refusal)}"), False
+    except (NotThere, Unknown) as fault:
         return (json.dumps(said | {"fault": str(fault)}) if as_json else f"{name}: {fault}"), False
+    unread = f"; {more} more {'record' if more == 1 else 'records'} not read" if more else ""
     if as_json:
-        return json.dumps(said | {"indices": indices} | details(block)), True
-    return f"{name}: {' '.join(f'{key} {value}' for key, value in indices.items())}", True
+        return json.dumps(said | {"indices": indices} | details(block) | ({"records_not_read": more} if more else {})), not more
+    return f"{name}: {' '.join(f'{key} {value}' for key, value in indices.items())}{unread}", not more

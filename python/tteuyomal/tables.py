@@ -11,7 +11,7 @@ from __future__ import annotations
 
 from collections.abc import Iterable
 
-from . import decks, library
+from . import decks, native
 from .decks import Block, Placement, Sheet
 
 
@@ -24,21 +24,21 @@ class Queue:
 
     def add(self, number: int, block: Block) -> None:
         """Adds a block under a number of this queue: 14 for number 0, 29 for one that it holds, 28 where it holds eight."""
-        library.queue_add(self._table, self._which, number, block.atoms, block.bonds)
+        native.queue_add(self._table, self._which, number, block.atoms, block.bonds)
 
     def look(self, number: int) -> Sheet:
         """The six fields of the block under a number; 30 where it holds none."""
-        return Sheet(*library.queue_look(self._table, self._which, number))
+        return Sheet(*native.queue_look(self._table, self._which, number))
 
     def drop(self, number: int) -> None:
         """Drops the block under a number, 30 where it holds none; the place is used again."""
-        library.queue_drop(self._table, self._which, number)
+        native.queue_drop(self._table, self._which, number)
 
     def compose(self, placements: Iterable[Placement], six: bool = False) -> Sheet:
         """The fields of the whole molecule of placements of this queue's blocks, with its largest distance if `six`; 16 for a
         number that it does not hold."""
-        record = library.assembly_record(one.numbers() for one in placements)
-        sheet = library.queue_compose(self._table, self._which, record, decks.SIX if six else decks.SHEET)
+        record = native.assembly_record(one.numbers() for one in placements)
+        sheet = native.queue_compose(self._table, self._which, record, decks.SIX if six else decks.SHEET)
         return Sheet(*decks.claimed(sheet)[1])
 
 
@@ -46,17 +46,17 @@ class Table:
     """A table with a day queue and a night queue. `bytes(table)` is all of it: keep that, and make the table of it again."""
 
     def __init__(self) -> None:
-        self._bytes = bytearray(library.TABLE_BYTES)
-        self.day = Queue(self._bytes, library.DAY)
-        self.night = Queue(self._bytes, library.NIGHT)
+        self._bytes = bytearray(native.TABLE_BYTES)
+        self.day = Queue(self._bytes, native.DAY)
+        self.night = Queue(self._bytes, native.NIGHT)
         self.empty()
 
     @classmethod
-    def from_bytes(cls, kept: library.Bytes) -> Table:
+    def from_bytes(cls, kept: native.Bytes) -> Table:
         """The table of bytes that were kept; ValueError where they are not as many as a table has."""
-        data = library._bytes(kept, "a table")
-        if len(data) != library.TABLE_BYTES:
-            raise ValueError(f"a table has {library.TABLE_BYTES} bytes, not {len(data)}")
+        data = native._bytes(kept, "a table")
+        if len(data) != native.TABLE_BYTES:
+            raise ValueError(f"a table has {native.TABLE_BYTES} bytes, not {len(data)}")
         table = cls()
         table._bytes[:] = data
         return table
@@ -66,7 +66,7 @@ class Table:
 
     def empty(self) -> None:
         """Makes the table empty, for both queues."""
-        library.queue_empty(self._bytes)
+        native.queue_empty(self._bytes)
 
 
 __all__ = ["Queue", "Table"]

@@ -1,6 +1,6 @@
 """The C functions of the proved library, one Python function each, over `ctypes`. No number is worked out here.
 
-The shared object stands beside this file (`make python` puts it there); the environment variable TTEUYOMAL_SO names another one.
+The shared object stands beside this file (`make` puts it there); the environment variable TTEUYOMAL_SO names another one.
 A refusal is raised as `Refused`, with its number and place. What each function refuses, and in what order, stands in
 include/tteuyomal.h.
 
@@ -14,6 +14,7 @@ To add a function of the library: its row of arguments below (`_name = _function
 from __future__ import annotations
 
 import ctypes
+import hashlib
 import math
 import numbers
 import operator
@@ -161,18 +162,22 @@ class NotThere(Exception):
     """The shared object can't be loaded, or has no such function, being older than this package."""
 
 
-SHARED_OBJECT = os.environ.get("TTEUYOMAL_SO") or os.path.join(os.path.dirname(os.path.abspath(__file__)), "libtteuyomal.so")
+REPLACED = os.environ.get("TTEUYOMAL_SO", "")  # the shared object that somebody put in the place of the package's own
+SHARED_OBJECT = REPLACED or os.path.join(os.path.dirname(os.path.abspath(__file__)), "libtteuyomal.so")
 
 
-def _load() -> tuple[ctypes.CDLL | None, str]:
-    """The shared object, or why it can't be loaded: that is told when a function is called, so that the command can tell it."""
+def _load() -> tuple[ctypes.CDLL | None, str, str]:
+    """The shared object and its SHA-256, or why it can't be loaded: that is told when a function is called, so that the command can
+    tell it."""
     try:
-        return ctypes.CDLL(SHARED_OBJECT), ""
-    except OSError as fault:
-        return None, f"the library can't be loaded ({fault}); `make python` in the repository puts it there"
+        with open(SHARED_OBJECT, "rb") as file:
+            sha256 = hashlib.file_digest(file, "sha256").hexdigest()
+        return ctypes.CDLL(SHARED_OBJECT), sha256, ""
+    except (OSError, ValueError) as fault:
+        return None, "", f"the library can't be loaded ({fault}); `make` in the repository puts it there"
 
 
-_library, _fault = _load()
+_library, SHA256, _fault = _load()
 _NUMBERS = [ctypes.POINTER(c_uint64), c_size_t]
 _BYTES = [ctypes.POINTER(c_uint8), c_size_t]
 _DECK = [c_char_p, c_size_t]
@@ -357,7 +362,9 @@ def sheet_record(fields: Iterable[int]) -> bytes:
 
 
 def version() -> str:
-    """The library's version: the three numbers of `tteuyomal_version`."""
+    """The library's version: the three numbers of `tteuyomal_version`. One that can't be loaded has none: `NotThere`."""
+    if _library is None:
+        raise NotThere(_fault)
     if not has("version"):
         return "unnumbered"
     number = _version()
@@ -372,13 +379,14 @@ def judge(deck: Bytes) -> int:
 def judge_reply(deck: bytes) -> int:
     """The reply as C has it: 0 accepted, 255 + 256 k where field k is the first wrong one, else the refusal's number + 256 times
     its place."""
-    return _judge(deck, len(deck))
+    reply: int = _judge(deck, len(deck))
+    return reply
 
 
-def judge_many(decks: Iterable[bytes]) -> list[int]:
-    """The replies as C has them for many decks, each of them `bytes`."""
+def judge_many(decks: Iterable[Bytes]) -> list[int]:
+    """The replies as C has them for many decks."""
     judged = _judge
-    return [judged(deck, len(deck)) for deck in decks]
+    return [judged(data := deck if type(deck) is bytes else _bytes(deck), len(data)) for deck in decks]
 
 
 def write_sheet(deck: Bytes) -> bytes:
@@ -456,7 +464,7 @@ _BOND_ROOM = 512  # more than any block's bonds have
 
 
 def balaban(atoms: int, bonds: Bonds) -> int:
-    """Balaban's J times 10^9, rounded down."""
+    """Balaban's J in units of 10^-9, each bond's root rounded down: a little below J (docs/RULES.md says by how much)."""
     return _numbers(_balaban, _block(atoms, bonds), 1)[0]
 
 
@@ -496,19 +504,29 @@ def library_count(deck: Bytes) -> int:
     return _numbers(_library_count, _lent(deck), 1)[0]
 
 
+def _sheet_bytes(kind: int) -> int:
+    """The bytes of a sheet of kind 3 or 4. C takes any other number for 3, and ctypes cuts a number that C has no room for: neither is
+    what was asked."""
+    size = {3: 40, 4: 44}.get(operator.index(kind))
+    if size is None:
+        raise ValueError(f"a sheet is of kind 3 or 4, not {kind}")
+    return size
+
+
 def library_step(deck: Bytes, position: int, kind: int = 3) -> tuple[bytes, int] | None:
     """The sheet (of kind 3 or 4) of the product at a position, from 0, and the next position; None past the last."""
-    out, following = (c_uint8 * 44)(), (c_uint64 * 1)()
-    reply = _library_step(*_lent(deck), kind, _size(position, "the position"), out, 44, following, 1)
+    size = _sheet_bytes(kind)
+    out, following = (c_uint8 * size)(), (c_uint64 * 1)()
+    reply = _library_step(*_lent(deck), kind, _size(position, "the position"), out, size, following, 1)
     if reply % 256 == 254:
         return None
     _told(reply)
-    return bytes(out)[: 44 if kind == 4 else 40], following[0]
+    return bytes(out), following[0]
 
 
 def library_run(deck: Bytes, position: int = 0, kind: int = 3, sheets: int = 4096) -> tuple[list[bytes], int] | None:
     """The sheets of at most so many products from a position on, and the next position; None past the last."""
-    size = 44 if kind == 4 else 40
+    size = _sheet_bytes(kind)
     out, following = (c_uint8 * (size * sheets))(), (c_uint64 * 1)()
     reply = _library_run(*_lent(deck), kind, _size(position, "the position"), out, size * sheets, following, 1)
     if reply % 256 == 254:
@@ -596,7 +614,7 @@ def queue_drop(table: bytearray, queue: int, number: int) -> None:
 
 def queue_compose(table: bytearray, queue: int, record: Bytes, kind: int = 3) -> bytes:
     """The sheet (of kind 3 or 4) that one assembly record makes of the blocks that a queue holds."""
-    room = 44 if kind == 4 else 40
+    room = _sheet_bytes(kind)
     out = (c_uint8 * room)()
     _told(_queue_compose(*_table(table), _size(queue, "the queue"), kind, *_lent(record, "a record"), out, room))
     return bytes(out)

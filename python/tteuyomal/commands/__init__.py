@@ -1,0 +1,23 @@
+"""The commands, a file each: its name, its words and options, and what it does."""
+
+from __future__ import annotations
+
+import argparse
+from typing import Protocol
+
+from ..console import Output
+from . import board, deck, explain, judge, library, measure, notice, sheet, show, verify
+
+
+class Command(Protocol):
+    """What a command's module has. `run` answers the exit status."""
+
+    NAME: str
+    WORDS: str
+
+    def options(self, parser: argparse.ArgumentParser) -> None: ...
+
+    def run(self, options: argparse.Namespace, out: Output) -> int: ...
+
+
+ALL: tuple[Command, ...] = (judge, explain, sheet, measure, deck, show, library, board, notice, verify)

@@ -1,0 +1,22 @@
+"""`tteuyomal board`: the short form of `judge FOLDER --board FILE`, with no lines."""
+
+from __future__ import annotations
+
+import argparse
+
+from ..console import Output
+from . import common, judge
+
+NAME = "board"
+WORDS = "write the board of a folder's decks: one file of HTML"
+
+
+def options(parser: argparse.ArgumentParser) -> None:
+    """The folder, and where the board goes."""
+    common.add_folder(parser)
+    judge.add_expected(parser)
+
+
+def run(options: argparse.Namespace, out: Output) -> int:
+    """Judges the folder and writes the board."""
+    return judge.judge([options.folder], {"board": options.output}, options, out, judge.NOTHING)

@@ -1,0 +1,63 @@
+"""`tteuyomal deck`: a deck from its text."""
+
+from __future__ import annotations
+
+import argparse
+import os
+
+from .. import decks, decktext, explain, files, native
+from ..console import Output, Stop, complain
+from ..native import Refused
+
+NAME = "deck"
+WORDS = "make a deck from a text that names its blocks, placements and claimed fields"
+
+
+def options(parser: argparse.ArgumentParser) -> None:
+    """The text, and where the deck goes."""
+    parser.add_argument("text", metavar="FILE.toml")
+    parser.add_argument("-o", dest="output", required=True, metavar="DECK", help="- is standard output")
+    parser.add_argument("--refused-too", action="store_true", help="write the deck also where the library refuses it; the status stays 2")
+
+
+def run(options: argparse.Namespace, out: Output) -> int:
+    """Writes the deck, unless the library refuses it."""
+    try:
+        with open(options.text, encoding="utf-8") as file:
+            text = file.read()
+        folder = os.path.dirname(options.text)
+        files.apart(options.output, [options.text, *decktext.named_files(text, folder)])
+        data = decktext.made(text, folder)
+    except (decktext.BadText, UnicodeDecodeError) as fault:
+        raise Stop(f"{files.shown(options.text)}: {fault}") from None
+    refusal = refused(data)
+    if refusal is not None:
+        where = " ".join(line.strip() for line in list(explain.where(data, refusal.number, refusal.place))[:1])
+        written = "written all the same" if options.refused_too else "not written; --refused-too writes it"
+        complain(f"{files.shown(options.text)}: the deck is {refusal}. {where} It is {written}")
+    if refusal is None or options.refused_too:
+        with files.written(options.output) as file:
+            file.write(data)
+    return 0 if refusal is None else 2
+
+
+def refused(data: bytes) -> Refused | None:
+    """What the library says of a deck that it does not take: as a library, with its sheet, or without one, whichever it is."""
+    kinds = {kind for _, kind, _ in whole_records(data)}
+    ask = native.library_count if decks.LIBRARY in kinds else native.judge if kinds & {decks.SHEET, decks.SIX} else native.compose
+    try:
+        ask(data)
+    except Refused as refusal:
+        return refusal
+    return None
+
+
+def whole_records(data: bytes) -> list[tuple[int, int, bytes]]:
+    """The records, as far as they are whole."""
+    found = []
+    try:
+        for record in decks.records(data):
+            found.append(record)
+    except ValueError:
+        pass
+    return found

@@ -1,0 +1,43 @@
+"""What `from tteuyomal import ..` gives."""
+
+from .decks import (
+    Block,
+    Deck,
+    Placement,
+    Sheet,
+    Verdict,
+    compose,
+    contributions,
+    judge,
+    judge_many,
+    measure,
+    values,
+)
+from .libraries import Candidate, Library, NoProduct, Product, Site
+from .native import NotThere, Refused
+from .native import version as library_version
+from .tables import Queue, Table
+
+__all__ = [
+    "Block",
+    "Candidate",
+    "Deck",
+    "Library",
+    "NoProduct",
+    "NotThere",
+    "Placement",
+    "Product",
+    "Queue",
+    "Refused",
+    "Sheet",
+    "Site",
+    "Table",
+    "Verdict",
+    "compose",
+    "contributions",
+    "judge",
+    "judge_many",
+    "library_version",
+    "measure",
+    "values",
+]
