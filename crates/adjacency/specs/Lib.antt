@@ -6,14 +6,14 @@
 -- | `shapeFrom`                      | 22: descriptions up to the last 0, and nothing after it          | `shaped-more`, `shaped-last`                         |
 -- | `steps`                          | what the numbers ask for in turn: an atom described, or a bond   | `steps-until`                                        |
 -- | `neighboursReply text room`      | the block of a text, or its refusal                              | `read-fine`: what is read is a block                 |
--- | `writtenText n bs`               | the text of a block                                              | `text-fits`: how long it is                          |
--- | `neighboursWriteReply n xs room` | the same, or its refusal                                         | `writes-again`: what was read is written as it was   |
+-- | `writtenText n bs`               | the text of a block                                              | `text-most`: how long it is                          |
+-- | `neighboursWriteReply n xs room` | the same, or its refusal                                         | `round-trip`: over the lent bytes, there and back    |
 -- | `canonical n bs`                 | a block's bonds in the order of its text, smaller end first      | `reads-back`: what was written is read in that order |
 -- Definitions
 pub mod Neighbours
 pub mod Written
--- Work
 pub mod Canonical
+-- Work
 pub mod Work
 pub mod Examples
 -- Laws
@@ -32,3 +32,5 @@ pub mod Again
 pub mod Degrees
 pub mod Order
 pub mod RoundTrip
+pub mod Ends
+pub mod Roomy

@@ -3,23 +3,24 @@ use Prim.Native.Nat.{ℕ, zero, suc, _+_, _*_, _%_, _<_, _≤_}
 use mathlib.Core.Bool.{Bool, true, false, cond, true≢false}
 use mathlib.Core.List.{List, [], _∷_}
 use mathlib.Core.Logic.{_⊎_, inl, inr, ⊎-elim}
-use mathlib.Core.Path.{_≡_, refl, sym, _∙_, ap}
+use mathlib.Core.Path.{_≡_, refl, sym, _∙_, ap, ap₂, subst}
 use native.Mathlib.Omega.{arith}
 use native.Mathlib.Decide.{ℕ-discrete}
 use borrow.Author.Tests.{eq-eqb, le-ltb, ltb-true, ltb-false}
 use lib.Dec.{eqb, ltb}
-use lib.ListN.{length}
+use lib.ListN.{length, take, drop}
+use lib.Seq.{take-append-seam}
 use Rattle.graph.specs.Graph.{Graph, Bond, Within, Sound, Walk, stay, step, bonded, anyJoins, connected, degree, sum}
 use Rattle.graph.specs.Bonds.{anyJoins-sym}
 use Rattle.graph.specs.Sums.{sum-cong, sum-add, sum-le, sum-none, sum-pick}
 use Rattle.graph.specs.Connected.{connected-is-linked}
-use Rattle.reply.specs.Read.{refused, read, refusal, _then_, refuseFor}
-use Rattle.reply.specs.Chain.{not-read}
+use Rattle.reply.specs.Read.{Read, refused, read, refusal, _then_, refuseIf, refuseFor}
+use Rattle.reply.specs.Chain.{not-read, then-read}
 use Rattle.block.specs.Faults.{faultless}
 use Rattle.block.specs.Block.{mostBytes, limit, bondsOf, graphOf, bondFault, bondsReply, blockReply}
 use Rattle.block.specs.Told.{passed, few-atoms, sound, molecule}
-use Rattle.adjacency.specs.Neighbours.{steps, bondsLength, bondListBytes, neighboursReply}
-use Rattle.adjacency.specs.Written.{writtenText, neighboursWriteReply}
+use Rattle.adjacency.specs.Neighbours.{steps, bondsLength, bondListBytes, neighboursReply, bytesAfter}
+use Rattle.adjacency.specs.Written.{writtenText, neighboursWriteReply, textAfter}
 use Rattle.adjacency.specs.Canonical.{bondsUpTo, canonical}
 use Rattle.adjacency.specs.Work.{longest, until, anyHigh, FewBonds, highReply}
 use Rattle.adjacency.specs.Blocks.{bytes-length, bytes-bonds, until-all, no-room, all-read}
@@ -137,9 +138,12 @@ module _ (n : ℕ) (xs : List ℕ) (fine : blockReply n xs ≡ read tt) where
       let m : length (bondListBytes cs) % 2 ≡ 0 = omega arith in
       rw (passed n xs fine .size, eq-eqb (length (bondListBytes cs) % 2) 0 m, le-ltb mostBytes (length (bondListBytes cs)) (omega (arith, short-still)), bytes-bonds cs, bonds-pass, connected-still)
 
-  -- it is short enough for what the writer keeps of it
+  -- no text is longer, and it is short enough for what the writer keeps of it
+  pub text-most : length (writtenText n bs) ≤ 901
+  text-most = let a = few-atoms n xs fine in omega (arith, text-short (anyJoins bs) n (a .high), short-still)
+
   pub text-fits : length (writtenText n bs) ≤ longest
-  text-fits = let a = few-atoms n xs fine in omega (arith, text-short (anyJoins bs) n (a .high), short-still)
+  text-fits = omega (arith, text-most)
 
   until-is : {room : ℕ} (r : Reread (anyJoins bs) n (few-atoms n xs fine .high) room) → until n (steps (r .rest)) ≡ cs
   until-is r = until-all n (steps (r .rest)) (r .low) ∙ r .bonds
@@ -175,3 +179,45 @@ module _ (n : ℕ) (xs : List ℕ) (fine : blockReply n xs ≡ read tt) where
   pub writes-again : (room : ℕ) → neighboursWriteReply n (bondListBytes (canonical n bs)) room ≡ neighboursWriteReply n xs room
   unfolding neighboursWriteReply
   writes-again room = rw (fine, fine-again, bytes-bonds (canonical n bs), writes-same)
+
+-- THE ROUND TRIP over the lent bytes: the bonds that reading a text leaves at the front of what is lent for them
+abbrev pub bondsLeft : List ℕ → List ℕ → List ℕ → List ℕ
+bondsLeft xs text bonds = take (bondsLength (bondsOf xs)) (bytesAfter (neighboursReply text (length bonds)) bonds)
+
+-- they are the block's in the order of the text; and writing them tells, and leaves in whatever is lent, what writing the block does
+pub record RoundTrip (n : ℕ) (xs text bonds : List ℕ) : Type 0 where
+  pub reply : neighboursReply text (length bonds) ≡ read (record { atoms = n; bonds = canonical n (bondsOf xs) })
+  pub bytes : bondsLeft xs text bonds ≡ bondListBytes (canonical n (bondsOf xs))
+  pub told : (room : ℕ) → neighboursWriteReply n (bondsLeft xs text bonds) room ≡ neighboursWriteReply n xs room
+  pub again : (out : List ℕ) → textAfter (neighboursWriteReply n (bondsLeft xs text bonds) (length out)) out ≡ textAfter (neighboursWriteReply n xs (length out)) out
+
+-- what writing answers with a text: the block is fine, and that many of the lent bytes are its text
+pub wrote : (n : ℕ) (xs out t : List ℕ) → neighboursWriteReply n xs (length out) ≡ read t
+    → (blockReply n xs ≡ read tt) × (t ≡ writtenText n (bondsOf xs)) × (take (length t) (textAfter (neighboursWriteReply n xs (length out)) out) ≡ t)
+unfolding neighboursWriteReply
+wrote n xs out t e =
+    let (u, f, g) = parts e in
+    let (v, p, q) = then-read (refuseIf (ltb (length out) (length (writtenText n (bondsOf xs)))) 9 0) (λ _. read (writtenText n (bondsOf xs))) g in
+    (f, cc, ap (λ (r : Read (List ℕ)). take (length t) (textAfter r out)) e ∙ take-append-seam t (drop (length t) out))
+  where
+    parts : neighboursWriteReply n xs (length out) ≡ read t → (u : Unit {0}) × (blockReply n xs ≡ read u)
+        × ((refuseIf (ltb (length out) (length (writtenText n (bondsOf xs)))) 9 0 then λ _. read (writtenText n (bondsOf xs))) ≡ read t)
+    parts = then-read (blockReply n xs) (λ _. refuseIf (ltb (length out) (length (writtenText n (bondsOf xs)))) 9 0 then λ _. read (writtenText n (bondsOf xs)))
+
+pub round-trip : (n : ℕ) (xs out bonds t : List ℕ) → neighboursWriteReply n xs (length out) ≡ read t → bondsLength (bondsOf xs) ≤ length bonds
+    → RoundTrip n xs (take (length t) (textAfter (neighboursWriteReply n xs (length out)) out)) bonds
+round-trip n xs out bonds t e h =
+    let (fine, is, seen) = wrote n xs out t e in
+    subst (λ (s : List ℕ). RoundTrip n xs s bonds) (sym (seen ∙ is)) (whole fine)
+  where
+    whole : blockReply n xs ≡ read tt → RoundTrip n xs (writtenText n (bondsOf xs)) bonds
+    whole fine =
+        let cs = canonical n (bondsOf xs) in
+        let c = same-count n xs fine in
+        let r = reads-back n xs fine (length bonds) (omega (arith, c)) in
+        let k : bondsLength (bondsOf xs) ≡ length (bondListBytes cs) = omega (arith, c, bytes-length cs) in
+        let b : bondsLeft xs (writtenText n (bondsOf xs)) bonds ≡ bondListBytes cs =
+        ap₂ (λ (k : ℕ) (g : Read Graph). take k (bytesAfter g bonds)) k r ∙ take-append-seam (bondListBytes cs) (drop (bondsLength cs) bonds) in
+        let w : (room : ℕ) → neighboursWriteReply n (bondsLeft xs (writtenText n (bondsOf xs)) bonds) room ≡ neighboursWriteReply n xs room =
+        λ room. ap (λ (ys : List ℕ). neighboursWriteReply n ys room) b ∙ writes-again n xs fine room in
+        record { reply = r; bytes = b; told = w; again = λ out. ap (λ (y : Read (List ℕ)). textAfter y out) (w (length out)) }

@@ -1,11 +1,14 @@
 -- Laws. THE HEADLINE, on one page: what a judged deck is told, the molecule that it is told of, and what accepting means. The first five say what the
--- definitions are, and hold by computing; then the theorem. What a distance is says `distance-shortest` (graph). Assumes nothing.
+-- definitions are, and hold by computing; then what the molecule and its distances are, and the theorem. The same of the number that C is told is
+-- `zero-exactly` (tteuyomal/specs/Accepted.antt). Assumes nothing.
 use Prim.Native.Nat.{ℕ, zero, suc, _-_}
 use mathlib.Core.List.{List, [], _∷_}
 use mathlib.Core.Logic.{_↔_}
 use mathlib.Core.Path.{_≡_, refl, sym}
 use native.Mathlib.Omega.{arith}
-use Rattle.graph.specs.Graph.{Graph, wiener, evenPart, oddPart, polarity}
+use Rattle.graph.specs.Graph.{Graph, Within, Molecule, Shortest, distance, wiener, evenPart, oddPart, polarity}
+use Rattle.graph.specs.Distance.{distance-shortest}
+use Rattle.graph.specs.Climb.{written-molecule}
 use Rattle.graph.specs.Farthest.{largest}
 use Rattle.graph.specs.Assembly.{Join, joined, atomOf, written}
 use Rattle.reply.specs.Read.{refused, read, _then_}
@@ -13,6 +16,7 @@ use Rattle.reply.specs.declared.Refusal.{Refusal}
 use Rattle.block.specs.Index.{indicesOf}
 use Rattle.deck.specs.Deck.{Deck, deckReply}
 use Rattle.deck.specs.Molecule.{graphAt, joinAt, moleculeOf}
+use Rattle.deck.specs.Sound.{whole}
 use Rattle.deck.specs.declared.Form.the-variants.{Judged}
 use Rattle.records.specs.Records.{sheetAt}
 use Rattle.records.specs.declared.Sheet.the-variants.{Five, Six}
@@ -39,6 +43,15 @@ pub written-is : (blocks : ℕ → Graph) (joins : ℕ → Join) (m : ℕ) → (
     × (written blocks joins (suc m) ≡ joined (written blocks joins m) (blocks (suc m)) (atomOf blocks (joins (suc m) .parent) (joins (suc m) .site)) (joins (suc m) .own))
 unfolding written
 written-is blocks joins m = (refl, refl)
+
+-- it is one: every bond ends at its atoms, and a walk leads from each atom to each; the distance of two atoms is the number of bonds of a shortest walk
+pub molecule : (d : List ℕ) (k : Deck) → deckReply Judged d ≡ read k → Molecule (moleculeOf d k)
+unfolding moleculeOf
+molecule d k e = written-molecule (k .placements - 1) (whole Judged d k e .assembled)
+
+pub distance-is : (d : List ℕ) (k : Deck) → deckReply Judged d ≡ read k → {i j : ℕ} → Within (moleculeOf d k .atoms) i → Within (moleculeOf d k .atoms) j
+    → Shortest (moleculeOf d k) i j (distance (moleculeOf d k) i j)
+distance-is d k e = distance-shortest (molecule d k e)
 
 -- its sheet of five fields, and of six
 pub sheet-is : (g : Graph) → (sheetOf Five g ≡ g .atoms ∷ wiener g ∷ evenPart g ∷ oddPart g ∷ polarity g ∷ [])

@@ -22,7 +22,7 @@ use Rattle.deck.specs.declared.Form.the-variants.{Composed, Judged}
 use Rattle.records.specs.Records.{headBytes, sheetAt}
 use Rattle.records.specs.declared.Sheet.{Sheet}
 use Rattle.records.specs.declared.Sheet.the-variants.{Five, Six}
-use Rattle.sheets.specs.Sheets.{allFields, allWidths, fieldsOf, widths, fieldsAt, sheetOf, claimedAt, sheetBytes, sheetRecord, sheetPut}
+use Rattle.sheets.specs.Sheets.{allFields, allWidths, fieldsOf, widths, fieldsAt, sheetOf, firstWrong, claimedAt, sheetBytes, sheetRecord, sheetPut}
 use Rattle.sheets.specs.Back.{FitWidths, fit-of, length-sheet, read-whole, fields-behind, none-wrong}
 use Rattle.compose.specs.Fields.{fieldsReply}
 use Rattle.judging.specs.Judging.{judgeReply, saidVerdict, sheetWriteReply, saidSheetWritten, sheetOut}
@@ -54,6 +54,11 @@ fields-fit form d k e = (
   ),
 )
 
+-- a sheet of either kind leaves room for itself behind a deck that composes
+sheet-short : (s : Sheet) → longestComposed + sheetBytes s ≤ longestDeck
+sheet-short Five = omega arith
+sheet-short Six = omega arith
+
 -- The record of a sheet whose fields fit is one; behind a deck that composes it is taken, and claims its fields.
 module _ (s : Sheet) (x : Indices) (fit : FitWidths (widths s) (fieldsOf s x)) where
   abbrev claim : List ℕ
@@ -64,8 +69,8 @@ module _ (s : Sheet) (x : Indices) (fit : FitWidths (widths s) (fieldsOf s x)) w
   is-sheet = let w = read-whole s x fit in record { size = length-sheet s x; payload = ap (λ (l : List ℕ). getD l 0 0) w; kind = ap (λ (l : List ℕ). getD l 1 0) w }
 
   module _ (d : List ℕ) (k : Deck) (e : deckReply Composed d ≡ read k) where
-    sheet-taken : length d + sheetBytes s ≤ longestDeck → deckReply Judged (d ++ claim) ≡ read k
-    sheet-taken h = followed d k e claim is-sheet (omega (arith, length-sheet s x))
+    sheet-taken : deckReply Judged (d ++ claim) ≡ read k
+    sheet-taken = followed d k e claim is-sheet (omega (arith, length-sheet s x, composed-short d k e, sheet-short s))
 
     sheet-told : sheetAt (d ++ claim) (k .sheet) ≡ s
     sheet-told = ap (sheetAt (d ++ claim)) (ends d k e) ∙ told-behind d claim is-sheet
@@ -78,10 +83,10 @@ module _ (s : Sheet) (x : Indices) (fit : FitWidths (widths s) (fieldsOf s x)) w
         ∙ fields-behind d claim (widths s) headBytes
         ∙ ap (drop 2) (read-whole s x fit)
 
--- a sheet of either kind leaves room for itself behind a deck that composes
-sheet-short : (s : Sheet) → longestComposed + sheetBytes s ≤ longestDeck
-sheet-short Five = omega arith
-sheet-short Six = omega arith
+    -- and is judged by the fields of the deck's molecule
+    pub sheet-judged : judgeReply (d ++ claim) ≡ read (firstWrong 1 (sheetOf s (moleculeOf d k)) (fieldsOf s x))
+    unfolding judgeReply
+    sheet-judged = rw (sheet-taken, sheet-claimed, sheet-told, same-molecule d k e claim)
 
 module _ (s : Sheet) (d : List ℕ) (k : Deck) (e : deckReply Composed d ≡ read k) where
   -- the record of the molecule's sheet, put behind its deck
@@ -89,17 +94,10 @@ module _ (s : Sheet) (d : List ℕ) (k : Deck) (e : deckReply Composed d ≡ rea
   longer = d ++ sheetRecord s (sheetOf s (moleculeOf d k))
 
   sheet-accepted : judgeReply longer ≡ read 0
-  unfolding judgeReply sheetOf
+  unfolding sheetOf
   sheet-accepted =
       let x = indicesOf (moleculeOf d k) in
-      let f = fit-of s x (fields-fit Composed d k e) in
-      rw (
-        sheet-taken s x f d k e (omega (arith, composed-short d k e, sheet-short s)),
-        sheet-claimed s x f d k e,
-        sheet-told s x f d k e,
-        same-molecule d k e (sheetRecord s (fieldsOf s x)),
-        none-wrong 1 (fieldsOf s x),
-      )
+      sheet-judged s x (fit-of s x (fields-fit Composed d k e)) d k e ∙ ap read (none-wrong 1 (fieldsOf s x))
 
 -- a buffer that took a sheet begins with its record
 put-record : (s : Sheet) (out : List ℕ) (x : Indices) → sheetBytes s ≤ length out → take (sheetBytes s) (sheetPut s out (fieldsOf s x)) ≡ sheetRecord s (fieldsOf s x)

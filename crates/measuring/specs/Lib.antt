@@ -2,7 +2,9 @@
 --
 -- | notion              | meaning                                                                 | the law that matters                                         |
 -- | `measureReply`      | the indices of a molfile's block, or the lines' and the block's refusal | `measure-read`, `measure-refused`: never 9; `unique-measure` |
--- | `measuredTextReply` | the same of a neighbour text                                            | `unique-measure-neighbours`                                  |
+-- | `measuredTextReply` | the same of a neighbour text                                            | `measured-text`: never 9; `unique-measure-neighbours`        |
 pub mod Measuring
 pub mod Texts
 pub mod Unique
+pub mod Alone
+pub mod Examples

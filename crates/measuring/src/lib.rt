@@ -7,7 +7,7 @@ use block::IndicesReply;
 use molfile::MolRead;
 use neighbours::NeighboursRead;
 
-// Atom count, W, even part, odd part and polarity of the block of a molfile, or its refusal: the lines', then the block's.
+// Atom count, W, even part, odd part, polarity and largest distance of the block of a molfile, or its refusal: the lines', then the block's.
 pub fn measure(text: &[u8]) -> IndicesReply
     ensures { λ r. ⌜ r ≡ saidIndices (measureReply (now (text .entry))) ⌝ }
 {
@@ -30,9 +30,9 @@ pub fn measure_neighbours(text: &[u8]) -> IndicesReply
     let seen = neighbours::read(text, &mut bonds);
     match seen {
         NeighboursRead::Refused(r) => IndicesReply::Refused(r),
-        NeighboursRead::Block(x) => {
-            let len = 2 * x.bonds;
-            reach::measure(x.atoms, &bonds[..len])
+        NeighboursRead::Block(y) => {
+            let len = 2 * y.bonds;
+            reach::measure(y.atoms, &bonds[..len])
         }
     }
 }

@@ -2,6 +2,7 @@
 --
 -- | notion         | meaning                                                      | the law that matters                |
 -- | `linesReply`   | refusals 25, 26 and 27 in file order                         | `unique-read`                       |
+-- | `restOf`       | where the bond lines end; the length where lines are refused | `unique-rest-place`                 |
 -- | `hydrogenAt`   | whether the symbol of an atom line is H                      | `h-none`                            |
 -- | `isDropped`    | a hydrogen with exactly one bond, to an atom that is none    | `number-is`: by weights of one pass |
 -- | `newNumber`    | an atom's number among those that are kept                   | `number-few`                        |

@@ -101,6 +101,14 @@ linesReply d =
     inTurn (bondLineCount d) (bondReplyOf d) then λ _.
     endLineReply d (restPlace d)
 
+-- where the bond lines end of a file whose lines are not refused, else the file's length: from there on the first line that begins with M  END is the file's own
+abbrev pub restBy : Read (Unit {0}) → List ℕ → ℕ
+restBy (refused r) d = length d
+restBy (read u) d = restPlace d
+
+abbrev pub restOf : List ℕ → ℕ
+restOf d = restBy (linesReply d) d
+
 -- THE HYDROGENS that are dropped: `h` says of an atom, from 1, whether it is a hydrogen, `f` gives the bonds, from 0, and there are m of them.
 -- how many numbers below k pass a test
 unfoldable pub passingBelow : ℕ → (ℕ → Bool) → ℕ

@@ -6,9 +6,8 @@ use mathlib.Core.Path.{_≡_}
 use lib.Dec.{eqb, ltb}
 use lib.ListN.{length, getD, take, drop}
 use Rattle.graph.specs.Graph.{Bond, bond, Within}
-use Rattle.reply.specs.Read.{Read, refused, read, _then_, refuseIf, saidReply}
+use Rattle.reply.specs.Read.{Read, refused, read, _then_, refuseIf}
 use Rattle.block.specs.Block.{mostAtoms, blockReply}
-use Rattle.reply.specs.declared.Reply.{Reply}
 use Rattle.text.specs.Text.{nextLine}
 use Rattle.text.specs.Said.{lineAt}
 use Rattle.molfile.specs.Molfile.{countsPlace, atomLinePlace, bondLinePlace, restPlace, atomLineCount, bondLineCount, endsOfLine, bondOfLine, hydrogenAt, inTurn, lineReply, headerReply, numbersReply, atomReply, bondReplyOf, endLineReply, newNumber, keptBytes}
@@ -80,14 +79,14 @@ pub record BondsRead (d : List ℕ) (m : ℕ) (ones twos ones′ twos′ : List 
   pub same-one : length ones′ ≡ length ones
   pub same-two : length twos′ ≡ length twos
 
-pub record RestRead (d ones twos ones′ twos′ : List ℕ) (r : Reply) : Type 0 where
-  pub reply : r ≡ saidReply (restReply d)
+pub record RestRead (d ones twos ones′ twos′ : List ℕ) (r : Walk) : Type 0 where
+  pub reply : r ≡ saidWalk (restPlace d) (restReply d)
   pub ends : restReply d ≡ read tt → Ends d (bondLineCount d) ones′ twos′
   pub same-one : length ones′ ≡ length ones
   pub same-two : length twos′ ≡ length twos
 
-pub record ListsRead (d marks ones twos marks′ ones′ twos′ : List ℕ) (r : Reply) : Type 0 where
-  pub reply : r ≡ saidReply (listsReply d)
+pub record ListsRead (d marks ones twos marks′ ones′ twos′ : List ℕ) (r : Walk) : Type 0 where
+  pub reply : r ≡ saidWalk (restPlace d) (listsReply d)
   pub marks-are : listsReply d ≡ read tt → Marks d (atomLineCount d) marks′
   pub ends-are : listsReply d ≡ read tt → Ends d (bondLineCount d) ones′ twos′
   pub same-marks : length marks′ ≡ length marks

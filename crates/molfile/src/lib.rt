@@ -15,6 +15,9 @@ use text::Line;
 use text::NO_NUMBER;
 
 mod dropping;
+mod ending;
+
+pub use ending::rest_place;
 
 // What a molfile holds once hydrogens are dropped.
 pub struct Counts {
@@ -282,8 +285,8 @@ fn bonds(d: &[u8], from: usize, n: usize, m: usize, ones: &mut [u16], twos: &mut
     Walk::At(at)
 }
 
-// The bond lines from a place on and their ends, and M  END: 25 to 27.
-fn rest(d: &[u8], from: usize, n: usize, m: usize, ones: &mut [u16], twos: &mut [u16]) -> Reply
+// The bond lines from a place on and their ends, and M  END: 25 to 27, or where the bond lines end.
+fn rest(d: &[u8], from: usize, n: usize, m: usize, ones: &mut [u16], twos: &mut [u16]) -> Walk
     requires { ⌜
         (from ≡ bondLinePlace (now d) 0) × (n ≡ atomLineCount (now d)) × (n ≤ most) × (m ≤ length (now ones)) × (m ≤ length (now twos))
         × (m ≡ bondLineCount (now d))
@@ -292,12 +295,12 @@ fn rest(d: &[u8], from: usize, n: usize, m: usize, ones: &mut [u16], twos: &mut 
 {
     let passed = bonds(d, from, n, m, ones, twos);
     match passed {
-        Walk::Refused(r) => Reply::Refused(r),
+        Walk::Refused(r) => Walk::Refused(r),
         Walk::At(at) => {
             if text::line_starts(d, at, b"M  END") {
-                return Reply::Fine;
+                return Walk::At(at);
             }
-            Reply::Refused(Refusal {
+            Walk::Refused(Refusal {
                 number: 25,
                 place: d.len(),
             })
@@ -305,8 +308,8 @@ fn rest(d: &[u8], from: usize, n: usize, m: usize, ones: &mut [u16], twos: &mut 
     }
 }
 
-// The lines after the counts: 25 to 27, the marks of the atoms and the ends of the bonds.
-fn lists(d: &[u8], x: Numbers, marks: &mut [u8], ones: &mut [u16], twos: &mut [u16]) -> Reply
+// The lines after the counts: 25 to 27, the marks of the atoms and the ends of the bonds, and where these end.
+fn lists(d: &[u8], x: Numbers, marks: &mut [u8], ones: &mut [u16], twos: &mut [u16]) -> Walk
     requires { ⌜
         (x ≡ numbersAt (now d) (countsPlace (now d))) × (x .one ≤ length (now marks)) × (x .one ≤ most) × (x .two ≤ length (now ones))
         × (x .two ≤ length (now twos))
@@ -318,7 +321,7 @@ fn lists(d: &[u8], x: Numbers, marks: &mut [u8], ones: &mut [u16], twos: &mut [u
 {
     let passed = atoms(d, x.next, x.one, marks);
     match passed {
-        Walk::Refused(r) => Reply::Refused(r),
+        Walk::Refused(r) => Walk::Refused(r),
         Walk::At(at) => rest(d, at, x.one, x.two, ones, twos),
     }
 }
@@ -360,8 +363,8 @@ fn listed(text: &[u8], x: Numbers, out: &mut [u8]) -> MolRead
     let mut twos = [0u16; MOST];
     let reply = lists(text, x, &mut marks, &mut ones, &mut twos);
     match reply {
-        Reply::Refused(r) => MolRead::Refused(r),
-        Reply::Fine => {
+        Walk::Refused(r) => MolRead::Refused(r),
+        Walk::At(_) => {
             let mut buffer = [0u8; PAIRS];
             let k = dropping::kept(x.one, x.two, &marks, &ones, &twos, &mut buffer);
             let bytes = k.bytes;

@@ -7,5 +7,10 @@
 pub mod Written
 pub mod Pieces
 pub mod Length
+pub mod Replies
+pub mod Unlines
+pub mod Threes
+pub mod Listing
+pub mod RoundTrip
 pub mod Unique
 pub mod Examples

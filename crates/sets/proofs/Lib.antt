@@ -5,9 +5,12 @@ pub mod OfBonds
 pub mod OfAtoms
 pub mod Leaves
 pub mod Peel
+pub mod Branches
+pub mod Rooting
 pub mod Products
 pub mod Storing
 pub mod Keying
 pub mod Trees
 pub mod Running
 pub mod Replies
+pub mod EveryRoot

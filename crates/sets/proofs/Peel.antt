@@ -73,7 +73,7 @@ pub record Peeling (n root : ℕ) (δ : ℕ → ℕ) (total : Bool → ℕ) (bs 
 module _ {n root : ℕ} {δ : ℕ → ℕ} {total : Bool → ℕ} {bs : List Bond} {w : Bool → ℕ → Weight} (s : Peeling n root δ total bs w) where
   -- an atom u other than the root that has one bond left, to p
   module _ (u p : ℕ) (hu : Within n u) (ne : root ≡ u → ⊥) (e : tally bs u ≡ unit + p) (l : p < unit) where
-    abbrev at : Leaf bs u p
+    abbrev pub at : Leaf bs u p
     at = leaf-of bs u p e l
 
     abbrev b : Bond
@@ -164,24 +164,31 @@ module _ {n root : ℕ} {δ : ℕ → ℕ} {total : Bool → ℕ} {bs : List Bon
           by-place : (P : ℕ → Type 0) (v : ℕ) → P u → P p → ((v ≡ u → ⊥) → (v ≡ p → ⊥) → P v) → P v
           by-place P v a b c = elim (ℕ-discrete v u) [ yes e ↦ rw e a | no f ↦ elim (ℕ-discrete v p) [ yes e ↦ rw e b | no g ↦ c f g ] ]
 
+    -- the weights once u is merged into p
+    unfoldable pub merging : Bool → ℕ → Weight
+    merging κ t = cond (eqb t u) nothing (cond (eqb t p) (taken κ (w κ p) (w κ u)) (w κ t))
+
+    merging-child : (κ : Bool) → merging κ u ≡ nothing
+    unfolding merging
+    merging-child κ = rw (eq-eqb u u refl)
+
+    pub merging-parent : (κ : Bool) → merging κ p ≡ taken κ (w κ p) (w κ u)
+    unfolding merging
+    merging-parent κ = rw (ne-eqb p u (λ z. differ (sym z)), eq-eqb p p refl)
+
+    pub merging-other : (κ : Bool) (t : ℕ) → Within n t → (t ≡ u → ⊥) → (t ≡ p → ⊥) → merging κ t ≡ w κ t
+    unfolding merging
+    merging-other κ t i f g = rw (ne-eqb t u f, ne-eqb t p g)
+
+    pub merged-turn : Peeling n root δ total rest merging
+    merged-turn = turn merging merging-child merging-parent merging-other
+
     -- no product is above the whole count
     pub fits : (κ : Bool) → taken κ (w κ p) (w κ u) .x ≤ total κ
     fits κ =
-        let q = turn x at-u at-p others in
-        let l = factor-below κ n rest (x κ) p parent-within (λ v h. q .good κ v h .0) in
-        omega (arith, q .is κ, ap (λ (z : Weight). z .x) (at-p κ))
-      where
-        x : Bool → ℕ → Weight
-        x κ t = cond (eqb t u) nothing (cond (eqb t p) (taken κ (w κ p) (w κ u)) (w κ t))
-
-        at-u : (κ : Bool) → x κ u ≡ nothing
-        at-u κ = rw (eq-eqb u u refl)
-
-        at-p : (κ : Bool) → x κ p ≡ taken κ (w κ p) (w κ u)
-        at-p κ = rw (ne-eqb p u (λ z. differ (sym z)), eq-eqb p p refl)
-
-        others : (κ : Bool) (t : ℕ) → Within n t → (t ≡ u → ⊥) → (t ≡ p → ⊥) → x κ t ≡ w κ t
-        others κ t i f g = rw (ne-eqb t u f, ne-eqb t p g)
+        let q = merged-turn in
+        let l = factor-below κ n rest (merging κ) p parent-within (λ v h. q .good κ v h .0) in
+        omega (arith, q .is κ, ap (λ (z : Weight). z .x) (merging-parent κ))
 
   -- as long as a bond is left there is such an atom: the highest
   pub some-leaf : n < unit → δ root ≡ 0 → (b : Bond) (cs : List Bond) → bs ≡ b ∷ cs → (v : ℕ) × Within n v × (root ≡ v → ⊥) × (unit ≤ tally bs v) × (tally bs v < 2 * unit)

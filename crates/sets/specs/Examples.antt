@@ -1,11 +1,12 @@
 -- Laws. The definitions compute: one atom, paths, a star, a branched tree, a ring and a block in two parts. Assumes nothing.
 use Prim.Native.Nat.{ℕ}
-use mathlib.Core.List.{List, [], _∷_}
+use mathlib.Core.List.{List, [], _∷_, map}
 use mathlib.Core.Path.{_≡_, refl}
 use Rattle.graph.specs.Graph.{joins, anyJoins, bonded, anyAtom, reaches, firstFrom, distance, allAtoms, connected, degree}
 use Rattle.reply.specs.Read.{Read, refused, read, refusal}
-use Rattle.block.specs.Block.{bondsOf, bondFault, bondsReply, blockReply}
+use Rattle.block.specs.Block.{bondsOf, graphOf, bondFault, bondsReply, blockReply}
 use Rattle.sets.specs.Sets.{withOne, subsets, passing, some, apart, setsApart, touches, shareAtom, atomsDown, hosoya, merrifieldSimmons}
+use Rattle.sets.specs.Recursion.{Branch, child, children, productOf, sumOf, atAtom, branch, fromRoot}
 use Rattle.sets.specs.Reply.{setsOf, treeReply, setsReply}
 use Rattle.sets.specs.declared.Sets.{Sets}
 
@@ -46,3 +47,16 @@ ring-of-3 = refl
 pub two-parts : told 4 (1 ∷ 2 ∷ 2 ∷ 3 ∷ 3 ∷ 1 ∷ []) ≡ refused (refusal 7 0)
 unfolding told
 two-parts = refl
+
+-- the recursion of [Ilić, Ilić] from each atom of the branched tree, and what it keeps of the first
+unfoldable pub rooted : ℕ → List ℕ → ℕ → Branch
+unfolding bondsOf child children productOf sumOf atAtom branch
+rooted n xs root = fromRoot (graphOf n xs) root
+
+abbrev pub kept : ℕ → ℕ → ℕ → ℕ → Branch
+kept h hw i iw = record { h = h; hw = hw; i = i; iw = iw }
+
+pub branched-roots : map (rooted 6 (1 ∷ 2 ∷ 2 ∷ 3 ∷ 3 ∷ 4 ∷ 4 ∷ 5 ∷ 2 ∷ 6 ∷ [])) (1 ∷ 2 ∷ 3 ∷ 4 ∷ 5 ∷ 6 ∷ [])
+    ≡ kept 11 8 23 13 ∷ kept 11 3 23 20 ∷ kept 11 6 23 15 ∷ kept 11 4 23 18 ∷ kept 11 7 23 14 ∷ kept 11 8 23 13 ∷ []
+unfolding rooted
+branched-roots = refl

@@ -95,3 +95,8 @@ run-wrote s d position out = go (stepReply s d position (length out)) refl
     go (refused r) e = ap (λ (y : Ran). y .out) (run-stops s d position out (length out) r e)
     go (read done) e = ap (λ (y : Ran). y .out) (run-ends s d position out (length out) e)
     go (read (made x)) e = refl
+
+-- each reply, each output of a step or a run is determined
+pub walked-once : {answer : Read Product} {wrote : List ℕ} {position : ℕ} {out next out′ out″ next′ next″ : List ℕ} {x y : ℕ} → Walked answer wrote position out next x out′ next′
+    → Walked answer wrote position out next y out″ next″ → (x ≡ y) × (out′ ≡ out″) × (next′ ≡ next″)
+walked-once p q = (p .replied ∙ sym (q .replied), p .written ∙ sym (q .written), p .told ∙ sym (q .told))

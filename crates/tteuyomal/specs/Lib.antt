@@ -1,7 +1,7 @@
 -- What the C functions reply.
 --
 -- | notion                         | meaning                                                     | the law that matters                                           |
--- | `code`, `coded`, `verdictCode` | a refusal, an answer, a verdict as one number               | `Tells`, `Judges`: what the number tells, with nothing assumed |
+-- | `code`, `coded`, `verdictCode` | a refusal, an answer, a verdict as one number               | `Tells`, `Judges`: what the number tells; `zero-exactly`       |
 -- | `fitting`, `outAfter`, `Lent`  | 9 where the answer does not fit; the lent output afterwards | `lent-once`                                                    |
 -- | `stepCode`, `Walked`           | 254 for done; the outputs of a library's step and run       | `Walks`: what the number tells, with nothing assumed           |
 -- | `Beside`, `Contributed`        | a number for each bond, and one number beside them          | `beside-once`                                                  |
@@ -19,6 +19,7 @@ pub mod Texts
 pub mod Version
 pub mod Bounded
 pub mod Recovered
+pub mod Accepted
 pub mod Told
 pub mod ToldTexts
 pub mod ToldLibraries

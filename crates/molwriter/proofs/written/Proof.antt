@@ -8,11 +8,11 @@ use Rattle.block.specs.Told.{few-atoms}
 use Rattle.text.specs.Text.{ascii, three}
 use Rattle.molwriter.specs.Written.{molfileText, saidMolfileWritten}
 use Rattle.molwriter.specs.Pieces.{countsText, pieces}
-use Rattle.molwriter.proofs.Listing.{text-pieces}
+use Rattle.molwriter.specs.Listing.{text-pieces}
 use Rattle.molwriter.specs.declared.MolWritten.the-variants.{Bytes}
 use Rattle.molwriter.specs.Length.{half-length, pieces-length, few-bytes}
 use Rattle.text.proofs.Putting.{both, as-word, at-front}
-use Rattle.molwriter.proofs.Replies.{write-short, write-fine, stays, fills}
+use Rattle.molwriter.specs.Replies.{write-short, write-fine, stays, fills}
 use native.Mathlib.Omega.{arith}
 use borrow.Author.Needs.{needs}
 use Rattle.molwriter.proofs.written.Statement.{statement}

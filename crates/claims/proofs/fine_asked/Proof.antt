@@ -1,0 +1,21 @@
+-- `claims::fine_asked` meets its contract. Assumes nothing.
+use mathlib.Core.Bool.{true≢false}
+use mathlib.Core.Path.{_≡_, sym, _∙_, ap}
+use borrow.Author.Needs.{needs}
+use Rattle.claims.proofs.fine_asked.Statement.{statement}
+use Rattle.claims.proofs.fine_asked.Tie as tie
+
+is-asked-requires : tie.Need-is-asked-requires
+is-asked-requires c κs = search needs
+
+fine-of-requires : tie.Need-fine-of-requires
+fine-of-requires c κs = search needs
+
+returns : tie.Need-returns
+returns c = λ a. c .fine-of .ensures
+
+returns-2 : tie.Need-returns-2
+returns-2 c = λ a. absurd (true≢false (sym a ∙ sym (c .before .is-asked .ensures) ∙ c .if1 .left))
+
+pub fine-asked-spec : {M : Type 1} → statement M
+fine-asked-spec = tie.close (tie.spec is-asked-requires fine-of-requires returns returns-2)
