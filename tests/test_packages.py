@@ -60,6 +60,13 @@ class Archives(unittest.TestCase):
         self.assertLessEqual({"PKG-INFO", "LICENSE", "README.md", "builder.py", "pyproject.toml", "tteuyomal/__init__.py"}, names)
 
 
+class Types(unittest.TestCase):
+    @unittest.skipUnless(shutil.which("mypy"), "no mypy here (Debian: mypy)")
+    def test_mypy(self):
+        run = subprocess.run(["mypy", "--no-incremental"], cwd=PYTHON, capture_output=True, text=True)
+        self.assertEqual((run.returncode, run.stderr), (0, ""), run.stdout)
+
+
 class Manual(unittest.TestCase):
     @unittest.skipUnless(shutil.which("man"), "no man here")
     def test_pages(self):

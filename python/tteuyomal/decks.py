@@ -8,7 +8,7 @@ from collections.abc import Iterable, Iterator, Mapping
 from dataclasses import dataclass
 from typing import Any, NamedTuple
 
-from . import native
+from . import files, native
 from .native import Contributions, Fields, Refused, Sets, Szeged, Values, Vertex
 
 BLOCK, ASSEMBLY, SHEET, SIX, LIBRARY = 1, 2, 3, 4, 5  # kinds of records
@@ -102,6 +102,9 @@ class Block:
         """The block as a record of a deck, under a number."""
         return native.block_record(number, self.atoms, self.bonds)
 
+    def _repr_html_(self) -> str:
+        return _in_notebooks(self)
+
 
 @dataclass(frozen=True)
 class Placement:
@@ -140,6 +143,9 @@ class Sheet:
     def __str__(self) -> str:
         return " ".join(f"{word} {number}" for word, number in zip(SHORT_NAMES, self.fields()))
 
+    def _repr_html_(self) -> str:
+        return _in_notebooks(self)
+
 
 class Verdict(NamedTuple):
     """What the library says of a deck. It is true only where the sheet was accepted."""
@@ -162,6 +168,9 @@ class Verdict(NamedTuple):
         if self.refusal:
             return f"refused {self.refusal.number} at {self.refusal.place}"
         return f"differs {self.field}" if self.field else "accepted"
+
+    def _repr_html_(self) -> str:
+        return _in_notebooks(self)
 
 
 @dataclass(frozen=True)
@@ -215,6 +224,9 @@ class Deck:
         """The distance of atom i of placement k and atom j of placement l in the whole molecule."""
         return native.placed_distance(bytes(self.without_sheet()), k, i, l, j)
 
+    def _repr_html_(self) -> str:
+        return _in_notebooks(self)
+
 
 def judge(deck: Deck | native.Bytes) -> Verdict:
     """The library's verdict on a deck with a sheet. A refusal is a verdict too: nothing is raised for it."""
@@ -222,6 +234,12 @@ def judge(deck: Deck | native.Bytes) -> Verdict:
         return Verdict(native.judge(_deck_bytes(deck)))
     except Refused as refusal:
         return Verdict(refusal=refusal)
+
+
+def judge_file(path: str | os.PathLike[str]) -> Verdict:
+    """The library's verdict on the deck in a file. A file that can't be read is an OSError, never a verdict."""
+    with open(path, "rb") as file:
+        return judge(file.read(files.LONGEST + 1))  # one byte more than the longest deck is refused as any longer file is
 
 
 def judge_many(decks: Iterable[Deck | native.Bytes]) -> list[Verdict]:
@@ -332,6 +350,12 @@ def _encoded(text: bytes | str) -> bytes:
     return text.encode("utf-8", "surrogateescape") if isinstance(text, str) else text
 
 
+def _in_notebooks(value: Block | Sheet | Verdict | Deck) -> str:
+    from . import notebook  # which draws what stands here
+
+    return notebook.shown(value)
+
+
 def _left_out(atom: Any) -> bool:
     """Whether an RDKit atom is a hydrogen that a block leaves out."""
     return bool(atom.GetSymbol() == "H" and atom.GetDegree() == 1 and atom.GetNeighbors()[0].GetSymbol() != "H")
@@ -339,6 +363,6 @@ def _left_out(atom: Any) -> bool:
 
 __all__ = [
     "Block", "Contributions", "Deck", "FIELD_NAMES", "Fields", "Placement", "Refused", "SHORT_NAMES", "Sets", "Sheet", "Szeged",
-    "Values", "Verdict", "Vertex", "claimed", "compose", "contributions", "judge", "judge_many", "measure", "records", "values",
+    "Values", "Verdict", "Vertex", "claimed", "compose", "contributions", "judge", "judge_file", "judge_many", "measure", "records", "values",
     "verdict_of",
 ]  # fmt: skip
