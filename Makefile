@@ -39,7 +39,7 @@ made:
 
 # the whole archive as one shared object, with its exported names alone; made.txt says which code it is
 $(SHARED): $(STATIC)
-	$(CC) -shared -s -o $@ -Wl,-soname,$(SONAME) -Wl,--whole-archive $< -Wl,--no-whole-archive
+	$(CC) -shared -s -o $@ -Wl,-z,now -Wl,-soname,$(SONAME) -Wl,--whole-archive $< -Wl,--no-whole-archive
 	{ cat target/staticlib/code.txt; echo "object $$(sha256sum <$@ | cut -d' ' -f1)"; } >target/staticlib/made.txt
 
 $(PACKED): $(SHARED)

@@ -73,7 +73,7 @@ def _about(project, tag_):
         "METADATA": _metadata(project),
         "LICENSE": _licence(),
         "WHEEL": f"Wheel-Version: 1.0\nGenerator: builder\nRoot-Is-Purelib: false\nTag: {tag_}\n",
-        "entry_points.txt": "[console_scripts]\ntteuyomal = tteuyomal.__main__:main\n",
+        "entry_points.txt": "[console_scripts]\n" + "".join(f"{name} = {where}\n" for name, where in project["scripts"].items()),
     }
 
 
