@@ -37,10 +37,8 @@ made:
 	made/code write
 	$(MAKE) python
 
-# the whole archive as one shared object, with its exported names alone; made.txt says which code it is
 $(SHARED): $(STATIC)
-	$(CC) -shared -s -o $@ -Wl,-z,now -Wl,-soname,$(SONAME) -Wl,--whole-archive $< -Wl,--no-whole-archive
-	{ cat target/staticlib/code.txt; echo "object $$(sha256sum <$@ | cut -d' ' -f1)"; } >target/staticlib/made.txt
+	CC='$(CC)' made/code shared $(SONAME)
 
 $(PACKED): $(SHARED)
 	cp target/staticlib/made.txt python/tteuyomal/

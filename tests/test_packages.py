@@ -2,6 +2,7 @@
 man reads without a complaint; completions that the shells take."""
 
 import email
+import hashlib
 import os
 import shutil
 import subprocess
@@ -57,7 +58,18 @@ class Archives(unittest.TestCase):
             name = builder.build_sdist(room)
             with tarfile.open(os.path.join(room, name)) as archive:
                 names = {one.split("/", 1)[1] for one in archive.getnames()}
-        self.assertLessEqual({"PKG-INFO", "LICENSE", "README.md", "builder.py", "pyproject.toml", "tteuyomal/__init__.py"}, names)
+                archive.extractall(room)
+            there = os.path.join(room, name[: -len(".tar.gz")])
+            build = "import builder; print(builder.build_wheel('..'))"
+            wheel = subprocess.run([sys.executable, "-Bc", build], cwd=there, capture_output=True, text=True, check=True).stdout.strip()
+            with zipfile.ZipFile(os.path.join(room, wheel)) as archive:
+                archive.extractall(os.path.join(room, "installed"))
+            alone = os.environ | {"PYTHONPATH": os.path.join(room, "installed")}
+            said = subprocess.run([sys.executable, "-m", "tteuyomal", "--version"], env=alone, cwd=room, capture_output=True, text=True).stdout
+        self.assertLessEqual({"PKG-INFO", "LICENSE", "README.md", "builder.py", "pyproject.toml", "tteuyomal/__init__.py", "made/aarch64.s"}, names)
+        self.assertFalse([one for one in names if one.endswith((".so", "made.txt"))], "what was made here is not in it")
+        code = hashlib.sha256(open(os.path.join(ROOT, "made", f"{os.uname().machine}.s"), "rb").read()).hexdigest()
+        self.assertIn(f", code {code} for {os.uname().machine}, proved by the gate", said)
 
 
 class Types(unittest.TestCase):
