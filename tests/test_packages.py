@@ -72,6 +72,29 @@ class Archives(unittest.TestCase):
         self.assertIn(f", code {code} for {os.uname().machine}, proved by the gate", said)
 
 
+@unittest.skipUnless(shutil.which("dpkg-deb") and shutil.which("dpkg-architecture"), "no Debian here (dpkg, dpkg-dev)")
+class Debian(unittest.TestCase):
+    def made(self):
+        """The packages, by the front of their names."""
+        run = subprocess.run(["make", "-s", "deb"], cwd=ROOT, capture_output=True, text=True)
+        self.assertEqual(run.returncode, 0, run.stdout + run.stderr)
+        found = {}
+        for path in run.stdout.split():
+            with open(os.path.join(ROOT, path), "rb") as file:
+                found[os.path.basename(path).split("_")[0]] = file.read()
+        return found
+
+    def test_packages(self):
+        first = self.made()
+        major = builder._project()["version"].split(".")[0]
+        self.assertEqual(set(first), {"tteuyomal", "python3-tteuyomal", "libtteuyomal-dev", f"libtteuyomal{major}"})
+        self.assertEqual(first, self.made(), "the same bytes each time")
+        if shutil.which("lintian"):
+            debs = [os.path.join("target", "deb", name) for name in os.listdir(os.path.join(ROOT, "target", "deb"))]
+            run = subprocess.run(["lintian", "--allow-root", "--fail-on", "error,warning", *debs], cwd=ROOT, capture_output=True, text=True)
+            self.assertEqual((run.returncode, run.stdout), (0, ""), run.stderr)
+
+
 class Types(unittest.TestCase):
     @unittest.skipUnless(shutil.which("mypy"), "no mypy here (Debian: mypy)")
     def test_mypy(self):
@@ -106,3 +129,5 @@ class Manual(unittest.TestCase):
         run = subprocess.run(["bash"], input=printed("bash") + words, capture_output=True, text=True)
         self.assertEqual(run.stdout, "judge\n")
         self.assertTrue(printed("zsh").startswith("#compdef tteuyomal\n"))
+        if shutil.which("zsh"):
+            self.assertEqual(subprocess.run(["zsh", "-n"], input=printed("zsh"), text=True).returncode, 0)
