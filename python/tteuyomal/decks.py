@@ -102,9 +102,6 @@ class Block:
         """The block as a record of a deck, under a number."""
         return native.block_record(number, self.atoms, self.bonds)
 
-    def _repr_html_(self) -> str:
-        return _in_notebooks(self)
-
 
 @dataclass(frozen=True)
 class Placement:
@@ -143,9 +140,6 @@ class Sheet:
     def __str__(self) -> str:
         return " ".join(f"{word} {number}" for word, number in zip(SHORT_NAMES, self.fields()))
 
-    def _repr_html_(self) -> str:
-        return _in_notebooks(self)
-
 
 class Verdict(NamedTuple):
     """What the library says of a deck. It is true only where the sheet was accepted."""
@@ -168,9 +162,6 @@ class Verdict(NamedTuple):
         if self.refusal:
             return f"refused {self.refusal.number} at {self.refusal.place}"
         return f"differs {self.field}" if self.field else "accepted"
-
-    def _repr_html_(self) -> str:
-        return _in_notebooks(self)
 
 
 @dataclass(frozen=True)
@@ -223,9 +214,6 @@ class Deck:
     def distance(self, k: int, i: int, l: int, j: int) -> int:
         """The distance of atom i of placement k and atom j of placement l in the whole molecule."""
         return native.placed_distance(bytes(self.without_sheet()), k, i, l, j)
-
-    def _repr_html_(self) -> str:
-        return _in_notebooks(self)
 
 
 def judge(deck: Deck | native.Bytes) -> Verdict:
@@ -348,12 +336,6 @@ def _encoded(text: bytes | str) -> bytes:
     if isinstance(text, os.PathLike):
         raise TypeError(f"a text is meant, not the name of a file: open {os.fspath(text)!r} and read it")
     return text.encode("utf-8", "surrogateescape") if isinstance(text, str) else text
-
-
-def _in_notebooks(value: Block | Sheet | Verdict | Deck) -> str:
-    from . import notebook  # which draws what stands here
-
-    return notebook.shown(value)
 
 
 def _left_out(atom: Any) -> bool:

@@ -1,4 +1,5 @@
-"""Blocks, sheets, verdicts and decks as notebooks show them: a table of the fields, and the molecule where RDKit is there."""
+"""Blocks, sheets, verdicts and decks as notebooks show them: a table of the fields, and the molecule where RDKit is there. Loading this
+teaches it to them."""
 
 from __future__ import annotations
 
@@ -55,3 +56,7 @@ def _table(head: list[str], rows: list[list[object]]) -> str:
 
 def _line(words: str) -> str:
     return f"<p>{html.escape(words)}</p>"
+
+
+for kind in (Block, Sheet, Verdict, Deck):
+    setattr(kind, "_repr_html_", shown)  # what notebooks ask a value for

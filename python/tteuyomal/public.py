@@ -1,5 +1,6 @@
 """What `from tteuyomal import ..` gives."""
 
+from . import notebook  # noqa: F401
 from .decks import (
     Block,
     Deck,
