@@ -9,6 +9,7 @@
 mod archive;
 mod checker;
 mod fixed;
+mod inputs;
 mod lent;
 mod libraries;
 mod library_calls;
@@ -65,6 +66,7 @@ fn main() -> ExitCode {
     libraries::run(checker);
     random_libraries::run(checker, options.seed, options.first, options.cases);
     queues::run(checker, options.seed, options.first, options.cases);
+    inputs::run(checker);
     if let Some(folder) = &options.programs {
         programs::run(checker, folder, options.seed);
     }
