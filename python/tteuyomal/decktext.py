@@ -48,7 +48,7 @@ from collections.abc import Callable, Iterable, Iterator
 from typing import Any
 
 from .decks import SHORT_NAMES, Block, Deck, Placement, Sheet
-from .files import reason, shown as shown_name
+from .files import Found, Unread, shown as shown_name, text_of
 from .libraries import Library
 from .native import Refused
 
@@ -63,7 +63,9 @@ class BadText(ValueError):
 
 def shown(data: bytes) -> str:
     """The text of a deck."""
-    for told in (lambda: _tables(Deck.from_bytes(data)), lambda: _library_tables(Library.from_bytes(data))):
+    texts: tuple[Callable[[], Iterable[str]], ...]
+    texts = (lambda: _tables(Deck.from_bytes(data)), lambda: _library_tables(Library.from_bytes(data)))
+    for told in texts:
         try:
             text = "\n".join(told())
             if made(text) == data:
@@ -136,8 +138,7 @@ def named_files(text: str, folder: str) -> list[str]:
 
 
 def _file(path: str) -> bytes:
-    with open(path, "rb") as file:
-        return file.read()
+    return text_of(Found(path)).data
 
 
 def _raw(tables: dict[str, Any]) -> bytes:
@@ -186,8 +187,8 @@ def _block(table: dict[str, Any], place: int, read: Callable[[str], bytes]) -> t
         return number, make(data)
     except Refused as refusal:
         raise BadText(f"{what}: {named[0]} {shown_name(name)}: {refusal}{line_of(data, refusal)}") from None
-    except (OSError, ValueError) as fault:  # a name with a NUL in it, too
-        raise BadText(f"{what}: {named[0]} {shown_name(name)}: cannot be read: {reason(fault)}") from None
+    except Unread as fault:  # a name with a NUL in it, too
+        raise BadText(f"{what}: {named[0]} {shown_name(name)}: cannot be read: {fault}") from None
 
 
 def line_of(text: bytes, refusal: Refused) -> str:
@@ -253,5 +254,5 @@ def _sheet(tables: dict[str, Any]) -> Sheet | None:
     if not isinstance(table, dict):
         raise BadText("`sheet` is no table: write [sheet]")
     _known(table, set(SHORT_NAMES), "the sheet")
-    five = [_number(table, key, "the sheet") for key in SHORT_NAMES[:5]]
-    return Sheet(*five, _number(table, "largest", "the sheet") if "largest" in table else None)
+    names = SHORT_NAMES if "largest" in table else SHORT_NAMES[:5]
+    return Sheet(*(_number(table, key, "the sheet") for key in names))
