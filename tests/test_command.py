@@ -9,6 +9,7 @@ import random
 import shutil
 import signal
 import stat
+import struct
 import subprocess
 import sys
 import tempfile
@@ -223,6 +224,26 @@ class Explaining(Room):
         self.assertIn("[09]", said)
         self.assertIn("nothing to judge", self.run_command("explain", self.put("a", FORTY))[1])
 
+    def test_parts(self):
+        """A block in parts is told which atoms have paths to each other."""
+        for atoms, bonds, words in (
+            (6, "", "It is in 6 parts: atoms 1; 2; 3; 4; 5; 6."),
+            (5, "0103 0305", "It is in 3 parts: atoms 1 3 5; 2; 4."),
+            (64, "".join(f"{k:02x}{k + 2:02x}" for k in range(1, 63)), f"It is in 2 parts: atoms {' '.join(map(str, range(1, 64, 2)))}; {' '.join(map(str, range(2, 65, 2)))}."),
+        ):  # fmt: skip
+            ends = bytes.fromhex(bonds)
+            deck = struct.pack("<HHHHH", 6 + len(ends), 1, 1, atoms, len(ends) // 2) + ends + FORTY[22:26] + b"\1\0" + FORTY[28:34]
+            deck = deck.replace(b"\x0e\0\2\0", b"\x08\0\2\0") + RIGHT
+            status, said = self.run_command("explain", self.put("a", deck))
+            self.assertEqual((status, said.splitlines()[-1]), (2, words))
+
+    def test_a_text_is_no_deck(self):
+        said = self.run_command("explain", self.put("a", decktext.shown(GOOD).encode()))[1]
+        self.assertIn("Byte 0 is the first byte of a record of kind ", said)
+        self.assertNotIn("record of a record", said)
+        self.assertIn("This file is a text and no deck", said)
+        self.assertNotIn("is a text", self.run_command("explain", self.put("a", REFUSED))[1])
+
     def test_any_bytes(self):
         chance = random.Random(5)
         for _ in range(300):
@@ -324,6 +345,8 @@ class Measuring(Room):
     def test_a_line_for_who_edits(self):
         text = b"\n\n\n  2  1  0\n" + 2 * (b" " * 31 + b"C\n") + b"  1  x\nM  END\n"
         self.assertIn("molfile isn't blanks, then at least one digit (line 7)", self.run_command("measure", self.put("a.mol", text))[1])
+        text = b"\n\n\n  0  0  0     0  0            999 V3000\nM  V30 BEGIN CTAB\nM  END\n"
+        self.assertIn("(the file says V3000, and V2000 is read)", self.run_command("measure", self.put("a.mol", text))[1])
 
     @unittest.skipUnless(native.has("read_neighbours"), "the library reads no neighbour texts yet")
     def test_neighbour_texts_of_blocks(self):

@@ -236,8 +236,11 @@ class Notices(Room):
         shutil.copy(native.SHARED_OBJECT, other)
         board = os.path.join(self.room, "board.html")
         with mock.patch.dict(os.environ, {"TTEUYOMAL_SO": other}):
-            one = self.process("judge", self.decks, "--board", board, "--notice", self.path, stdout=subprocess.DEVNULL, stderr=subprocess.DEVNULL)
-            self.assertEqual(one.wait(), 2)
+            one = self.process("judge", self.decks, "--board", board, "--notice", self.path, "--json", stdout=subprocess.PIPE, stderr=subprocess.PIPE)
+            said, fault = one.communicate()
+            self.assertEqual(one.returncode, 2)
+        self.assertTrue(fault.decode().startswith(f"tteuyomal: TTEUYOMAL_SO is set, so {other} answers here and not the package's own library\n"))
+        self.assertEqual({json.loads(line)["TTEUYOMAL_SO"] for line in said.splitlines()}, {other})
         for path in (board, self.path):
             self.assertIn("TTEUYOMAL_SO", self.read(path).decode())
             self.assertIn(other, self.read(path).decode())

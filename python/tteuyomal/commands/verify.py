@@ -16,6 +16,10 @@ from . import common
 
 NAME = "verify"
 WORDS = "judge a folder again and say whether each line of a notice still holds: the same bytes, the same verdict, none missing, none added"
+STATUS = (
+    "0 if every line of the notice still holds and there is one, whatever its verdict; 2 if not. It does not say that all "
+    "was accepted: the notice does."
+)
 
 
 def options(parser: argparse.ArgumentParser) -> None:
