@@ -256,7 +256,14 @@ class Notices(Room):
         return status, said
 
     def test_holds(self):
-        self.assertEqual(self.verify(), (0, "the notice holds: 3 decks: 1 accepted, 1 differs, 1 refused\n"))
+        status, said = self.verify()
+        self.assertEqual((status, said.splitlines()[0]), (0, "the notice holds: 3 decks: 1 accepted, 1 differs, 1 refused"))
+        self.assertEqual(said.splitlines()[1], "it does not say that all was accepted: Not accepted: 2 of 3 (differs: 1, refused: 1). Accepted: 1.")
+        good = self.folder("good")
+        self.put("a", GOOD, good)
+        for expected, more in ((1, ""), (2, "it does not say that all was accepted: Not as expected: expected 2 decks, found 1. Accepted: 1.\n")):
+            self.run_command("notice", good, "-o", self.path, "--expect", str(expected))
+            self.assertEqual(self.run_command("verify", self.path, good), (0, f"the notice holds: 1 deck: 1 accepted\n{more}"))
 
     def test_does_not_hold(self):
         for name, data, words in (

@@ -30,7 +30,8 @@ def options(parser: argparse.ArgumentParser) -> None:
 
 
 def run(options: argparse.Namespace, out: Output) -> int:
-    """A line for whatever does not hold, and a sentence; 0 only if all holds."""
+    """A line for whatever does not hold, and a sentence; 0 only if all holds. A notice that is true may still say that something is wrong,
+    so what it says is repeated."""
     said = read(options.notice)
     if not os.path.isdir(options.folder):
         raise Stop(f"{files.shown(options.folder)} is no folder")
@@ -56,6 +57,8 @@ def run(options: argparse.Namespace, out: Output) -> int:
         out.write(f"the notice does not hold: {count} of its lines or of these files are otherwise\n" if count else "")
         return 2
     out.write(f"the notice holds: {tally}\n")
+    if not said.all_accepted:
+        out.write(f"it does not say that all was accepted: {said.sentence}\n")
     return 0
 
 
