@@ -100,7 +100,8 @@ class Judging(Room):
         if os.path.exists(PROGRAM):
             names = [line.rsplit(": ", 1)[0] for line in lines] + [os.path.join(self.room, "missing"), self.folder("x")]
             said = subprocess.run([PROGRAM, *names], capture_output=True, text=True).stdout
-            self.assertEqual(self.run_command("judge", *names[:-1])[1], "".join(said.splitlines(True)[:-1]))
+            missing = f"{names[-2]}: cannot be read\n"
+            self.assertEqual(self.run_command("judge", *names[:-2])[1] + missing, "".join(said.splitlines(True)[:-1]))
 
     def test_objects(self):
         for name, data in (("a", GOOD), ("b", WRONG), ("c", REFUSED), ("d", bytes(40000))):
@@ -147,7 +148,8 @@ class Judging(Room):
         os.symlink(self.put("real", GOOD, self.room), os.path.join(self.decks, "link"))
         status, said = self.run_command("judge", self.decks)
         verdicts = {line[len(self.decks) + 1 :] for line in said.splitlines()}
-        expected = {".hidden: accepted", "sub/deck: accepted", "link: accepted", "pipe: cannot be read", "round: cannot be read"}
+        expected = {".hidden: accepted", "sub/deck: accepted", "link: accepted", "pipe: cannot be read: no file"}
+        expected.add("round: cannot be read: a link to a folder")
         self.assertEqual((status, verdicts), (2, expected))
 
     def test_many(self):
@@ -654,6 +656,27 @@ class Outputs(Room):
         self.assertEqual(os.listdir(self.room), ["decks"])
 
 
+class Lengths(Room):
+    def test_whatever_its_length(self):
+        """The front is kept, the SHA-256 is of everything, and nothing is read without end."""
+        chance = random.Random(3)
+        with mock.patch.object(files, "LONGEST_FILE", 3_000), mock.patch.object(files, "_PIECE", 700):
+            for size in (0, 1, 699, 700, 701, 1_000, 1_001, 1_002, 1_400, 2_999, 3_000, 3_001, 9_000):
+                data = chance.randbytes(size)
+                found = files.Found(self.put("a", data))
+                for most in (1_000, 3_000):
+                    if size > 3_000:
+                        self.assertRaisesRegex(files.Unread, "longer than 3000 bytes", files.read, found, most)
+                    else:
+                        self.assertEqual(files.read(found, most), (data[: most + 1], hashlib.sha256(data).hexdigest()))
+            self.assertRaises(files.Unread, files.read, files.Found("/dev/zero"))
+            self.assertEqual(self.run_command("judge", "/dev/zero"), (2, "/dev/zero: cannot be read: longer than 3000 bytes\n"))
+            for words in (["measure", "--as", "molfile", "/dev/zero"], ["deck", "/dev/zero", "-o", "-"], ["verify", "/dev/zero", self.decks],
+                          ["judge", self.decks, "--manifest", "/dev/zero"], ["explain", "/dev/zero"], ["show", "/dev/zero"]):  # fmt: skip
+                status, said = self.run_command(*words)
+                self.assertEqual((status, "longer than 3000 bytes" in said + self.fault), (2, True), words)
+
+
 class Streams(Room):
     """Standard streams that are closed, and whatever fails before the command begins."""
 
@@ -666,7 +689,7 @@ class Streams(Room):
         one = self.shell(f"judge {deck} 2>&-")
         self.assertEqual((one.returncode, one.stdout.decode()), (0, f"{deck}: accepted\n"))
         one = self.shell("judge - <&-")
-        self.assertEqual((one.returncode, one.stdout), (2, b"-: cannot be read\n"))
+        self.assertEqual((one.returncode, one.stdout), (2, b"-: cannot be read: standard input is closed\n"))
         self.assertNotIn(b"Traceback", one.stderr)
         self.assertEqual(self.shell("judge --no-such 2>&-").returncode, 2)
         self.assertEqual(self.shell("judge - --json <&- 2>&-").returncode, 2)

@@ -86,7 +86,7 @@ class Options(unittest.TestCase):
             self.assertEqual(says, each.NAME in one, each.NAME)
 
     def test_sizes(self):
-        for size in (files.LONGEST, files.LONGEST_TEXT):
+        for size in (files.LONGEST, files.LONGEST_FILE):
             self.assertIn(f"at most {size:,}", PAGE)
 
 
