@@ -58,7 +58,7 @@ class Objects(Room):
         self.run_command("notice", self.decks, "-o", os.path.join(self.room, "n"), "--manifest", manifest)
         written = self.read(os.path.join(self.room, "n")).decode()
         head = lambda lines: [line.split(":")[0] for line in lines if re.match(r"[A-Z][\w' -]*: ", line)]
-        self.assertEqual([one for one in head(written.splitlines()) if one not in ("Manifest", "Code")], head(shown))
+        self.assertEqual([one for one in head(written.splitlines()) if one != "Manifest"], head(shown))
         self.assertIn("\n".join(line for line in shown if line.startswith("Not accepted")), written)
         self.assertEqual([line for line in shown if line.endswith(":")], [line for line in written.splitlines() if line.endswith(":")])
         names = lambda lines: [line.split("  ")[1] for line in lines if re.match(r"[0-9a-f.]+  ", line)]
