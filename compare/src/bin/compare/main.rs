@@ -1,7 +1,7 @@
 //! Compares libtteuyomal.a with the second opinion. The last line is 'N passed, M failed'; the exit status is 0 when
 //! nothing failed.
 //!
-//!     compare [--seed N] [--cases N] [--first N] [--programs FOLDER]
+//!     compare [--seed N] [--cases N] [--first N] [--programs FOLDER] [--until failure]
 //!
 //! With a folder, the programs `sheet`, `judge` and `measure` in it are run and their lines compared too.
 
@@ -30,11 +30,12 @@ struct Options {
     cases: u64,
     first: u64,
     programs: Option<PathBuf>,
+    until_failure: bool,
 }
 
 /// The options of the command line, or what is wrong with it.
 fn options(mut words: impl Iterator<Item = String>) -> Result<Options, String> {
-    let mut options = Options { seed: 20_011, cases: 4_000, first: 0, programs: None };
+    let mut options = Options { seed: 20_011, cases: 4_000, first: 0, programs: None, until_failure: false };
     while let Some(word) = words.next() {
         let value = words.next().ok_or(format!("{word} wants a value"))?;
         let number = || value.parse::<u64>().map_err(|_| format!("{value} is no number"));
@@ -42,6 +43,7 @@ fn options(mut words: impl Iterator<Item = String>) -> Result<Options, String> {
             "--seed" => options.seed = number()?,
             "--cases" => options.cases = number()?,
             "--first" => options.first = number()?,
+            "--until" if value == "failure" => options.until_failure = true,
             "--programs" => options.programs = Some(PathBuf::from(&value)),
             _ => return Err(format!("{word} is no option")),
         }
@@ -53,11 +55,15 @@ fn main() -> ExitCode {
     let options = match options(std::env::args().skip(1)) {
         Ok(options) => options,
         Err(fault) => {
-            eprintln!("compare: {fault}\nusage: compare [--seed N] [--cases N] [--first N] [--programs FOLDER]");
+            eprintln!("compare: {fault}\nusage: compare [--seed N] [--cases N] [--first N] [--programs FOLDER] [--until failure]");
             return ExitCode::from(2);
         }
     };
     let checker = &mut Checker::default();
+    checker.ends = options.until_failure;
+    if checker.ends {
+        checker::limit_time();
+    }
     fixed::run(checker);
     random::run(checker, options.seed, options.first, options.cases);
     molfiles::run(checker, options.seed, options.first, options.cases);
