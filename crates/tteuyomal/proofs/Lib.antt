@@ -7,3 +7,4 @@ pub mod MolfileReplies
 pub mod Texts
 pub mod Walking
 pub mod QueueReplies
+pub mod Spans

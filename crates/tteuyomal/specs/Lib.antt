@@ -14,6 +14,7 @@ pub mod FarthestAtom
 pub mod Libraries
 pub mod TwoQueues
 pub mod CountSets
+pub mod SdfSpans
 pub mod Molfiles
 pub mod Texts
 pub mod Version

@@ -25,11 +25,13 @@ use sheets::field_count;
 use sheets::fields_of;
 
 mod balaban_j;
+mod claim_verdicts;
 mod count_sets;
 mod farthest_atom;
 mod libraries;
 mod molfiles;
 mod neighbour_text;
+mod sdf_spans;
 mod szeged_terms;
 mod two_queues;
 mod version;
