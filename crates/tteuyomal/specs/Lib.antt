@@ -25,3 +25,4 @@ pub mod Told
 pub mod ToldTexts
 pub mod ToldLibraries
 pub mod ToldQueues
+pub mod ToldClaims
