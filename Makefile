@@ -4,7 +4,7 @@
 #   make made                   the code in made/, of what is proved on this machine: for who changes the library
 #   make install PREFIX=/usr    header, archive, shared object and pkg-config file
 #   make test                   the tests of what stands around the library
-VERSION := 3.0.0
+VERSION := 3.1.0
 PREFIX ?= /usr/local
 DESTDIR ?=
 
