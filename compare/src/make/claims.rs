@@ -26,7 +26,7 @@ const NO_NUMBERS: [&str; 18] = [
 
 fn white(random: &mut Random) -> &'static str {
     if random.once_in(3) {
-        random.pick(&[" ", "\t", "  \t ", "   "])
+        *random.pick(&[" ", "\t", "  \t ", "   "])
     } else {
         ""
     }

@@ -49,7 +49,7 @@ fn items(random: &mut Random, feed: &str) -> String {
         text += &header(random);
         text += feed;
         for _ in 0..random.below(4).min(2) {
-            text += random.pick(&["109", " 31.5 ", "", "> 7", "> <W>", "M  END", "\r", "a line"]);
+            text += *random.pick(&["109", " 31.5 ", "", "> 7", "> <W>", "M  END", "\r", "a line"]);
             text += feed;
         }
         if !random.once_in(5) {
