@@ -64,7 +64,8 @@ fn main() -> ExitCode {
     molfiles::run(checker, options.seed, options.first, options.cases);
     neighbours::run(checker, options.seed, options.first, options.cases);
     relisted::run(checker, options.seed, options.first, options.cases);
-    libraries::run(checker, options.seed, options.first, options.cases);
+    libraries::run(checker);
+    random_libraries::run(checker, options.seed, options.first, options.cases);
     queues::run(checker, options.seed, options.first, options.cases);
     claims::run(checker, options.seed, options.first, options.cases);
     sdf::run(checker, options.seed, options.first, options.cases);
