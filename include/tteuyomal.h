@@ -101,7 +101,8 @@ enum tteuyomal_refusal {
     TTEUYOMAL_CANDIDATE_COUNT = 32, /* a site's candidate count is 0 or above 8 */
     TTEUYOMAL_SITE_TAKEN = 33,      /* a site's atom was used by an earlier site */
     TTEUYOMAL_NO_TREE = 34,         /* the block's bonds are not one fewer than its atoms */
-    TTEUYOMAL_CLAIM = 35,           /* the claim is of no field, or is cut off */
+    TTEUYOMAL_CLAIM = 35,           /* the claim is of no field, or is cut off; at place 0: no such field as was asked
+                                       about */
     TTEUYOMAL_NO_CLAIM = 36,        /* there is no claim */
     TTEUYOMAL_CLAIM_TEXT = 37,      /* the text is no number as the rules read it */
     TTEUYOMAL_NO_ITEM = 38,         /* the record has no such data item */
@@ -162,7 +163,7 @@ static inline const char *tteuyomal_words(unsigned number)
         "a site's candidate count is 0 or above 8",
         "a site's atom was used by an earlier site",
         "the block's bonds are not one fewer than its atoms",
-        "the claim is of no field, or is cut off",
+        "the claim is of no field, or is cut off; at place 0: no such field as was asked about",
         "there is no claim",
         "the text is no number as the rules read it",
         "the record has no such data item",

@@ -70,13 +70,14 @@ fn claim(random: &mut Random, field: u8, text: &str) -> Vec<u8> {
     [&[field, length as u8], text.as_bytes()].concat()
 }
 
-/// Claims of a molecule with these fields: J is in units of 10^-9, where it is the tenth.
-pub fn random_claims(random: &mut Random, fields: &[(u128, u128)]) -> Vec<u8> {
+/// Claims of a molecule with these fields, J in units of 10^-9, where it is the tenth; those of trees are mostly left out where it is none.
+pub fn random_claims(random: &mut Random, fields: &[(u128, u128)], tree: bool) -> Vec<u8> {
+    let asked: Vec<usize> = (0..fields.len()).filter(|at| tree || ![7, 8].contains(at) || random.once_in(8)).collect();
     let (often_right, damaged) = (random.once_in(2), random.once_in(4));
     let mut bytes = Vec::new();
     let count = if random.once_in(30) { 0 } else { random.between(1, fields.len() + 3) };
     for _ in 0..count {
-        let at = random.below(fields.len());
+        let at = *random.pick(&asked);
         let number = if often_right { fields[at].0 } else { near(random, fields[at], 1_000_000) };
         let text = match at {
             _ if damaged && random.once_in(6) => random.pick(&NO_NUMBERS).to_string(),

@@ -83,7 +83,7 @@ fn named(checker: &mut Checker) {
         (&[(10, "1.99")], 255 + 256),
         (&[(10, "1.974744868")], 255 + 256),
         (&[(10, "1.974744869")], 0),
-        (&[(10, "1.974744876"), (10, "1.974744877")], 255 + 512),
+        (&[(10, "1.974744881"), (10, "1.974744882")], 255 + 512),
         (&[(2, "10.0"), (2, "11"), (1, "5")], 255 + 512),
         (&[], 36),
         (&[(2, "11"), (0, "4")], 35 + 512),
@@ -136,13 +136,14 @@ fn cuts(checker: &mut Checker) {
 fn blocks(checker: &mut Checker, random: &mut Random) {
     let size = if random.once_in(8) { 64 } else { 16 };
     let mut block = random_block(random, size);
-    let fields = claims::block_fields(block.atoms as usize, &block.bond_bytes()).expect("a good block").1;
+    let (graph, fields) = claims::block_fields(block.atoms as usize, &block.bond_bytes()).expect("a good block");
+    let tree = graph.bonds.len() + 1 == graph.atoms;
     if random.once_in(10) {
         damage_block(random, &mut block);
     }
     let (atoms, bonds) = (block.atoms as usize, block.bond_bytes());
     for _ in 0..4 {
-        let list = random_claims(random, &fields);
+        let list = random_claims(random, &fields, tree);
         judge_block(checker, atoms, &bonds, &list);
     }
 }
@@ -156,7 +157,7 @@ fn decks(checker: &mut Checker, random: &mut Random) {
         damage_bytes(random, &mut deck);
     }
     for _ in 0..4 {
-        let list = random_claims(random, &fields);
+        let list = random_claims(random, &fields, true);
         judge_claims(checker, &deck, &list);
     }
 }
