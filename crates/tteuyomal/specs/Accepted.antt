@@ -19,12 +19,13 @@ use Rattle.tteuyomal.specs.Recovered.{judge-tells}
 pub zero-exactly : (d : List ℕ)
     → (verdictCode (saidVerdict (judgeReply d)) ≡ 0) ↔ ((k : Deck) × (deckReply Judged d ≡ read k) × (claimedAt d (k .sheet) ≡ sheetOf (sheetAt d (k .sheet)) (moleculeOf d k)))
 unfolding judgeReply
-zero-exactly d =
-    (λ z.
-    let a = judge-tells d .accepted z in
-    let (k, e, f) = judged a in
-    (k, e, accepted-exactly d k e .0 (ap saidVerdict a)),
-    λ (k, e, q). ap verdictCode (accepted-exactly d k e .1 q))
+zero-exactly d = (
+  λ z.
+      let a = judge-tells d .accepted z in
+      let (k, e, f) = judged a in
+      (k, e, accepted-exactly d k e .0 (ap saidVerdict a)),
+  λ (k, e, q). ap verdictCode (accepted-exactly d k e .1 q),
+)
   where
     judged : judgeReply d ≡ read 0 → (k : Deck) × (deckReply Judged d ≡ read k) × (read (firstWrong 1 (sheetOf (sheetAt d (k .sheet)) (moleculeOf d k)) (claimedAt d (k .sheet))) ≡ read 0)
     judged = then-read (deckReply Judged d) (λ k. read (firstWrong 1 (sheetOf (sheetAt d (k .sheet)) (moleculeOf d k)) (claimedAt d (k .sheet))))

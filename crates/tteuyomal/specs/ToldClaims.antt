@@ -25,7 +25,7 @@ use Rattle.claiming.specs.Headline.{Right, Claimed}
 use Rattle.claiming.specs.declared.Claim.{Claim}
 use Rattle.claims.specs.Molecules.{deckTruth, deckClaimsReply, blockTruth, blockClaimsReply}
 use Rattle.claims.specs.Headline.{SaysField, accepted-deck, accepted-block}
-use Rattle.sdfile.specs.Sdf.{headerFrom, headerOne, valueChars, valueReply, itemReply, stepAt}
+use Rattle.sdfile.specs.Sdf.{headerOne, valueChars, isNoName, valueReply, itemReply, stepAt}
 use Rattle.sdfile.specs.Found.{valuePlace, headerTwo}
 use Rattle.sdfile.specs.declared.Piece.{Piece}
 use Rattle.sdfile.specs.declared.Span.{Span}
@@ -126,9 +126,9 @@ module _ (cs : List ℕ) (l : length cs < mostPlace) where
   unfolding deckClaimsReply
   zero-claims d = (
     (λ z.
-    let a = judge-claims-tells d .accepted z in
-    let (k, e, f) = then-read (deckReply Composed d) (λ k. claimsReply (deckTruth (moleculeOf d k)) cs) a in
-    (k, e, accepted-deck d cs k e .0 (ap saidVerdict a))),
+        let a = judge-claims-tells d .accepted z in
+        let (k, e, f) = then-read (deckReply Composed d) (λ k. claimsReply (deckTruth (moleculeOf d k)) cs) a in
+        (k, e, accepted-deck d cs k e .0 (ap saidVerdict a))),
     (λ (k, e, H). ap verdictCode (accepted-deck d cs k e .1 H)),
   )
 
@@ -136,9 +136,9 @@ module _ (cs : List ℕ) (l : length cs < mostPlace) where
   unfolding blockClaimsReply
   zero-block n xs = (
     (λ z.
-    let a = judge-block-tells n xs .accepted z in
-    let (u, e, f) = then-read (blockReply n xs) (λ _. claimsReply (blockTruth (graphOf n xs)) cs) a in
-    (e, accepted-block n xs cs e .0 (ap saidVerdict a))),
+        let a = judge-block-tells n xs .accepted z in
+        let (u, e, f) = then-read (blockReply n xs) (λ _. claimsReply (blockTruth (graphOf n xs)) cs) a in
+        (e, accepted-block n xs cs e .0 (ap saidVerdict a))),
     (λ (e, H). ap verdictCode (accepted-block n xs cs e .1 H)),
   )
 
@@ -154,7 +154,7 @@ pub sdf-item-tells : (d name : List ℕ) (room : ℕ) → length d < mostPlace �
 unfolding itemReply valueReply
 sdf-item-tells d name room l =
     lent room (itemList d name) (listed (itemReply d name) (λ s. s .start ∷ s .len ∷ [])
-    (then-bounded mostPlace (refuseIf (eqb (length name) 0) 38 0) _ (if-bounded mostPlace (eqb (length name) 0) 38 0 (omega arith)) (λ u e.
+    (then-bounded mostPlace (refuseIf (isNoName name) 38 0) _ (if-bounded mostPlace (isNoName name) 38 0 (omega arith)) (λ u e.
     then-bounded mostPlace (refuseIf (leb (length d) (headerOne d name)) 38 0) _ (if-bounded mostPlace (leb (length d) (headerOne d name)) 38 0 (omega arith)) (λ v f.
     second-bounded d l (headerTwo d name) (record { start = valuePlace d name; len = valueChars d (valuePlace d name) })))))
 
