@@ -7,7 +7,7 @@
  *   - a pointer and the length behind it name that many readable (for an output: writable) entries;
  *   - no pointer is NULL, also where its length is 0: lend any valid address then;
  *   - an output overlaps no input and no other output;
- *   - up to 32 KiB of stack are there.
+ *   - TTEUYOMAL_STACK_BYTES of stack are there.
  *
  * A BLOCK is an atom count, 1 to 64, and a list of bonds, two bytes each: the numbers of its two atoms, from 1,
  * either first. At most 192 bonds, at most 6 at an atom, and a path between any two atoms.
@@ -62,6 +62,9 @@ typedef uint64_t tteuyomal_reply;
 #define TTEUYOMAL_MOLFILE_BYTES 8754
 #define TTEUYOMAL_NEIGHBOURS_BYTES 1024
 #define TTEUYOMAL_DECK_BYTES 32768
+
+/* More stack than any function takes, on any input. */
+#define TTEUYOMAL_STACK_BYTES 32768
 
 /* What is wrong, by number. The first refusal in a function's order is the one that is told. */
 enum tteuyomal_refusal {
@@ -386,7 +389,8 @@ tteuyomal_reply tteuyomal_sdf_record(const uint8_t *text, size_t text_len, size_
 /* Writes two numbers of the data item of a name in one record of an SDF: the first byte of its value, and how many it has. The
  * header is a line behind the molfile's own `M  END` that begins with `>` and has `<`, the name, `>` in it; the value is the
  * line behind it, and empty where that is missing or is a header itself.
- * Refusals: 38 (no such header, no name, or the molfile's lines are refused), 39 (two), then 9 (span_len below 2). */
+ * Refusals: 38 (no such header, no name or one with more than 16 `<`, or the molfile's lines are refused), 39 (two), then 9
+ * (span_len below 2). */
 tteuyomal_reply tteuyomal_sdf_item(const uint8_t *record, size_t record_len, const uint8_t *name, size_t name_len,
                                    uint64_t *span, size_t span_len);
 

@@ -42,11 +42,15 @@ fn is_header(line: &[u8], name: Option<&[u8]>) -> bool {
     }
 }
 
+/// The most < in a name.
+const MOST_OPENS: usize = 16;
+
 /// The value of the data item of a name: its first byte and its length. 38, 39, then 9.
 pub fn item(record: &[u8], name: &[u8], room: usize) -> Result<[u64; 2], Refusal> {
+    let is_name = !name.is_empty() && name.iter().filter(|&&byte| byte == b'<').count() <= MOST_OPENS;
     let Some(from) = items_place(record) else { return refuse(38, 0) };
     let mut headers = lines(record, from).filter(|(_, line)| is_header(line, Some(name)));
-    let Some((at, header)) = headers.next().filter(|_| !name.is_empty()) else { return refuse(38, 0) };
+    let Some((at, header)) = headers.next().filter(|_| is_name) else { return refuse(38, 0) };
     if let Some((second, _)) = headers.next() {
         return refuse(39, second);
     }

@@ -5,7 +5,8 @@ use super::molfiles::{damage_molfile, random_molfile};
 use super::random::Random;
 
 /// Names that are asked for and stand in headers; some have brackets in them.
-pub const NAMES: [&str; 12] = ["W", "WPATH", "w", "", "<", ">", "><", "<<", "A>", "<A", "a b", "W>\n"];
+pub const NAMES: [&str; 14] =
+    ["<<<<<<<<<<<<<<<<", "<<<<<<<<<<<<<<<<<", "W", "WPATH", "w", "", "<", ">", "><", "<<", "A>", "<A", "a b", "W>\n"];
 
 const PIECES: [&str; 17] = [
     "$$$$",
