@@ -40,10 +40,12 @@ def answers(address: str, function: Callable[..., tuple[str, Any]], tasks: Itera
     with client:
         here = identity()
         under_way = 2 * max(1, sum(client.nthreads().values())) + 2
+
+        def begun(task: tuple[Any, ...]) -> Any:
+            return client.submit(function, *task, pure=False, retries=3)
+
         try:
-            for there, answer in work.in_order(
-                lambda task: client.submit(function, *task, pure=False, retries=3), tasks, under_way
-            ):
+            for there, answer in work.in_order(begun, tasks, under_way):
                 if there != here:
                     raise Stop("a worker has another library than this machine: install the same one everywhere")
                 yield answer
