@@ -132,7 +132,7 @@ WORDS = {
     32: "a site's candidate count is 0 or above 8",
     33: "a site's atom was used by an earlier site",
     34: "the block's bonds are not one fewer than its atoms",
-    35: "the field that is asked for is not 1 to 6",
+    35: "the claim is of no field, or is cut off; at place 0: no such field as was asked about",
 }
 
 
