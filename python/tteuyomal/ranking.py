@@ -36,14 +36,14 @@ class Piece(NamedTuple):
 
     blocks: bytes
     site: bytes
-    count: int
+    many: int
 
 
 class Shard(NamedTuple):
     """Some decks: the first one's number, and how many."""
 
     first: int
-    count: int
+    many: int
 
 
 class Answer(NamedTuple):
@@ -78,7 +78,7 @@ class Plan:
     @property
     def products(self) -> int:
         """How many products there are."""
-        return math.prod(sum(piece.count for piece in site) for site in self.pieces)
+        return math.prod(sum(piece.many for piece in site) for site in self.pieces)
 
     def sha256(self) -> str:
         """Which run this is: the same decks, the same question."""
@@ -108,7 +108,7 @@ class Plan:
         """The best products of a shard's decks, and how many there were."""
         best, products, number = Best(*self.asked), 0, shard.first
         *front, last = self.pieces
-        end = shard.first + shard.count
+        end = shard.first + shard.many
         while number < end:
             turn, begin = divmod(number, len(last))
             chosen = []
@@ -118,11 +118,11 @@ class Plan:
             chosen.reverse()
             blocks = self.core + b"".join(piece.blocks for piece in chosen)
             sites = b"".join(piece.site for piece in chosen)
-            many = math.prod(piece.count for piece in chosen)
+            many = math.prod(piece.many for piece in chosen)
             for piece in last[begin : begin + end - number]:
                 head = struct.pack("<HHHH", 4 + len(sites) + len(piece.site), 5, 1, len(self.pieces))
                 best.put(b"".join((blocks, piece.blocks, head, sites, piece.site)), number)
-                products += many * piece.count
+                products += many * piece.many
                 number += 1
         return Answer(shard, products, best.entries())
 
@@ -147,7 +147,7 @@ class Cut:
             tag, digit = divmod(tag, len(site))
             pieces.append(digit)
         for site, size, piece in zip(reversed(self.plan.pieces), reversed(self.sizes), pieces):
-            position, digit = divmod(position, site[piece].count)
+            position, digit = divmod(position, site[piece].many)
             digits.append(piece * size + digit)
         return digits[::-1]
 
@@ -171,7 +171,7 @@ class Cut:
         tag = position = 0
         for site, size, digit in zip(self.plan.pieces, self.sizes, choice):
             piece, own = divmod(digit, size)
-            tag, position = tag * len(site) + piece, position * site[piece].count + own
+            tag, position = tag * len(site) + piece, position * site[piece].many + own
         return tag, position
 
     def names(self, choice: list[int]) -> list[str]:
@@ -225,7 +225,7 @@ class State:
         """One more shard, the next in order."""
         if answer.shard.first != self.following:
             raise Stop(f"the shard from deck {answer.shard.first} came where that from deck {self.following} was due: nothing stands")
-        self.following += answer.shard.count
+        self.following += answer.shard.many
         self.products += answer.products
         self.best = merged(self.best, answer.best, plan.asked)
 

@@ -16,6 +16,7 @@ from . import common
 
 NAME = "rank"
 WORDS = "rank the products of a library of any size by one field, and tell the best with their candidates"
+STATUS = "0 if every product was ranked and the best are told; 2 if a candidate is refused or something can't be read or written."
 LONGEST_TEXT = 1 << 24
 
 
