@@ -165,11 +165,18 @@ def joined(text: bytes, join: int | str | None) -> tuple[Block, int]:
 
 
 def _item(record: bytes, name: str) -> int:
-    span = native.sdf_item(record, name)
+    span = _reader().sdf_item(record, name)
     told = record[span.start : span.start + span.length].strip()
     if not re.fullmatch(rb"[0-9]{1,4}", told):
         raise Unfit(f"its data item {name} is no atom's number: {shown(told.decode('utf-8', 'surrogateescape'))!r}")
     return int(told)
+
+
+def _reader() -> Any:
+    """The library's functions for SDFs."""
+    if not native.has("sdf_record"):
+        raise native.NotThere("this library reads no records of an SDF")
+    return native
 
 
 class Record(NamedTuple):
@@ -183,7 +190,7 @@ class Record(NamedTuple):
 def records(data: bytes) -> Iterator[Record]:
     """Every record of an SDF."""
     number = start = 0
-    while (one := native.sdf_record(data, start)) is not None:
+    while (one := _reader().sdf_record(data, start)) is not None:
         number, start = number + 1, one.next
         text = data[one.start : one.start + one.length]
         yield Record(number, text.split(b"\n", 1)[0].strip().decode("utf-8", "surrogateescape"), text)
