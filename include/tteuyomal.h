@@ -226,6 +226,16 @@ tteuyomal_reply tteuyomal_library_step(const uint8_t *deck, size_t deck_len, siz
 tteuyomal_reply tteuyomal_library_run(const uint8_t *deck, size_t deck_len, size_t kind, size_t position, uint8_t *out,
                                       size_t out_len, uint64_t *next, size_t next_len);
 
+/* Puts every product of a library deck among the best so far by one field (1 atoms, 2 W, 3 even part, 4 odd part, 5
+ * polarity, 6 largest distance): the smallest, or the greatest where `greatest` is not 0. `best` lends entries of three
+ * numbers, value, tag and position, the best first; the tag is the caller's, to tell decks apart. *held says how many
+ * entries are there (more than best_len / 3 counts as that), and afterwards how many are. A product goes behind the last
+ * entry that is as good or better, in order of position; what falls behind the last place is dropped. Decks may be put
+ * in turn, or ranked apart and their entries put together. Refusals: the library's, 35 at 0 (no such field), then 9
+ * (best_len below 3, or held_len 0). */
+tteuyomal_reply tteuyomal_library_best(const uint8_t *deck, size_t deck_len, size_t field, size_t greatest, uint64_t tag,
+                                       uint64_t *best, size_t best_len, uint64_t *held, size_t held_len);
+
 /* ---- One block ---- */
 
 /* Checks a block; bonds_len is in bytes. Refusals, the block's: 1, 2, then bond by bond 3, 4, 5, 6, then 7. */

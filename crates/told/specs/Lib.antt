@@ -11,5 +11,6 @@ pub mod Accepted
 pub mod Molfiles
 pub mod Texts
 pub mod Libraries
+pub mod Rankings
 pub mod Queues
 pub mod Claims

@@ -19,6 +19,7 @@ mod programs;
 mod queues;
 mod random;
 mod random_libraries;
+mod rankings;
 mod relisted;
 mod sdf;
 
@@ -65,6 +66,7 @@ fn main() -> ExitCode {
     neighbours::run(checker, options.seed, options.first, options.cases);
     relisted::run(checker, options.seed, options.first, options.cases);
     libraries::run(checker);
+    rankings::run(checker);
     random_libraries::run(checker, options.seed, options.first, options.cases);
     queues::run(checker, options.seed, options.first, options.cases);
     claims::run(checker, options.seed, options.first, options.cases);
