@@ -6,8 +6,10 @@
 
 use crate::checker::Checker;
 use crate::queues::{self, Call};
+use crate::{claims, sdf};
 use opinion::block::MOST_BONDS;
 use opinion::queues::{sheet_bytes, FIVE, SIX};
+use opinion::ranking::Ask;
 use opinion::walk::Walk;
 
 const HEAD: usize = 8;
@@ -31,7 +33,7 @@ pub fn call(checker: &mut Checker, input: &[u8]) {
     let lengthened = [rest, &vec![0; if more >= 0xF0 { 2_200 * (more as usize - 0xEF) } else { 0 }]].concat();
     let data = &lengthened[..];
     let bonds = (data.len() / 2).min(MOST_BONDS + 1);
-    match which % 24 {
+    match which % 32 {
         0 => checker.judge(data),
         1 => checker.write_sheet(data, about(room, 40)),
         2 => checker.compose(data, about(room, 5)),
@@ -59,7 +61,21 @@ pub fn call(checker: &mut Checker, input: &[u8]) {
             if room < 0x80 { 1024 } else { 4 * (room as usize - 0x80) },
             about(other, 1),
         ),
-        _ => queues::calls(checker, (which % 2) as usize * 3, &queue_calls(data)),
+        22 | 23 => queues::calls(checker, (which % 2) as usize * 3, &queue_calls(data)),
+        24 => {
+            let (list, deck) = data.split_at(b.min(data.len()));
+            claims::judge_claims(checker, deck, list);
+        }
+        25 => {
+            let (list, bonds) = data.split_at(b.min(data.len()));
+            claims::judge_block(checker, a, bonds, list);
+        }
+        26 => sdf::record(checker, data, b + (c << 8), about(room, 3)),
+        27 => {
+            let (name, text) = data.split_at((b % 32).min(data.len()));
+            sdf::item(checker, text, name, about(room, 2));
+        }
+        _ => best(checker, data, [a, b, c], (room, other)),
     }
 }
 
@@ -74,6 +90,16 @@ fn about(room: u8, needed: usize) -> usize {
 
 fn walk(deck: &[u8], [kind, low, high, far]: [usize; 4], room: usize, entries: usize) -> Walk<'_> {
     Walk { deck, kind, position: low + (high << 8) + if far == 0xFF { usize::MAX / 2 } else { 0 }, room, entries }
+}
+
+/// The best products of a library that has few, added to some entries that are there, whatever they are.
+fn best(checker: &mut Checker, deck: &[u8], [field, greatest, tag]: [usize; 3], (room, held): (u8, u8)) {
+    if opinion::walk::count(deck, 1).is_ok_and(|count| count > 40) {
+        return;
+    }
+    let entries: Vec<u64> = (0..room as u64 % 25).map(|at| (at * 37 + tag as u64) % 400).collect();
+    let held = (held < 0xF0).then_some(held as u64 % 10);
+    checker.library_best(Ask { deck, field, greatest: greatest % 3, tag: tag as u64, entries: &entries, held });
 }
 
 /// The first eight bytes are x.

@@ -8,6 +8,8 @@
 mod archive;
 #[path = "../compare/checker.rs"]
 mod checker;
+#[path = "../compare/claims.rs"]
+mod claims;
 #[path = "../compare/inputs.rs"]
 mod inputs;
 mod lent;
@@ -15,6 +17,8 @@ mod lent;
 mod library_calls;
 #[path = "../compare/queues.rs"]
 mod queues;
+#[path = "../compare/sdf.rs"]
+mod sdf;
 mod seeds;
 
 use checker::Checker;

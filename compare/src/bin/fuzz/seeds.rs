@@ -66,6 +66,16 @@ fn all() -> Vec<Vec<u8>> {
         seeds.extend(texts.1.map(|text| input(20, [0; 4], text.as_bytes())));
         seeds.extend((bonds.len() < 256).then(|| queued(*atoms as u8, bonds)));
     }
+    for text in ["1", "4 ", " 10.0", "198", "1.9747", "nan"] {
+        for field in [1, 2, 6, 8, 10, 11] {
+            let list = [&[field, text.len() as u8], text.as_bytes()].concat();
+            seeds.push(input(24, [0, list.len() as u8, 0, 0], &[&list[..], &FORTY].concat()));
+            seeds.push(input(25, [4, list.len() as u8, 0, 0], &[&list[..], &shapes::path(4).bond_bytes()].concat()));
+        }
+    }
+    let sdf = b"W\n\n\n  0  0\nM  END\n> <W>\n12\n\n> <B>\n> <C>\nx\n> <C>\n$$$$\n\n";
+    seeds.extend([input(26, [0; 4], &sdf[1..]), input(26, [0, 40, 0, 0], &sdf[1..]), input(27, [0, 1, 0, 0], sdf)]);
+    seeds.extend((0..7).map(|field| input(28, [field, field % 2, 3, 0], &TWO_PRODUCTS)));
     let hydrogen = format!("\n\n\n  3  2\n{0:31}H\n{0:31}C\n{0:31}C\n  1  2\n  3  2\nM  END\n", "");
     seeds.push(input(18, [0; 4], hydrogen.as_bytes()));
     seeds
