@@ -6,6 +6,7 @@ given to another one by the scheduler; its lines are printed once, when they are
 
 from __future__ import annotations
 
+import functools
 import os
 from collections.abc import Callable, Generator, Iterable, Iterator
 from typing import Any
@@ -19,30 +20,31 @@ BATCH = 1000  # decks handed to a worker at a time
 
 def over(address: str, paths: Iterable[str], function: Callable[[list[Found]], Any]) -> Generator[Any, None, None]:
     """The function's answer for each batch of the files, in order."""
+    paths = list(paths)
+    if "-" in paths:
+        raise Stop("--dask judges files; standard input is judged here, without it")
+    yield from tasks(address, work.batches(files.find(paths), BATCH), functools.partial(_of_files, function, os.getcwd()))
+
+
+def tasks(address: str, some: Iterable[Any], function: Callable[[Any], Any]) -> Generator[Any, None, None]:
+    """The function's answer for each task, in order."""
     try:
         from distributed import Client
     except ImportError:
         raise Stop("--dask needs Dask: install Debian's python3-distributed, or distributed from PyPI") from None
-    paths = list(paths)
-    if "-" in paths:
-        raise Stop("--dask judges files; standard input is judged here, without it")
     try:
         client = Client(address, timeout="20s", set_as_default=False)
     except (OSError, ValueError, TimeoutError) as fault:
         raise Stop(f"no scheduler answers at {address}: {fault}") from None
     with client:
-        yield from _answers(client, paths, function)
+        yield from _answers(client, some, function)
 
 
-def _answers(client: Any, paths: list[str], function: Callable[[list[Found]], Any]) -> Iterator[Any]:
+def _answers(client: Any, some: Iterable[Any], function: Callable[[Any], Any]) -> Iterator[Any]:
     here = identity()
     under_way = 2 * max(1, sum(client.nthreads().values())) + 2
-    tasks = work.batches(files.find(paths), BATCH)
-    folder = os.getcwd()
     try:
-        for there, answer in work.in_order(
-            lambda task: client.submit(_on_worker, function, folder, task, pure=False, retries=3), tasks, under_way
-        ):
+        for there, answer in work.in_order(lambda task: client.submit(_on_worker, function, task, pure=False, retries=3), some, under_way):
             if there != here:
                 raise Stop("a worker has another library than this machine: install the same one everywhere")
             yield answer
@@ -52,10 +54,15 @@ def _answers(client: Any, paths: list[str], function: Callable[[list[Found]], An
         raise Stop(f"the fleet could not judge a batch: {type(fault).__name__}: {fault}") from fault
 
 
-def _on_worker(function: Callable[[list[Found]], Any], folder: str, batch: list[Found]) -> tuple[str, Any]:
-    """What a worker does with a batch. Names are told as they were given, and read from the folder of who asked: a worker has several
-    threads and several users, and one working folder, which nobody changes."""
-    return identity(), function([found._replace(folder=folder) for found in batch])
+def _on_worker(function: Callable[[Any], Any], task: Any) -> tuple[str, Any]:
+    """What a worker does with a task."""
+    return identity(), function(task)
+
+
+def _of_files(function: Callable[[list[Found]], Any], folder: str, batch: list[Found]) -> Any:
+    """A batch of files. Names are told as they were given, and read from the folder of who asked: a worker has several threads and
+    several users, and one working folder, which nobody changes."""
+    return function([found._replace(folder=folder) for found in batch])
 
 
 def identity() -> str:

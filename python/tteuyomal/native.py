@@ -618,3 +618,11 @@ def queue_compose(table: bytearray, queue: int, record: Bytes, kind: int = 3) ->
     out = (c_uint8 * room)()
     _told(_queue_compose(*_table(table), _size(queue, "the queue"), kind, *_lent(record, "a record"), out, room))
     return bytes(out)
+
+
+# ---- claims and records of an SDF ----
+
+_judge_claims = _function("judge_claims", _DECK + _TEXT)
+_judge_block = _function("judge_block", _BLOCK + _TEXT)
+_sdf_record = _function("sdf_record", _TEXT + [c_size_t] + _NUMBERS)
+_sdf_item = _function("sdf_item", _TEXT + _TEXT + _NUMBERS)

@@ -15,7 +15,7 @@ from .run import Run
 
 # in the order in which they are written: the module that makes each. It has `row`, asked in the processes that judge, `Page`, to which
 # rows are added, and perhaps `failed`. A module is loaded where its file is asked for: the board's takes RDKit along.
-FORMS = {"json": "objects", "junit": "junit", "board": "board", "notice": "notice"}
+FORMS = {"json": "objects", "csv": "rows", "junit": "junit", "board": "board", "notice": "notice"}
 
 
 def module(form: str) -> Any:

@@ -29,7 +29,8 @@ def add_folder(parser: argparse.ArgumentParser) -> None:
 
 
 class Objects(argparse.Action):
-    """`--json`. Before the paths it stands alone, and objects are printed; behind them the next word is the file that gets them."""
+    """`--json` and the like. Before the paths it stands alone, and objects are printed; behind them the next word is the file that gets
+    them."""
 
     def __init__(self, **more: Any) -> None:
         super().__init__(nargs="?", metavar="FILE", **more)
