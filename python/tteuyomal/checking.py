@@ -19,6 +19,7 @@ _NO_CLAIM, _NOT_READ, _DIFFERS = 36, 37, 255  # replies that have a word of thei
 _NO_ITEM = 38
 _LONGEST = 60  # characters of a printed text that are shown
 _NUMBERS = len(SHORT)
+_ROOM = 512  # more than any block's bonds have
 LARGEST, SZEGED, HOSOYA, MERRIFIELD_SIMMONS, J = 6, 7, 8, 9, 10
 ORDER = (ACCEPTED, DIFFERS, REFUSED, NOT_READ, NO_CLAIM, NO_MOLECULE, UNREAD)  # in which verdicts stand in the table
 
@@ -75,7 +76,7 @@ class Checked(NamedTuple):
     def verdict(self) -> str:
         """The verdict as it stands in a line."""
         if self.word == ACCEPTED:
-            return " ".join([ACCEPTED, *(SHORT[one.field - 1] for one in self.asked)])
+            return accepted(self.asked)
         if self.word == REFUSED:
             return f"refused {self.number} at {self.place}: {self.refusal}"
         if not self.each or all(word == NO_CLAIM for _, word in self.each):
@@ -137,6 +138,12 @@ class Checked(NamedTuple):
 
 
 @functools.cache
+def accepted(asked: tuple[Asked, ...]) -> str:
+    """What is said of a molecule whose claims are all accepted."""
+    return " ".join([ACCEPTED, *(SHORT[one.field - 1] for one in asked)])
+
+
+@functools.cache
 def columns(asked: tuple[Asked, ...]) -> str:
     """The names above the rows of a table."""
     names = [f"{SHORT[one.field - 1]}{end}" for one in asked for end in (" printed", "", " verdict")]
@@ -158,7 +165,7 @@ class Judge:
         self.fields = fields  # whether numbers are wanted of what is accepted
         self.hashed = hashed  # whether the SHA-256 of each record is wanted
         self.looks = looks  # so many molecules that differ are looked at for what may be the cause
-        self._bonds = (ctypes.c_uint8 * 512)()
+        self._bonds = (ctypes.c_uint8 * _ROOM)()
         self._counts = (ctypes.c_uint64 * 2)()
         self._span = (ctypes.c_uint64 * 2)()
 
@@ -166,23 +173,20 @@ class Judge:
         """What the library tells of a molecule and its claims."""
         if item.word:
             return Checked(item, item.label, item.word, self.asked, fault=item.fault)
-        data = item.data
+        data, claims = item.data, item.claims
+        size = len(data)
         sha256 = hashlib.sha256(data).hexdigest() if self.hashed else ""
-        base = Checked(item, item.label, ACCEPTED, self.asked, sha256, len(data))
-        reply = native._read_molfile(data, len(data), self._bonds, 512, self._counts, 2)
-        if reply:
-            return self._refused(base, reply)
-        claims = item.claims
-        if claims is None:
+        reply = native._read_molfile(data, size, self._bonds, _ROOM, self._counts, 2)
+        if claims is None and not reply:
             reply, claims = self._item_claims(data)
-            if reply:
-                return self._refused(base, reply)
+        if reply:
+            return self._refused(Checked(item, item.label, REFUSED, self.asked, sha256, size), reply)
         atoms, count = self._counts
-        bonds = bytes(self._bonds)[: 2 * count]
-        reply = native._judge_block(atoms, bonds, len(bonds), claims, len(claims))
-        if reply == 0 and not self.fields and self._complete(claims):
-            return base._replace(atoms=atoms)
-        return self._told(base, reply, atoms, bonds, claims)
+        bonds = ctypes.string_at(self._bonds, 2 * count)
+        reply = native._judge_block(atoms, bonds, 2 * count, claims, len(claims or b""))
+        if reply == 0 and not self.fields and self._complete(claims or b""):
+            return Checked(item, item.label, ACCEPTED, self.asked, sha256, size, atoms=atoms)
+        return self._told(Checked(item, item.label, REFUSED, self.asked, sha256, size), reply, atoms, bonds, claims or b"")
 
     def _complete(self, claims: bytes) -> bool:
         """Whether each field that was asked for is claimed."""

@@ -57,21 +57,26 @@ class Molecules:
 
     def _item(self, file: str, shown: str, form: str, piece: Piece) -> Item:
         """A molecule with its name and its claims."""
+        number, data = piece
         by = self.by or (TITLE if form == SDF else FILE)
         names = self._names(by, shown, form, piece)
-        name = names[0]
-        label = _label(name.decode("utf-8", "surrogateescape"), shown, piece.number, form, self._alone, by)
-        record = piece.number if form == SDF or piece.number > 1 else 0
-        item = Item(name.decode("utf-8", "surrogateescape"), file, record, label, piece.data, None)
+        name = names[0].decode("utf-8", "surrogateescape")
+        claims, line = self._claims(name, names)
+        record = number if form == SDF or number > 1 else 0
+        return Item(name, file, record, _label(name, shown, number, form, self._alone, by), data, claims, line)
+
+    def _claims(self, name: str, names: list[bytes]) -> tuple[bytes | None, int]:
+        """What is claimed of the molecule of a name, and the line; None where the record itself says it."""
         if self.table is None:
-            return item
+            return None, 0
         if not name:
-            return item._replace(claims=b"")
-        name = next((one for one in names if self.table.knows(one)), name) if len(names) > 1 else name
-        row, before = self.table.look(name, self.count)
+            return b"", 0
+        one = names[0] if len(names) == 1 else next((one for one in names if self.table.knows(one)), names[0])
+        row, before = self.table.look(one, self.count)
         if before:
-            raise Stop(f'"{files.shown(item.name)}" names two molecules: {self._place(before)} and {self._place(self.count)}; --by or --id-item names them otherwise')
-        return item._replace(claims=b"" if row is None else row.claims, line=0 if row is None else row.line)
+            places = f"{self._place(before)} and {self._place(self.count)}"
+            raise Stop(f'"{files.shown(name)}" names two molecules, {places}: --by or --id-item names them otherwise')
+        return (b"", 0) if row is None else (row.claims, row.line)
 
     def _names(self, by: str, shown: str, form: str, piece: Piece) -> list[bytes]:
         """What a molecule may be called in the table; the first is how it is called here. None is an empty name."""
