@@ -2,10 +2,11 @@
 
 from __future__ import annotations
 
+import json
 from collections.abc import Callable, Iterable, Sequence
 from typing import Any, NamedTuple
 
-from . import files, objects, outputs, work
+from . import files, objects, outputs, rows, work
 from .console import Output, complain
 from .judging import ACCEPTED, Judged, Tally
 from .run import Run, unmet, unmet_names
@@ -48,7 +49,8 @@ def of(judged: Sequence[Judged], wanted: Wanted, more: Any = None) -> Batch:
     if wanted.printed == OBJECTS:
         text = "".join(f"{objects.ended(one.json(), wanted.stamp)}\n" for one in said)
     elif wanted.printed == ROWS:
-        text = "".join(one.row() for one in said)
+        run = json.loads(wanted.stamp)["run"]
+        text = "".join(rows.ended(one.row(), run) for one in said)
     else:
         text = "".join([f"{one.line()}\n" for one in said])
     names = [(one.name, one.sha256) for one in judged] if wanted.named else []

@@ -17,6 +17,11 @@ class Row(NamedTuple):
     text: str
 
 
+def ended(line: str, last: str) -> str:
+    """A row with one cell more."""
+    return f"{line[:-1]},{last}\n"
+
+
 def row(judged: Judged, folder: str) -> Row:
     """One deck or molecule."""
     return Row(judged.columns(), judged.row())
@@ -38,8 +43,8 @@ class Page:
     def add(self, row: Row) -> None:
         """Adds a row."""
         if not self._rows.tell():
-            self._rows.write(row.names.encode())
-        self._rows.write(row.text.encode())
+            self._rows.write(ended(row.names, "run").encode())
+        self._rows.write(ended(row.text, self.run.number).encode())
 
     def write(self, file: IO[bytes], tally: Tally) -> None:
         """Writes all of them."""

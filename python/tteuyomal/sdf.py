@@ -87,6 +87,14 @@ def unpacked(name: str, file: Hashed) -> io.BufferedIOBase:
     return gzip.GzipFile(fileobj=read) if name.lower().endswith(PACKED) else read
 
 
+def text(name: str, data: bytes) -> bytes:
+    """What a file holds whose bytes are these; raises `Unread`."""
+    try:
+        return gzip.decompress(data) if name.lower().endswith(PACKED) else data
+    except (OSError, EOFError, zlib.error) as fault:
+        raise Unread(files.reason(fault)) from None
+
+
 class Reader:
     """The records of one file, in order; `sha256` is there when they are all read. Raises `Unread`."""
 
@@ -141,9 +149,14 @@ def is_v3000(record: bytes) -> bool:
 V3000 = "it is a V3000 file, and V2000 is read: its atoms and bonds stand elsewhere"
 
 
+def line_of(text: bytes, refusal: Refused) -> str:
+    """The line that a refusal of a text is about, for who looks at it in an editor."""
+    line = text[: refusal.place].count(b"\n") + 1
+    return f" (line {line})" if refusal.number in (21, 22, 25, 26, 27) else ""
+
+
 def words_of(record: bytes, refusal: Refused) -> str:
     """What a refusal of a record says, to a chemist: of a V3000 file that it is one; of a line which one it is."""
     if is_v3000(record):
         return f"{V3000} ({refusal.words})"
-    line = record[: refusal.place].count(b"\n") + 1
-    return f"{refusal.words} (line {line})" if refusal.number in (25, 26, 27) else refusal.words
+    return refusal.words + line_of(record, refusal)

@@ -10,7 +10,7 @@ import json
 import os
 from collections.abc import Generator, Iterator
 
-from .. import batch, checking, claims, files, manifest, molecules, outputs, run as runs, sdf, summing, work
+from .. import batch, checking, claims, files, manifest, molecules, outputs, rows, run as runs, summing, work
 from ..batch import LINES, OBJECTS, ROWS, Batch, Wanted
 from ..checking import Counts, Item, Judge
 from ..claims import Asked, Table
@@ -94,7 +94,7 @@ def run(options: argparse.Namespace, out: Output) -> int:
         wanted = Wanted(folder, printed, options.quiet, json.dumps(begun.stamp()), tuple(written))
         tally, progress, counts = Tally(CLAIM_WORDS, "molecule"), work.Progress("molecules"), Counts()
         if printed == ROWS:
-            out.write(checking.columns(fields))
+            out.write(rows.ended(checking.columns(fields), "run"))
         function = functools.partial(check_batch, fields=fields, wanted=wanted)
         with contextlib.closing(answers(source, options, function)) as batches:
             batch.gather(batches, out, pages, tally, progress, lambda some: counts.merge(some.more))
