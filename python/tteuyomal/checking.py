@@ -227,8 +227,8 @@ class Judge:
             word = NO_CLAIM  # something was asked for and not printed: that is not green, whatever was
         numbers = self._numbers(atoms, bonds, [field for field, one in each if one == DIFFERS or (self.fields and field in texts)])
         base = base._replace(
-            word=word, atoms=atoms, each=() if word == ACCEPTED else each, claimed=tuple(texts.get(k) for k in range(1, _NUMBERS + 1)),
-            worked=numbers, data=one_block(atoms, bonds) if self.fields else b"",
+            word=word, atoms=atoms, each=() if word == ACCEPTED else each, claimed=tuple(texts.get(k) for k in range(1, _NUMBERS + 1)) if texts else (),
+            worked=numbers if texts else (), data=one_block(atoms, bonds) if self.fields else b"",
         )  # fmt: skip
         if word == REFUSED:
             refusal = Refused(what, reply // 256)

@@ -116,6 +116,6 @@ def _label(name: str, shown: str, number: int, form: str, alone: bool, by: str) 
     place = f"record {number}" if form == SDF or number > 1 else ""
     if form == MOLFILE or not alone:
         place = f"{shown}, {place}" if place else shown
-    if not name or by == NUMBER or name == shown:
+    if not name or by in (NUMBER, FILE):
         return place
     return f"{name} ({place})"

@@ -49,6 +49,7 @@ def options(parser: argparse.ArgumentParser) -> None:
     parser.add_argument("-q", dest="quiet", action="store_true", help="lines, objects or rows only for what is not accepted")
     parser.add_argument("--dask", metavar="ADDRESS", help="judge on the workers of a Dask scheduler, as tcp://host:8786")
     common.add_jobs(parser)
+    parser.set_defaults(anywhere=True)
 
 
 def sorted_words(words: list[str]) -> tuple[list[str], str | None, tuple[Asked, ...]]:
