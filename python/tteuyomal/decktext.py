@@ -66,7 +66,9 @@ class BadText(ValueError):
 
 def shown(data: bytes) -> str:
     """The text of a deck."""
-    for told in (lambda: _tables(Deck.from_bytes(data)), lambda: _library_tables(Library.from_bytes(data))):
+    texts: tuple[Callable[[], Iterable[str]], ...]
+    texts = (lambda: _tables(Deck.from_bytes(data)), lambda: _library_tables(Library.from_bytes(data)))
+    for told in texts:
         try:
             text = "\n".join(told())
             if made(text) == data:
@@ -270,5 +272,5 @@ def _sheet(tables: dict[str, Any]) -> Sheet | None:
     if not isinstance(table, dict):
         raise BadText("`sheet` is no table: write [sheet]")
     _known(table, set(SHORT_NAMES), "the sheet")
-    five = [_number(table, key, "the sheet") for key in SHORT_NAMES[:5]]
-    return Sheet(*five, _number(table, "largest", "the sheet") if "largest" in table else None)
+    names = SHORT_NAMES if "largest" in table else SHORT_NAMES[:5]
+    return Sheet(*(_number(table, key, "the sheet") for key in names))

@@ -43,8 +43,12 @@ def tasks(address: str, some: Iterable[Any], function: Callable[[Any], Any]) -> 
 def _answers(client: Any, some: Iterable[Any], function: Callable[[Any], Any]) -> Iterator[Any]:
     here = identity()
     under_way = 2 * max(1, sum(client.nthreads().values())) + 2
+
+    def begun(task: Any) -> Any:
+        return client.submit(_on_worker, function, task, pure=False, retries=3)
+
     try:
-        for there, answer in work.in_order(lambda task: client.submit(_on_worker, function, task, pure=False, retries=3), some, under_way):
+        for there, answer in work.in_order(begun, some, under_way):
             if there != here:
                 raise Stop("a worker has another library than this machine: install the same one everywhere")
             yield answer

@@ -97,6 +97,7 @@ def head(run: Run, tally: Tally, what: str = "deck") -> Iterator[str]:
     yield f"Folder: {files.shown(run.folder)}\n"
     yield f"Library: Tteuyomal {run.version}\n"
     yield f"{LIBRARY}{run.sha256}\n"
+    yield f"Judged by: {run.code}\n"
     if run.replaced:
         yield f"The library is not the package's own: TTEUYOMAL_SO was set, to {files.shown(run.replaced)}\n"
     if run.program:

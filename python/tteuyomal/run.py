@@ -7,7 +7,7 @@ import secrets
 import socket
 from typing import NamedTuple
 
-from . import native
+from . import made, native
 
 
 class Expected(NamedTuple):
@@ -33,6 +33,7 @@ class Run(NamedTuple):
     expected: Expected | None = None
     program: str = ""  # the one that is judged
     inputs: tuple[tuple[str, str, str], ...] = ()  # what it is, its name, its SHA-256
+    code: str = ""  # which code judged, and where it was proved
 
     @property
     def time(self) -> str:
@@ -52,7 +53,7 @@ def begin(folder: str = "", program: str = "", inputs: tuple[tuple[str, str, str
         version = "not there"
     now = datetime.datetime.now(datetime.timezone.utc)
     number, host = secrets.token_hex(8), socket.gethostname()
-    return Run(now, number, host, folder, version, native.SHA256, native.REPLACED, program=program, inputs=inputs)
+    return Run(now, number, host, folder, version, native.SHA256, native.REPLACED, program=program, inputs=inputs, code=made.words())
 
 
 def unmet(expected: Expected | None, total: int, what: str = "deck") -> list[str]:
