@@ -8,7 +8,7 @@ from typing import Any, NamedTuple
 
 from . import files, objects, outputs, rows, work
 from .console import Output, complain
-from .judging import ACCEPTED, Judged, Tally
+from .judging import ACCEPTED, Tally
 from .run import Run, unmet, unmet_names
 
 LINES, OBJECTS, ROWS, NOTHING = "lines", "objects", "rows", ""  # what goes to standard output
@@ -40,8 +40,8 @@ class Batch(NamedTuple):
     more: Any = None  # what a command adds up besides
 
 
-def of(judged: Sequence[Judged], wanted: Wanted, more: Any = None) -> Batch:
-    """The batch of what was judged."""
+def of(judged: Sequence[Any], wanted: Wanted, more: Any = None) -> Batch:
+    """The batch of what was judged: decks (`Judged`), or molecules whose parts are called alike (`Checked`)."""
     counts: dict[str, int] = {}
     for one in judged:
         counts[one.word] = counts.get(one.word, 0) + 1

@@ -314,9 +314,10 @@ class Counts:
 
     def merge(self, other: Counts) -> None:
         """Adds what another batch counted."""
-        for mine, others in ((self.cells, other.cells), (self.guesses, other.guesses)):
-            for key, (count, one) in others.items():
-                put(mine, key, count, one)  # type: ignore[arg-type]
+        for cell, (count, one) in other.cells.items():
+            put(self.cells, cell, count, one)
+        for guess, (count, one) in other.guesses.items():
+            put(self.guesses, guess, count, one)
         self.looked += other.looked
 
 

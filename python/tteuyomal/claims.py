@@ -100,7 +100,7 @@ class Table:
     def _read(self, file: io.BufferedIOBase | gzip.GzipFile, column: str | None) -> None:
         words = io.TextIOWrapper(file, "utf-8-sig", "surrogateescape", newline="")  # type: ignore[arg-type]
         rows = csv.reader(words, delimiter=DELIMITERS[os.path.splitext(sdf.plain(self.path))[1].lower()], strict=True)
-        head = next(rows, [])
+        head: list[str] = next(rows, [])
         key, *places = [_place(self.path, head, name) for name in (column, *(one.column for one in self.fields))]
         self.column = head[key]
         progress = work.Progress("rows")

@@ -54,7 +54,9 @@ def options(parser: argparse.ArgumentParser) -> None:
 
 def sorted_words(words: list[str]) -> tuple[list[str], str | None, tuple[Asked, ...]]:
     """Molecule files, the table, and which field stands in which column, by what the words look like."""
-    paths, tables, fields = [], [], []
+    paths: list[str] = []
+    tables: list[str] = []
+    fields: list[Asked] = []
     for word in words:
         found = claims.asked(word)
         if found is not None:
