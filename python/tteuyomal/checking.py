@@ -212,7 +212,7 @@ class Judge:
         """A record that is refused, whatever is claimed of it."""
         refusal, data = Refused(reply % 256, reply // 256), base.item.data
         each = tuple((one.field, REFUSED) for one in self.asked)
-        words = sdf.words_of(data, refusal)
+        words = refusal.words + sdf.line_of(data, refusal)
         guessed = guesses.of_refusal(data, refusal) if self._may_look() else ()
         return base._replace(word=REFUSED, number=refusal.number, place=refusal.place, refusal=words, each=each, guessed=guessed)
 

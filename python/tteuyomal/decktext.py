@@ -44,6 +44,7 @@ from __future__ import annotations
 import io
 import os
 import re
+import sys
 import tomllib
 from collections.abc import Callable, Iterable, Iterator
 from typing import Any
@@ -125,8 +126,10 @@ def made(text: str, folder: str = ".", reader: Callable[[str], bytes] | None = N
 def _parsed(text: str) -> dict[str, Any]:
     try:
         return tomllib.loads(text)
-    except ValueError as fault:  # no TOML, or a number of more digits than Python reads
+    except tomllib.TOMLDecodeError as fault:
         raise BadText(str(fault)) from None
+    except ValueError:
+        raise BadText(f"it has a number of more than {sys.get_int_max_str_digits()} digits") from None
     except RecursionError:
         raise BadText("it is nested too deeply") from None
 
@@ -194,8 +197,7 @@ def _block(table: dict[str, Any], place: int, read: Callable[[str], bytes]) -> t
             data = _record(data, _number(table, "record", what) if key == "sdf" else None, what)
         return number, Block.from_neighbours(data) if key == "neighbours" else Block.from_molfile(data)
     except Refused as refusal:
-        words = refusal.words + sdf.line_of(data, refusal) if key == "neighbours" else sdf.words_of(data, refusal)
-        raise BadText(f"{what}: refused {refusal.number} at {refusal.place}: {words}") from None
+        raise BadText(f"{what}: {refusal}{sdf.line_of(data, refusal)}") from None
     except Unread as fault:  # a name with a NUL in it, too
         raise BadText(f"{what}: cannot be read: {fault}") from None
 

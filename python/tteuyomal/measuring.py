@@ -132,9 +132,8 @@ def _told(said: dict[str, Any], number: int, data: bytes, kind: str, as_json: bo
         block = read_block(data, kind)
         indices = measured(block)
     except Refused as refusal:
-        words = sdf.words_of(data, refusal) if kind == MOLFILE else refusal.words + sdf.line_of(data, refusal)
-        line = f"{name}: refused {refusal.number} at {refusal.place}: {words}"
-        return (json.dumps(said | {"refusal": judging.told(refusal) | {"words": words}}) if as_json else line), False
+        line = f"{name}: {refusal}{sdf.line_of(data, refusal)}"
+        return (json.dumps(said | {"refusal": judging.told(refusal)}) if as_json else line), False
     except NotThere as fault:
         return (json.dumps(said | {"fault": str(fault)}) if as_json else f"{name}: {fault}"), False
     if as_json:

@@ -140,23 +140,9 @@ def title(record: bytes) -> bytes:
     return record[: record.find(b"\n")].strip(b" \t\r") if b"\n" in record else record.strip(b" \t\r")
 
 
-def is_v3000(record: bytes) -> bool:
-    """Whether a record says that it is written in the other form, V3000, of which the molfile reader reads no atom."""
-    lines = record[: 1 << 12].split(b"\n", 4)
-    return len(lines) > 3 and b"V3000" in lines[3][:64]
-
-
-V3000 = "it is a V3000 file, and V2000 is read: its atoms and bonds stand elsewhere"
-
-
 def line_of(text: bytes, refusal: Refused) -> str:
-    """The line that a refusal of a text is about, for who looks at it in an editor."""
+    """What helps who looks at a refused text in an editor: the line that the refusal is about, or that the file is a V3000 one."""
+    if refusal.number == 1 and b"V3000" in b"".join(text.split(b"\n", 4)[3:4]):
+        return " (the file says V3000, and V2000 is read)"
     line = text[: refusal.place].count(b"\n") + 1
     return f" (line {line})" if refusal.number in (21, 22, 25, 26, 27) else ""
-
-
-def words_of(record: bytes, refusal: Refused) -> str:
-    """What a refusal of a record says, to a chemist: of a V3000 file that it is one; of a line which one it is."""
-    if is_v3000(record):
-        return f"{V3000} ({refusal.words})"
-    return refusal.words + line_of(record, refusal)

@@ -22,6 +22,11 @@ from . import common, judge
 
 NAME = "check"
 WORDS = "hold what a program printed against molecules: an SDF or molfiles, and a table or the SDF's data items"
+STATUS = (
+    "0 if there was a molecule and every molecule and every row was accepted; 1 if a number differs; 2 if a molecule is refused or can't be "
+    "read, if a claim is missing or not read, if a row is of no molecule, if a name stands twice, if there was no molecule or not as many as "
+    "expected, if a file can't be written or the run fails. The greatest that fits."
+)
 FORMS = ("board", "notice", "junit")
 SIZE = 400  # molecules handed to a process at a time
 EARLY = 20  # batches of which every molecule that differs is looked at for a cause; of a later one so many
@@ -42,11 +47,11 @@ def options(parser: argparse.ArgumentParser) -> None:
         "--by", choices=molecules.NAMES, help="a molecule's name is its title line (so it is in an SDF), its file's name (so it is of molfiles) or its number"
     )
     parser.add_argument("--program", default="", metavar="WORDS", help='the program that printed, as "CDK 2.8"; of a file the SHA-256 is said too')
-    parser.add_argument("--json", action=common.Objects, help="one JSON object a line; after the paths, FILE is where they go")
-    parser.add_argument("--csv", action=common.Objects, help="a table, a row each; after the paths, FILE is where it goes")
+    parser.add_argument("--json", action=common.Objects, help="print one JSON object a line; behind the paths, FILE gets them and lines are printed")
+    parser.add_argument("--csv", action=common.Objects, help="print a table, a row each; behind the paths, FILE gets it and lines are printed")
     judge.add_outputs(parser, FORMS)
     parser.add_argument("--expect", type=common.position, metavar="N", help="so many molecules are expected: another number is 2")
-    parser.add_argument("-q", dest="quiet", action="store_true", help="lines, objects or rows only for what is not accepted")
+    parser.add_argument("-q", dest="quiet", action="store_true", help="print only what is not accepted")
     parser.add_argument("--dask", metavar="ADDRESS", help="judge on the workers of a Dask scheduler, as tcp://host:8786")
     common.add_jobs(parser)
     parser.set_defaults(anywhere=True)

@@ -13,6 +13,9 @@ from . import common
 
 NAME = "measure"
 WORDS = "every index of molfiles (.mol .mdl), of each record of SDFs (.sdf .sd), also .gz, and of neighbour texts (.txt .nb)"
+STATUS = (
+    "0 if there was a molecule and every one was measured; 2 if one is refused or can't be read, or there was none."
+)
 
 
 def options(parser: argparse.ArgumentParser) -> None:
