@@ -125,7 +125,7 @@ class Checking(Room):
         status, lines = self.check(large + v3000 + broken, "W=W")
         self.assertEqual(status, 2)
         self.assertEqual(lines[0], "large (record 1): refused 1 at 0: the atom count is 0 or above 64")
-        self.assertTrue(lines[1].startswith("new (record 2): refused 1 at 0: it is a V3000 file"), lines[1])
+        self.assertEqual(lines[1], f"new (record 2): refused 1 at 0: {native.WORDS[1]} (the file says V3000, and V2000 is read)")
         self.assertTrue(lines[2].startswith("benzene (record 3): refused 26 at ") and lines[2].endswith("(line 4)"), lines[2])
 
     # ---- names ----

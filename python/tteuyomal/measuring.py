@@ -3,6 +3,7 @@
 from __future__ import annotations
 
 import hashlib
+import io
 import json
 import os
 from collections.abc import Callable, Iterable, Iterator
@@ -106,17 +107,16 @@ def measure(text: Found | Record, form: str | None, as_json: bool) -> list[tuple
     said = judging.about(text.name)
     try:
         kind = form_of(text.name, form)
+        data, sha256 = files.text_of(text)
         if kind == NEIGHBOURS:
-            data, sha256 = files.text_of(text)
             return [_told(said, 0, data, kind, as_json, sha256)]
-        reader = sdf.Reader(text)
-        records = list(reader) or [sdf.Piece(1, b"")]
+        records = list(sdf.records(io.BytesIO(sdf.text(text.name, data)).read)) or [sdf.Piece(1, b"")]
     except Unread as fault:
         return [(json.dumps(said | {"fault": str(fault)}) if as_json else f"{said['file']}: cannot be read: {fault}", False)]
     except (NotThere, Unknown) as fault:
         return [(json.dumps(said | {"fault": str(fault)}) if as_json else f"{said['file']}: {fault}", False)]
     if len(records) == 1:
-        return [_told(said, 0, records[0].data, kind, as_json, reader.sha256)]
+        return [_told(said, 0, records[0].data, kind, as_json, sha256)]
     return [_told(said, number, data, kind, as_json, _sha256(data)) for number, data in records]
 
 
