@@ -288,7 +288,7 @@ class Checking(Room):
         self.check(text, "W=W", "polarity=P", table="name,W,P\nall of benzene,174,3\nsmall,20,1\nsalt,1,1\n")
         for words in (
             "accepted  differs  refused", "W                0        2        1", "polarity         2        0        1",
-            "W differs: small (record 2), 4 atoms: 20 printed, 10", f"{guesses.HYDROGENS}: W of 1", f"{guesses.TWICE}: W of 1", "no part of any verdict",
+            "W differs: small (record 2), 4 atoms: 20 printed, 10", f"{guesses.HYDROGENS}: W 1; as all of benzene (record 1)", f"{guesses.TWICE}: W 1; as small (record 2)", "no part of any verdict",
         ):  # fmt: skip
             self.assertIn(words, self.fault)
 

@@ -26,12 +26,22 @@ def lines(counts: Counts, asked: Iterable[Asked]) -> Iterator[str]:
         for word in words:
             if (field, word) in counts.cells:
                 yield f"  {SHORT[field - 1]} {word}: {said(counts.cells[field, word][1], word)}"
-    if counts.guesses:
-        yield ""
-        yield f"guesses at the cause, no part of any verdict ({counts.looked} looked at):"
-        for (guess, field), (count, one) in sorted(counts.guesses.items(), key=lambda entry: (-entry[1][0], entry[0])):
-            about = f"{SHORT[field - 1]} of {count}" if field else f"{count}"
-            yield f"  {guess}: {about}, as {files.shown(one.label)}"
+    yield from guessed(counts)
+
+
+def guessed(counts: Counts) -> Iterator[str]:
+    """What may be the cause, the likeliest first: how many molecules of each field, and the smallest of all."""
+    if not counts.guesses:
+        return
+    yield ""
+    yield f"guesses at the cause, no part of any verdict ({counts.looked} looked at):"
+    found: dict[str, list[tuple[int, int, Example]]] = {}
+    for (guess, field), (count, one) in sorted(counts.guesses.items(), key=lambda entry: entry[0][1]):
+        found.setdefault(guess, []).append((count, field, one))
+    for guess, those in sorted(found.items(), key=lambda entry: (-max(entry[1])[0], entry[0])):
+        about = ", ".join(f"{SHORT[field - 1]} {count}" if field else f"{count}" for count, field, _ in those)
+        least = min((one for _, _, one in those), key=lambda one: one.size)
+        yield f"  {guess}: {about}; as {files.shown(least.label)}"
 
 
 def said(one: Example, word: str) -> str:
