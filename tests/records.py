@@ -277,6 +277,7 @@ def judged(count, seed, asked, with_table):
                 texts = claims(maker, data, asked)
                 if maker.chance.random() < 0.2:
                     data = maker.damaged(data)
+                    data += b"" if data.endswith(b"\n") else b"\n"  # or the line behind it is none of its own
                 encoded = {field: text.encode("latin-1" if not with_table else "utf-8") for field, text in texts.items()}
                 if not with_table:
                     order = list(encoded) + ([maker.chance.choice(asked)] if maker.chance.random() < 0.02 else [])
@@ -312,7 +313,7 @@ def main(words):
     for asked in ((2, 5), (1, 2, 3, 4, 5, 6, 7, 10), (2, 8, 9)):
         for with_table in (True, False):
             total, wrong, missing, verdicts = judged(count // 6 + 1, seed, asked, with_table)
-            print(f"{' '.join(FIELDS[field - 1] for field in asked)}, {'a table' if with_table else 'data items'}: {dict(sorted(verdicts.items()))}")
+            print(f"{' '.join(FIELDS[field - 1] for field in asked)}, {'a table' if with_table else 'data items'}: {dict(sorted(verdicts.items()))}", flush=True)
             for place, right, said in wrong[:5]:
                 print(f"record {place}\n  right {right}\n  told  {said}")
             passed, failed, seed = passed + total - len(wrong), failed + len(wrong) + missing, seed + 1
