@@ -6,9 +6,8 @@ given to another one by the scheduler; its lines are printed once, when they are
 
 from __future__ import annotations
 
-import functools
 import os
-from collections.abc import Callable, Generator, Iterable, Iterator
+from collections.abc import Callable, Generator, Iterable
 from typing import Any
 
 from . import files, native, work
@@ -23,11 +22,18 @@ def over(address: str, paths: Iterable[str], function: Callable[[list[Found]], A
     paths = list(paths)
     if "-" in paths:
         raise Stop("--dask judges files; standard input is judged here, without it")
-    yield from tasks(address, work.batches(files.find(paths), BATCH), functools.partial(_of_files, function, os.getcwd()))
+    folder = os.getcwd()
+    yield from answers(address, _on_worker, ((function, folder, batch) for batch in work.batches(files.find(paths), BATCH)))
 
 
-def tasks(address: str, some: Iterable[Any], function: Callable[[Any], Any]) -> Generator[Any, None, None]:
-    """The function's answer for each task, in order."""
+def each(address: str, function: Callable[[Any], Any], tasks: Iterable[Any]) -> Generator[Any, None, None]:
+    """The function's answer for each task that carries all that it is about, in order."""
+    yield from answers(address, _of_task, ((function, task) for task in tasks))
+
+
+def answers(address: str, function: Callable[..., tuple[str, Any]], tasks: Iterable[tuple[Any, ...]]) -> Generator[Any, None, None]:
+    """What workers answer to tasks, in order. The function says which library the worker has, and its answer; a task whose worker dies
+    is given to another."""
     try:
         from distributed import Client
     except ImportError:
@@ -37,36 +43,32 @@ def tasks(address: str, some: Iterable[Any], function: Callable[[Any], Any]) -> 
     except (OSError, ValueError, TimeoutError) as fault:
         raise Stop(f"no scheduler answers at {address}: {fault}") from None
     with client:
-        yield from _answers(client, some, function)
+        here = identity()
+        under_way = 2 * max(1, sum(client.nthreads().values())) + 2
+
+        def begun(task: tuple[Any, ...]) -> Any:
+            return client.submit(function, *task, pure=False, retries=3)
+
+        try:
+            for there, answer in work.in_order(begun, tasks, under_way):
+                if there != here:
+                    raise Stop("a worker has another library than this machine: install the same one everywhere")
+                yield answer
+        except (Stop, OSError):
+            raise
+        except Exception as fault:  # whatever a worker met
+            raise Stop(f"the fleet could not do a batch: {type(fault).__name__}: {fault}") from fault
 
 
-def _answers(client: Any, some: Iterable[Any], function: Callable[[Any], Any]) -> Iterator[Any]:
-    here = identity()
-    under_way = 2 * max(1, sum(client.nthreads().values())) + 2
-
-    def begun(task: Any) -> Any:
-        return client.submit(_on_worker, function, task, pure=False, retries=3)
-
-    try:
-        for there, answer in work.in_order(begun, some, under_way):
-            if there != here:
-                raise Stop("a worker has another library than this machine: install the same one everywhere")
-            yield answer
-    except (Stop, OSError):
-        raise
-    except Exception as fault:  # whatever a worker met
-        raise Stop(f"the fleet could not judge a batch: {type(fault).__name__}: {fault}") from fault
+def _on_worker(function: Callable[[list[Found]], Any], folder: str, batch: list[Found]) -> tuple[str, Any]:
+    """What a worker does with a batch. Names are told as they were given, and read from the folder of who asked: a worker has several
+    threads and several users, and one working folder, which nobody changes."""
+    return identity(), function([found._replace(folder=folder) for found in batch])
 
 
-def _on_worker(function: Callable[[Any], Any], task: Any) -> tuple[str, Any]:
+def _of_task(function: Callable[[Any], Any], task: Any) -> tuple[str, Any]:
     """What a worker does with a task."""
     return identity(), function(task)
-
-
-def _of_files(function: Callable[[list[Found]], Any], folder: str, batch: list[Found]) -> Any:
-    """A batch of files. Names are told as they were given, and read from the folder of who asked: a worker has several threads and
-    several users, and one working folder, which nobody changes."""
-    return function([found._replace(folder=folder) for found in batch])
 
 
 def identity() -> str:

@@ -138,7 +138,7 @@ def answers(source: Molecules, options: argparse.Namespace, function: functools.
     if options.dask:
         from .. import fleet
 
-        return fleet.tasks(options.dask, tasks(source), function)
+        return fleet.each(options.dask, function, tasks(source))
     return work.each(function, tasks(source), options.jobs)
 
 
