@@ -30,7 +30,7 @@ class Objects(Room):
         tree, ring = Block(4, [(1, 2), (2, 3), (3, 4)]).molfile(), Block(3, [(1, 2), (2, 3), (3, 1)]).molfile()
         for name, data in (("a.mol", tree), ("b.sdf", ring + b"$$$$\n" + tree), ("c.mol", b""), ("d", ring), ("e.mol", Block(61, SQUARES).molfile())):
             self.put(name, data, self.folder("molecules"))
-        claimed = self.put("claimed\n.sdf", ring + b">  <W>\n4\n\n$$$$\n" + b"$$$$\n".join((tree, b"", tree)), self.room)
+        claimed = self.put("claimed\n.sdf", ring + b">  <W>\n6\n\n$$$$\n" + b"$$$$\n".join((tree, b"", tree)), self.room)
         found = {}
         for replaced in ("", "other.so"):
             with mock.patch("tteuyomal.native.REPLACED", replaced):
