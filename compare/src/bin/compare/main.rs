@@ -8,6 +8,7 @@
 #[path = "../../archive.rs"]
 mod archive;
 mod checker;
+mod claims;
 mod fixed;
 mod lent;
 mod libraries;
@@ -20,6 +21,7 @@ mod random;
 mod random_libraries;
 mod rankings;
 mod relisted;
+mod sdf;
 
 use checker::Checker;
 use std::path::PathBuf;
@@ -67,6 +69,8 @@ fn main() -> ExitCode {
     rankings::run(checker);
     random_libraries::run(checker, options.seed, options.first, options.cases);
     queues::run(checker, options.seed, options.first, options.cases);
+    claims::run(checker, options.seed, options.first, options.cases);
+    sdf::run(checker, options.seed, options.first, options.cases);
     if let Some(folder) = &options.programs {
         programs::run(checker, folder, options.seed);
     }
@@ -87,10 +91,16 @@ fn report(checker: &mut Checker, options: &Options) {
         let seen = checker.differed[field] > 0;
         checker.case(format!("differs {field}"), |checker| checker.holds(seen, "never met"));
     }
-    println!("done {} times", checker.done);
-    let seen = checker.done > 0;
-    checker.case("done", |checker| checker.holds(seen, "never met"));
-    for number in 1..=34 {
+    let met = [
+        ("claims accepted", checker.claims_accepted),
+        ("claims differ", checker.claims_differed),
+        ("done", checker.done),
+    ];
+    for (what, times) in met {
+        println!("{what}: {times} times");
+        checker.case(what, |checker| checker.holds(times > 0, "never met"));
+    }
+    for number in 1..=39 {
         println!("refused {number}: {} times", checker.refused.0[number]);
         let seen = checker.refused.0[number] > 0;
         checker.case(format!("refusal {number}"), |checker| checker.holds(seen, "never met"));
