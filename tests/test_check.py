@@ -8,11 +8,13 @@ import io
 import json
 import os
 import random
+import shlex
 import subprocess
 import unittest
 import xml.etree.ElementTree as xml
 from unittest import mock
 
+from common import ROOT, text
 from test_command import Room
 
 from tteuyomal import checking, claims, decktext, guesses, native, sdf
@@ -291,6 +293,18 @@ class Checking(Room):
             "W differs: small (record 2), 4 atoms: 20 printed, 10", f"{guesses.HYDROGENS}: W 1; as all of benzene (record 1)", f"{guesses.TWICE}: W 1; as small (record 2)", "no part of any verdict",
         ):  # fmt: skip
             self.assertIn(words, self.fault)
+
+
+class Readme(Room):
+    def test_line(self):
+        """README's line, in examples/desk."""
+        line = next(line for line in text("README.md").splitlines() if line.startswith("    tteuyomal check molecules.sdf printed.csv"))
+        here, notice = os.getcwd(), os.path.join(self.room, "notice.txt")
+        self.addCleanup(os.chdir, here)
+        os.chdir(os.path.join(ROOT, "examples", "desk"))
+        status, said = self.run_command(*shlex.split(line)[1:-1], notice)
+        self.assertEqual((status, said.count("accepted W polarity\n"), said.count("\n")), (0, 4, 4))
+        self.assertIn("Program: CDK 2.8\n", self.read(notice).decode())
 
 
 class Guessing(unittest.TestCase):

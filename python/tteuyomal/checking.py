@@ -170,7 +170,11 @@ class Judge:
         self._span = (ctypes.c_uint64 * 2)()
 
     def check(self, item: Item) -> Checked:
-        """What the library tells of a molecule and its claims."""
+        """What the library tells of a molecule and its claims. Where it goes on to a file, the record's bytes stay behind."""
+        checked = self._check(item)
+        return checked._replace(item=item._replace(data=b"", claims=b"")) if self.hashed else checked
+
+    def _check(self, item: Item) -> Checked:
         if item.word:
             return Checked(item, item.label, item.word, self.asked, fault=item.fault)
         data, claims = item.data, item.claims

@@ -28,7 +28,8 @@ STATUS = (
     "expected, if a file can't be written or the run fails. The greatest that fits."
 )
 FORMS = ("board", "notice", "junit")
-SIZE = 400  # molecules handed to a process at a time
+SIZE = 400  # molecules handed to a process at a time, and of large ones no more than so many bytes
+BYTES = 1 << 23
 EARLY = 20  # batches of which every molecule that differs is looked at for a cause; of a later one so many
 LATER = 10
 
@@ -129,7 +130,15 @@ Task = tuple[int, list[Item]]  # how many are looked at for a cause, and the mol
 
 def tasks(source: Molecules) -> Iterator[Task]:
     """The molecules in batches."""
-    for number, some in enumerate(work.batches(source, SIZE)):
+    number, size = 0, 0
+    some: list[Item] = []
+    for item in source:
+        some.append(item)
+        size += len(item.data)
+        if len(some) == SIZE or size >= BYTES:
+            yield (SIZE if number < EARLY else LATER), some
+            number, some, size = number + 1, [], 0
+    if some:
         yield (SIZE if number < EARLY else LATER), some
 
 
