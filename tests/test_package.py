@@ -9,6 +9,7 @@ import subprocess
 import sys
 import tempfile
 import unittest
+from unittest import mock
 
 from common import FORTY, HEADER, JUDGED, PYTHON, RIGHT, RING, ROOT, sheet, text
 
@@ -138,8 +139,36 @@ class Rdkit(unittest.TestCase):
             mol.UpdatePropertyCache(strict=False)
             self.assertEqual(Block.from_rdkit(mol), Block.from_molfile(Chem.MolToMolBlock(mol, kekulize=False)), smiles)
         self.assertEqual(Block.from_rdkit(Chem.MolFromSmiles("[2H]C", sanitize=False)).atoms, 1)
-        spelled = Block(2, [(1, 2)]).molfile().replace(b" C  ", b" D  ", 1)
-        self.assertEqual(Block.from_molfile(spelled), Block(2, [(1, 2)]), "a symbol D is no H")
+
+    def test_deuterium(self):
+        """One rule for all doors: the symbol H is an H, whatever its isotope; D and T are none."""
+        two = Block(2, [(1, 2)])
+        for symbol, block in (("D", two), ("T", two), ("C", two), ("H", Block(1)), ("He", two), ("h", two)):
+            for isotope in (b"", b"M  ISO  1   1   2\n"):
+                text = two.molfile().replace(b" C  ", f" {symbol:<3}".encode(), 1).replace(b"M  END", isotope + b"M  END")
+                self.assertEqual(Block.from_molfile(text), block, (symbol, isotope))
+        for isotope in (0, 2, 3):  # as RDKit says it: it writes all three as H into a molfile
+            self.assertEqual(Block.from_rdkit(StandIn([("H", isotope), ("C", 0)], [(0, 1)])), Block(1))
+            self.assertEqual(Block.from_rdkit(StandIn([("H", isotope), ("H", 2)], [(0, 1)])), two)
+
+
+class StandIn:
+    """A molecule with the few calls of RDKit's that are used, for machines without it."""
+
+    def __init__(self, atoms, bonds):
+        self.atoms, self.bonds = atoms, bonds
+
+    def atom(self, index):
+        symbol, isotope = self.atoms[index]
+        ends = [other for bond in self.bonds if index in bond for other in bond if other != index]
+        said = {"GetIdx": index, "GetSymbol": symbol, "GetIsotope": isotope, "GetDegree": len(ends), "GetAtomicNum": {"H": 1, "C": 6}[symbol]}
+        return mock.Mock(GetNeighbors=lambda: [self.atom(other) for other in ends], **{name: lambda value=value: value for name, value in said.items()})
+
+    def GetAtoms(self):
+        return [self.atom(index) for index in range(len(self.atoms))]
+
+    def GetBonds(self):
+        return [mock.Mock(GetBeginAtomIdx=lambda a=a: a, GetEndAtomIdx=lambda b=b: b) for a, b in self.bonds]
 
 
 class Installed(unittest.TestCase):

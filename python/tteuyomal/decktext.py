@@ -48,7 +48,7 @@ from collections.abc import Callable, Iterable, Iterator
 from typing import Any
 
 from .decks import SHORT_NAMES, Block, Deck, Placement, Sheet
-from .files import reason, shown as shown_name
+from .files import Found, Unread, shown as shown_name, text_of
 from .libraries import Library
 from .native import Refused
 
@@ -136,8 +136,7 @@ def named_files(text: str, folder: str) -> list[str]:
 
 
 def _file(path: str) -> bytes:
-    with open(path, "rb") as file:
-        return file.read()
+    return text_of(Found(path)).data
 
 
 def _raw(tables: dict[str, Any]) -> bytes:
@@ -186,8 +185,8 @@ def _block(table: dict[str, Any], place: int, read: Callable[[str], bytes]) -> t
         return number, make(data)
     except Refused as refusal:
         raise BadText(f"{what}: {named[0]} {shown_name(name)}: {refusal}{line_of(data, refusal)}") from None
-    except (OSError, ValueError) as fault:  # a name with a NUL in it, too
-        raise BadText(f"{what}: {named[0]} {shown_name(name)}: cannot be read: {reason(fault)}") from None
+    except Unread as fault:  # a name with a NUL in it, too
+        raise BadText(f"{what}: {named[0]} {shown_name(name)}: cannot be read: {fault}") from None
 
 
 def line_of(text: bytes, refusal: Refused) -> str:

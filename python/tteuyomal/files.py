@@ -15,7 +15,9 @@ from collections.abc import Iterable, Iterator
 from typing import IO, NamedTuple
 
 LONGEST = 32768  # bytes of a deck; a longer one is refused whatever its bytes are
+LONGEST_TEXT = 1 << 30  # bytes of any other file that is read: molfile, SDF, neighbour text, deck's text, manifest, notice
 _HELD = 200_000  # names of one folder that are held at a time
+_PIECE = 1 << 20  # bytes that are asked for at a time
 
 
 class Unread(Exception):
@@ -117,18 +119,25 @@ def read(found: Found, most: int = LONGEST) -> Contents:
         raise Unread(reason(fault)) from None
 
 
+def text_of(found: Found) -> Contents:
+    """All of a file that is no deck; raises `Unread`, also for one that is longer than such files may be."""
+    said = read(found, LONGEST_TEXT)
+    if len(said.data) > LONGEST_TEXT:
+        raise Unread(f"longer than {LONGEST_TEXT} bytes")
+    return said
+
+
 def contents(file: int, most: int) -> Contents:
     """What an open file holds."""
-    data = os.read(file, most + 1)
-    while data and len(data) <= most:
-        more = os.read(file, most + 1 - len(data))
-        if not more:
-            break
-        data += more
+    parts, left = [], most + 1
+    while left and (part := os.read(file, min(left, _PIECE))):
+        parts.append(part)
+        left -= len(part)
+    data = b"".join(parts)
     digest = hashlib.sha256(data)
-    if len(data) > most:  # too long already; the rest is read for its SHA-256 alone
-        while more := os.read(file, 1 << 20):
-            digest.update(more)
+    if not left:  # too long already; the rest is read for its SHA-256 alone
+        while part := os.read(file, _PIECE):
+            digest.update(part)
     return Contents(data, digest.hexdigest())
 
 

@@ -58,7 +58,7 @@ def run(options: argparse.Namespace, out: Output) -> int:
 def read(path: str) -> notice.Read:
     """The notice."""
     try:
-        data = files.read(Found(path), 1 << 30).data
+        data = files.text_of(Found(path)).data
         return notice.read(data.decode("utf-8"))
     except (files.Unread, notice.NoNotice, UnicodeDecodeError) as fault:
         raise Stop(f"{files.shown(path)}: {fault}") from None
