@@ -8,8 +8,8 @@
 -- | `tableAnswer`, `tableLeft` (storage) | what `queue-alone` speaks of                         | `add-told`, `add-left`, `look-told`, `drop-told`, `drop-left`, `compose-told`: the promises |
 -- | `summaryTable`, `blocks`   | the table by its bytes, and the queue's blocks with no bytes | `tells-blocks`                                               |
 pub mod Queues
-pub mod Work
 pub mod Blocks
+pub mod Work
 pub mod Told
 pub mod Alone
 pub mod Unique

@@ -29,31 +29,28 @@ use Rattle.library.specs.Steps.{stepReply, stepOut}
 use Rattle.library.specs.Running.{step-short, made-step}
 
 module _ (s : Sheet) (d : List ℕ) (l : Library) (e : libraryReply d ≡ read l) (position : ℕ) (h : position < products (l .sites)) where
-  abbrev deck : List ℕ
-  deck = productDeck d l position
-
-  short : length deck ≤ longestDeck
-  short = let m = product-deck d l position e h in omega (arith, composed-short deck (m .deck) (m .reads))
+  short : length (productDeck d l position) ≤ longestDeck
+  short = let m = product-deck d l position e h in omega (arith, composed-short (productDeck d l position) (m .deck) (m .reads))
 
   -- composing gives the product's fields for that deck
-  pub product-fields : fieldsReply Composed deck ≡ read (productAt d l position)
+  pub product-fields : fieldsReply Composed (productDeck d l position) ≡ read (productAt d l position)
   unfolding fieldsReply productAt
   product-fields = let m = product-deck d l position e h in rw (m .reads) (ap (λ (g : Graph). read (indicesOf g)) (m .molecule))
 
   -- and so does writing
-  pub product-writes : (n : ℕ) → sheetBytes s ≤ n → sheetWriteReply s deck n ≡ read (productAt d l position)
+  pub product-writes : (n : ℕ) → sheetBytes s ≤ n → sheetWriteReply s (productDeck d l position) n ≡ read (productAt d l position)
   unfolding sheetWriteReply
-  product-writes n r = rw (le-ltb longestDeck (length deck) short, le-ltb n (sheetBytes s) r) product-fields
+  product-writes n r = rw (le-ltb longestDeck (length (productDeck d l position)) short, le-ltb n (sheetBytes s) r) product-fields
 
-  product-lacks : (n : ℕ) → n < sheetBytes s → sheetWriteReply s deck n ≡ refused (refusal 9 0)
+  product-lacks : (n : ℕ) → n < sheetBytes s → sheetWriteReply s (productDeck d l position) n ≡ refused (refusal 9 0)
   unfolding sheetWriteReply
-  product-lacks n r = rw (le-ltb longestDeck (length deck) short, lt-ltb n (sheetBytes s) r)
+  product-lacks n r = rw (le-ltb longestDeck (length (productDeck d l position)) short, lt-ltb n (sheetBytes s) r)
 
   -- THE SAME BYTES, whatever is lent: a step leaves what writing leaves for the deck written out
-  pub product-sheet : (out : List ℕ) → stepOut s out (stepReply s d position (length out)) ≡ sheetOut s out (sheetWriteReply s deck (length out))
+  pub product-sheet : (out : List ℕ) → stepOut s out (stepReply s d position (length out)) ≡ sheetOut s out (sheetWriteReply s (productDeck d l position) (length out))
   product-sheet out = go (ltb (length out) (sheetBytes s)) refl
     where
-      go : (t : Bool) → ltb (length out) (sheetBytes s) ≡ t → stepOut s out (stepReply s d position (length out)) ≡ sheetOut s out (sheetWriteReply s deck (length out))
+      go : (t : Bool) → ltb (length out) (sheetBytes s) ≡ t → stepOut s out (stepReply s d position (length out)) ≡ sheetOut s out (sheetWriteReply s (productDeck d l position) (length out))
       go true b =
           let r = ltb-true (length out) (sheetBytes s) b in
           ap (stepOut s out) (step-short s d position (length out) (whole d l e .short) r) ∙ sym (ap (sheetOut s out) (product-lacks (length out) r))
@@ -63,5 +60,5 @@ module _ (s : Sheet) (d : List ℕ) (l : Library) (e : libraryReply d ≡ read l
 
   -- AND IT IS ACCEPTED behind that deck
   pub product-accepted : (out : List ℕ) → sheetBytes s ≤ length out
-      → saidVerdict (judgeReply (deck ++ take (sheetBytes s) (stepOut s out (stepReply s d position (length out))))) ≡ verdict.Accepted
-  product-accepted out r = rw (product-sheet out) (written-accepted s deck out (ap saidSheetWritten (product-writes (length out) r)))
+      → saidVerdict (judgeReply ((productDeck d l position) ++ take (sheetBytes s) (stepOut s out (stepReply s d position (length out))))) ≡ verdict.Accepted
+  product-accepted out r = rw (product-sheet out) (written-accepted s (productDeck d l position) out (ap saidSheetWritten (product-writes (length out) r)))
