@@ -12,4 +12,5 @@ pub mod Molfiles
 pub mod Texts
 pub mod RoundTrips
 pub mod Libraries
+pub mod Rankings
 pub mod Queues
