@@ -55,8 +55,7 @@ molfile-reads : (n : ℕ) (xs s : List ℕ) → blockReply n xs ≡ read tt → 
 molfile-reads n xs s fine is bonds counts bonds′ counts′ r m h c =
     let b : ReadsBack n xs (length bonds) s = subst (ReadsBack n xs (length bonds)) (sym is) (reads-back n xs (length bonds) fine) in
     let told : molfileReply s (length bonds) ≡ read tt = b .reply ∙ ap (λ (v : Bool). refuseIf v 9 0) (le-ltb (length bonds) (length xs) h) in
-    let a : readReply s (length bonds) (length counts) ≡ read tt = ap (withRoom (length counts) 2) told ∙ room-there (length counts) 2 tt c in
-    (
+    let a : readReply s (length bonds) (length counts) ≡ read tt = ap (withRoom (length counts) 2) told ∙ room-there (length counts) 2 tt c in (
       m .replied ∙ ap coded a,
       ap (take (length xs)) (m .first ∙ ap (λ (v : Read (Unit {0})). outAfter (v then λ _. read (bytesOf s)) bonds) a ∙ ap (λ (ys : List ℕ). over ys bonds) (b .bytes)) ∙ take-append-seam xs (drop (length xs) bonds),
       ap (take 2) (m .second ∙ ap (λ (v : Read (Unit {0})). outAfter (v then λ _. read (keptAtoms s ∷ length (bytesOf s) / 2 ∷ [])) counts) a) ∙ ap₂ (λ (v w : ℕ). v ∷ w ∷ []) (b .atoms) (ap (λ (ys : List ℕ). length ys / 2) (b .bytes)),
@@ -117,8 +116,7 @@ module _ (n : ℕ) (xs text told text′ told′ : List ℕ) (w : TextWritten n 
       let is : take (length t) (textAfter (neighboursWriteReply n xs (length text)) text) ≡ s = ap₂ (λ (j : ℕ) (l : List ℕ). take j l) (sym long-is) (sym left-is) in
       let g : Graph = record { atoms = n; bonds = cs } in
       let R = subst (λ (l : List ℕ). texts.RoundTrip n xs l bonds) is (texts.round-trip n xs text bonds t done h) in
-      let a : textReply s (length bonds) (length counts) ≡ read g = ap (withRoom (length counts) 2) (R .reply) ∙ room-there (length counts) 2 g c in
-      (
+      let a : textReply s (length bonds) (length counts) ≡ read g = ap (withRoom (length counts) 2) (R .reply) ∙ room-there (length counts) 2 g c in (
         m .replied ∙ ap coded a,
         ap (take (bondsLength (bondsOf xs))) (m .first ∙ ap (λ (v : Read Graph). outAfter (v then λ g. read (bondListBytes (g .bonds))) bonds) a) ∙ take-at (bondListBytes cs) (drop (length (bondListBytes cs)) bonds) (bondsLength (bondsOf xs)) size,
         ap (take 2) (m .second ∙ ap (λ (v : Read Graph). outAfter (v then λ g. read (g .atoms ∷ length (g .bonds) ∷ [])) counts) a),
@@ -126,8 +124,7 @@ module _ (n : ℕ) (xs text told text′ told′ : List ℕ) (w : TextWritten n 
 
   pub text-again : (r : ℕ) (text″ told″ : List ℕ) → TextWritten n (bondListBytes cs) text told r text″ told″ → (r ≡ 0) × (text″ ≡ text′) × (told″ ≡ told′)
   text-again r text″ told″ v =
-      let same : toldReply n (bondListBytes cs) (length text) (length told) ≡ toldReply n xs (length text) (length told) = ap (withRoom (length told) 1) (texts.writes-again n xs fine (length text)) in
-      (
+      let same : toldReply n (bondListBytes cs) (length text) (length told) ≡ toldReply n xs (length text) (length told) = ap (withRoom (length told) 1) (texts.writes-again n xs fine (length text)) in (
         v .replied ∙ ap coded same ∙ sym (w .replied),
         v .first ∙ ap (λ (x : Read (List ℕ)). outAfter (x then λ t. read t) text) same ∙ sym (w .first),
         v .second ∙ ap (λ (x : Read (List ℕ)). outAfter (x then λ t. read (length t ∷ [])) told) same ∙ sym (w .second),

@@ -98,7 +98,6 @@ module _ (c : ℕ) (big : suc mostBytes < c) where
         then-bounded c (atomCountReply (length t) (numbers t)) _ (count-bounded (length t) (numbers t) l (numbers-low none 0 t tt (omega (arith, l)))) (λ c f.
         read-bounded (c .count) (steps (c .rest)) room))
 
-
 -- WHATEVER THE TEXT: 0 exactly where nothing is refused; else the refusal's number, and its place as far as 56 bits go
 pub neighbours-read-tells : (t : List ℕ) (room entries : ℕ) → TellsText (textReply t room entries)
 neighbours-read-tells t room entries =

@@ -50,8 +50,7 @@ loop-again : tie.Need-loop-again Inv-loop μ-loop
 loop-again c =
     let l = c .before .before .before .loop in
     let i = l .i in
-    let e = rw (add-one i) at (c .before .row .ensures) in
-    (
+    let e = rw (add-one i) at (c .before .row .ensures) in (
       omega arith,
       rw (add-one i) (fill-next _ i _ (omega arith) (l .inv .1) (ap (λ (x : OneRow). x .row) e)),
       rw (add-one i) (fill-next _ i _ (omega arith) (l .inv .2) (ap (λ (x : OneRow). x .largest) e)),
