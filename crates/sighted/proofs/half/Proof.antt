@@ -1,9 +1,9 @@
--- `summary::half` meets its contract. Assumes nothing.
+-- `sighted::half` meets its contract. Assumes nothing.
 use native.Mathlib.Omega.{arith}
-use Rattle.summary.proofs.Calls.{four-sum}
+use Rattle.sighted.proofs.Calls.{four-sum}
 use borrow.Author.Needs.{needs}
-use Rattle.summary.proofs.half.Statement.{statement}
-use Rattle.summary.proofs.half.Tie as tie
+use Rattle.sighted.proofs.half.Statement.{statement}
+use Rattle.sighted.proofs.half.Tie as tie
 
 shared-slice-read-wide : tie.Need-shared-slice-read-wide
 shared-slice-read-wide c = search needs

@@ -1,9 +1,9 @@
--- `summary::eight` meets its contract. Assumes nothing.
+-- `sighted::eight` meets its contract. Assumes nothing.
 use native.Mathlib.Omega.{arith}
-use Rattle.summary.proofs.Calls.{eight-sum}
+use Rattle.sighted.proofs.Calls.{eight-sum}
 use borrow.Author.Needs.{needs}
-use Rattle.summary.proofs.eight.Statement.{statement}
-use Rattle.summary.proofs.eight.Tie as tie
+use Rattle.sighted.proofs.eight.Statement.{statement}
+use Rattle.sighted.proofs.eight.Tie as tie
 
 half-requires : tie.Need-half-requires
 half-requires c κs = search needs
