@@ -48,7 +48,7 @@ module _ (n : ℕ) (xs : List ℕ) (fine : blockReply n xs ≡ read tt) where
   unfolding summaryOf
   all-put old {m} x s e a near q b =
       joined old (headOf x (indicesOf g)) (atomsFrom g 1 n) 0 headBytes (a ∙ ap (λ (t : Indices). sets old 0 (headOn x t)) e ∙ ap (sets old 0) (head-same x))
-      (b ∙ ap (λ (l : List ℕ). sets m headBytes (nearBytes l 0 n)) q ∙ ap (sets m headBytes) (near-same g n 0 (few-atoms n xs fine .high))) (omega (arith, length-head x))
+      (b ∙ ap (λ (l : List ℕ). sets m headBytes (nearBytes l 0 n)) q ∙ ap (sets m headBytes) (near-same g n 0 (omega (arith, few-atoms n xs fine .high)))) (omega (arith, length-head x))
 
 -- the replies
 module _ (n : ℕ) (xs : List ℕ) where
