@@ -5,8 +5,10 @@
 
 Of a list of SMILES (.smi) RDKit writes each molecule as a molfile, once with all its hydrogens and once without.
 A file that the library reads must have the atoms, the bonds and W that RDKit's own reader finds once each H with one
-bond, to an atom that isn't H, is left out. A refusal is held against the rules by what RDKit sees: 1 is a molecule of
-0 or more than 64 atoms, 6 an atom of too many bonds, 7 one in parts. The last lines are the table of docs/BENCHMARKS.md.
+bond, to an atom that isn't H, is left out. RDKit calls a D and a T of a file an H with an isotope; by docs/RULES.md the
+symbol in the file decides, so it is looked up there. A refusal is held against the rules by what RDKit sees: 1 is a
+molecule of 0 or more than 64 atoms, or a V3000 file, whose V2000 part says 0; 6 an atom of too many bonds, 7 one in parts.
+The last lines are the table of docs/BENCHMARKS.md.
 """
 
 import collections
@@ -45,6 +47,14 @@ def records(data):
         at = data.find(b"\n", end + 1) + 1 or len(data)
 
 
+def spelled_d_or_t(record):
+    """Of each atom line whether its symbol is D or T; then no end of lines where it is not."""
+    for line in record.split(b"\n")[4:]:
+        yield line[31:34].strip() in (b"D", b"T")
+    while True:
+        yield False
+
+
 def by_rdkit(record):
     """Atom count, bonds and W by RDKit, hydrogens left out by the rule; None where it can't read the record."""
     try:
@@ -53,11 +63,11 @@ def by_rdkit(record):
         return None
     if molecule is None:
         return None
+    is_h = [atom.GetAtomicNum() == 1 and not heavy for atom, heavy in zip(molecule.GetAtoms(), spelled_d_or_t(record))]
     drop = []
     for atom in molecule.GetAtoms():
-        if atom.GetAtomicNum() == 1 and atom.GetIsotope() == 0 and atom.GetDegree() == 1:
-            if atom.GetNeighbors()[0].GetAtomicNum() != 1:
-                drop.append(atom.GetIdx())
+        if is_h[atom.GetIdx()] and atom.GetDegree() == 1 and not is_h[atom.GetNeighbors()[0].GetIdx()]:
+            drop.append(atom.GetIdx())
     editable = Chem.RWMol(molecule)
     for at in sorted(drop, reverse=True):
         editable.RemoveAtom(at)
@@ -71,8 +81,10 @@ def by_rdkit(record):
     return atoms, bonds, int(sum(far[i][j] for i in range(atoms) for j in range(i))), parts, degree
 
 
-def fits(refused, seen):
+def fits(refused, seen, record):
     """Whether a refusal is what RDKit's molecule asks for; True where RDKit can't say."""
+    if b"V3000" in b"".join(record.split(b"\n")[3:4]):
+        return refused.number == 1
     if seen is None:
         return True
     atoms, bonds, _, parts, degree = seen
@@ -112,7 +124,7 @@ def main(folders):
             read_bytes += len(record)
             if refused is not None:
                 told[f"refused {refused.number}"] += 1
-                if not fits(refused, seen):
+                if not fits(refused, seen, record):
                     wrong.append((path, at, str(refused), seen))
                 continue
             told["read"] += 1

@@ -7,7 +7,7 @@
  *   - a pointer and the length behind it name that many readable (for an output: writable) entries;
  *   - no pointer is NULL, also where its length is 0: lend any valid address then;
  *   - an output overlaps no input and no other output;
- *   - up to 32 KiB of stack are there.
+ *   - TTEUYOMAL_STACK_BYTES of stack are there.
  *
  * A BLOCK is an atom count, 1 to 64, and a list of bonds, two bytes each: the numbers of its two atoms, from 1,
  * either first. At most 192 bonds, at most 6 at an atom, and a path between any two atoms.
@@ -61,6 +61,9 @@ typedef uint64_t tteuyomal_reply;
 #define TTEUYOMAL_MOLFILE_BYTES 8754
 #define TTEUYOMAL_NEIGHBOURS_BYTES 1024
 #define TTEUYOMAL_DECK_BYTES 32768
+
+/* More stack than any function takes, on any input. */
+#define TTEUYOMAL_STACK_BYTES 32768
 
 /* What is wrong, by number. The first refusal in a function's order is the one that is told. */
 enum tteuyomal_refusal {

@@ -1,7 +1,7 @@
 """Builds the wheel that `pip install` puts in place, and the source archive (PEP 517), with the standard library alone.
 
-The shared object must stand in tteuyomal/ already: `make` at the root of the repository puts it there. The same files make the same
-bytes: no time of day is in them, but the one that SOURCE_DATE_EPOCH names.
+The shared object stands in tteuyomal/ after `make`; where it does not, it is made here in the same way, of the assembly in made/, which the
+source archive has too. The same files make the same bytes: no time of day is in them, but the one that SOURCE_DATE_EPOCH names.
 """
 
 import base64
@@ -10,6 +10,8 @@ import hashlib
 import io
 import os
 import re
+import shutil
+import subprocess
 import tarfile
 import time
 import tomllib
@@ -18,7 +20,9 @@ import zipfile
 HERE = os.path.dirname(os.path.abspath(__file__))
 ROOT = os.path.dirname(HERE)
 SHARED = os.path.join(HERE, "tteuyomal", "libtteuyomal.so")
-PACKED = (".py", ".so", ".typed", ".css", ".js", "made.txt")
+WRITTEN = (".py", ".typed", ".css", ".js")
+MADE = ("libtteuyomal.so", "made.txt")
+ASSEMBLY = ("made/code", "made/x86_64.s", "made/aarch64.s")
 OLDEST = 315532800  # 1980, the first time that a zip file can name
 
 # the machine by the number that stands in the head of its shared objects, and the oldest C library that pip has a tag for
@@ -62,18 +66,28 @@ def _metadata(project):
     return "\n".join(lines) + "\n\n" + _text(HERE, project["readme"])
 
 
-def _licence():
-    """The licence: beside this folder in the repository, in it in the source archive."""
-    return _text(HERE if os.path.isfile(os.path.join(HERE, "LICENSE")) else ROOT, "LICENSE")
+def _top():
+    """Where the licence and made/ stand: above this folder in the repository, in it in the source archive."""
+    return HERE if os.path.isfile(os.path.join(HERE, "PKG-INFO")) else ROOT
+
+
+def _make_shared(version):
+    """Makes the shared object of this machine's assembly."""
+    top, name = _top(), f"libtteuyomal.so.{version.split('.')[0]}"
+    for words in (["assemble"], ["shared", name]):
+        if subprocess.run(["sh", os.path.join(top, "made", "code"), *words]).returncode != 0:
+            raise SystemExit("tteuyomal/libtteuyomal.so is not there and can't be made: that needs a C compiler, and made/ with this machine's code")
+    for name in MADE:
+        shutil.copy(os.path.join(top, "target", "staticlib", name), os.path.join(HERE, "tteuyomal"))
 
 
 def _about(project, tag_):
     """The files that describe the package, by name."""
     return {
         "METADATA": _metadata(project),
-        "LICENSE": _licence(),
+        "LICENSE": _text(_top(), "LICENSE"),
         "WHEEL": f"Wheel-Version: 1.0\nGenerator: builder\nRoot-Is-Purelib: false\nTag: {tag_}\n",
-        "entry_points.txt": "[console_scripts]\ntteuyomal = tteuyomal.__main__:main\n",
+        "entry_points.txt": "[console_scripts]\n" + "".join(f"{name} = {where}\n" for name, where in project["scripts"].items()),
     }
 
 
@@ -103,8 +117,6 @@ def _entry(name):
 
 
 def _build(wheel_directory, contents):
-    if not os.path.isfile(SHARED):
-        raise SystemExit("tteuyomal/libtteuyomal.so is not there: run `make` at the root of the repository first")
     with open(SHARED, "rb") as file:
         tag_ = tag(file.read())
     project = _project()
@@ -114,33 +126,37 @@ def _build(wheel_directory, contents):
     return file
 
 
-def _package():
-    """The files of the package, by name."""
+def _package(endings):
+    """The files of the package that end so, by name."""
     contents = {}
     for folder, _, names in os.walk(os.path.join(HERE, "tteuyomal")):
-        for path in (os.path.join(folder, name) for name in names if name.endswith(PACKED)):
+        for path in (os.path.join(folder, name) for name in names if name.endswith(endings)):
             with open(path, "rb") as file:
                 contents[os.path.relpath(path, HERE)] = file.read()
     return contents
 
 
 def build_wheel(wheel_directory, config_settings=None, metadata_directory=None):
-    return _build(wheel_directory, _package())
+    if not os.path.isfile(SHARED):
+        _make_shared(_project()["version"])
+    return _build(wheel_directory, _package(WRITTEN + MADE))
 
 
 def build_editable(wheel_directory, config_settings=None, metadata_directory=None):
+    if not os.path.isfile(SHARED):
+        _make_shared(_project()["version"])
     return _build(wheel_directory, {"tteuyomal.pth": HERE.encode() + b"\n"})
 
 
 def build_sdist(sdist_directory, config_settings=None):
-    """The package with its builder. The shared object is in it where it has been made, so that the archive can be installed on the
-    same kind of machine."""
+    """The package with its builder and the assembly for every machine: what it is installed of."""
     project = _project()
     name = f"{project['name']}-{project['version']}"
-    contents = _package()
+    contents = _package(WRITTEN)
     for key in ("builder.py", "pyproject.toml", project["readme"]):
         contents[key] = _text(HERE, key).encode()
-    contents["LICENSE"] = _licence().encode()
+    for key in ("LICENSE", *ASSEMBLY):
+        contents[key] = _text(_top(), key).encode()
     contents["PKG-INFO"] = _metadata(project).encode()
     packed = io.BytesIO()
     with tarfile.open(fileobj=packed, mode="w", format=tarfile.PAX_FORMAT) as archive:

@@ -9,11 +9,12 @@ import subprocess
 import sys
 import tempfile
 import unittest
+from unittest import mock
 
 from common import FORTY, HEADER, JUDGED, PYTHON, RIGHT, RING, ROOT, sheet, text
 
 import tteuyomal
-from tteuyomal import Block, Deck, NotThere, Placement, Refused, Sheet, Verdict, native
+from tteuyomal import Block, Deck, NotThere, Placement, Refused, Sheet, Verdict, drawing, native
 
 RING_OF_6 = Block(6, RING)
 TWO_RINGS = Deck({1: RING_OF_6}, [Placement(1), Placement(1, parent=1, parent_atom=1, atom=1)])
@@ -55,6 +56,33 @@ class Values(unittest.TestCase):
         self.assertEqual(tteuyomal.judge(TWO_RINGS).refusal, Refused(11, 40))
         self.assertEqual(pickle.loads(pickle.dumps(tteuyomal.judge(FORTY))), tteuyomal.judge(FORTY))
 
+    def test_files(self):
+        with tempfile.TemporaryDirectory() as room:
+            for data, line in [*JUDGED, (bytes(10**6), "refused 20 at 0")]:
+                path = pathlib.Path(room, "deck")
+                path.write_bytes(data)
+                self.assertEqual((str(tteuyomal.judge_file(path)), str(tteuyomal.judge_file(str(path)))), (line, line))
+            self.assertRaises(OSError, tteuyomal.judge_file, room)
+            self.assertRaises(OSError, tteuyomal.judge_file, os.path.join(room, "none"))
+
+    def test_in_notebooks(self):
+        for value, words in (
+            (RING_OF_6, ["<td>W</td><td>27</td>"]),
+            (Block(2), ["<p>refused 7 at 0: some pair of atoms has no path</p>"]),
+            (Block(-1), ["not from 0 to 65535"]),
+            (Sheet(1, 2, 3, 4, 5), ["<td>polarity</td><td>5</td>"]),
+            (TWO_RINGS, ["<th>field</th><th>worked out</th>", "<td>W</td><td>198</td>"]),
+            (TWO_RINGS.with_sheet(Sheet(12, 197, 96, 102, 14, 7)), ["<td>W</td><td>197</td><td>198</td>", "distance</td><td>7</td><td>7</td>", "<p>differs 2: W</p>"]),
+            (TWO_RINGS.with_sheet().judge(), ["<p>accepted</p>"]),
+            (TWO_RINGS.judge(), ["<p>refused 11 at 40: "]),
+            (Deck({1: Block(2)}, [Placement(1)], Sheet(1, 2, 3, 4, 5)), ["<p>refused 7 at 0"]),
+        ):
+            with self.subTest(value):
+                for part in words:
+                    self.assertIn(part, value._repr_html_())
+        drawn = TWO_RINGS._repr_html_()
+        self.assertEqual("<svg " in drawn, drawing.there())
+
     def test_bytes_that_are_no_deck(self):
         for data in (b"", FORTY[:-1], FORTY[22:] * 2, RIGHT, FORTY + RIGHT + RIGHT, bytes(3), FORTY[:22]):
             self.assertRaises(ValueError, Deck.from_bytes, data)
@@ -89,11 +117,13 @@ class Values(unittest.TestCase):
         self.assertEqual(Block(4, [(1, 2), (2, 3), (3, 4)]).sets(), (5, 8))
 
     def test_one_version(self):
-        """The library, the package, its project file and the Makefile have the same."""
-        written = [tteuyomal.__version__]
-        for pattern, path in ((r'^version = "(.*)"$', ("python", "pyproject.toml")), (r"^VERSION := (.*)$", ("Makefile",))):
-            written.append(re.search(pattern, text(*path), re.M).group(1))
-        self.assertEqual(written, [native.version()] * 3)
+        """The library, the package, its project file, the Rust crate and the Makefile have the same, and the list of changes has it."""
+        line = r'^version = "(.*)"$'
+        places = {"python/pyproject.toml": line, "rust/Cargo.toml": line, "rust/Cargo.lock": line, "Makefile": r"^VERSION := (.*)$"}
+        written = {path: re.search(pattern, text(*path.split("/")), re.M).group(1) for path, pattern in places.items()}
+        written["python/tteuyomal/__init__.py"] = tteuyomal.__version__
+        self.assertEqual(written, dict.fromkeys(written, native.version()))
+        self.assertIn(f"\n## {native.version()}\n", text("CHANGELOG.md"))
 
     def test_a_function_that_the_library_has_not(self):
         with self.assertRaisesRegex(NotThere, "tteuyomal_no_such"):
@@ -138,8 +168,36 @@ class Rdkit(unittest.TestCase):
             mol.UpdatePropertyCache(strict=False)
             self.assertEqual(Block.from_rdkit(mol), Block.from_molfile(Chem.MolToMolBlock(mol, kekulize=False)), smiles)
         self.assertEqual(Block.from_rdkit(Chem.MolFromSmiles("[2H]C", sanitize=False)).atoms, 1)
-        spelled = Block(2, [(1, 2)]).molfile().replace(b" C  ", b" D  ", 1)
-        self.assertEqual(Block.from_molfile(spelled), Block(2, [(1, 2)]), "a symbol D is no H")
+
+    def test_deuterium(self):
+        """One rule for all doors: the symbol H is an H, whatever its isotope; D and T are none."""
+        two = Block(2, [(1, 2)])
+        for symbol, block in (("D", two), ("T", two), ("C", two), ("H", Block(1)), ("He", two), ("h", two)):
+            for isotope in (b"", b"M  ISO  1   1   2\n"):
+                text = two.molfile().replace(b" C  ", f" {symbol:<3}".encode(), 1).replace(b"M  END", isotope + b"M  END")
+                self.assertEqual(Block.from_molfile(text), block, (symbol, isotope))
+        for isotope in (0, 2, 3):  # as RDKit says it: it writes all three as H into a molfile
+            self.assertEqual(Block.from_rdkit(StandIn([("H", isotope), ("C", 0)], [(0, 1)])), Block(1))
+            self.assertEqual(Block.from_rdkit(StandIn([("H", isotope), ("H", 2)], [(0, 1)])), two)
+
+
+class StandIn:
+    """A molecule with the few calls of RDKit's that are used, for machines without it."""
+
+    def __init__(self, atoms, bonds):
+        self.atoms, self.bonds = atoms, bonds
+
+    def atom(self, index):
+        symbol, isotope = self.atoms[index]
+        ends = [other for bond in self.bonds if index in bond for other in bond if other != index]
+        said = {"GetIdx": index, "GetSymbol": symbol, "GetIsotope": isotope, "GetDegree": len(ends), "GetAtomicNum": {"H": 1, "C": 6}[symbol]}
+        return mock.Mock(GetNeighbors=lambda: [self.atom(other) for other in ends], **{name: lambda value=value: value for name, value in said.items()})
+
+    def GetAtoms(self):
+        return [self.atom(index) for index in range(len(self.atoms))]
+
+    def GetBonds(self):
+        return [mock.Mock(GetBeginAtomIdx=lambda a=a: a, GetEndAtomIdx=lambda b=b: b) for a, b in self.bonds]
 
 
 class Installed(unittest.TestCase):
@@ -165,8 +223,12 @@ class Installed(unittest.TestCase):
                 "include/tteuyomal.h",
                 "lib/libtteuyomal.a",
                 "lib/libtteuyomal.so",
-                "lib/libtteuyomal.so.3",
+                f"lib/libtteuyomal.so.{native.version().split('.')[0]}",
                 "lib/pkgconfig/tteuyomal.pc",
+                "share/bash-completion/completions/tteuyomal",
+                "share/man/man1/tteuyomal.1",
+                "share/man/man3/tteuyomal.3",
+                "share/zsh/site-functions/_tteuyomal",
             ],
         )
         flags = ["-I" + os.path.dirname(HEADER), "-L" + os.path.join(self.folder, "lib"), "-ltteuyomal"]

@@ -2,6 +2,7 @@
 man reads without a complaint; completions that the shells take."""
 
 import email
+import hashlib
 import os
 import shutil
 import subprocess
@@ -57,7 +58,48 @@ class Archives(unittest.TestCase):
             name = builder.build_sdist(room)
             with tarfile.open(os.path.join(room, name)) as archive:
                 names = {one.split("/", 1)[1] for one in archive.getnames()}
-        self.assertLessEqual({"PKG-INFO", "LICENSE", "README.md", "builder.py", "pyproject.toml", "tteuyomal/__init__.py"}, names)
+                archive.extractall(room)
+            there = os.path.join(room, name[: -len(".tar.gz")])
+            build = "import builder; print(builder.build_wheel('..'))"
+            wheel = subprocess.run([sys.executable, "-Bc", build], cwd=there, capture_output=True, text=True, check=True).stdout.strip()
+            with zipfile.ZipFile(os.path.join(room, wheel)) as archive:
+                archive.extractall(os.path.join(room, "installed"))
+            alone = os.environ | {"PYTHONPATH": os.path.join(room, "installed")}
+            said = subprocess.run([sys.executable, "-m", "tteuyomal", "--version"], env=alone, cwd=room, capture_output=True, text=True).stdout
+        self.assertLessEqual({"PKG-INFO", "LICENSE", "README.md", "builder.py", "pyproject.toml", "tteuyomal/__init__.py", "made/aarch64.s"}, names)
+        self.assertFalse([one for one in names if one.endswith((".so", "made.txt"))], "what was made here is not in it")
+        code = hashlib.sha256(open(os.path.join(ROOT, "made", f"{os.uname().machine}.s"), "rb").read()).hexdigest()
+        self.assertIn(f", code {code} for {os.uname().machine}, proved by the gate", said)
+
+
+@unittest.skipUnless(shutil.which("dpkg-deb") and shutil.which("dpkg-architecture"), "no Debian here (dpkg, dpkg-dev)")
+class Debian(unittest.TestCase):
+    def made(self):
+        """The packages, by the front of their names."""
+        run = subprocess.run(["make", "-s", "deb"], cwd=ROOT, capture_output=True, text=True)
+        self.assertEqual(run.returncode, 0, run.stdout + run.stderr)
+        found = {}
+        for path in run.stdout.split():
+            with open(os.path.join(ROOT, path), "rb") as file:
+                found[os.path.basename(path).split("_")[0]] = file.read()
+        return found
+
+    def test_packages(self):
+        first = self.made()
+        major = builder._project()["version"].split(".")[0]
+        self.assertEqual(set(first), {"tteuyomal", "python3-tteuyomal", "libtteuyomal-dev", f"libtteuyomal{major}"})
+        self.assertEqual(first, self.made(), "the same bytes each time")
+        if shutil.which("lintian"):
+            debs = [os.path.join("target", "deb", name) for name in os.listdir(os.path.join(ROOT, "target", "deb"))]
+            run = subprocess.run(["lintian", "--allow-root", "--fail-on", "error,warning", *debs], cwd=ROOT, capture_output=True, text=True)
+            self.assertEqual((run.returncode, run.stdout), (0, ""), run.stderr)
+
+
+class Types(unittest.TestCase):
+    @unittest.skipUnless(shutil.which("mypy"), "no mypy here (Debian: mypy)")
+    def test_mypy(self):
+        run = subprocess.run(["mypy", "--no-incremental"], cwd=PYTHON, capture_output=True, text=True)
+        self.assertEqual((run.returncode, run.stderr), (0, ""), run.stdout)
 
 
 class Manual(unittest.TestCase):
@@ -87,3 +129,5 @@ class Manual(unittest.TestCase):
         run = subprocess.run(["bash"], input=printed("bash") + words, capture_output=True, text=True)
         self.assertEqual(run.stdout, "judge\n")
         self.assertTrue(printed("zsh").startswith("#compdef tteuyomal\n"))
+        if shutil.which("zsh"):
+            self.assertEqual(subprocess.run(["zsh", "-n"], input=printed("zsh"), text=True).returncode, 0)

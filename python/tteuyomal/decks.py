@@ -8,7 +8,7 @@ from collections.abc import Iterable, Iterator, Mapping
 from dataclasses import dataclass
 from typing import Any, NamedTuple
 
-from . import native
+from . import files, native
 from .native import Contributions, Fields, Refused, Sets, Szeged, Values, Vertex
 
 BLOCK, ASSEMBLY, SHEET, SIX, LIBRARY = 1, 2, 3, 4, 5  # kinds of records
@@ -224,6 +224,12 @@ def judge(deck: Deck | native.Bytes) -> Verdict:
         return Verdict(refusal=refusal)
 
 
+def judge_file(path: str | os.PathLike[str]) -> Verdict:
+    """The library's verdict on the deck in a file. A file that can't be read is an OSError, never a verdict."""
+    with open(path, "rb") as file:
+        return judge(file.read(files.LONGEST + 1))  # one byte more than the longest deck is refused as any longer file is
+
+
 def judge_many(decks: Iterable[Deck | native.Bytes]) -> list[Verdict]:
     """The verdicts on many decks."""
     return [verdict_of(reply) for reply in native.judge_many(map(_deck_bytes, decks))]
@@ -339,6 +345,6 @@ def _left_out(atom: Any) -> bool:
 
 __all__ = [
     "Block", "Contributions", "Deck", "FIELD_NAMES", "Fields", "Placement", "Refused", "SHORT_NAMES", "Sets", "Sheet", "Szeged",
-    "Values", "Verdict", "Vertex", "claimed", "compose", "contributions", "judge", "judge_many", "measure", "records", "values",
+    "Values", "Verdict", "Vertex", "claimed", "compose", "contributions", "judge", "judge_file", "judge_many", "measure", "records", "values",
     "verdict_of",
 ]  # fmt: skip

@@ -43,12 +43,13 @@ from __future__ import annotations
 
 import os
 import re
+import sys
 import tomllib
 from collections.abc import Callable, Iterable, Iterator
 from typing import Any
 
 from .decks import SHORT_NAMES, Block, Deck, Placement, Sheet
-from .files import reason, shown as shown_name
+from .files import Found, Unread, shown as shown_name, text_of
 from .libraries import Library
 from .native import Refused
 
@@ -63,7 +64,9 @@ class BadText(ValueError):
 
 def shown(data: bytes) -> str:
     """The text of a deck."""
-    for told in (lambda: _tables(Deck.from_bytes(data)), lambda: _library_tables(Library.from_bytes(data))):
+    texts: tuple[Callable[[], Iterable[str]], ...]
+    texts = (lambda: _tables(Deck.from_bytes(data)), lambda: _library_tables(Library.from_bytes(data)))
+    for told in texts:
         try:
             text = "\n".join(told())
             if made(text) == data:
@@ -120,8 +123,10 @@ def made(text: str, folder: str = ".", reader: Callable[[str], bytes] | None = N
 def _parsed(text: str) -> dict[str, Any]:
     try:
         return tomllib.loads(text)
-    except ValueError as fault:  # no TOML, or a number of more digits than Python reads
+    except tomllib.TOMLDecodeError as fault:
         raise BadText(str(fault)) from None
+    except ValueError:
+        raise BadText(f"it has a number of more than {sys.get_int_max_str_digits()} digits") from None
     except RecursionError:
         raise BadText("it is nested too deeply") from None
 
@@ -136,8 +141,7 @@ def named_files(text: str, folder: str) -> list[str]:
 
 
 def _file(path: str) -> bytes:
-    with open(path, "rb") as file:
-        return file.read()
+    return text_of(Found(path)).data
 
 
 def _raw(tables: dict[str, Any]) -> bytes:
@@ -186,12 +190,14 @@ def _block(table: dict[str, Any], place: int, read: Callable[[str], bytes]) -> t
         return number, make(data)
     except Refused as refusal:
         raise BadText(f"{what}: {named[0]} {shown_name(name)}: {refusal}{line_of(data, refusal)}") from None
-    except (OSError, ValueError) as fault:  # a name with a NUL in it, too
-        raise BadText(f"{what}: {named[0]} {shown_name(name)}: cannot be read: {reason(fault)}") from None
+    except Unread as fault:  # a name with a NUL in it, too
+        raise BadText(f"{what}: {named[0]} {shown_name(name)}: cannot be read: {fault}") from None
 
 
 def line_of(text: bytes, refusal: Refused) -> str:
-    """The line that a refusal of a text is about, for who looks at it in an editor."""
+    """What helps who looks at a refused text in an editor: the line that the refusal is about, or that the file is a V3000 one."""
+    if refusal.number == 1 and b"V3000" in b"".join(text.split(b"\n", 4)[3:4]):
+        return " (the file says V3000, and V2000 is read)"
     line = text[: refusal.place].count(b"\n") + 1
     return f" (line {line})" if refusal.number in (21, 22, 25, 26, 27) else ""
 
@@ -253,5 +259,5 @@ def _sheet(tables: dict[str, Any]) -> Sheet | None:
     if not isinstance(table, dict):
         raise BadText("`sheet` is no table: write [sheet]")
     _known(table, set(SHORT_NAMES), "the sheet")
-    five = [_number(table, key, "the sheet") for key in SHORT_NAMES[:5]]
-    return Sheet(*five, _number(table, "largest", "the sheet") if "largest" in table else None)
+    names = SHORT_NAMES if "largest" in table else SHORT_NAMES[:5]
+    return Sheet(*(_number(table, key, "the sheet") for key in names))

@@ -39,10 +39,12 @@ def _answers(client: Any, paths: list[str], function: Callable[[list[Found]], An
     under_way = 2 * max(1, sum(client.nthreads().values())) + 2
     tasks = work.batches(files.find(paths), BATCH)
     folder = os.getcwd()
+
+    def begun(task: list[Found]) -> Any:
+        return client.submit(_on_worker, function, folder, task, pure=False, retries=3)
+
     try:
-        for there, answer in work.in_order(
-            lambda task: client.submit(_on_worker, function, folder, task, pure=False, retries=3), tasks, under_way
-        ):
+        for there, answer in work.in_order(begun, tasks, under_way):
             if there != here:
                 raise Stop("a worker has another library than this machine: install the same one everywhere")
             yield answer

@@ -141,7 +141,7 @@ class Piece(NamedTuple):
 
     library: int
     first: int
-    count: int
+    count: int  # type: ignore[assignment]  # it hides the count of a tuple
 
 
 def pieces(counts: Iterable[int], size: int) -> Iterator[list[Piece]]:

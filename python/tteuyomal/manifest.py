@@ -12,7 +12,6 @@ from .notice import relative
 from .run import Expected
 
 LINE = re.compile(r"(\\?)([0-9a-fA-F]{64}) [ *](.+)")  # of `sha256sum`; a backslash says that the name has escapes
-LONGEST = 1 << 30  # bytes of a manifest
 
 
 class Expectation:
@@ -31,7 +30,7 @@ class Expectation:
 
     def _read(self, path: str) -> None:
         try:
-            data, self.sha256 = files.read(Found(path), LONGEST)
+            data, self.sha256 = files.text_of(Found(path))
         except files.Unread as fault:
             raise Stop(f"{files.shown(path)}: cannot be read: {fault}") from None
         for place, line in enumerate(data.decode("utf-8", "surrogateescape").split("\n"), 1):

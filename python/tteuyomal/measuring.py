@@ -16,7 +16,6 @@ from .native import NotThere, Refused
 
 MOLFILE, NEIGHBOURS = "molfile", "neighbours"
 ENDINGS = {".mol": MOLFILE, ".sdf": MOLFILE, ".sd": MOLFILE, ".mdl": MOLFILE, ".txt": NEIGHBOURS, ".nb": NEIGHBOURS}
-LONGEST_TEXT = 1 << 30  # bytes of a file that are held
 TREES_ONLY = 34
 
 # what is measured besides the five fields: its name, and how a block answers it
@@ -87,9 +86,7 @@ def measure_file(found: Found, form: str | None, as_json: bool) -> tuple[str, bo
     name, data = said["file"], b""
     try:
         kind = form_of(found.name, form)
-        data, said["sha256"] = files.read(found, LONGEST_TEXT)
-        if len(data) > LONGEST_TEXT:
-            raise Unread(f"longer than {LONGEST_TEXT} bytes")
+        data, said["sha256"] = files.text_of(found)
         more = more_records(data) if kind == MOLFILE else 0
         block = read_block(data, kind)
         indices = measured(block)

@@ -78,7 +78,7 @@ class Values(NamedTuple):
 class Szeged(NamedTuple):
     """The Szeged index, and its terms bond by bond."""
 
-    index: int
+    index: int  # type: ignore[assignment]  # it hides the index of a tuple
     terms: list[int]
 
 

@@ -1,5 +1,6 @@
 """What `from tteuyomal import ..` gives."""
 
+from . import notebook  # noqa: F401
 from .decks import (
     Block,
     Deck,
@@ -9,6 +10,7 @@ from .decks import (
     compose,
     contributions,
     judge,
+    judge_file,
     judge_many,
     measure,
     values,
@@ -36,6 +38,7 @@ __all__ = [
     "compose",
     "contributions",
     "judge",
+    "judge_file",
     "judge_many",
     "library_version",
     "measure",

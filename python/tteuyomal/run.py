@@ -7,7 +7,7 @@ import secrets
 import socket
 from typing import NamedTuple
 
-from . import native
+from . import made, native
 
 
 class Expected(NamedTuple):
@@ -33,6 +33,7 @@ class Run(NamedTuple):
     expected: Expected | None = None
     program: str = ""  # the one that is judged
     inputs: tuple[tuple[str, str, str], ...] = ()  # what it is, its name, its SHA-256
+    code: str = ""  # which code judged, and where it was proved
 
     @property
     def time(self) -> str:
@@ -41,7 +42,8 @@ class Run(NamedTuple):
 
     def stamp(self) -> dict[str, str]:
         """What every object says of the run that it comes from."""
-        return {"version": self.version, "time": self.time, "run": self.number}
+        replaced = {"TTEUYOMAL_SO": self.replaced} if self.replaced else {}
+        return {"version": self.version, "time": self.time, "run": self.number} | replaced
 
 
 def begin(folder: str = "", program: str = "", inputs: tuple[tuple[str, str, str], ...] = ()) -> Run:
@@ -52,7 +54,7 @@ def begin(folder: str = "", program: str = "", inputs: tuple[tuple[str, str, str
         version = "not there"
     now = datetime.datetime.now(datetime.timezone.utc)
     number, host = secrets.token_hex(8), socket.gethostname()
-    return Run(now, number, host, folder, version, native.SHA256, native.REPLACED, program=program, inputs=inputs)
+    return Run(now, number, host, folder, version, native.SHA256, native.REPLACED, program=program, inputs=inputs, code=made.words())
 
 
 def unmet(expected: Expected | None, total: int, what: str = "deck") -> list[str]:

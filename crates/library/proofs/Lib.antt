@@ -4,3 +4,4 @@ pub mod Choosing
 pub mod Making
 pub mod Spreading
 pub mod Stepping
+pub mod Filling

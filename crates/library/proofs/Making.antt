@@ -22,8 +22,8 @@ use Rattle.library.specs.Said.{saidProduct}
 use Rattle.library.specs.Held.{Held, Spread}
 use Rattle.library.specs.Kept.{coreIn, armsAt, stemOf, joinedAt, allPlaces, armFor, rowArm}
 use Rattle.library.specs.declared.ProductReply.the-variants as product
-use Rattle.library.specs.declared.kept.Arm.{Arm}
-use Rattle.library.specs.declared.kept.Core.{Core}
+use Rattle.kept.specs.declared.Arm.{Arm}
+use Rattle.kept.specs.declared.Core.{Core}
 use Rattle.library.specs.declared.arms.Stem.{Stem}
 
 -- what the code has of a library that is read

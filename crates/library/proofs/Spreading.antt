@@ -22,7 +22,7 @@ use Rattle.library.specs.Kept.{noArm, armAt, armFor, rowArm}
 use Rattle.library.specs.Steps.{Ran, behind, stepsFrom}
 use Rattle.library.specs.Running.{run-next, run-done, run-full}
 use Rattle.library.specs.Turning.{Going}
-use Rattle.library.specs.declared.kept.Arm.{Arm}
+use Rattle.kept.specs.declared.Arm.{Arm}
 
 -- the arm for a place
 module _ (d : List ℕ) (bs : List BlockAt) (xs : List ℕ) (sites : List Site) (i : ℕ) where

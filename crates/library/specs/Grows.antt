@@ -22,8 +22,8 @@ use Rattle.joining.specs.Joining.{mostCounted, grownOf, joinedOf}
 use Rattle.joining.specs.Small.{SmallCounts, SmallFields, grown-small, joined-small}
 use Rattle.products.specs.Library.{mostSites}
 use Rattle.library.specs.Kept.{noVertex, noLine, noArm, armOf, growAll, stemOf}
-use Rattle.library.specs.declared.kept.Arm.{Arm}
-use Rattle.library.specs.declared.kept.Core.{Core}
+use Rattle.kept.specs.declared.Arm.{Arm}
+use Rattle.kept.specs.declared.Core.{Core}
 
 -- a molecule of at most five blocks' atoms counts little
 abbrev pub mostJoined : ℕ

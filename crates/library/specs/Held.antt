@@ -20,8 +20,8 @@ use Rattle.products.specs.declared.Site.{Site}
 use Rattle.catalogue.specs.Said.{noSite}
 use Rattle.catalogue.specs.Table.{sitesIn, sites-length}
 use Rattle.library.specs.Kept.{noArm, armAt, coreIn, armsAt, stemOf, joinedAt, allPlaces, armFor, rowArm, picked, choiceIn}
-use Rattle.library.specs.declared.kept.Arm.{Arm}
-use Rattle.library.specs.declared.kept.Core.{Core}
+use Rattle.kept.specs.declared.Arm.{Arm}
+use Rattle.kept.specs.declared.Core.{Core}
 use Rattle.library.specs.Ready.{few-sites, site-stands, digit-low, product-is}
 
 -- the blocks, the payload of the record, and its first n sites in a table that has no others

@@ -3,6 +3,7 @@
 -- | notion                    | meaning                                                              | the law that matters                                     |
 -- | `stepReply s d p n`       | refusals 20, 9 and the library's, the product at a position, or done | `made-step`                                              |
 -- | `stepsFrom`, `runOf`      | steps one after the other, each into what the one before left        | `run-next`, `run-done`, `run-full`                       |
+-- | `valuesReply d f p n`     | 20, the library's refusals, 35, the values of a field from a position | `unique-values`; `filled-whole`: place by place          |
 -- | `saidProduct`, `saidStep` | how the code says it                                                 | `unique-product`, `unique-step`, `unique-run`            |
 -- | `stemOf`, `joinedAt`      | a product joined arm by arm from what is kept of the library         | `stem-six`, `product-joined`: the fields of its molecule |
 -- | `Held`, `Spread`          | what the code holds of a library that is read                        | `product-spread`                                         |
@@ -11,10 +12,12 @@
 -- Definitions
 pub mod Said
 pub mod Steps
+pub mod Values
 -- Work
 pub mod Kept
 pub mod Held
 pub mod Turning
+pub mod Filled
 -- Laws
 pub mod Grows
 pub mod Ready

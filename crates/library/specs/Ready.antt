@@ -35,7 +35,7 @@ use Rattle.catalogue.specs.Said.{noSite}
 use Rattle.catalogue.specs.Table.{sitesIn, sites-length}
 use Rattle.library.specs.Kept.{noVertex, noLine, noArm, fieldsOr, countedOr, armOf, armIn, armAt, rowEntry, seenFrom, apartFrom, apartAll, coreIn, armsAt, joinedAt, choiceIn}
 use Rattle.library.specs.Grows.{Growing, KeepsArms, stem-six}
-use Rattle.library.specs.declared.kept.Line.{Line}
+use Rattle.kept.specs.declared.Line.{Line}
 
 -- what holds of so many holds of fewer
 fewer : (P : ℕ → Type 0) → ((m : ℕ) → P (suc m) → P m) → (n k : ℕ) → k ≤ n → P n → P k

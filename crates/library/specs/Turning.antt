@@ -20,8 +20,8 @@ use Rattle.catalogue.specs.Table.{sitesIn}
 use Rattle.library.specs.Kept.{noVertex, noArm, stemOf, allPlaces, rowArm, picked, choiceIn}
 use Rattle.library.specs.Held.{Spread, few, many, product-spread}
 use Rattle.library.specs.Steps.{Ran, behind, stepsFrom}
-use Rattle.library.specs.declared.kept.Arm.{Arm}
-use Rattle.library.specs.declared.kept.Core.{Core}
+use Rattle.kept.specs.declared.Arm.{Arm}
+use Rattle.kept.specs.declared.Core.{Core}
 use Rattle.library.specs.declared.arms.Stem.{Stem}
 use Rattle.library.specs.declared.last.Staying.{Staying}
 

@@ -6,8 +6,10 @@ use lib.ListN.{length}
 use Rattle.reply.specs.Chain.{unique}
 use Rattle.records.specs.declared.Sheet.{Sheet}
 use Rattle.products.specs.Products.{productReply}
+use Rattle.catalogue.specs.declared.CountReply.{CountReply}
 use Rattle.library.specs.Said.{saidProduct}
 use Rattle.library.specs.Steps.{stepReply, stepOut, saidStep, runOf}
+use Rattle.library.specs.Values.{valuesReply, saidValues, valuesOut}
 use Rattle.library.specs.declared.ProductReply.{ProductReply}
 use Rattle.library.specs.declared.StepReply.{StepReply}
 
@@ -27,3 +29,10 @@ module _ (d : List ℕ) (position : ℕ) where
 
     pub unique-run-bytes : (a b : List ℕ) → a ≡ runOf sheet d position out .out → b ≡ runOf sheet d position out .out → a ≡ b
     unique-run-bytes a b = unique
+
+  module _ (field : ℕ) (row : List ℕ) where
+    pub unique-values : (r s : CountReply) → let x = valuesReply d field position (length row) in r ≡ saidValues x → s ≡ saidValues x → r ≡ s
+    unique-values r s = unique
+
+    pub unique-values-numbers : (a b : List ℕ) → let x = valuesReply d field position (length row) in a ≡ valuesOut row x → b ≡ valuesOut row x → a ≡ b
+    unique-values-numbers a b = unique

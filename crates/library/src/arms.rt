@@ -1,14 +1,14 @@
 // A product joined arm by arm to the core.
-use super::kept::Arm;
-use super::kept::Core;
-use super::kept::Line;
-use super::kept::Seen;
-use super::kept::arm_at;
+use super::candidate::arm_at;
 use assembly::BlockTable;
 use block::Indices;
 use block::Vertex;
 use joining::grown;
 use joining::joined;
+use kept::Arm;
+use kept::Core;
+use kept::Line;
+use kept::Seen;
 use products::SITES;
 use products::Site;
 ghost use mathlib.Core.Path.{_≡_};

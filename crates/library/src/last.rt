@@ -1,13 +1,13 @@
 // The last site turns while the others stay: what they are joined to is made once for all its candidates.
 use super::arms::choose;
 use super::arms::with_arms;
-use super::kept::Core;
 use super::spread::ArmRows;
 use super::spread::pick;
 use super::spread::row_arm;
 use block::Indices;
 use block::Vertex;
 use joining::joined;
+use kept::Core;
 use products::CANDIDATES;
 use products::SITES;
 use products::Site;
@@ -16,8 +16,9 @@ use sheets::bytes_of;
 use sheets::put_sheet;
 ghost use mathlib.Core.Path.{_≡_};
 ghost use mathlib.Core.List.{List};
-ghost use Prim.Native.Nat.{ℕ, _-_, _≤_, _<_};
+ghost use Prim.Native.Nat.{ℕ, _+_, _-_, _≤_, _<_};
 ghost use lib.ListN.{length};
+ghost use Rattle.graph.specs.Graph.{Within};
 ghost use Rattle.assembly.specs.declared.BlockAt.{BlockAt};
 ghost use Rattle.sheets.specs.Sheets.{sheetBytes};
 ghost use Rattle.products.specs.Library.{Library};
@@ -25,6 +26,8 @@ ghost use Rattle.products.specs.Products.{products};
 ghost use Rattle.library.specs.Steps.{Ran};
 ghost use Rattle.library.specs.Held.{Spread};
 ghost use Rattle.library.specs.Turning.{Going, Turns};
+ghost use Rattle.library.specs.Filled.{Filled};
+ghost use Rattle.library.specs.Values.{mostFields, fieldAt, valuesOf};
 
 // What stays while the last site turns: the fields of the core with the other sites' arms, and what is then counted from the last site's atom. The arms that
 // are joined to it stand at this place among all, and `left` of them are to come.
@@ -111,4 +114,48 @@ pub(crate) fn turn(
     }
     let next = position + k;
     Reached { next, at }
+}
+
+// A field by its number on the sheet.
+fn field_of(x: Indices, field: usize) -> u64
+    requires { ⌜ Within mostFields field ⌝ }
+    ensures { λ r. ⌜ r ≡ fieldAt field x ⌝ }
+{
+    let all = [x.atoms, x.w, x.even, x.odd, x.polarity, x.largest];
+    let k = field - 1;
+    all[k]
+}
+
+// One field of the products from a position on, into a row from a place on, until the last site has turned or the place `end` is reached; the next place.
+pub(crate) fn turn_values(
+    stay: Staying,
+    all: &ArmRows,
+    field: usize,
+    start: usize,
+    end: usize,
+    row: &mut [u64],
+) -> usize
+    requires { ⌜ ((d : List ℕ) × (l : Library) × (position : ℕ) × Turns d l (now all) position stay) ⌝ }
+    requires { ⌜ (start < end) × (end ≤ length (now row)) × Within mostFields field ⌝ }
+    ensures on { λ r. ⌜ (start < r) × (r ≤ end) ⌝ }
+    ensures fills { λ r. ⌜ ((d : List ℕ) (l : Library) (position : ℕ) (old : List ℕ) → Turns d l (now (all .entry)) (position + start) stay
+        → Filled (valuesOf d l field position) old (now (row .entry)) start
+        → Filled (valuesOf d l field position) old (now (row .exit)) r) ⌝ }
+{
+    let six = stay.six;
+    let from = stay.from;
+    let place = stay.place;
+    let left = stay.left;
+    let mut i = 0;
+    while i < left {
+        let at = start + i;
+        if at == end {
+            return end;
+        }
+        let arm = row_arm(all[place + i]);
+        let x = joined(six, arm.six, from, arm.end);
+        row[at] = field_of(x, field);
+        i += 1;
+    }
+    start + i
 }

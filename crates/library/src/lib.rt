@@ -1,6 +1,6 @@
 // The products of a library: what is kept of its core and its candidates, and each product joined from that.
 mod arms;
-mod kept;
+mod candidate;
 mod last;
 mod spread;
 
@@ -9,6 +9,7 @@ use arms::choose;
 use arms::with_arms;
 use assembly::BlockTable;
 use block::Indices;
+use catalogue::CountReply;
 use catalogue::LibraryRead;
 use catalogue::read_library;
 use deck::LONGEST;
@@ -16,6 +17,7 @@ use kept::Core;
 use kept::core_in;
 use last::staying_at;
 use last::turn;
+use last::turn_values;
 use products::SITES;
 use products::Site;
 use records::Sheet;
@@ -23,15 +25,17 @@ use records::le16_at;
 use records::payload_at;
 use reply::Refusal;
 use reply::Reply;
+use reply::is_outside;
 use sheets::bytes_of;
 use sheets::put_sheet;
 use spread::ArmRows;
 use spread::all_arms;
 ghost use mathlib.Core.Path.{_≡_};
 ghost use mathlib.Core.List.{List};
-ghost use Prim.Native.Nat.{ℕ, suc, _≤_, _<_};
+ghost use Prim.Native.Nat.{ℕ, suc, _+_, _-_, _≤_, _<_, min};
 ghost use lib.ListN.{length, take};
 ghost use Rattle.reply.specs.Read.{read};
+ghost use Rattle.graph.specs.Graph.{Within};
 ghost use Rattle.assembly.specs.declared.BlockAt.{BlockAt};
 ghost use Rattle.records.specs.Records.{payloadAt};
 ghost use Rattle.products.specs.Library.{Library, libraryReply};
@@ -40,6 +44,8 @@ ghost use Rattle.library.specs.Said.{saidProduct};
 ghost use Rattle.catalogue.specs.Said.{saidLibrary};
 ghost use Rattle.library.specs.Steps.{stepReply, stepOut, saidStep, runOf};
 ghost use Rattle.library.specs.Held.{Held, Spread};
+ghost use Rattle.library.specs.Values.{mostFields, valuesOf, valuesReply, saidValues, valuesOut};
+ghost use Rattle.library.specs.Filled.{Filled};
 
 // The product at a position: its fields, or all products are done.
 pub enum ProductReply {
@@ -211,6 +217,105 @@ pub fn run(d: &[u8], sheet: Sheet, position: usize, out: &mut [u8]) -> StepReply
             }
             let next = run_read(d, l, position, sheet, out);
             StepReply::Next(next)
+        }
+    }
+}
+
+// A field's number is 1 to 6.
+const FIELDS: usize = 6;
+
+// How many products there are from a position on, for a row of n.
+fn count_from(products: usize, position: usize, n: usize) -> usize
+    ensures { λ r. ⌜ r ≡ min n (products - position) ⌝ }
+{
+    if products <= position {
+        return 0;
+    }
+    let left = products - position;
+    if left < n {
+        return left;
+    }
+    n
+}
+
+// One field of the products from a position on, into the first places of a row.
+fn values_over(
+    core: Core,
+    all: &ArmRows,
+    sites: [Site; SITES],
+    n: usize,
+    position: usize,
+    field: usize,
+    count: usize,
+    row: &mut [u64],
+)
+    requires { ⌜
+        ((d : List ℕ) × (l : Library) × (bs : List BlockAt) × (xs : List ℕ) × Spread d l bs xs sites n core (now all)
+        × (count ≤ products (l .sites) - position))
+        ⌝ }
+    requires { ⌜ (count ≤ length (now row)) × Within mostFields field ⌝ }
+    ensures { λ _. ⌜
+        ((d : List ℕ) (l : Library) (bs : List BlockAt) (xs : List ℕ) → Spread d l bs xs sites n core (now (all .entry))
+        → count ≤ products (l .sites) - position
+        → Filled (valuesOf d l field position) (now (row .entry)) (now (row .exit)) count)
+        ⌝ }
+{
+    let mut at = 0;
+    while at < count {
+        let stay = staying_at(core, all, sites, n, position + at);
+        let next = turn_values(stay, all, field, at, count, row);
+        at = next;
+    }
+}
+
+// The same over a library that is read.
+fn values_read(
+    d: &[u8],
+    l: LibraryRead,
+    position: usize,
+    field: usize,
+    count: usize,
+    row: &mut [u64],
+)
+    requires { ⌜
+        ((k : Library) × (libraryReply (now d) ≡ read k) × (l ≡ saidLibrary (read k)) × (count ≤ products (k .sites) - position))
+        ⌝ }
+    requires { ⌜ (count ≤ length (now row)) × Within mostFields field ⌝ }
+    ensures { λ _. ⌜
+        ((k : Library) → libraryReply (now (d .entry)) ≡ read k → l ≡ saidLibrary (read k) → count ≤ products (k .sites) - position
+        → Filled (valuesOf (now (d .entry)) k field position) (now (row .entry)) (now (row .exit)) count)
+        ⌝ }
+{
+    let blocks = l.blocks;
+    let sites = l.sites;
+    let xs = payload_at(d, l.at);
+    let core = core_in(d, blocks, l.count, le16_at(xs, 0) as usize, sites);
+    let all = all_arms(d, blocks, l.count, xs, sites);
+    values_over(core, &all, sites, l.n, position, field, count, row);
+}
+
+// Writes one field of the products from a position on into the first places of a row, as many as there are and it has room for, and hands back how many. The
+// blocks are read once; no sheet is made.
+pub fn values(d: &[u8], field: usize, position: usize, row: &mut [u64]) -> CountReply
+    ensures reply { λ r. ⌜ r ≡ saidValues (valuesReply (now (d .entry)) field position (length (now (row .entry)))) ⌝ }
+    ensures numbers { λ _. ⌜
+        now (row .exit) ≡ valuesOut (now (row .entry)) (valuesReply (now (d .entry)) field position (length (now (row .entry))))
+        ⌝ }
+{
+    let l = read_library(d);
+    let reply = l.reply;
+    match reply {
+        Reply::Refused(refusal) => CountReply::Refused(refusal),
+        Reply::Fine => {
+            if is_outside(FIELDS, field) {
+                return CountReply::Refused(Refusal {
+                    number: 35,
+                    place: 0,
+                });
+            }
+            let count = count_from(l.products, position, row.len());
+            values_read(d, l, position, field, count, row);
+            CountReply::Of(count)
         }
     }
 }

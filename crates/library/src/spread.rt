@@ -1,10 +1,10 @@
 // All arms of a library at once, and those of a choice among them.
-use super::kept::Arm;
-use super::kept::NO_ARM;
-use super::kept::arm_at;
+use super::candidate::arm_at;
 use assembly::BlockTable;
 use block::Indices;
 use block::Vertex;
+use kept::Arm;
+use kept::NO_ARM;
 use products::CANDIDATES;
 use products::SITES;
 use products::Site;

@@ -1,78 +1,16 @@
-// The products of a library as C asks for them.
-use super::code_of;
-use super::give;
-use catalogue::CountReply;
-use deck::LONGEST;
-use library::ProductReply;
-use library::StepReply;
-use records::Sheet;
-use sheets::bytes_of;
-ghost use mathlib.Core.Path.{_≡_};
-ghost use Prim.Native.Nat.{suc, _≤_};
+// The products of a library.
+ghost use Prim.Native.Nat.{suc};
 ghost use lib.ListN.{length};
-ghost use Rattle.library.specs.Steps.{stepReply, stepOut, runOf};
-ghost use Rattle.tteuyomal.specs.Convention.{Lent};
-ghost use Rattle.tteuyomal.specs.Libraries.{sheetFor, countList, withNext, stepCode, steppedCode, steppedNext, Walked};
-
-// What C says for done: no refusal has that number.
-const DONE: u64 = 254;
-
-// The sheet of a kind: 4 has six fields, anything else counts as 3.
-pub(crate) fn sheet_for(kind: usize) -> Sheet
-    ensures { λ r. ⌜ r ≡ sheetFor kind ⌝ }
-{
-    if kind == 4 {
-        return Sheet::Six;
-    }
-    Sheet::Five
-}
+ghost use Rattle.calls.specs.Blocks.{sheetFor};
+ghost use Rattle.calls.specs.Convention.{Lent};
+ghost use Rattle.library.specs.Steps.{runOf, stepOut, stepReply};
+ghost use Rattle.library_calls.specs.Libraries.{Walked, countList};
 
 #[no_mangle]
 pub extern "C" fn tteuyomal_library_count(deck: &[u8], count: &mut [u64]) -> u64
     ensures { λ r. ⌜ Lent (countList (now (deck .entry))) (now (count .entry)) r (now (count .exit)) ⌝ }
 {
-    let answer = catalogue::count(deck);
-    match answer {
-        CountReply::Refused(r) => code_of(r),
-        CountReply::Of(n) => {
-            let numbers = [n as u64];
-            give(count, &numbers)
-        }
-    }
-}
-
-// What a step into an output of so many bytes says where the next position has no room.
-fn unlent_step(deck: &[u8], sheet: Sheet, position: usize, room: usize) -> u64
-    ensures { λ r. ⌜ r ≡ stepCode (withNext 0 (stepReply sheet (now (deck .entry)) position room)) ⌝ }
-{
-    if LONGEST < deck.len() {
-        return 20;
-    }
-    if room < bytes_of(sheet) {
-        return 9;
-    }
-    let answer = library::product(deck, position);
-    match answer {
-        ProductReply::Refused(r) => code_of(r),
-        ProductReply::Done => DONE,
-        ProductReply::Of(_) => 9,
-    }
-}
-
-// The reply to a step or a run, and the next position.
-fn tell(told: StepReply, next: &mut [u64]) -> u64
-    requires { ⌜ 1 ≤ length (now next) ⌝ }
-    ensures reply { λ r. ⌜ r ≡ steppedCode told ⌝ }
-    ensures next { λ _. ⌜ now (next .exit) ≡ steppedNext told (now (next .entry)) ⌝ }
-{
-    match told {
-        StepReply::Refused(r) => code_of(r),
-        StepReply::Done => DONE,
-        StepReply::Next(n) => {
-            next[0] = n as u64;
-            0
-        }
-    }
+    library_calls::count(deck, count)
 }
 
 #[no_mangle]
@@ -89,12 +27,7 @@ pub extern "C" fn tteuyomal_library_step(
         (suc position) (now (out .entry)) (now (next .entry)) r (now (out .exit)) (now (next .exit))
         ⌝ }
 {
-    let sheet = sheet_for(kind);
-    if next.len() < 1 {
-        return unlent_step(deck, sheet, position, out.len());
-    }
-    let told = library::step(deck, sheet, position, out);
-    tell(told, next)
+    library_calls::step(deck, kind, position, out, next)
 }
 
 #[no_mangle]
@@ -112,10 +45,5 @@ pub extern "C" fn tteuyomal_library_run(
         (now (out .exit)) (now (next .exit))
         ⌝ }
 {
-    let sheet = sheet_for(kind);
-    if next.len() < 1 {
-        return unlent_step(deck, sheet, position, out.len());
-    }
-    let told = library::run(deck, sheet, position, out);
-    tell(told, next)
+    library_calls::run(deck, kind, position, out, next)
 }

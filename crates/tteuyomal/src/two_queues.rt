@@ -1,40 +1,21 @@
-// Two queues at one table, as C calls them.
-ghost use mathlib.Core.Path.{_≡_};
+// Two queues at one table.
 ghost use lib.ListN.{length};
-ghost use Rattle.summary.specs.Layout.{summaryBytes};
-ghost use Rattle.storage.specs.Table.{tableReply, emptied};
-ghost use Rattle.queues.specs.Queues.{addTold, tableAdded, dropTold, tableDropped};
-ghost use Rattle.judging.specs.Judging.{sheetOut};
+ghost use mathlib.Core.Path.{_≡_};
+ghost use Rattle.calls.specs.Blocks.{sheetFor};
+ghost use Rattle.calls.specs.Convention.{Lent, coded};
 ghost use Rattle.gathered.specs.Gathered.{sheetTold};
-ghost use Rattle.tteuyomal.specs.Convention.{coded, Lent};
-ghost use Rattle.tteuyomal.specs.Libraries.{sheetFor};
-ghost use Rattle.tteuyomal.specs.TwoQueues.{queueFor, lookList};
-use super::code_of;
-use super::give_fields;
-use super::libraries::sheet_for;
-use super::reply_code;
-use super::written_code;
-use block::IndicesReply;
-use records::Sheet;
-use storage::Queue;
-
-// The queue of a number: 0 is the day queue, anything else counts as the night queue.
-fn queue_for(which: usize) -> Queue
-    ensures { λ r. ⌜ r ≡ queueFor which ⌝ }
-{
-    if which == 0 {
-        return Queue::Day;
-    }
-    Queue::Night
-}
+ghost use Rattle.judging.specs.Judging.{sheetOut};
+ghost use Rattle.queue_calls.specs.TwoQueues.{lookList, queueFor};
+ghost use Rattle.queues.specs.Queues.{addTold, dropTold, tableAdded, tableDropped};
+ghost use Rattle.storage.specs.Table.{emptied, tableReply};
+ghost use Rattle.summary.specs.Layout.{summaryBytes};
 
 #[no_mangle]
 pub extern "C" fn tteuyomal_queue_empty(table: &mut [u8]) -> u64
     ensures reply { λ r. ⌜ r ≡ coded (tableReply summaryBytes (now (table .entry))) ⌝ }
     ensures bytes { λ _. ⌜ now (table .exit) ≡ emptied summaryBytes (now (table .entry)) ⌝ }
 {
-    let told = queues::empty(table);
-    reply_code(told)
+    queue_calls::empty(table)
 }
 
 #[no_mangle]
@@ -48,8 +29,7 @@ pub extern "C" fn tteuyomal_queue_add(
     ensures reply { λ r. ⌜ r ≡ coded (addTold (now (table .entry)) (queueFor queue) number atoms (now (bonds .entry))) ⌝ }
     ensures bytes { λ _. ⌜ now (table .exit) ≡ tableAdded (now (table .entry)) (queueFor queue) number atoms (now (bonds .entry)) ⌝ }
 {
-    let told = queues::add(table, queue_for(queue), number, atoms, bonds);
-    reply_code(told)
+    queue_calls::add(table, queue, number, atoms, bonds)
 }
 
 #[no_mangle]
@@ -61,11 +41,7 @@ pub extern "C" fn tteuyomal_queue_look(
 ) -> u64
     ensures { λ r. ⌜ Lent (lookList (now (table .entry)) (queueFor queue) number) (now (fields .entry)) r (now (fields .exit)) ⌝ }
 {
-    let answer = queues::look(table, queue_for(queue), number);
-    match answer {
-        IndicesReply::Refused(r) => code_of(r),
-        IndicesReply::Of(x) => give_fields(fields, Sheet::Six, x),
-    }
+    queue_calls::look(table, queue, number, fields)
 }
 
 #[no_mangle]
@@ -73,8 +49,7 @@ pub extern "C" fn tteuyomal_queue_drop(table: &mut [u8], queue: usize, number: u
     ensures reply { λ r. ⌜ r ≡ coded (dropTold (now (table .entry)) (queueFor queue) number) ⌝ }
     ensures bytes { λ _. ⌜ now (table .exit) ≡ tableDropped (now (table .entry)) (queueFor queue) number ⌝ }
 {
-    let told = queues::drop(table, queue_for(queue), number);
-    reply_code(told)
+    queue_calls::drop(table, queue, number)
 }
 
 #[no_mangle]
@@ -90,6 +65,5 @@ pub extern "C" fn tteuyomal_queue_compose(
     ensures bytes { λ _. ⌜ now (out .exit) ≡ sheetOut (sheetFor kind) (now (out .entry))
         (sheetTold (now (table .entry)) (queueFor queue) (sheetFor kind) (now (assembly .entry)) (length (now (out .entry)))) ⌝ }
 {
-    let written = gathered::compose(table, queue_for(queue), sheet_for(kind), assembly, out);
-    written_code(written)
+    queue_calls::compose(table, queue, kind, assembly, out)
 }

@@ -13,7 +13,8 @@ class Command(Protocol):
     """What a command's module has. `run` answers the exit status."""
 
     NAME: str
-    WORDS: str
+    WORDS: str  # what it does, in one sentence without its full stop
+    STATUS: str  # what its exit statuses say
 
     def options(self, parser: argparse.ArgumentParser) -> None: ...
 

@@ -7,27 +7,30 @@ import os
 
 from .. import decks, decktext, explain, files, native
 from ..console import Output, Stop, complain
+from ..files import Found
 from ..native import Refused
 
 NAME = "deck"
 WORDS = "make a deck from a text that names its blocks, placements and claimed fields"
+STATUS = "0 if the deck was written and the library takes it; 2 if it refuses the deck or a molecule in it, or the text is none."
 
 
 def options(parser: argparse.ArgumentParser) -> None:
     """The text, and where the deck goes."""
-    parser.add_argument("text", metavar="FILE.toml")
-    parser.add_argument("-o", dest="output", required=True, metavar="DECK", help="- is standard output")
+    parser.add_argument("text", metavar="FILE.toml", help="the text; - is standard input")
+    parser.add_argument("-o", dest="output", required=True, metavar="DECK", help="where the deck goes; - is standard output")
     parser.add_argument("--refused-too", action="store_true", help="write the deck also where the library refuses it; the status stays 2")
 
 
 def run(options: argparse.Namespace, out: Output) -> int:
     """Writes the deck, unless the library refuses it."""
     try:
-        with open(options.text, encoding="utf-8") as file:
-            text = file.read()
+        text = files.text_of(Found(options.text)).data.decode("utf-8")
         folder = os.path.dirname(options.text)
         files.apart(options.output, [options.text, *decktext.named_files(text, folder)])
         data = decktext.made(text, folder)
+    except files.Unread as fault:
+        raise Stop(f"{files.shown(options.text)}: cannot be read: {fault}") from None
     except (decktext.BadText, UnicodeDecodeError) as fault:
         raise Stop(f"{files.shown(options.text)}: {fault}") from None
     refusal = refused(data)

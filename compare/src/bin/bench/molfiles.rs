@@ -1,11 +1,10 @@
 //! Molfiles: the library's reader beside a plain one, a long file beside a short one, and the stack.
 
+use crate::limits::MOST_STACK;
 use crate::timing::medians;
 use crate::{archive, duration, row, stack};
 use opinion::make::shapes;
 use std::hint::black_box;
-
-const MOST_STACK: usize = 64 << 10;
 
 /// What a plain reader keeps between files.
 #[derive(Default)]
@@ -117,7 +116,8 @@ impl Plain {
 fn chain(carbons: usize, hydrogens: usize) -> Vec<u8> {
     let mut bonds: Vec<(usize, usize)> = (1..carbons).map(|atom| (atom, atom + 1)).collect();
     bonds.extend((0..hydrogens).map(|at| (at % carbons + 1, carbons + 1 + at)));
-    let mut file = format!("chain\n  bench\n\n{:3}{:3}  0  0  0  0  0  0  0  0999 V2000\n", carbons + hydrogens, bonds.len());
+    let mut file =
+        format!("chain\n  bench\n\n{:3}{:3}  0  0  0  0  0  0  0  0999 V2000\n", carbons + hydrogens, bonds.len());
     for atom in 0..carbons + hydrogens {
         let symbol = if atom < carbons { "C" } else { "H" };
         let x = atom as f64 * 0.7;

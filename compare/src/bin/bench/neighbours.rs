@@ -1,5 +1,6 @@
 //! Neighbour texts: the library's reader beside a plain one, and the stack.
 
+use crate::limits::MOST_STACK;
 use crate::timing::medians;
 use crate::{archive, row, stack};
 use opinion::block::{MOST_BONDS, MOST_DEGREE};
@@ -8,8 +9,6 @@ use opinion::make::plan::BlockPlan;
 use opinion::make::shapes;
 use opinion::neighbours::write;
 use std::hint::black_box;
-
-const MOST_STACK: usize = 64 << 10;
 
 /// What a plain reader keeps between texts.
 #[derive(Default)]

@@ -1,8 +1,7 @@
-//! Library decks: the example and each refusal, sweeps over positions, kinds, lengths, cuts and bytes; then random ones.
+//! Library decks: the example and each refusal, sweeps over positions, kinds, lengths, cuts and bytes.
 
 use crate::archive;
 use crate::checker::Checker;
-use crate::random_libraries;
 use opinion::library::read_library;
 use opinion::make::library_specimens::{libraries, TWO_PRODUCTS};
 use opinion::refusal::Refusal;
@@ -10,12 +9,11 @@ use opinion::walk::{sheet_bytes, Walk};
 
 pub const KINDS: [usize; 2] = [3, 4];
 
-pub fn run(checker: &mut Checker, seed: u64, first: u64, cases: u64) {
+pub fn run(checker: &mut Checker) {
     specimens(checker);
     buffers(checker);
     positions(checker);
     cuts_and_bytes(checker);
-    random_libraries::run(checker, seed, first, cases);
 }
 
 /// A question with room for one sheet and for the position.

@@ -62,7 +62,8 @@ fn main() -> ExitCode {
     molfiles::run(checker, options.seed, options.first, options.cases);
     neighbours::run(checker, options.seed, options.first, options.cases);
     relisted::run(checker, options.seed, options.first, options.cases);
-    libraries::run(checker, options.seed, options.first, options.cases);
+    libraries::run(checker);
+    random_libraries::run(checker, options.seed, options.first, options.cases);
     queues::run(checker, options.seed, options.first, options.cases);
     if let Some(folder) = &options.programs {
         programs::run(checker, folder, options.seed);

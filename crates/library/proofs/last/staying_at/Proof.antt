@@ -9,7 +9,7 @@ use Rattle.products.specs.Library.{mostSites}
 use Rattle.library.specs.Kept.{stemOf}
 use Rattle.library.specs.Held.{few, one, many, digits-low}
 use Rattle.library.specs.Turning.{staying}
-use Rattle.library.specs.declared.kept.Arm.{Arm}
+use Rattle.kept.specs.declared.Arm.{Arm}
 use Rattle.library.proofs.last.staying_at.Statement.{statement}
 use Rattle.library.proofs.last.staying_at.Tie as tie
 

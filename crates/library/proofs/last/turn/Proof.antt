@@ -14,7 +14,7 @@ use Rattle.products.specs.Fine.{few-products}
 use Rattle.library.specs.Kept.{rowArm}
 use Rattle.library.specs.Steps.{Ran}
 use Rattle.library.specs.Turning.{Going, Turns}
-use Rattle.library.specs.declared.kept.Arm.{Arm}
+use Rattle.kept.specs.declared.Arm.{Arm}
 use Rattle.library.proofs.Spreading.{going-next, lent-whole, lent-long, some-bytes}
 use Rattle.library.proofs.last.turn.Statement.{statement}
 use Rattle.library.proofs.last.turn.Tie as tie

@@ -1,0 +1,71 @@
+-- What is lent out in each case.
+use Prim.Native.Nat.{ℕ, _≤_, _<_}
+use mathlib.Core.Bool.{Bool, true, false}
+use mathlib.Core.List.{List, [], _∷_}
+use mathlib.Core.Path.{_≡_, refl, sym, _∙_, ap}
+use native.Mathlib.Omega.{arith}
+use borrow.Author.Tests.{lt-ltb, le-ltb}
+use lib.ListN.{length, set}
+use Rattle.reply.specs.Read.{Read, refused, read, saidReply, _then_, refuseIf, refusal}
+use Rattle.reply.specs.declared.Refusal.{Refusal}
+use Rattle.reply.specs.declared.Reply.{Reply}
+use Rattle.calls.specs.Convention.{code, coded, replyCode, over, Lent, thenNine}
+use Rattle.calls.specs.Beside.{withRoom, Beside}
+
+pub reply-coded : (a : Reply) (R : Read (Unit {0})) → a ≡ saidReply R → replyCode a ≡ coded R
+reply-coded a (refused r) e = ap replyCode e
+reply-coded a (read tt) e = ap replyCode e
+
+-- ONE OUTPUT. A refusal lends nothing out; an answer goes out where it fits.
+pub lent-refused : {A : Type 0} {answer : Read (List A)} (r : Refusal) (old : List A) (x : ℕ) → answer ≡ refused r → x ≡ code r → Lent answer old x old
+lent-refused r old x e q = record { replied = rw e q; lent = rw e refl }
+
+pub lent-lacking : {A : Type 0} (xs old : List A) → length old < length xs → Lent (read xs) old 9 old
+lent-lacking xs old h = record { replied = rw (lt-ltb (length old) (length xs) h) refl; lent = rw (lt-ltb (length old) (length xs) h) refl }
+
+pub lent-over : {A : Type 0} (xs old new : List A) → length xs ≤ length old → new ≡ over xs old → Lent (read xs) old 0 new
+lent-over xs old new h e = record { replied = rw (le-ltb (length old) (length xs) h) refl; lent = rw (le-ltb (length old) (length xs) h) e }
+
+pub lent-read : {A : Type 0} {answer : Read (List A)} (xs old : List A) (x : ℕ) (new : List A) → answer ≡ read xs → Lent (read xs) old x new → Lent answer old x new
+lent-read xs old x new e l = rw e l
+
+-- one entry put, and two one after the other
+pub first-put : {A : Type 0} (x : A) (old : List A) → 1 ≤ length old → set old 0 x ≡ over (x ∷ []) old
+first-put x [] h = absurd (omega arith)
+first-put x (a ∷ rest) h = refl
+
+pub both-put : {A : Type 0} (x y : A) (old : List A) → 2 ≤ length old → set (set old 0 x) 1 y ≡ over (x ∷ y ∷ []) old
+both-put x y [] h = absurd (omega arith)
+both-put x y (a ∷ []) h = absurd (omega arith)
+both-put x y (a ∷ b ∷ rest) h = refl
+
+-- TWO OUTPUTS, the second of which wants some entries.
+-- what comes before 9 says nothing of rooms
+pub nine-behind : {A B : Type 0} (R : Read A) (t : Bool) (x : A → B) → thenNine (R then λ a. refuseIf t 9 0 then λ _. read (x a)) ≡ thenNine R
+nine-behind (refused r) t x = refl
+nine-behind (read a) true x = refl
+nine-behind (read a) false x = refl
+
+nine-is : {A : Type 0} (R : Read A) → (r : Refusal) × (thenNine R ≡ refused r) × ((R then λ a. refuseIf true 9 0 then λ _. read a) ≡ refused r)
+nine-is (refused r) = (r, refl, refl)
+nine-is (read a) = (refusal 9 0, refl, refl)
+
+and-on : {A : Type 0} (R : Read A) → (R then λ a. read a) ≡ R
+and-on (refused r) = refl
+and-on (read a) = refl
+
+module _ {A B C : Type 0} (R : Read A) (wanted : ℕ) (one : A → List B) (two : A → List C) (old : List B) (more : List C) where
+  pub beside-lacking : (x : ℕ) → length more < wanted → x ≡ coded (thenNine R) → Beside (withRoom (length more) wanted R) one two old more x old more
+  beside-lacking x h q =
+      let (r, e, f) = nine-is R in
+      let w : withRoom (length more) wanted R ≡ refused r = rw (lt-ltb (length more) wanted h) f in
+      record { replied = rw w (q ∙ ap coded e); first = rw w refl; second = rw w refl }
+
+  there : wanted ≤ length more → withRoom (length more) wanted R ≡ R
+  there h = rw (le-ltb (length more) wanted h) (and-on R)
+
+  pub beside-refused : {new : List B} (r : Refusal) (x : ℕ) → wanted ≤ length more → R ≡ refused r → new ≡ old → x ≡ code r → Beside (withRoom (length more) wanted R) one two old more x new more
+  beside-refused r x h e s q = record { replied = rw (there h, e) q; first = s ∙ rw (there h, e) refl; second = rw (there h, e) refl }
+
+  pub beside-fine : {new : List B} {also : List C} (a : A) → wanted ≤ length more → R ≡ read a → new ≡ over (one a) old → also ≡ over (two a) more → Beside (withRoom (length more) wanted R) one two old more 0 new also
+  beside-fine a h e s t = record { replied = rw (there h, e) refl; first = s ∙ rw (there h, e) refl; second = t ∙ rw (there h, e) refl }

@@ -1,0 +1,2 @@
+-- How the code's replies about a deck are read.
+pub mod Laws

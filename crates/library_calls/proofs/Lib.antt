@@ -1,0 +1,2 @@
+-- Each case of a library's step and run.
+pub mod Walking

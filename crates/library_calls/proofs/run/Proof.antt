@@ -1,0 +1,55 @@
+-- `library_calls::run` meets its contract. Assumes nothing.
+use Prim.Native.Nat.{suc}
+use mathlib.Core.Path.{_∙_, ap}
+use native.Mathlib.Omega.{arith}
+use lib.ListN.{length}
+use borrow.Author.Needs.{needs}
+use Rattle.records.specs.declared.Sheet.{Sheet}
+use Rattle.library.specs.Steps.{stepReply, stepOut, saidStep, runOf}
+use Rattle.calls.specs.Blocks.{sheetFor}
+use Rattle.library_calls.specs.Libraries.{withNext, stepCode}
+use Rattle.library_calls.proofs.Walking.{walked-lacking, walked-told, step-wrote, run-wrote}
+use Rattle.library_calls.proofs.run.Statement.{statement}
+use Rattle.library_calls.proofs.run.Tie as tie
+
+sheet-for-requires : tie.Need-sheet-for-requires
+sheet-for-requires c κs = search needs
+
+unlent-step-requires : tie.Need-unlent-step-requires
+unlent-step-requires c κs = search needs
+
+returns : tie.Need-returns
+returns c = let a = c .before .before .before .before .before .before .args in
+    walked-lacking (stepReply (sheetFor (a .kind)) (a .deck .now) (a .position) (length (a .out .now))) (runOf (sheetFor (a .kind)) (a .deck .now) (a .position) (a .out .now) .out) (runOf (sheetFor (a .kind)) (a .deck .now) (a .position) (a .out .now) .next) (a .out .now) (a .next .now) (omega arith) _
+    (c .unlent-step .ensures ∙ ap (λ (s : Sheet). stepCode (withNext 0 (stepReply s (a .deck .now) (a .position) (length (a .out .now))))) (c .before .before .sheet-for .ensures))
+
+run-requires : tie.Need-run-requires
+run-requires c κs = search needs
+
+tell-requires : tie.Need-tell-requires
+tell-requires c κs = search needs
+
+same-length : tie.Need-same-length
+same-length c = search needs
+
+same-length-2 : tie.Need-same-length-2
+same-length-2 c = search needs
+
+returns-2 : tie.Need-returns-2
+returns-2 c = let a = c .before .before .before .before .before .before .before .before .before .before .before .before .before .args in let s = c .before .before .before .before .before .before .before .before .before .sheet-for .ensures in let w = c .before .before .before .before .before .before .run .ensures in let t = c .before .before .tell .ensures in
+    walked-told (stepReply (sheetFor (a .kind)) (a .deck .now) (a .position) (length (a .out .now))) (runOf (sheetFor (a .kind)) (a .deck .now) (a .position) (a .out .now) .out) (runOf (sheetFor (a .kind)) (a .deck .now) (a .position) (a .out .now) .next) (a .out .now) (a .next .now) (omega arith) _ _ _ _
+    (w .0 ∙ ap (λ (s : Sheet). saidStep (runOf s (a .deck .now) (a .position) (a .out .now) .next) (stepReply s (a .deck .now) (a .position) (length (a .out .now)))) s) (t .0) (t .1) (w .1 ∙ ap (λ (s : Sheet). (runOf s (a .deck .now) (a .position) (a .out .now) .out)) s)
+    (run-wrote (sheetFor (a .kind)) (a .deck .now) (a .position) (a .out .now))
+
+pub run-spec : {M : Type 1} → statement M
+run-spec =
+    tie.close
+    (tie.spec
+    sheet-for-requires
+    unlent-step-requires
+    returns
+    run-requires
+    tell-requires
+    same-length
+    same-length-2
+    returns-2)

@@ -1,0 +1,2 @@
+-- Each case of the replies about queues.
+pub mod QueueReplies

@@ -1,0 +1,48 @@
+-- `queue_calls::compose` meets its contract. Assumes nothing.
+use denote.Ref.{now}
+use lib.ListN.{length}
+use borrow.Author.Needs.{needs}
+use Rattle.storage.specs.declared.Queue.{Queue}
+use Rattle.records.specs.declared.Sheet.{Sheet}
+use Rattle.gathered.specs.Gathered.{sheetTold}
+use Rattle.calls.specs.Blocks.{sheetFor}
+use Rattle.queue_calls.specs.TwoQueues.{queueFor}
+use Rattle.queue_calls.proofs.QueueReplies.{sheet-coded}
+use Rattle.queue_calls.proofs.compose.Statement.{statement}
+use Rattle.queue_calls.proofs.compose.Tie as tie
+
+queue-for-requires : tie.Need-queue-for-requires
+queue-for-requires c κs = search needs
+
+sheet-for-requires : tie.Need-sheet-for-requires
+sheet-for-requires c κs = search needs
+
+compose-requires : tie.Need-compose-requires
+compose-requires c κs = search needs
+
+written-code-requires : tie.Need-written-code-requires
+written-code-requires c κs = search needs
+
+same-length : tie.Need-same-length
+same-length c = search needs
+
+returns : tie.Need-returns
+returns c =
+    let w = c .before .before .before in
+    let s = w .before .before in
+    let q = s .before in
+    let a = q .before .before .before .before .args in
+    sheet-coded (λ (y : Queue) (z : Sheet). sheetTold (now (a .table)) y z (now (a .assembly)) (length (now (a .out)))) (now (a .out))
+    (w .compose .result) (q .queue-for .result) (queueFor (a .queue)) (s .sheet-for .result) (sheetFor (a .kind)) _
+    (q .queue-for .ensures) (s .sheet-for .ensures) (c .written-code .ensures) (w .compose .ensures)
+
+pub compose-spec : {M : Type 1} → statement M
+compose-spec =
+    tie.close
+    (tie.spec
+    queue-for-requires
+    sheet-for-requires
+    compose-requires
+    written-code-requires
+    same-length
+    returns)

@@ -1,0 +1,28 @@
+-- `queue_calls::empty` meets its contract. Assumes nothing.
+use mathlib.Core.Path.{_∙_}
+use denote.Ref.{now}
+use borrow.Author.Needs.{needs}
+use Rattle.summary.specs.Layout.{summaryBytes}
+use Rattle.storage.specs.Table.{tableReply}
+use Rattle.calls.proofs.Laws.{reply-coded}
+use Rattle.queue_calls.proofs.empty.Statement.{statement}
+use Rattle.queue_calls.proofs.empty.Tie as tie
+
+empty-requires : tie.Need-empty-requires
+empty-requires c κs = search needs
+
+reply-code-requires : tie.Need-reply-code-requires
+reply-code-requires c κs = search needs
+
+same-length : tie.Need-same-length
+same-length c = search needs
+
+returns : tie.Need-returns
+returns c =
+    let e = c .before .before .before in
+    let a = e .before .before .before .args in
+    (c .reply-code .ensures ∙ reply-coded (e .empty .result) (tableReply summaryBytes (now (a .table))) (e .empty .ensures .0), e .empty .ensures .1)
+
+pub empty-spec : {M : Type 1} → statement M
+empty-spec =
+    tie.close (tie.spec empty-requires reply-code-requires same-length returns)

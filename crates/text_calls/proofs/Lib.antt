@@ -1,0 +1,3 @@
+-- Each case of the replies about molfiles and neighbour texts.
+pub mod MolfileReplies
+pub mod Texts

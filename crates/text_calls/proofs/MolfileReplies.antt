@@ -1,0 +1,75 @@
+-- Laws. Molfiles with the numbers beside them: each case of the reply. Assumes nothing.
+use Prim.Native.Nat.{ℕ, _/_, _≤_, _<_}
+use mathlib.Core.Bool.{Bool, true, false}
+use mathlib.Core.List.{List}
+use mathlib.Core.Path.{_≡_, refl, sym, _∙_, ap, ap₂}
+use native.Mathlib.Omega.{arith}
+use lib.Dec.{ltb}
+use lib.ListN.{length, set}
+use Rattle.reply.specs.Read.{Read, refused, read, _then_, refuseIf}
+use Rattle.reply.specs.declared.Refusal.{Refusal}
+use Rattle.block.specs.Block.{bondsOf, blockReply}
+use Rattle.molfile.specs.Molfile.{keptAtoms, bytesOf, linesReply, molfileReply}
+use Rattle.molfile.specs.Said.{filledBonds}
+use Rattle.molfile.specs.declared.Counts.{Counts}
+use Rattle.molwriter.specs.Written.{molfileText, molfileWriteReply, filledText, saidMolfileWritten}
+use Rattle.molwriter.specs.declared.MolWritten.the-variants as text
+use Rattle.calls.specs.Convention.{code, coded, over, thenNine}
+use Rattle.calls.specs.Blocks.{unlentReply}
+use Rattle.calls.proofs.Laws.{first-put, both-put, nine-behind, beside-lacking, beside-refused, beside-fine}
+use Rattle.text_calls.specs.Molfiles.{unlentMolfile, MolfileRead, MolfileWritten}
+
+-- what a reply of the code says of the definition
+pub text-refused : (R : Read ℕ) {r : Refusal} → saidMolfileWritten R ≡ text.Refused r → R ≡ refused r
+text-refused (refused s) e = ap refused (cc)
+text-refused (read k) e = let z : _≡_ {A = ℕ} 0 1 = cc in absurd (omega arith)
+
+pub text-bytes : (R : Read ℕ) {k : ℕ} → saidMolfileWritten R ≡ text.Bytes k → R ≡ read k
+text-bytes (refused s) e = let z : _≡_ {A = ℕ} 0 1 = cc in absurd (omega arith)
+text-bytes (read j) e = ap read (cc)
+
+-- READING. What comes before 9, whatever the room is.
+nine-either : (L B : Read (Unit {0})) (s t : Bool) → thenNine (L then λ _. B then λ _. refuseIf s 9 0) ≡ thenNine (L then λ _. B then λ _. refuseIf t 9 0)
+nine-either (refused r) B s t = refl
+nine-either (read u) (refused r) s t = refl
+nine-either (read u) (read v) true true = refl
+nine-either (read u) (read v) true false = refl
+nine-either (read u) (read v) false true = refl
+nine-either (read u) (read v) false false = refl
+
+any-room : (d : List ℕ) (room : ℕ) → unlentMolfile d ≡ thenNine (molfileReply d room)
+unfolding molfileReply
+any-room d room = nine-either (linesReply d) (blockReply (keptAtoms d) (bytesOf d)) (ltb 1 (length (bytesOf d))) (ltb room (length (bytesOf d)))
+
+module _ (d bonds counts : List ℕ) where
+  pub read-lacking : (x : ℕ) → length counts < 2 → x ≡ coded (unlentMolfile d) → MolfileRead d bonds counts x bonds counts
+  read-lacking x h q = beside-lacking (molfileReply d (length bonds)) 2 _ _ bonds counts x h (q ∙ ap coded (any-room d (length bonds)))
+
+  pub read-refused : (bonds′ : List ℕ) (r : Refusal) (x : ℕ) → 2 ≤ length counts → molfileReply d (length bonds) ≡ refused r
+      → bonds′ ≡ filledBonds (molfileReply d (length bonds)) (bytesOf d) bonds → x ≡ code r → MolfileRead d bonds counts x bonds′ counts
+  unfolding filledBonds
+  read-refused bonds′ r x h e b q = beside-refused (molfileReply d (length bonds)) 2 _ _ bonds counts r x h e (b ∙ rw e refl) q
+
+  pub read-fine : (bonds′ : List ℕ) (c : Counts) → 2 ≤ length counts → molfileReply d (length bonds) ≡ read tt → keptAtoms d ≡ c .atoms → length (bytesOf d) / 2 ≡ c .bonds
+      → bonds′ ≡ filledBonds (molfileReply d (length bonds)) (bytesOf d) bonds → MolfileRead d bonds counts 0 bonds′ (set (set counts 0 (c .atoms)) 1 (c .bonds))
+  unfolding filledBonds
+  read-fine bonds′ c h e n m b =
+      beside-fine (molfileReply d (length bonds)) 2 _ _ bonds counts tt h e (b ∙ rw e refl) (both-put (c .atoms) (c .bonds) counts h ∙ rw (n, m) refl)
+
+-- WRITING.
+module _ (n : ℕ) (xs out told : List ℕ) where
+  pub write-lacking : (x : ℕ) → length told < 1 → x ≡ coded (unlentReply n xs) → MolfileWritten n xs out told x out told
+  unfolding molfileWriteReply
+  write-lacking x h q =
+      let k = length (molfileText n (bondsOf xs)) in
+      beside-lacking (molfileWriteReply n xs (length out)) 1 _ _ out told x h (q ∙ ap coded (sym (nine-behind (blockReply n xs) (ltb (length out) k) (λ _. k))))
+
+  pub write-refused : (out′ : List ℕ) (r : Refusal) (x : ℕ) → 1 ≤ length told → molfileWriteReply n xs (length out) ≡ refused r
+      → out′ ≡ filledText (molfileWriteReply n xs (length out)) (molfileText n (bondsOf xs)) out → x ≡ code r → MolfileWritten n xs out told x out′ told
+  unfolding filledText
+  write-refused out′ r x h e b q = beside-refused (molfileWriteReply n xs (length out)) 1 _ _ out told r x h e (b ∙ rw e refl) q
+
+  pub write-fine : (out′ : List ℕ) (k : ℕ) → 1 ≤ length told → molfileWriteReply n xs (length out) ≡ read k
+      → out′ ≡ filledText (molfileWriteReply n xs (length out)) (molfileText n (bondsOf xs)) out → MolfileWritten n xs out told 0 out′ (set told 0 k)
+  unfolding filledText
+  write-fine out′ k h e b = beside-fine (molfileWriteReply n xs (length out)) 1 _ _ out told k h e (b ∙ rw e refl) (first-put k told h)

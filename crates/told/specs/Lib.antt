@@ -1,0 +1,13 @@
+-- What the one number of a C reply tells, function by function.
+--
+-- | notion                           | meaning                                                                   | the law that matters                              |
+-- | `Bounded`, `SmallRefusal`        | every refusal of an answer has a number from 1 to 253 and a place below   | `tells`                                           |
+-- | `Tells`, `Judges`, `Walks`       | 0 exactly where nothing is refused; else which refusal, and where         | `judge-tells`, `compose-tells`, `library-step-tells` |
+-- | (the headline in C's number)     | 0 exactly where the sheet's fields are the molecule's                     | `zero-exactly`                                    |
+pub mod Bounded
+pub mod Recovered
+pub mod Accepted
+pub mod Molfiles
+pub mod Texts
+pub mod Libraries
+pub mod Queues
