@@ -3,7 +3,7 @@
 -- | notion                                        | meaning                                      | the law that matters                                         |
 -- | `storedFields`, `vertexAt`, `farAt`           | what bytes say of a block, whatever they are | `summary-told`: where they begin with its summary, the block |
 -- | `setIn`                                       | one of the six sets of an atom               | `set-told`: the digit set of the block                       |
--- | `storedDegree`, `storedAtoms`, `storedNumber` | its bonds at an atom, its atoms, its number  | `ends-told`, `atoms-told`, `number-told`; `ones-are-bonds`   |
+-- | `storedDegree`, `storedAtoms`, `storedNumber` | its bonds at an atom, its atoms, its number  | `ends-told`, `atoms-told`, `number-told`; `bonds-are-ends`   |
 -- | `summaryOf`                                   | the bytes of a block's summary               | `length-summary`; `fields-told`, `vertex-told`, `far-told`   |
 pub mod Layout
 pub mod Summary
