@@ -9,6 +9,7 @@ import random
 import shutil
 import signal
 import stat
+import struct
 import subprocess
 import sys
 import tempfile
@@ -99,7 +100,8 @@ class Judging(Room):
         if os.path.exists(PROGRAM):
             names = [line.rsplit(": ", 1)[0] for line in lines] + [os.path.join(self.room, "missing"), self.folder("x")]
             said = subprocess.run([PROGRAM, *names], capture_output=True, text=True).stdout
-            self.assertEqual(self.run_command("judge", *names[:-1])[1], "".join(said.splitlines(True)[:-1]))
+            missing = f"{names[-2]}: cannot be read\n"
+            self.assertEqual(self.run_command("judge", *names[:-2])[1] + missing, "".join(said.splitlines(True)[:-1]))
 
     def test_objects(self):
         for name, data in (("a", GOOD), ("b", WRONG), ("c", REFUSED), ("d", bytes(40000))):
@@ -146,7 +148,8 @@ class Judging(Room):
         os.symlink(self.put("real", GOOD, self.room), os.path.join(self.decks, "link"))
         status, said = self.run_command("judge", self.decks)
         verdicts = {line[len(self.decks) + 1 :] for line in said.splitlines()}
-        expected = {".hidden: accepted", "sub/deck: accepted", "link: accepted", "pipe: cannot be read", "round: cannot be read"}
+        expected = {".hidden: accepted", "sub/deck: accepted", "link: accepted", "pipe: cannot be read: no file"}
+        expected.add("round: cannot be read: a link to a folder")
         self.assertEqual((status, verdicts), (2, expected))
 
     def test_many(self):
@@ -222,6 +225,26 @@ class Explaining(Room):
         self.assertIn("Byte 34 is in placement 2: block 9", said)
         self.assertIn("[09]", said)
         self.assertIn("nothing to judge", self.run_command("explain", self.put("a", FORTY))[1])
+
+    def test_parts(self):
+        """A block in parts is told which atoms have paths to each other."""
+        for atoms, bonds, words in (
+            (6, "", "It is in 6 parts: atoms 1; 2; 3; 4; 5; 6."),
+            (5, "0103 0305", "It is in 3 parts: atoms 1 3 5; 2; 4."),
+            (64, "".join(f"{k:02x}{k + 2:02x}" for k in range(1, 63)), f"It is in 2 parts: atoms {' '.join(map(str, range(1, 64, 2)))}; {' '.join(map(str, range(2, 65, 2)))}."),
+        ):  # fmt: skip
+            ends = bytes.fromhex(bonds)
+            deck = struct.pack("<HHHHH", 6 + len(ends), 1, 1, atoms, len(ends) // 2) + ends + FORTY[22:26] + b"\1\0" + FORTY[28:34]
+            deck = deck.replace(b"\x0e\0\2\0", b"\x08\0\2\0") + RIGHT
+            status, said = self.run_command("explain", self.put("a", deck))
+            self.assertEqual((status, said.splitlines()[-1]), (2, words))
+
+    def test_a_text_is_no_deck(self):
+        said = self.run_command("explain", self.put("a", decktext.shown(GOOD).encode()))[1]
+        self.assertIn("Byte 0 is the first byte of a record of kind ", said)
+        self.assertNotIn("record of a record", said)
+        self.assertIn("This file is a text and no deck", said)
+        self.assertNotIn("is a text", self.run_command("explain", self.put("a", REFUSED))[1])
 
     def test_any_bytes(self):
         chance = random.Random(5)
@@ -324,6 +347,8 @@ class Measuring(Room):
     def test_a_line_for_who_edits(self):
         text = b"\n\n\n  2  1  0\n" + 2 * (b" " * 31 + b"C\n") + b"  1  x\nM  END\n"
         self.assertIn("molfile isn't blanks, then at least one digit (line 7)", self.run_command("measure", self.put("a.mol", text))[1])
+        text = b"\n\n\n  0  0  0     0  0            999 V3000\nM  V30 BEGIN CTAB\nM  END\n"
+        self.assertIn("(the file says V3000, and V2000 is read)", self.run_command("measure", self.put("a.mol", text))[1])
 
     @unittest.skipUnless(native.has("read_neighbours"), "the library reads no neighbour texts yet")
     def test_neighbour_texts_of_blocks(self):
@@ -631,6 +656,27 @@ class Outputs(Room):
         self.assertEqual(os.listdir(self.room), ["decks"])
 
 
+class Lengths(Room):
+    def test_whatever_its_length(self):
+        """The front is kept, the SHA-256 is of everything, and nothing is read without end."""
+        chance = random.Random(3)
+        with mock.patch.object(files, "LONGEST_FILE", 3_000), mock.patch.object(files, "_PIECE", 700):
+            for size in (0, 1, 699, 700, 701, 1_000, 1_001, 1_002, 1_400, 2_999, 3_000, 3_001, 9_000):
+                data = chance.randbytes(size)
+                found = files.Found(self.put("a", data))
+                for most in (1_000, 3_000):
+                    if size > 3_000:
+                        self.assertRaisesRegex(files.Unread, "longer than 3000 bytes", files.read, found, most)
+                    else:
+                        self.assertEqual(files.read(found, most), (data[: most + 1], hashlib.sha256(data).hexdigest()))
+            self.assertRaises(files.Unread, files.read, files.Found("/dev/zero"))
+            self.assertEqual(self.run_command("judge", "/dev/zero"), (2, "/dev/zero: cannot be read: longer than 3000 bytes\n"))
+            for words in (["measure", "--as", "molfile", "/dev/zero"], ["deck", "/dev/zero", "-o", "-"], ["verify", "/dev/zero", self.decks],
+                          ["judge", self.decks, "--manifest", "/dev/zero"], ["explain", "/dev/zero"], ["show", "/dev/zero"]):  # fmt: skip
+                status, said = self.run_command(*words)
+                self.assertEqual((status, "longer than 3000 bytes" in said + self.fault), (2, True), words)
+
+
 class Streams(Room):
     """Standard streams that are closed, and whatever fails before the command begins."""
 
@@ -643,7 +689,7 @@ class Streams(Room):
         one = self.shell(f"judge {deck} 2>&-")
         self.assertEqual((one.returncode, one.stdout.decode()), (0, f"{deck}: accepted\n"))
         one = self.shell("judge - <&-")
-        self.assertEqual((one.returncode, one.stdout), (2, b"-: cannot be read\n"))
+        self.assertEqual((one.returncode, one.stdout), (2, b"-: cannot be read: standard input is closed\n"))
         self.assertNotIn(b"Traceback", one.stderr)
         self.assertEqual(self.shell("judge --no-such 2>&-").returncode, 2)
         self.assertEqual(self.shell("judge - --json <&- 2>&-").returncode, 2)

@@ -236,8 +236,11 @@ class Notices(Room):
         shutil.copy(native.SHARED_OBJECT, other)
         board = os.path.join(self.room, "board.html")
         with mock.patch.dict(os.environ, {"TTEUYOMAL_SO": other}):
-            one = self.process("judge", self.decks, "--board", board, "--notice", self.path, stdout=subprocess.DEVNULL, stderr=subprocess.DEVNULL)
-            self.assertEqual(one.wait(), 2)
+            one = self.process("judge", self.decks, "--board", board, "--notice", self.path, "--json", stdout=subprocess.PIPE, stderr=subprocess.PIPE)
+            said, fault = one.communicate()
+            self.assertEqual(one.returncode, 2)
+        self.assertTrue(fault.decode().startswith(f"tteuyomal: TTEUYOMAL_SO is set, so {other} answers here and not the package's own library\n"))
+        self.assertEqual({json.loads(line)["TTEUYOMAL_SO"] for line in said.splitlines()}, {other})
         for path in (board, self.path):
             self.assertIn("TTEUYOMAL_SO", self.read(path).decode())
             self.assertIn(other, self.read(path).decode())
@@ -253,7 +256,14 @@ class Notices(Room):
         return status, said
 
     def test_holds(self):
-        self.assertEqual(self.verify(), (0, "the notice holds: 3 decks: 1 accepted, 1 differs, 1 refused\n"))
+        status, said = self.verify()
+        self.assertEqual((status, said.splitlines()[0]), (0, "the notice holds: 3 decks: 1 accepted, 1 differs, 1 refused"))
+        self.assertEqual(said.splitlines()[1], "it does not say that all was accepted: Not accepted: 2 of 3 (differs: 1, refused: 1). Accepted: 1.")
+        good = self.folder("good")
+        self.put("a", GOOD, good)
+        for expected, more in ((1, ""), (2, "it does not say that all was accepted: Not as expected: expected 2 decks, found 1. Accepted: 1.\n")):
+            self.run_command("notice", good, "-o", self.path, "--expect", str(expected))
+            self.assertEqual(self.run_command("verify", self.path, good), (0, f"the notice holds: 1 deck: 1 accepted\n{more}"))
 
     def test_does_not_hold(self):
         for name, data, words in (

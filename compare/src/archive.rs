@@ -39,6 +39,17 @@ mod c {
             next: *mut u64,
             next_len: usize,
         ) -> u64;
+        pub fn tteuyomal_library_best(
+            deck: *const u8,
+            deck_len: usize,
+            field: usize,
+            greatest: usize,
+            tag: u64,
+            best: *mut u64,
+            best_len: usize,
+            held: *mut u64,
+            held_len: usize,
+        ) -> u64;
         pub fn tteuyomal_check_block(atoms: usize, bonds: *const u8, bonds_len: usize) -> u64;
         pub fn tteuyomal_indices(
             atoms: usize,
@@ -166,6 +177,29 @@ mod c {
             out: *mut u8,
             out_len: usize,
         ) -> u64;
+        pub fn tteuyomal_judge_claims(deck: *const u8, deck_len: usize, claims: *const u8, claims_len: usize) -> u64;
+        pub fn tteuyomal_judge_block(
+            atoms: usize,
+            bonds: *const u8,
+            bonds_len: usize,
+            claims: *const u8,
+            claims_len: usize,
+        ) -> u64;
+        pub fn tteuyomal_sdf_record(
+            text: *const u8,
+            text_len: usize,
+            from: usize,
+            span: *mut u64,
+            span_len: usize,
+        ) -> u64;
+        pub fn tteuyomal_sdf_item(
+            record: *const u8,
+            record_len: usize,
+            name: *const u8,
+            name_len: usize,
+            span: *mut u64,
+            span_len: usize,
+        ) -> u64;
     }
 }
 
@@ -208,6 +242,12 @@ pub fn library_run(deck: &[u8], kind: usize, position: usize, out: &mut [u8], ne
     let (sheets, room) = (out.as_mut_ptr(), out.len());
     let (told, entries) = (next.as_mut_ptr(), next.len());
     unsafe { c::tteuyomal_library_run(deck.as_ptr(), deck.len(), kind, position, sheets, room, told, entries) }
+}
+
+pub fn library_best(deck: &[u8], field: usize, greatest: usize, tag: u64, best: &mut [u64], held: &mut [u64]) -> u64 {
+    let (entries, room) = (best.as_mut_ptr(), best.len());
+    let (told, lent) = (held.as_mut_ptr(), held.len());
+    unsafe { c::tteuyomal_library_best(deck.as_ptr(), deck.len(), field, greatest, tag, entries, room, told, lent) }
 }
 
 pub fn check_block(atoms: usize, bonds: &[u8]) -> u64 {
@@ -295,4 +335,21 @@ pub fn queue_compose(table: &[u8], queue: usize, kind: usize, record: &[u8], out
     unsafe {
         c::tteuyomal_queue_compose(table.as_ptr(), table.len(), queue, kind, record.as_ptr(), record.len(), to, room)
     }
+}
+
+pub fn judge_claims(deck: &[u8], claims: &[u8]) -> u64 {
+    unsafe { c::tteuyomal_judge_claims(deck.as_ptr(), deck.len(), claims.as_ptr(), claims.len()) }
+}
+
+pub fn judge_block(atoms: usize, bonds: &[u8], claims: &[u8]) -> u64 {
+    unsafe { c::tteuyomal_judge_block(atoms, bonds.as_ptr(), bonds.len(), claims.as_ptr(), claims.len()) }
+}
+
+pub fn sdf_record(text: &[u8], from: usize, span: &mut [u64]) -> u64 {
+    unsafe { c::tteuyomal_sdf_record(text.as_ptr(), text.len(), from, span.as_mut_ptr(), span.len()) }
+}
+
+pub fn sdf_item(record: &[u8], name: &[u8], span: &mut [u64]) -> u64 {
+    let (out, room) = (span.as_mut_ptr(), span.len());
+    unsafe { c::tteuyomal_sdf_item(record.as_ptr(), record.len(), name.as_ptr(), name.len(), out, room) }
 }

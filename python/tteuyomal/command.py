@@ -29,13 +29,16 @@ class Parser(argparse.ArgumentParser):
 def _parser() -> argparse.ArgumentParser:
     parser = Parser(
         prog="tteuyomal",
-        description="Judges the sheets of molecular decks by working the numbers out. Exit status: 0 all well, 1 a sheet differs, "
-        "2 something is refused or can't be read or written, or nothing was given.",
+        allow_abbrev=False,
+        description="Judges the sheets of molecular decks by working the numbers out.",
+        epilog="Exit status: 0 all well, 1 a sheet differs and nothing worse, 2 something is refused, missing or can't be read or written, "
+        "or nothing was given. `tteuyomal COMMAND --help` says it for each command; docs/COMMAND.md has every line, object and file.",
     )
     parser.add_argument("--version", action=Version, nargs=0, help="the versions of the package and of the library, and which code judges")
     names = parser.add_subparsers(required=True, metavar="COMMAND")
     for command in commands.ALL:
-        one = names.add_parser(command.NAME, help=command.WORDS, description=command.WORDS)
+        status = f"Exit status: {command.STATUS}"
+        one = names.add_parser(command.NAME, help=command.WORDS, description=f"{command.WORDS}.", epilog=status, allow_abbrev=False)
         command.options(one)
         one.set_defaults(run=command.run)
     return parser
@@ -64,6 +67,8 @@ def main(words: list[str] | None = None) -> int:
     try:
         try:
             options = _parser().parse_args(words)
+            if native.REPLACED:
+                complain(f"TTEUYOMAL_SO is set, so {files.shown(native.REPLACED)} answers here and not the package's own library")
             return int(options.run(options, out))
         finally:
             out.flush()

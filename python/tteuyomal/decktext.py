@@ -43,6 +43,7 @@ from __future__ import annotations
 
 import os
 import re
+import sys
 import tomllib
 from collections.abc import Callable, Iterable, Iterator
 from typing import Any
@@ -122,8 +123,10 @@ def made(text: str, folder: str = ".", reader: Callable[[str], bytes] | None = N
 def _parsed(text: str) -> dict[str, Any]:
     try:
         return tomllib.loads(text)
-    except ValueError as fault:  # no TOML, or a number of more digits than Python reads
+    except tomllib.TOMLDecodeError as fault:
         raise BadText(str(fault)) from None
+    except ValueError:
+        raise BadText(f"it has a number of more than {sys.get_int_max_str_digits()} digits") from None
     except RecursionError:
         raise BadText("it is nested too deeply") from None
 
@@ -192,7 +195,9 @@ def _block(table: dict[str, Any], place: int, read: Callable[[str], bytes]) -> t
 
 
 def line_of(text: bytes, refusal: Refused) -> str:
-    """The line that a refusal of a text is about, for who looks at it in an editor."""
+    """What helps who looks at a refused text in an editor: the line that the refusal is about, or that the file is a V3000 one."""
+    if refusal.number == 1 and b"V3000" in b"".join(text.split(b"\n", 4)[3:4]):
+        return " (the file says V3000, and V2000 is read)"
     line = text[: refusal.place].count(b"\n") + 1
     return f" (line {line})" if refusal.number in (21, 22, 25, 26, 27) else ""
 

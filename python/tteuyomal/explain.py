@@ -13,6 +13,10 @@ from .native import Refused
 KIND_NAMES = {BLOCK: "a block", ASSEMBLY: "the assembly", SHEET: "a sheet", SIX: "a sheet of six fields", LIBRARY: "a library"}
 
 
+_FRONT = 200  # bytes by which a text is told from a deck
+_LETTERS = frozenset([*b"\t\n\r", *range(32, 127)])
+
+
 def explained(judged: Judged) -> Iterator[str]:
     """The lines of one deck."""
     yield f"{files.shown(judged.name)}: {judged.size} bytes, SHA-256 {judged.sha256}"
@@ -59,12 +63,13 @@ def _records(data: bytes) -> Iterator[str]:
 def _contents(kind: int, payload: bytes) -> Iterator[str]:
     if kind == BLOCK and len(payload) >= 6:
         number, atoms, count = struct.unpack_from("<HHH", payload)
-        yield f"block {number}: {atoms} atoms, {count} bonds"
+        yield f"block {number}: {atoms} atom{'' if atoms == 1 else 's'}, {count} bond{'' if count == 1 else 's'}"
         pairs = list(zip(payload[6::2], payload[7::2]))
         for row in range(0, len(pairs), 16):
             yield " ".join(f"{first}-{second}" for first, second in pairs[row : row + 16])
     elif kind == ASSEMBLY and len(payload) >= 2:
-        yield f"{struct.unpack_from('<H', payload)[0]} placements"
+        count = struct.unpack_from("<H", payload)[0]
+        yield f"{count} placement{'' if count == 1 else 's'}"
         whole = payload[2 : 2 + (len(payload) - 2) // 6 * 6]
         for place, numbers in enumerate(struct.iter_unpack("<HHBB", whole), 1):
             yield _placement(place, Placement(*numbers))
@@ -93,10 +98,26 @@ def _placement(place: int, one: Placement) -> str:
 def _refusal(judged: Judged) -> Iterator[str]:
     yield f"refused {judged.number} at {judged.place}: {judged.words}."
     yield from where(judged.data, judged.number, judged.place)
+    if judged.number == 7:
+        yield from _parts(judged.data, judged.place)
     if judged.number == 11 and judged.place == judged.size:
         yield from _unclaimed(judged.data)
+    if judged.data and all(byte in _LETTERS for byte in judged.data[:_FRONT]):
+        yield ""
+        yield "This file is a text and no deck: `tteuyomal deck` makes a deck of a deck's text, `tteuyomal measure` reads molfiles."
     if judged.note:
         yield from _library(judged.data)
+
+
+def _parts(data: bytes, place: int) -> Iterator[str]:
+    """The parts of the block whose record begins at a place: the atoms that have paths to each other."""
+    atoms, count = struct.unpack_from("<HH", data, place + 6)
+    bonds = data[place + 10 : place + 10 + 2 * count]
+    part = list(range(atoms + 1))
+    for first, second in zip(bonds[::2], bonds[1::2]):
+        part = [part[first] if one == part[second] else one for one in part]
+    parts = [[str(atom) for atom in range(1, atoms + 1) if part[atom] == one] for one in sorted(set(part[1:]), key=part.index)]
+    yield f"It is in {len(parts)} parts: atoms {'; '.join(' '.join(one) for one in parts)}."
 
 
 def _library(data: bytes) -> Iterator[str]:
@@ -146,7 +167,9 @@ def _at(data: bytes, place: int) -> str:
 
 def _inside(payload: bytes, kind: int, at: int, place: int) -> str:
     """What stands at a place of the record that begins at byte `at`."""
-    name = KIND_NAMES.get(kind, f"a record of kind {kind}")
+    if kind not in KIND_NAMES:
+        return f"the first byte of a record of kind {kind}" if place == at else f"in a record of kind {kind} that begins at byte {at}"
+    name = KIND_NAMES[kind]
     if kind == BLOCK and len(payload) >= 6:
         name = f"block {struct.unpack_from('<H', payload)[0]}"
         bond = (place - at - 10) // 2

@@ -15,7 +15,7 @@ from collections.abc import Iterable, Iterator
 from typing import IO, NamedTuple
 
 LONGEST = 32768  # bytes of a deck; a longer one is refused whatever its bytes are
-LONGEST_TEXT = 1 << 30  # bytes of any other file that is read: molfile, SDF, neighbour text, deck's text, manifest, notice
+LONGEST_FILE = 1 << 30  # bytes of any file that is read: a longer one is not
 _HELD = 200_000  # names of one folder that are held at a time
 _PIECE = 1 << 20  # bytes that are asked for at a time
 
@@ -120,25 +120,22 @@ def read(found: Found, most: int = LONGEST) -> Contents:
 
 
 def text_of(found: Found) -> Contents:
-    """All of a file that is no deck; raises `Unread`, also for one that is longer than such files may be."""
-    said = read(found, LONGEST_TEXT)
-    if len(said.data) > LONGEST_TEXT:
-        raise Unread(f"longer than {LONGEST_TEXT} bytes")
-    return said
+    """All of a file that is no deck; raises `Unread`."""
+    return read(found, LONGEST_FILE)
 
 
 def contents(file: int, most: int) -> Contents:
-    """What an open file holds."""
-    parts, left = [], most + 1
-    while left and (part := os.read(file, min(left, _PIECE))):
-        parts.append(part)
-        left -= len(part)
-    data = b"".join(parts)
-    digest = hashlib.sha256(data)
-    if not left:  # too long already; the rest is read for its SHA-256 alone
-        while part := os.read(file, _PIECE):
-            digest.update(part)
-    return Contents(data, digest.hexdigest())
+    """What an open file holds. Bytes behind those that are kept are read for the SHA-256 alone; raises `Unread` for a file that is longer
+    than any may be, as is a device that never ends."""
+    parts, size, digest = [], 0, hashlib.sha256()
+    while part := os.read(file, _PIECE if size > most else min(_PIECE, most + 1 - size)):
+        if size <= most:
+            parts.append(part)
+        size += len(part)
+        if size > LONGEST_FILE:
+            raise Unread(f"longer than {LONGEST_FILE} bytes")
+        digest.update(part)
+    return Contents(b"".join(parts), digest.hexdigest())
 
 
 def reason(fault: Exception) -> str:

@@ -58,8 +58,8 @@ class Judged(NamedTuple):
         return self.word
 
     def line(self) -> str:
-        """The line of this file."""
-        return f"{files.shown(self.name)}: {self.verdict()}"
+        """The line of this file, with the reason where it can't be read."""
+        return f"{files.shown(self.name)}: {self.verdict()}{f': {self.fault}' if self.fault else ''}"
 
     def wrong(self) -> list[int]:
         """The places, from 0, of the fields that are claimed wrongly."""

@@ -89,6 +89,21 @@ class Sets(NamedTuple):
     atoms: int
 
 
+class Record(NamedTuple):
+    """A record of an SDF: its first byte, how many it has, and where the next one begins."""
+
+    start: int
+    length: int
+    next: int
+
+
+class Span(NamedTuple):
+    """A part of a text: its first byte, and how many it has."""
+
+    start: int
+    length: int
+
+
 class ReadBlock(NamedTuple):
     """A block that was read from a text: the atom count, and pairs of atom numbers."""
 
@@ -132,6 +147,11 @@ WORDS = {
     32: "a site's candidate count is 0 or above 8",
     33: "a site's atom was used by an earlier site",
     34: "the block's bonds are not one fewer than its atoms",
+    35: "the claim is of no field, or is cut off; at place 0: no such field as was asked about",
+    36: "there is no claim",
+    37: "the text is no number as the rules read it",
+    38: "the record has no such data item",
+    39: "the record has that data item twice",
 }
 
 
@@ -449,6 +469,7 @@ _compose_six = _function("compose_six", _DECK + _NUMBERS)
 _library_count = _function("library_count", _DECK + _NUMBERS)
 _library_step = _function("library_step", _DECK + 2 * [c_size_t] + _BYTES + _NUMBERS)
 _library_run = _function("library_run", _DECK + 2 * [c_size_t] + _BYTES + _NUMBERS)
+_library_best = _function("library_best", _DECK + [c_size_t, c_size_t, c_uint64] + _NUMBERS + _NUMBERS)
 _queue_empty = _function("queue_empty", _BYTES)
 _queue_add = _function("queue_add", _BYTES + [c_size_t, c_uint16] + _BLOCK)
 _queue_look = _function("queue_look", _BYTES + [c_size_t, c_uint16] + _NUMBERS)
@@ -544,6 +565,35 @@ def library_products(deck: Bytes, kind: int = 3, start: int = 0) -> Iterator[byt
         yield from sheets
 
 
+class Ranked(NamedTuple):
+    """A product among the best: its value, the tag of its deck, and its position there."""
+
+    value: int
+    tag: int
+    position: int
+
+
+class Best:
+    """The best products so far by one field, 1 to 6 as in `SHEET_NAMES`: those of the smallest values, or the greatest. Equal ones stand
+    in the order in which they came."""
+
+    def __init__(self, field: int, top: int, greatest: bool = False) -> None:
+        self._asked = (_size(field, "the field"), int(greatest))
+        self._room = 3 * _size(top, "how many are held")
+        self._entries, self._held = (c_uint64 * self._room)(), (c_uint64 * 1)()
+
+    def put(self, deck: bytes, tag: int = 0) -> None:
+        """Puts every product of a library deck among them."""
+        reply = _library_best(deck, len(deck), *self._asked, tag, self._entries, self._room, self._held, 1)
+        if reply:
+            _told(reply)
+
+    def entries(self) -> list[Ranked]:
+        """Those that are held, the best first."""
+        flat = self._entries[: 3 * self._held[0]]
+        return [Ranked(*flat[at : at + 3]) for at in range(0, len(flat), 3)]
+
+
 def _read_text(function: Any, text: Bytes) -> ReadBlock:
     bonds, counts = (c_uint8 * _BOND_ROOM)(), (c_uint64 * 2)()
     _told(function(*_lent(text, "a text"), bonds, _BOND_ROOM, counts, 2))
@@ -618,3 +668,56 @@ def queue_compose(table: bytearray, queue: int, record: Bytes, kind: int = 3) ->
     out = (c_uint8 * room)()
     _told(_queue_compose(*_table(table), _size(queue, "the queue"), kind, *_lent(record, "a record"), out, room))
     return bytes(out)
+
+
+# ---- claims and records of an SDF ----
+
+_judge_claims = _function("judge_claims", _DECK + _TEXT)
+_judge_block = _function("judge_block", _BLOCK + _TEXT)
+_sdf_record = _function("sdf_record", _TEXT + [c_size_t] + _NUMBERS)
+_sdf_item = _function("sdf_item", _TEXT + _TEXT + _NUMBERS)
+
+Claims = Iterable[tuple[int, str]] | bytes
+CLAIM_NAMES = (*SHEET_NAMES, "Szeged index", "Hosoya index", "Merrifield-Simmons index", "Balaban's J")
+
+
+def claim_bytes(claims: Iterable[tuple[int, str]]) -> bytes:
+    """Claims as C takes them; each is a field's number, from 1 as in `CLAIM_NAMES`, and the text that a program printed for it."""
+    written = bytearray()
+    for place, (field, text) in enumerate(claims, 1):
+        printed = text.encode("utf-8", "surrogateescape")
+        head = (field, f"the field of claim {place}"), (len(printed), f"the bytes of claim {place}")
+        written += bytes(_exactly(n, what, 255) for n, what in head) + printed
+    return bytes(written)
+
+
+def _claims(claims: Claims) -> list[Any]:
+    if isinstance(claims, (bytes, bytearray, memoryview)):
+        return _lent(claims, "a list of claims")
+    return _lent(claim_bytes(claims))
+
+
+def judge_claims(deck: Bytes, claims: Claims) -> int:
+    """0 when all claims of the molecule of a deck without a sheet are right, else the number of the first wrong one, from 1."""
+    return _told(_judge_claims(*_lent(deck), *_claims(claims)))
+
+
+def judge_block(atoms: int, bonds: Bonds, claims: Claims) -> int:
+    """The same of a lone block."""
+    return _told(_judge_block(*_block(atoms, bonds), *_claims(claims)))
+
+
+def sdf_record(text: Bytes, start: int = 0) -> Record | None:
+    """The record of an SDF that begins at a byte; None where only blanks, tabs, CR and LF are left."""
+    span = (c_uint64 * 3)()
+    reply = _sdf_record(*_lent(text, "an SDF"), _size(start, "the first byte"), span, 3)
+    if reply % 256 == 254:
+        return None
+    _told(reply)
+    return Record(*span)
+
+
+def sdf_item(record: Bytes, name: str | Bytes) -> Span:
+    """Where the value of the data item of a name stands in a record."""
+    asked = name.encode("utf-8", "surrogateescape") if isinstance(name, str) else name
+    return Span(*_numbers(_sdf_item, _lent(record, "a record") + _lent(asked, "a name"), 2))

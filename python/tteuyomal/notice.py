@@ -136,10 +136,11 @@ def sentence(run: Run, tally: Tally, what: str = "deck") -> str:
 
 
 class Read(NamedTuple):
-    """What a notice says: the library's SHA-256, how many decks, whether all were accepted, and its rows."""
+    """What a notice says: the library's SHA-256, how many decks, its sentence, whether that says that all were accepted, and its rows."""
 
     library: str
     total: int
+    sentence: str
     all_accepted: bool
     rows: dict[str, Row]
 
@@ -158,7 +159,8 @@ def read(text: str) -> Read:
         raise NoNotice("it does not say which library judged, and how many decks")
     rows = {one.name: one for one in _rows(lines)}
     all_accepted = any(re.match(r"(The one|All \d+) decks? (was|were) checked and accepted", line) for line in lines)
-    return Read(found[0][1], int(found[1][1]), all_accepted, rows)
+    said = text[found[1].end() :].strip("\n").partition("\n")[0]
+    return Read(found[0][1], int(found[1][1]), said, all_accepted, rows)
 
 
 def _rows(lines: Iterable[str]) -> Iterator[Row]:

@@ -42,7 +42,8 @@ class Run(NamedTuple):
 
     def stamp(self) -> dict[str, str]:
         """What every object says of the run that it comes from."""
-        return {"version": self.version, "time": self.time, "run": self.number}
+        replaced = {"TTEUYOMAL_SO": self.replaced} if self.replaced else {}
+        return {"version": self.version, "time": self.time, "run": self.number} | replaced
 
 
 def begin(folder: str = "", program: str = "", inputs: tuple[tuple[str, str, str], ...] = ()) -> Run:

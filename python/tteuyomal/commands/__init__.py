@@ -6,18 +6,19 @@ import argparse
 from typing import Protocol
 
 from ..console import Output
-from . import board, deck, explain, judge, library, measure, notice, sheet, show, verify
+from . import board, deck, explain, judge, library, measure, notice, rank, sheet, show, verify
 
 
 class Command(Protocol):
     """What a command's module has. `run` answers the exit status."""
 
     NAME: str
-    WORDS: str
+    WORDS: str  # what it does, in one sentence without its full stop
+    STATUS: str  # what its exit statuses say
 
     def options(self, parser: argparse.ArgumentParser) -> None: ...
 
     def run(self, options: argparse.Namespace, out: Output) -> int: ...
 
 
-ALL: tuple[Command, ...] = (judge, explain, sheet, measure, deck, show, library, board, notice, verify)
+ALL: tuple[Command, ...] = (judge, explain, sheet, measure, deck, show, library, rank, board, notice, verify)

@@ -9,6 +9,7 @@ from . import common, judge
 
 NAME = "board"
 WORDS = "write the board of a folder's decks: one file of HTML"
+STATUS = "that of `judge`: 0 only where the board is green."
 
 
 def options(parser: argparse.ArgumentParser) -> None:

@@ -16,14 +16,14 @@ from ..files import Found
 def add_paths(parser: argparse.ArgumentParser, words: str) -> None:
     """The files and folders that a command goes over, and objects in place of lines."""
     parser.add_argument("paths", nargs="*", metavar="PATH", help=words)
-    parser.add_argument("--json", action="store_true", help="one JSON object a line")
+    parser.add_argument("--json", action="store_true", help="print one JSON object a line")
     add_jobs(parser)
 
 
 def add_folder(parser: argparse.ArgumentParser) -> None:
     """One folder, and the one file that is written of it."""
-    parser.add_argument("folder", metavar="FOLDER")
-    parser.add_argument("-o", dest="output", required=True, metavar="FILE", help="- is standard output")
+    parser.add_argument("folder", metavar="FOLDER", help="every file in it counts as a deck")
+    parser.add_argument("-o", dest="output", required=True, metavar="FILE", help="where it goes; - is standard output")
     parser.set_defaults(quiet=False, dask=None)
     add_jobs(parser)
 
@@ -47,7 +47,7 @@ def paths(options: argparse.Namespace) -> list[str]:
 
 def add_jobs(parser: argparse.ArgumentParser) -> None:
     """How many processes work."""
-    parser.add_argument("-j", dest="jobs", type=jobs, default=work.cores(), metavar="N", help="so many processes")
+    parser.add_argument("-j", dest="jobs", type=jobs, default=work.cores(), metavar="N", help="work with so many processes; as many as there are processors, where nothing is said")
 
 
 def stamp(options: argparse.Namespace) -> str:
@@ -95,7 +95,7 @@ def lines(function: Callable[[list[Found]], list[tuple[str, bool]]], options: ar
             fine += sum(good for _, good in answer)
             progress.add(len(answer))
     out.flush()
-    progress.end(f"{progress.done} {what}: {fine} answered, {progress.done - fine} not")
+    progress.end(f"{progress.done} {what if progress.done != 1 else what[:-1]}: {fine} answered, {progress.done - fine} not")
     if not progress.done:
         complain("no file was given")
     return 0 if fine == progress.done > 0 else 2

@@ -12,12 +12,13 @@ from ..native import Refused
 
 NAME = "deck"
 WORDS = "make a deck from a text that names its blocks, placements and claimed fields"
+STATUS = "0 if the deck was written and the library takes it; 2 if it refuses the deck or a molecule in it, or the text is none."
 
 
 def options(parser: argparse.ArgumentParser) -> None:
     """The text, and where the deck goes."""
-    parser.add_argument("text", metavar="FILE.toml", help="- is standard input")
-    parser.add_argument("-o", dest="output", required=True, metavar="DECK", help="- is standard output")
+    parser.add_argument("text", metavar="FILE.toml", help="the text; - is standard input")
+    parser.add_argument("-o", dest="output", required=True, metavar="DECK", help="where the deck goes; - is standard output")
     parser.add_argument("--refused-too", action="store_true", help="write the deck also where the library refuses it; the status stays 2")
 
 

@@ -10,11 +10,12 @@ from ..files import Found
 
 NAME = "explain"
 WORDS = "a deck in words: what it holds, what is claimed, what is worked out, what is wrong"
+STATUS = "0 accepted, 1 differs, 2 refused or cannot be read."
 
 
 def options(parser: argparse.ArgumentParser) -> None:
     """One deck."""
-    parser.add_argument("deck", metavar="DECK")
+    parser.add_argument("deck", metavar="DECK", help="- is standard input")
 
 
 def run(options: argparse.Namespace, out: Output) -> int:

@@ -19,32 +19,43 @@ from . import common
 
 NAME = "judge"
 WORDS = "judge decks: a line each, and in the same run a board, a notice, objects or a report"
+STATUS = (
+    "0 if there was a deck, every one was accepted, and what was expected was there; 1 if a sheet differs; 2 if a deck is "
+    "refused or can't be read, if there was none, if something expected is missing, if a file can't be written or the run "
+    "fails. The greatest that fits."
+)
 LINES, OBJECTS, NOTHING = "lines", "objects", ""  # what goes to standard output
 
 
 def options(parser: argparse.ArgumentParser) -> None:
     """Decks, who judges them, and what is written."""
     parser.add_argument("paths", nargs="*", metavar="PATH", help="decks, or folders of decks; - is standard input")
-    parser.add_argument("--json", action=common.Objects, help="one JSON object a line; after the paths, FILE is where they go")
+    parser.add_argument("--json", action=common.Objects, help="print one JSON object a line; behind the paths, FILE gets them and lines are printed")
     add_outputs(parser, ("board", "notice", "junit"))
     add_expected(parser)
-    parser.add_argument("-q", dest="quiet", action="store_true", help="lines or objects only for what is not accepted")
+    parser.add_argument("-q", dest="quiet", action="store_true", help="print lines or objects only for what is not accepted")
     parser.add_argument("--dask", metavar="ADDRESS", help="judge on the workers of a Dask scheduler, as tcp://host:8786")
     common.add_jobs(parser)
 
 
 def add_outputs(parser: argparse.ArgumentParser, forms: tuple[str, ...]) -> None:
     """Files that a run writes."""
-    words = {"board": "write the board, one file of HTML", "notice": "write the notice, last", "junit": "write a report as JUnit's XML"}
+    words = {
+        "board": "write the board: one file of HTML, a light for each deck",
+        "notice": "write the notice, after everything else: SHA-256 and verdict of each deck",
+        "junit": "write a report as JUnit's XML, for Jenkins and GitLab",
+    }
     for form in forms:
         parser.add_argument(f"--{form}", metavar="FILE", help=words[form])
 
 
 def add_expected(parser: argparse.ArgumentParser) -> None:
     """What must be there, no more and no less."""
-    parser.add_argument("--expect", type=common.position, metavar="N", help="so many decks are expected: another number is 2")
+    parser.add_argument("--expect", type=common.position, metavar="N", help="exactly so many decks are expected; with another number the exit status is 2")
     parser.add_argument(
-        "--manifest", metavar="FILE", help="the decks that are expected, a name a line or lines of sha256sum: one missing or not listed is 2"
+        "--manifest",
+        metavar="FILE",
+        help="the decks that are expected: a name a line, or lines of sha256sum; with one missing, not listed or changed the exit status is 2",
     )
 
 

@@ -17,11 +17,12 @@ from . import common
 
 NAME = "library"
 WORDS = "list the products of a library deck with their fields, in order or ranked"
+STATUS = "0 if there was a product to list; 2 if the deck is refused or can't be read, or no product is at these positions."
 
 
 def options(parser: argparse.ArgumentParser) -> None:
     """The deck, which products, in which order and form."""
-    parser.add_argument("deck", metavar="DECK", help="- is standard input")
+    parser.add_argument("deck", metavar="DECK", help="a library deck; - is standard input")
     parser.add_argument("--six", action="store_true", help="with the largest distance, the sixth field")
     fields = ", ".join(decks.SHORT_NAMES)
     parser.add_argument("--sort", type=field, choices=decks.SHORT_NAMES, metavar="FIELD", help=f"smallest first: {fields}")
@@ -30,7 +31,7 @@ def options(parser: argparse.ArgumentParser) -> None:
     parser.add_argument("--csv", action="store_true", help="rows with commas under a row of names")
     parser.add_argument("--from", dest="first", type=common.position, default=0, metavar="POSITION", help="begin here; the first is 0")
     parser.add_argument("--count", type=common.positive, metavar="N", help="look at so many products")
-    parser.add_argument("-o", dest="output", metavar="FILE", help="write to this file")
+    parser.add_argument("-o", dest="output", metavar="FILE", help="write to this file and print nothing")
 
 
 def field(word: str) -> str:

@@ -12,6 +12,10 @@ from . import common
 
 NAME = "measure"
 WORDS = "every index of molfiles (.mol .sdf .sd .mdl) and neighbour texts (.txt .nb)"
+STATUS = (
+    "0 if there was a file and all of every one was measured; 2 if one is refused, can't be read or was read in part, or "
+    "there was none."
+)
 
 
 def options(parser: argparse.ArgumentParser) -> None:

@@ -9,6 +9,7 @@ from . import common, judge
 
 NAME = "notice"
 WORDS = "write the notice of a folder's decks: a text for the clerk"
+STATUS = "that of `judge`: 0 only where the notice says that all were checked and accepted."
 
 
 def options(parser: argparse.ArgumentParser) -> None:

@@ -14,6 +14,10 @@ from . import common
 
 NAME = "sheet"
 WORDS = "work out the fields of decks without a sheet"
+STATUS = (
+    "0 if there was a deck and the fields of every one were worked out; 2 if one is refused or can't be read, or there was "
+    "none."
+)
 
 
 def options(parser: argparse.ArgumentParser) -> None:

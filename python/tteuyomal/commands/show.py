@@ -11,11 +11,12 @@ from ..native import Refused
 
 NAME = "show"
 WORDS = "print the text that a deck is made from"
+STATUS = "0 if the text was printed, 2 if the deck can't be read."
 
 
 def options(parser: argparse.ArgumentParser) -> None:
     """One deck."""
-    parser.add_argument("deck", metavar="DECK")
+    parser.add_argument("deck", metavar="DECK", help="- is standard input")
 
 
 def run(options: argparse.Namespace, out: Output) -> int:

@@ -16,6 +16,10 @@ from . import common
 
 NAME = "verify"
 WORDS = "judge a folder again and say whether each line of a notice still holds: the same bytes, the same verdict, none missing, none added"
+STATUS = (
+    "0 if every line of the notice still holds and there is one, whatever its verdict; 2 if not. It does not say that all "
+    "was accepted: the notice does."
+)
 
 
 def options(parser: argparse.ArgumentParser) -> None:
@@ -26,7 +30,8 @@ def options(parser: argparse.ArgumentParser) -> None:
 
 
 def run(options: argparse.Namespace, out: Output) -> int:
-    """A line for whatever does not hold, and a sentence; 0 only if all holds."""
+    """A line for whatever does not hold, and a sentence; 0 only if all holds. A notice that is true may still say that something is wrong,
+    so what it says is repeated."""
     said = read(options.notice)
     if not os.path.isdir(options.folder):
         raise Stop(f"{files.shown(options.folder)} is no folder")
@@ -52,6 +57,8 @@ def run(options: argparse.Namespace, out: Output) -> int:
         out.write(f"the notice does not hold: {count} of its lines or of these files are otherwise\n" if count else "")
         return 2
     out.write(f"the notice holds: {tally}\n")
+    if not said.all_accepted:
+        out.write(f"it does not say that all was accepted: {said.sentence}\n")
     return 0
 
 
