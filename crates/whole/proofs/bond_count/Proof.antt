@@ -64,8 +64,7 @@ loop-again c =
     let blocks = graphAt (now (a .d)) (deckOf (a .deck)) in
     let joins = joinAt (now (a .d)) (deckOf (a .deck)) in
     let e = bonds-are (s .pre) (l .k) h (b .result) (b .ensures) ∙ ap bondsOf (sym (p .bonds-part .ensures .bytes)) in
-    let n = brought-length blocks joins (l .k) (now (p .bonds-part .result)) e in
-    (
+    let n = brought-length blocks joins (l .k) (now (p .bonds-part .result)) e in (
       omega arith,
       omega (arith, before-length blocks joins (l .k), n, joining-length blocks joins (l .k), c .joins-of .ensures .0, l .inv .1),
       omega (arith, few p, c .joins-of .ensures .1, l .inv .2),

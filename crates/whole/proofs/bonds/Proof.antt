@@ -76,8 +76,7 @@ returns-3 c =
     let e = fine f in
     let h = whole-read (now (a .d)) (length (a .out .now)) _ e (omega (arith, c .before .before .before .before .before .if1 .left, b .ensures .0)) in
     let x = molecule-bonds (now (a .d)) (length (a .out .now)) _ e in
-    let y = molecule-atoms (now (a .d)) (length (a .out .now)) _ e in
-    (
+    let y = molecule-atoms (now (a .d)) (length (a .out .now)) _ e in (
       ap₂ (λ (n m : ℕ). told.Of (record { atoms = n; bonds = m })) (c .before .before .before .before .start-of .ensures .0 ∙ sym y) (b .ensures .0 ∙ sym (ap length x)) ∙ sym (ap saidMolecule h),
       c .before .before .put-all .ensures ∙ ap (λ (l : List Bond). sets (a .out .now) 0 (pairNumbers l)) (sym x) ∙ sym (ap (λ (x : Read Graph). numbersAfter x (a .out .now)) h),
     )

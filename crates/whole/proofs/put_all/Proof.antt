@@ -52,8 +52,7 @@ loop-again c =
     let a = t .before .before .before .before .before .args in
     let p = c .before .before .put-placed in
     let blocks = graphAt (now (a .d)) (deckOf (a .deck)) in
-    let joins = joinAt (now (a .d)) (deckOf (a .deck)) in
-    (
+    let joins = joinAt (now (a .d)) (deckOf (a .deck)) in (
       omega (arith, t .if1 .taken),
       omega (arith, p .ensures .1 .0, before-length blocks joins (l .k), l .inv .1),
       omega (arith, p .ensures .1 .1, l .inv .2),

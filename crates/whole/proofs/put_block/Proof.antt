@@ -70,8 +70,8 @@ loop-again c =
       omega arith,
       ap length e ∙ length-sets (l .out) (a .at + l .i) ((a .start + one .result) ∷ ((a .start + two .result) ∷ [])) ∙ l .inv .1,
       numbers-step (l .out) (c .before .before .put-bond .last .0) (a .at) (a .start) (a .bonds .now) (l .i) (a .start + one .result) (a .start + two .result) h
-      (ap (λ (n : ℕ). a .start + n) (one .ensures .0)) (ap (λ (n : ℕ). a .start + n) (two .ensures .0)) e
-      ∙ l .inv .2,
+          (ap (λ (n : ℕ). a .start + n) (one .ensures .0)) (ap (λ (n : ℕ). a .start + n) (two .ensures .0)) e
+          ∙ l .inv .2,
     )
 
 same-length : tie.Need-same-length Inv-loop μ-loop

@@ -67,9 +67,10 @@ returns c =
     let len = brought-length blocks joins (a .k) xs e in
     let put = c .before .before .before .before .before .before .put-block in
     let join = c .before .before .put-join in
-    let first = put .ensures ∙ ap (λ (n : ℕ). sets (a .out .now) (a .at) (blockNumbers n xs)) (t .start-of .ensures .0) in
-    (brought-numbers blocks joins (a .k) xs (a .out .now) (put .last .1 .1 .0) (join .last .1 .1 .1 .0) (a .at) e first (join .ensures .0),
-    (omega (arith, join .ensures .1, len), omega (arith, join .ensures .1, joining-few blocks joins (a .k), ap length same, few)))
+    let first = put .ensures ∙ ap (λ (n : ℕ). sets (a .out .now) (a .at) (blockNumbers n xs)) (t .start-of .ensures .0) in (
+      brought-numbers blocks joins (a .k) xs (a .out .now) (put .last .1 .1 .0) (join .last .1 .1 .1 .0) (a .at) e first (join .ensures .0),
+      (omega (arith, join .ensures .1, len), omega (arith, join .ensures .1, joining-few blocks joins (a .k), ap length same, few)),
+    )
 
 pub put-placed-spec : {M : Type 1} → statement M
 put-placed-spec =
