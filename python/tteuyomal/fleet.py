@@ -6,8 +6,10 @@ given to another one by the scheduler; its lines are printed once, when they are
 
 from __future__ import annotations
 
+import asyncio
+import logging
 import os
-from collections.abc import Callable, Generator, Iterable, Iterator
+from collections.abc import Callable, Generator, Iterable
 from typing import Any
 
 from . import files, native, work
@@ -19,39 +21,44 @@ BATCH = 1000  # decks handed to a worker at a time
 
 def over(address: str, paths: Iterable[str], function: Callable[[list[Found]], Any]) -> Generator[Any, None, None]:
     """The function's answer for each batch of the files, in order."""
+    paths = list(paths)
+    if "-" in paths:
+        raise Stop("--dask judges files; standard input is judged here, without it")
+    folder = os.getcwd()
+    yield from answers(address, _on_worker, ((function, folder, batch) for batch in work.batches(files.find(paths), BATCH)))
+
+
+def answers(address: str, function: Callable[..., tuple[str, Any]], tasks: Iterable[tuple[Any, ...]]) -> Generator[Any, None, None]:
+    """What workers answer to tasks, in order. The function says which library the worker has, and its answer; a task whose worker dies
+    is given to another."""
     try:
         from distributed import Client
     except ImportError:
         raise Stop("--dask needs Dask: install Debian's python3-distributed, or distributed from PyPI") from None
-    paths = list(paths)
-    if "-" in paths:
-        raise Stop("--dask judges files; standard input is judged here, without it")
+    for name in ("asyncio", *(one for one in logging.root.manager.loggerDict if one.startswith("distributed"))):
+        logging.getLogger(name).setLevel(logging.CRITICAL)  # what is wrong is said here, in a sentence
     try:
         client = Client(address, timeout="20s", set_as_default=False)
     except (OSError, ValueError, TimeoutError) as fault:
         raise Stop(f"no scheduler answers at {address}: {fault}") from None
     with client:
-        yield from _answers(client, paths, function)
+        here = identity()
+        under_way = 2 * max(1, sum(client.nthreads().values())) + 2
 
+        def begun(task: tuple[Any, ...]) -> Any:
+            return client.submit(function, *task, pure=False, retries=3)
 
-def _answers(client: Any, paths: list[str], function: Callable[[list[Found]], Any]) -> Iterator[Any]:
-    here = identity()
-    under_way = 2 * max(1, sum(client.nthreads().values())) + 2
-    tasks = work.batches(files.find(paths), BATCH)
-    folder = os.getcwd()
-
-    def begun(task: list[Found]) -> Any:
-        return client.submit(_on_worker, function, folder, task, pure=False, retries=3)
-
-    try:
-        for there, answer in work.in_order(begun, tasks, under_way):
-            if there != here:
-                raise Stop("a worker has another library than this machine: install the same one everywhere")
-            yield answer
-    except (Stop, OSError):
-        raise
-    except Exception as fault:  # whatever a worker met
-        raise Stop(f"the fleet could not judge a batch: {type(fault).__name__}: {fault}") from fault
+        try:
+            for there, answer in work.in_order(begun, tasks, under_way):
+                if there != here:
+                    raise Stop("a worker has another library than this machine: install the same one everywhere")
+                yield answer
+        except Stop:
+            raise
+        except OSError as fault:
+            raise Stop(f"the scheduler at {address} has gone ({str(fault).rstrip('.')}): nothing is known of what was under way, so no verdict stands") from None
+        except (Exception, asyncio.CancelledError) as fault:  # whatever a worker met; a task is cancelled where its scheduler ends
+            raise Stop(f"the fleet could not do a batch: {type(fault).__name__}: {fault}") from None
 
 
 def _on_worker(function: Callable[[list[Found]], Any], folder: str, batch: list[Found]) -> tuple[str, Any]:
