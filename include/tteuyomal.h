@@ -102,7 +102,9 @@ enum tteuyomal_refusal {
     TTEUYOMAL_SITE_COUNT = 31,      /* a library's site count is 0 or above 4 */
     TTEUYOMAL_CANDIDATE_COUNT = 32, /* a site's candidate count is 0 or above 8 */
     TTEUYOMAL_SITE_TAKEN = 33,      /* a site's atom was used by an earlier site */
-    TTEUYOMAL_NO_TREE = 34          /* the block's bonds are not one fewer than its atoms */
+    TTEUYOMAL_NO_TREE = 34,         /* the block's bonds are not one fewer than its atoms */
+    TTEUYOMAL_CLAIM = 35            /* the claim is of no field, or is cut off; at place 0: no such field as was asked
+                                       about */
 };
 
 /* The place of a refusal. Lone block: the number of the bond, from 1, for 3 to 6, else 0. Deck: the first byte of
@@ -158,6 +160,7 @@ static inline const char *tteuyomal_words(unsigned number)
         "a site's candidate count is 0 or above 8",
         "a site's atom was used by an earlier site",
         "the block's bonds are not one fewer than its atoms",
+        "the claim is of no field, or is cut off; at place 0: no such field as was asked about",
     };
     return number < sizeof words / sizeof words[0] ? words[number] : "";
 }
@@ -212,6 +215,16 @@ tteuyomal_reply tteuyomal_library_step(const uint8_t *deck, size_t deck_len, siz
 /* The same for the products from a position on, as many whole sheets as fit, one after the other. */
 tteuyomal_reply tteuyomal_library_run(const uint8_t *deck, size_t deck_len, size_t kind, size_t position, uint8_t *out,
                                       size_t out_len, uint64_t *next, size_t next_len);
+
+/* Puts every product of a library deck among the best so far by one field (1 atoms, 2 W, 3 even part, 4 odd part, 5
+ * polarity, 6 largest distance): the smallest, or the greatest where `greatest` is not 0. `best` lends entries of three
+ * numbers, value, tag and position, the best first; the tag is the caller's, to tell decks apart. *held says how many
+ * entries are there (more than best_len / 3 counts as that), and afterwards how many are. A product goes behind the last
+ * entry that is as good or better, in order of position; what falls behind the last place is dropped. Decks may be put
+ * in turn, or ranked apart and their entries put together. Refusals: the library's, 35 at 0 (no such field), then 9
+ * (best_len below 3, or held_len 0). */
+tteuyomal_reply tteuyomal_library_best(const uint8_t *deck, size_t deck_len, size_t field, size_t greatest, uint64_t tag,
+                                       uint64_t *best, size_t best_len, uint64_t *held, size_t held_len);
 
 /* ---- One block ---- */
 

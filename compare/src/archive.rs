@@ -39,6 +39,17 @@ mod c {
             next: *mut u64,
             next_len: usize,
         ) -> u64;
+        pub fn tteuyomal_library_best(
+            deck: *const u8,
+            deck_len: usize,
+            field: usize,
+            greatest: usize,
+            tag: u64,
+            best: *mut u64,
+            best_len: usize,
+            held: *mut u64,
+            held_len: usize,
+        ) -> u64;
         pub fn tteuyomal_check_block(atoms: usize, bonds: *const u8, bonds_len: usize) -> u64;
         pub fn tteuyomal_indices(
             atoms: usize,
@@ -208,6 +219,12 @@ pub fn library_run(deck: &[u8], kind: usize, position: usize, out: &mut [u8], ne
     let (sheets, room) = (out.as_mut_ptr(), out.len());
     let (told, entries) = (next.as_mut_ptr(), next.len());
     unsafe { c::tteuyomal_library_run(deck.as_ptr(), deck.len(), kind, position, sheets, room, told, entries) }
+}
+
+pub fn library_best(deck: &[u8], field: usize, greatest: usize, tag: u64, best: &mut [u64], held: &mut [u64]) -> u64 {
+    let (entries, room) = (best.as_mut_ptr(), best.len());
+    let (told, lent) = (held.as_mut_ptr(), held.len());
+    unsafe { c::tteuyomal_library_best(deck.as_ptr(), deck.len(), field, greatest, tag, entries, room, told, lent) }
 }
 
 pub fn check_block(atoms: usize, bonds: &[u8]) -> u64 {

@@ -19,6 +19,7 @@ pub mod molfile;
 pub mod neighbours;
 pub mod polynomial;
 pub mod queues;
+pub mod ranking;
 pub mod refusal;
 pub mod shares;
 pub mod szeged;

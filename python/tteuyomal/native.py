@@ -132,6 +132,7 @@ WORDS = {
     32: "a site's candidate count is 0 or above 8",
     33: "a site's atom was used by an earlier site",
     34: "the block's bonds are not one fewer than its atoms",
+    35: "the claim is of no field, or is cut off; at place 0: no such field as was asked about",
 }
 
 
@@ -449,6 +450,7 @@ _compose_six = _function("compose_six", _DECK + _NUMBERS)
 _library_count = _function("library_count", _DECK + _NUMBERS)
 _library_step = _function("library_step", _DECK + 2 * [c_size_t] + _BYTES + _NUMBERS)
 _library_run = _function("library_run", _DECK + 2 * [c_size_t] + _BYTES + _NUMBERS)
+_library_best = _function("library_best", _DECK + [c_size_t, c_size_t, c_uint64] + _NUMBERS + _NUMBERS)
 _queue_empty = _function("queue_empty", _BYTES)
 _queue_add = _function("queue_add", _BYTES + [c_size_t, c_uint16] + _BLOCK)
 _queue_look = _function("queue_look", _BYTES + [c_size_t, c_uint16] + _NUMBERS)
@@ -542,6 +544,35 @@ def library_products(deck: Bytes, kind: int = 3, start: int = 0) -> Iterator[byt
     while (told := library_run(deck, position, kind, 256)) is not None:
         sheets, position = told
         yield from sheets
+
+
+class Ranked(NamedTuple):
+    """A product among the best: its value, the tag of its deck, and its position there."""
+
+    value: int
+    tag: int
+    position: int
+
+
+class Best:
+    """The best products so far by one field, 1 to 6 as in `SHEET_NAMES`: those of the smallest values, or the greatest. Equal ones stand
+    in the order in which they came."""
+
+    def __init__(self, field: int, top: int, greatest: bool = False) -> None:
+        self._asked = (_size(field, "the field"), int(greatest))
+        self._room = 3 * _size(top, "how many are held")
+        self._entries, self._held = (c_uint64 * self._room)(), (c_uint64 * 1)()
+
+    def put(self, deck: bytes, tag: int = 0) -> None:
+        """Puts every product of a library deck among them."""
+        reply = _library_best(deck, len(deck), *self._asked, tag, self._entries, self._room, self._held, 1)
+        if reply:
+            _told(reply)
+
+    def entries(self) -> list[Ranked]:
+        """Those that are held, the best first."""
+        flat = self._entries[: 3 * self._held[0]]
+        return [Ranked(*flat[at : at + 3]) for at in range(0, len(flat), 3)]
 
 
 def _read_text(function: Any, text: Bytes) -> ReadBlock:

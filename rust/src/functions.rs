@@ -42,6 +42,18 @@ extern "C" {
         next: *mut u64,
         next_len: usize,
     ) -> u64;
+    #[rustfmt::skip]
+    pub fn tteuyomal_library_best(
+        deck: *const u8,
+        deck_len: usize,
+        field: usize,
+        greatest: usize,
+        tag: u64,
+        best: *mut u64,
+        best_len: usize,
+        held: *mut u64,
+        held_len: usize,
+    ) -> u64;
     pub fn tteuyomal_check_block(atoms: usize, bonds: *const u8, bonds_len: usize) -> u64;
     pub fn tteuyomal_indices(
         atoms: usize,

@@ -21,7 +21,7 @@ mod text;
 pub use block::{balaban, check_block, contributions, count_sets, farthest, indices, polynomial, szeged, vertex};
 pub use block::{Contributions, Sets, Szeged};
 pub use deck::{compose, compose_six, judge, placed_distance, write_sheet, write_six, Kind};
-pub use library::{library_count, library_run, library_step};
+pub use library::{library_best, library_count, library_run, library_step, Ranked};
 pub use reply::{Refusal, Verdict};
 pub use table::{Queue, Table};
 pub use text::{read_molfile, read_neighbours, write_molfile, write_neighbours, Block};

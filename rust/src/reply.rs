@@ -113,4 +113,5 @@ const WORDS: &[&str] = &[
     "a site's candidate count is 0 or above 8",
     "a site's atom was used by an earlier site",
     "the block's bonds are not one fewer than its atoms",
+    "the claim is of no field, or is cut off; at place 0: no such field as was asked about",
 ];

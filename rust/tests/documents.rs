@@ -55,6 +55,10 @@ fn libraries() {
     assert_eq!(library_run(&deck, Kind::Five, 0, &mut out), Ok(Some(2)));
     assert_eq!(u64::from_le_bytes(out[48..56].try_into().unwrap()), 252);
     assert_eq!(library_step(&deck, Kind::Five, 2, &mut out), Ok(None));
+    let mut best = [Ranked::default(); 3];
+    assert_eq!(library_best(&deck, 2, true, 7, &mut best, 0), Ok(2));
+    assert_eq!(best.map(|one| (one.value, one.tag, one.position)), [(252, 7, 1), (62, 7, 0), (0, 0, 0)]);
+    assert_eq!(library_best(&deck, 7, true, 7, &mut best, 0).map_err(|refusal| refusal.number), Err(35));
 }
 
 #[test]

@@ -10,4 +10,5 @@ pub mod Accepted
 pub mod Molfiles
 pub mod Texts
 pub mod Libraries
+pub mod Rankings
 pub mod Queues

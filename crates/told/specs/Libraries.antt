@@ -80,7 +80,7 @@ module _ (d : List ℕ) where
       then-bounded mostPlace (sitesReply (bookOf d blocks) (payloadAt d at) at) _ (sites-bounded (bookOf d blocks) (payloadAt d at) at (omega (arith, h, l))) (λ sites e.
       then-bounded mostPlace (endReply d end) (λ _. read (record { blocks = blocks; at = at; sites = sites })) (end-bounded d l end k) (λ u f. tt))
 
-  library-bounded : Bounded mostPlace (libraryReply d)
+  pub library-bounded : Bounded mostPlace (libraryReply d)
   unfolding libraryReply openReply
   library-bounded = then-bounded mostPlace (openReply libraryKind d) _ (open-bounded libraryKind d) (λ k e.
       let (u, short, f) = then-read (refuseIf (ltb longestDeck (length d)) 20 0) _ e in

@@ -5,6 +5,7 @@ ghost use Rattle.calls.specs.Blocks.{sheetFor};
 ghost use Rattle.calls.specs.Convention.{Lent};
 ghost use Rattle.library.specs.Steps.{runOf, stepOut, stepReply};
 ghost use Rattle.library_calls.specs.Libraries.{Walked, countList};
+ghost use Rattle.ranking_calls.specs.Ranks.{Ranks, bestFor};
 
 #[no_mangle]
 pub extern "C" fn tteuyomal_library_count(deck: &[u8], count: &mut [u64]) -> u64
@@ -46,4 +47,21 @@ pub extern "C" fn tteuyomal_library_run(
         ⌝ }
 {
     library_calls::run(deck, kind, position, out, next)
+}
+
+#[no_mangle]
+pub extern "C" fn tteuyomal_library_best(
+    deck: &[u8],
+    field: usize,
+    greatest: usize,
+    tag: u64,
+    best: &mut [u64],
+    held: &mut [u64],
+) -> u64
+    ensures { λ r. ⌜
+        Ranks (bestFor (now (deck .entry)) field greatest tag (now (best .entry)) (now (held .entry))) (now (best .entry)) (now (held .entry)) r
+        (now (best .exit)) (now (held .exit))
+        ⌝ }
+{
+    ranking_calls::best(deck, field, greatest, tag, best, held)
 }

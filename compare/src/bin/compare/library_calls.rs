@@ -4,6 +4,7 @@ use crate::archive;
 use crate::checker::{code, hex, written, Checker, DONE};
 use crate::lent::{Lent, Shown};
 use opinion::molecule::Measurer;
+use opinion::ranking::{self, Ask};
 use opinion::refusal::Refusal;
 use opinion::walk::{self, Walk, Walked};
 
@@ -36,6 +37,25 @@ impl Checker {
 
     pub fn library_run(&mut self, walk: Walk) {
         self.walked(RUN, walk);
+    }
+
+    /// The entries and the number as they are before the call; both after it, with every other number about them.
+    pub fn library_best(&mut self, ask: Ask) {
+        let Ask { deck, field, greatest, tag, entries, held } = ask;
+        let (lent, mut best, mut many) = (Shown::new(deck), Lent::new(entries.len()), Lent::new(held.iter().len()));
+        best.part().copy_from_slice(entries);
+        many.part().copy_from_slice(held.as_slice());
+        let reply = archive::library_best(lent.part(), field, greatest, tag, best.part(), many.part());
+        self.holds(lent.is_still(deck), "an input was changed");
+        let right = ranking::best(&mut self.measurer, ask);
+        let (mut after, mut count) = (entries.to_vec(), held.as_slice().to_vec());
+        if let Ok(held) = &right {
+            after[..3 * held.len()].copy_from_slice(&held.concat());
+            count = vec![held.len() as u64];
+        }
+        let fault = best.fault(&after).or(many.fault(&count));
+        let call = || format!("library_best field {field} greatest {greatest} tag {tag} held {held:?} in {entries:?} {}", hex(deck));
+        self.agree(call, code(&right), reply, fault);
     }
 
     fn walked(&mut self, walker: Walker, walk: Walk) {

@@ -18,6 +18,7 @@ mod programs;
 mod queues;
 mod random;
 mod random_libraries;
+mod rankings;
 mod relisted;
 
 use checker::Checker;
@@ -63,6 +64,7 @@ fn main() -> ExitCode {
     neighbours::run(checker, options.seed, options.first, options.cases);
     relisted::run(checker, options.seed, options.first, options.cases);
     libraries::run(checker);
+    rankings::run(checker);
     random_libraries::run(checker, options.seed, options.first, options.cases);
     queues::run(checker, options.seed, options.first, options.cases);
     if let Some(folder) = &options.programs {

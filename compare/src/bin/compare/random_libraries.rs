@@ -3,6 +3,7 @@
 use crate::archive;
 use crate::checker::{Checker, DONE};
 use crate::libraries::{ask, other_forms, whole_library, KINDS};
+use crate::rankings;
 use opinion::library::{read_library, Library};
 use opinion::make::damage_bytes::{damage_bytes, damage_records};
 use opinion::make::damage_library::damage_library;
@@ -56,6 +57,10 @@ fn good_library(checker: &mut Checker, random: &mut Random, plan: &LibraryPlan) 
     let position = random.below(count);
     checker.library_run(Walk { room, ..ask(&deck, kind, position) });
     in_pieces(checker, random, &deck, kind, count);
+    if count <= FEW {
+        rankings::questions(checker, random, &deck);
+        rankings::in_turn(checker, random, &deck);
+    }
     looked_at.len()
 }
 
@@ -143,6 +148,9 @@ fn damaged_library(checker: &mut Checker, random: &mut Random, mut plan: Library
         };
         checker.library_step(walk);
         checker.library_run(walk);
+    }
+    if read_library(&bytes).map_or(0, |library| library.count()) <= FEW {
+        rankings::questions(checker, random, &bytes);
     }
     if random.once_in(4) {
         other_forms(checker, &bytes);
