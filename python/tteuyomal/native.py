@@ -89,6 +89,21 @@ class Sets(NamedTuple):
     atoms: int
 
 
+class Record(NamedTuple):
+    """A record of an SDF: its first byte, how many it has, and where the next one begins."""
+
+    start: int
+    length: int
+    next: int
+
+
+class Span(NamedTuple):
+    """A part of a text: its first byte, and how many it has."""
+
+    start: int
+    length: int
+
+
 class ReadBlock(NamedTuple):
     """A block that was read from a text: the atom count, and pairs of atom numbers."""
 
@@ -133,6 +148,10 @@ WORDS = {
     33: "a site's atom was used by an earlier site",
     34: "the block's bonds are not one fewer than its atoms",
     35: "the claim is of no field, or is cut off; at place 0: no such field as was asked about",
+    36: "there is no claim",
+    37: "the text is no number as the rules read it",
+    38: "the record has no such data item",
+    39: "the record has that data item twice",
 }
 
 
@@ -649,3 +668,56 @@ def queue_compose(table: bytearray, queue: int, record: Bytes, kind: int = 3) ->
     out = (c_uint8 * room)()
     _told(_queue_compose(*_table(table), _size(queue, "the queue"), kind, *_lent(record, "a record"), out, room))
     return bytes(out)
+
+
+# ---- claims and records of an SDF ----
+
+_judge_claims = _function("judge_claims", _DECK + _TEXT)
+_judge_block = _function("judge_block", _BLOCK + _TEXT)
+_sdf_record = _function("sdf_record", _TEXT + [c_size_t] + _NUMBERS)
+_sdf_item = _function("sdf_item", _TEXT + _TEXT + _NUMBERS)
+
+Claims = Iterable[tuple[int, str]] | bytes
+CLAIM_NAMES = (*SHEET_NAMES, "Szeged index", "Hosoya index", "Merrifield-Simmons index", "Balaban's J")
+
+
+def claim_bytes(claims: Iterable[tuple[int, str]]) -> bytes:
+    """Claims as C takes them; each is a field's number, from 1 as in `CLAIM_NAMES`, and the text that a program printed for it."""
+    written = bytearray()
+    for place, (field, text) in enumerate(claims, 1):
+        printed = text.encode("utf-8", "surrogateescape")
+        head = (field, f"the field of claim {place}"), (len(printed), f"the bytes of claim {place}")
+        written += bytes(_exactly(n, what, 255) for n, what in head) + printed
+    return bytes(written)
+
+
+def _claims(claims: Claims) -> list[Any]:
+    if isinstance(claims, (bytes, bytearray, memoryview)):
+        return _lent(claims, "a list of claims")
+    return _lent(claim_bytes(claims))
+
+
+def judge_claims(deck: Bytes, claims: Claims) -> int:
+    """0 when all claims of the molecule of a deck without a sheet are right, else the number of the first wrong one, from 1."""
+    return _told(_judge_claims(*_lent(deck), *_claims(claims)))
+
+
+def judge_block(atoms: int, bonds: Bonds, claims: Claims) -> int:
+    """The same of a lone block."""
+    return _told(_judge_block(*_block(atoms, bonds), *_claims(claims)))
+
+
+def sdf_record(text: Bytes, start: int = 0) -> Record | None:
+    """The record of an SDF that begins at a byte; None where only blanks, tabs, CR and LF are left."""
+    span = (c_uint64 * 3)()
+    reply = _sdf_record(*_lent(text, "an SDF"), _size(start, "the first byte"), span, 3)
+    if reply % 256 == 254:
+        return None
+    _told(reply)
+    return Record(*span)
+
+
+def sdf_item(record: Bytes, name: str | Bytes) -> Span:
+    """Where the value of the data item of a name stands in a record."""
+    asked = name.encode("utf-8", "surrogateescape") if isinstance(name, str) else name
+    return Span(*_numbers(_sdf_item, _lent(record, "a record") + _lent(asked, "a name"), 2))

@@ -82,7 +82,7 @@ pub record Judges (x : Read ℕ) : Type 0 where
   pub differs : (k : ℕ) → x ≡ read (suc k) → (verdictCode (saidVerdict x) % 256 ≡ 255) × (verdictCode (saidVerdict x) / 256 ≡ suc k)
   pub refusal : (r : Refusal) → x ≡ refused r → Says (verdictCode (saidVerdict x)) r
 
-judges : (x : Read ℕ) → Bounded mostPlace x → ((k : ℕ) → x ≡ read k → k < mostPlace) → Judges x
+pub judges : (x : Read ℕ) → Bounded mostPlace x → ((k : ℕ) → x ≡ read k → k < mostPlace) → Judges x
 judges (refused r) s h = record {
   accepted = λ e. absurd (not-zero r s e);
   differs = λ k e. absurd (let z : _≡_ {A = ℕ} 0 1 = cc in omega arith);

@@ -3,6 +3,7 @@
 #[allow(dead_code)] // the comparison calls every function, this program those it times
 #[path = "../../archive.rs"]
 mod archive;
+mod claims;
 mod libraries;
 mod limits;
 mod molfiles;
@@ -55,8 +56,11 @@ fn main() {
     let look = queues::times();
     let growth = molfiles::times();
     neighbours::times();
+    let walked = claims::times();
     println!();
     println!("{growth}");
+    println!();
+    println!("{walked}");
     println!();
     println!("{products}");
     println!();
@@ -68,6 +72,7 @@ fn main() {
     limits::stack(&[&decks[0].1, &decks[1].1]);
     molfiles::stack_rows();
     neighbours::stack_rows();
+    claims::stack_rows();
     println!();
     limits::heap();
 }
