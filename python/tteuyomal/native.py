@@ -685,6 +685,8 @@ def claim_bytes(claims: Iterable[tuple[int, str]]) -> bytes:
     """Claims as C takes them; each is a field's number, from 1 as in `CLAIM_NAMES`, and the text that a program printed for it."""
     written = bytearray()
     for place, (field, text) in enumerate(claims, 1):
+        if not isinstance(text, str):
+            raise TypeError(f"claim {place} is no text that was printed: {text!r}")
         printed = text.encode("utf-8", "surrogateescape")
         head = (field, f"the field of claim {place}"), (len(printed), f"the bytes of claim {place}")
         written += bytes(_exactly(n, what, 255) for n, what in head) + printed
