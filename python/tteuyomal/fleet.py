@@ -28,6 +28,11 @@ def over(address: str, paths: Iterable[str], function: Callable[[list[Found]], A
     yield from answers(address, _on_worker, ((function, folder, batch) for batch in work.batches(files.find(paths), BATCH)))
 
 
+def each(address: str, function: Callable[[Any], Any], tasks: Iterable[Any]) -> Generator[Any, None, None]:
+    """The function's answer for each task that carries all that it is about, in order."""
+    yield from answers(address, _of_task, ((function, task) for task in tasks))
+
+
 def answers(address: str, function: Callable[..., tuple[str, Any]], tasks: Iterable[tuple[Any, ...]]) -> Generator[Any, None, None]:
     """What workers answer to tasks, in order. The function says which library the worker has, and its answer; a task whose worker dies
     is given to another."""
@@ -65,6 +70,11 @@ def _on_worker(function: Callable[[list[Found]], Any], folder: str, batch: list[
     """What a worker does with a batch. Names are told as they were given, and read from the folder of who asked: a worker has several
     threads and several users, and one working folder, which nobody changes."""
     return identity(), function([found._replace(folder=folder) for found in batch])
+
+
+def _of_task(function: Callable[[Any], Any], task: Any) -> tuple[str, Any]:
+    """What a worker does with a task."""
+    return identity(), function(task)
 
 
 def identity() -> str:

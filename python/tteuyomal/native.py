@@ -22,93 +22,22 @@ import os
 import struct
 from collections.abc import Iterable, Iterator
 from ctypes import c_char_p, c_double, c_size_t, c_uint8, c_uint16, c_uint64
-from typing import Any, NamedTuple
+from typing import Any
+
+from .replies import Contributions as Contributions
+from .replies import Fields as Fields
+from .replies import Ranked as Ranked
+from .replies import ReadBlock as ReadBlock
+from .replies import Record as Record
+from .replies import Sets as Sets
+from .replies import Six as Six
+from .replies import Span as Span
+from .replies import Szeged as Szeged
+from .replies import Values as Values
+from .replies import Vertex as Vertex
 
 Bonds = Iterable[tuple[int, int]] | bytes
 Bytes = Iterable[int]
-
-
-class Fields(NamedTuple):
-    """The five fields of a block or of a deck's molecule."""
-
-    atoms: int
-    w: int
-    even: int
-    odd: int
-    polarity: int
-
-
-class Six(NamedTuple):
-    """The five fields and the largest distance."""
-
-    atoms: int
-    w: int
-    even: int
-    odd: int
-    polarity: int
-    largest: int
-
-
-class Vertex(NamedTuple):
-    """An atom's sum of distances, its even and odd part, the atoms at even and odd distance, at distance 1 and at 2."""
-
-    sum: int
-    even: int
-    odd: int
-    even_count: int
-    odd_count: int
-    ones: int
-    twos: int
-
-
-class Contributions(NamedTuple):
-    """The common denominator D, and for each bond D times its contribution to W."""
-
-    denominator: int
-    shares: list[int]
-
-
-class Values(NamedTuple):
-    """The even and the odd polynomial value."""
-
-    even: float
-    odd: float
-
-
-class Szeged(NamedTuple):
-    """The Szeged index, and its terms bond by bond."""
-
-    index: int  # type: ignore[assignment]  # it hides the index of a tuple
-    terms: list[int]
-
-
-class Sets(NamedTuple):
-    """How many sets of bonds share no atom (Hosoya), and of atoms have no bond (Merrifield and Simmons)."""
-
-    bonds: int
-    atoms: int
-
-
-class Record(NamedTuple):
-    """A record of an SDF: its first byte, how many it has, and where the next one begins."""
-
-    start: int
-    length: int
-    next: int
-
-
-class Span(NamedTuple):
-    """A part of a text: its first byte, and how many it has."""
-
-    start: int
-    length: int
-
-
-class ReadBlock(NamedTuple):
-    """A block that was read from a text: the atom count, and pairs of atom numbers."""
-
-    atoms: int
-    bonds: list[tuple[int, int]]
 
 
 # The words of the refusals in include/tteuyomal.h, by number; tests/test_words.py holds them together.
@@ -563,14 +492,6 @@ def library_products(deck: Bytes, kind: int = 3, start: int = 0) -> Iterator[byt
     while (told := library_run(deck, position, kind, 256)) is not None:
         sheets, position = told
         yield from sheets
-
-
-class Ranked(NamedTuple):
-    """A product among the best: its value, the tag of its deck, and its position there."""
-
-    value: int
-    tag: int
-    position: int
 
 
 class Best:
