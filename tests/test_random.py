@@ -108,6 +108,11 @@ def text(chance):
 
 
 def table(chance):
+    if chance.randrange(2):
+        held = Table()
+        for one in (held.day, held.night):
+            one.add(1, Block(6, RING))
+        return bytearray(bytes(held))
     return bytearray(chance.choice([native.TABLE_BYTES, native.TABLE_BYTES, native.TABLE_BYTES - 1, 0]))
 
 
@@ -115,16 +120,18 @@ def sheet(chance):
     return Sheet(*(number(chance) for _ in range(chance.choice((5, 6)))))
 
 
+ITEM = Block(2, [(1, 2)]).molfile() + b"> <W>\n1\n\n$$$$\n"
 # what a parameter gets, by its name; whatever else gets numbers and values that nobody means
 MADE = {
     "bonds": bonds, "deck": deck_bytes, "decks": lambda chance: [chance.choice([deck_bytes, deck])(chance) for _ in range(3)], "data": deck_bytes, "text": text, "table": table,
     "block": block, "placements": lambda chance: chance.choice([[(1, 0, 0, 0), tuple(number(chance) for _ in range(4))], [Placement(1), placement(chance, 1)]])[: chance.randrange(3)],
     "claims": lambda chance: [(chance.choice([1, 2, 3, number(chance)]), chance.choice(["6", "27", "12.0", "", "x", "9" * 300, 6])) for _ in range(chance.randrange(4))],
     "sheet": sheet,
-    "fields": lambda chance: [number(chance) for _ in range(chance.choice((4, 5, 6)))], "record": lambda chance: FORTY[22:], "x": lambda chance: chance.choice([0.5, 1, 0, -1, 2, float("nan"), fractions.Fraction(1, 3)]),
+    "fields": lambda chance: [number(chance) for _ in range(chance.choice((4, 5, 6)))], "record": lambda chance: chance.choice([FORTY[22:], b"\nM  END\n> <W>\n27\n\n$$$$\n", ITEM]), "x": lambda chance: chance.choice([0.5, 1, 0, -1, 2, float("nan"), fractions.Fraction(1, 3)]),
     "six": lambda chance: chance.choice([True, False]), "kind": lambda chance: chance.choice([3, 4, 3, 4, 5, 2**64 + 4]), "sheets": lambda chance: chance.choice([0, 1, 3, 300]),
     "sites": lambda chance: library(chance).sites, "blocks": lambda chance: {1: block(chance)}, "path": lambda chance: chance.choice(["nowhere", "\0", pathlib.Path("/"), __file__]),
-    **dict.fromkeys("kilj", lambda chance: chance.choice([1, 1, 2, number(chance)])), "mol": anything, "name": lambda chance: chance.choice(["judge", "no such", ""]),
+    **dict.fromkeys("kilj", lambda chance: chance.choice([1, 1, 2, number(chance)])), "kept": lambda chance: chance.choice([bytes(native.TABLE_BYTES), bytes(3)]), "mol": anything, "name": lambda chance: chance.choice(["judge", "no such", "", "W"]), "queue": lambda chance: chance.choice([0, 1, number(chance)]), "number": lambda chance: chance.choice([1, number(chance)]),
+    "atom": lambda chance: chance.choice([1, number(chance)]),
 }  # fmt: skip
 
 
@@ -138,7 +145,10 @@ def given(chance, parameter):
 def called(chance, function):
     """Calls a function with random values; answers what it was given and what it told. A list is taken of whatever comes one by one."""
     parameters = [one for one in inspect.signature(function).parameters.values() if one.kind != one.VAR_KEYWORD]
-    values = [given(chance, one) for one in parameters if one.default is one.empty or chance.randrange(2)]
+    values = {one.name: given(chance, one) for one in parameters if one.default is one.empty or chance.randrange(2)}
+    if {"atoms", "bonds"} <= set(values) and chance.randrange(2):
+        values |= {"atoms": (size := chance.randrange(1, 12)), "bonds": bonds(chance, size)}
+    values = list(values.values())
     told = function(*values)
     return values, list(itertools.islice(told, 5000)) if inspect.isgenerator(told) else told
 

@@ -325,10 +325,11 @@ def judge(deck: Bytes) -> int:
     return _told(_judge(*_lent(deck)))
 
 
-def judge_reply(deck: bytes) -> int:
+def judge_reply(deck: Bytes) -> int:
     """The reply as C has it: 0 accepted, 255 + 256 k where field k is the first wrong one, else the refusal's number + 256 times
     its place."""
-    reply: int = _judge(deck, len(deck))
+    data = deck if type(deck) is bytes else _bytes(deck)
+    reply: int = _judge(data, len(data))
     return reply
 
 
