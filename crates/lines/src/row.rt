@@ -1,29 +1,28 @@
 // A line of the table: words, a colon, and numbers.
-ghost use Prim.Native.Nat.{_<_, _≤_};
-ghost use lib.ListN.{length};
+ghost use Prim.Native.Nat.{_≤_};
 
 // The most numbers that a line keeps: a deck of the largest block and its sheet has 446.
-pub(crate) const MOST: usize = 480;
+pub const MOST: usize = 480;
 
 // The longest deck and one byte more.
-pub(crate) const ROOM: usize = deck::LONGEST + 1;
+pub const ROOM: usize = deck::LONGEST + 1;
 
 // What stands in a lent buffer before it is written to, and behind the numbers of a line.
-pub(crate) const STAYS: u64 = 7;
+pub const STAYS: u64 = 7;
 
 // Numbers of bytes, entries, atoms and placements are handed on up to here.
-pub(crate) const FAR: usize = 255;
+pub const FAR: usize = 255;
 
 // A number from here on takes no more digits.
 const LONG: u64 = 1000000000000000;
 
 // The numbers behind a line's colon, and whether the word "refused" stands among them, which is told by its r. While open, the last number
 // is still being read.
-pub(crate) struct Row {
-    pub(crate) refused: bool,
-    pub(crate) open: bool,
-    pub(crate) count: usize,
-    pub(crate) values: [u64; MOST],
+pub struct Row {
+    pub refused: bool,
+    pub open: bool,
+    pub count: usize,
+    pub values: [u64; MOST],
 }
 
 // The value of a digit; 16 for any other byte.
@@ -60,7 +59,7 @@ fn place(asked: usize, i: usize) -> usize {
 }
 
 impl Row {
-    pub(crate) fn none() -> Row {
+    pub fn none() -> Row {
         Row {
             refused: false,
             open: false,
@@ -104,7 +103,7 @@ impl Row {
     }
 
     // The number at a place behind the first few, which are what is asked.
-    pub(crate) fn at(self, asked: usize, i: usize) -> u64 {
+    pub fn at(self, asked: usize, i: usize) -> u64 {
         let at = place(asked, i);
         if at < MOST {
             if at < self.count {
@@ -115,7 +114,7 @@ impl Row {
     }
 
     // How many numbers stand behind the first few.
-    pub(crate) fn left(self, asked: usize) -> usize {
+    pub fn left(self, asked: usize) -> usize {
         if asked < self.count {
             self.count - asked
         } else {
@@ -124,7 +123,7 @@ impl Row {
     }
 
     // One of the first numbers, as a number of bytes, entries, atoms or placements.
-    pub(crate) fn first(self, i: usize, most: usize) -> usize
+    pub fn first(self, i: usize, most: usize) -> usize
         ensures { λ r. ⌜ r ≤ most ⌝ }
     {
         let value = self.at(0, i);
@@ -136,7 +135,7 @@ impl Row {
     }
 
     // With another number at a place.
-    pub(crate) fn with(self, at: usize, value: u64) -> Row {
+    pub fn with(self, at: usize, value: u64) -> Row {
         let mut next = self;
         if at < MOST {
             next.values[at] = value;
@@ -146,7 +145,7 @@ impl Row {
 }
 
 // The numbers as bytes, zeros behind them.
-pub(crate) fn bytes_of(row: Row) -> [u8; ROOM] {
+pub fn bytes_of(row: Row) -> [u8; ROOM] {
     let values = row.values;
     let mut bytes = [0u8; ROOM];
     let mut k = 0;
@@ -155,22 +154,6 @@ pub(crate) fn bytes_of(row: Row) -> [u8; ROOM] {
         k += 1;
     }
     bytes
-}
-
-// The place behind the line that starts at a place: behind its line feed, or the end of the text.
-pub(crate) fn line_end(text: &[u8], from: usize) -> usize
-    requires { ⌜ from < length (now text) ⌝ }
-    ensures { λ r. ⌜ from < r ⌝ }
-{
-    let mut at = from;
-    while at < text.len() {
-        let byte = text[at];
-        at += 1;
-        if byte == b'\n' {
-            return at;
-        }
-    }
-    at
 }
 
 // Whether the numbers of a line are written in base 16: a deck's bytes, a block's part of it, a sheet's bytes.
@@ -182,7 +165,7 @@ fn is_hex(letter: u8) -> bool {
 }
 
 // The numbers of a line that starts with a letter.
-pub(crate) fn row_of(line: &[u8], letter: u8) -> Row {
+pub fn row_of(line: &[u8], letter: u8) -> Row {
     let hex = is_hex(letter);
     let mut row = Row::none();
     let mut at = 0;

@@ -2,8 +2,8 @@
 use Prim.Native.Nat.{_≤_, _-_}
 use lib.ListN.{length}
 use borrow.Author.Needs.{needs}
-use Rattle.numbers.proofs.told.entries_are.Statement.{statement}
-use Rattle.numbers.proofs.told.entries_are.Tie as tie
+use Rattle.lines.proofs.told.entries_are.Statement.{statement}
+use Rattle.lines.proofs.told.entries_are.Tie as tie
 
 abbrev Inv-loop : tie.InvT-loop
 Inv-loop out row asked i₀ i = i ≤ length out

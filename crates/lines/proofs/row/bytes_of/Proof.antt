@@ -3,8 +3,8 @@ use Prim.Native.Nat.{_-_}
 use mathlib.Core.Path.{_≡_}
 use lib.ListN.{length}
 use borrow.Author.Needs.{needs}
-use Rattle.numbers.proofs.row.bytes_of.Statement.{statement}
-use Rattle.numbers.proofs.row.bytes_of.Tie as tie
+use Rattle.lines.proofs.row.bytes_of.Statement.{statement}
+use Rattle.lines.proofs.row.bytes_of.Tie as tie
 
 abbrev Inv-loop : tie.InvT-loop
 Inv-loop values bytes₀ k₀ bytes k = (length values ≡ 480) × (length bytes ≡ 32769)

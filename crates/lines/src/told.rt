@@ -11,13 +11,13 @@ use reply::wide;
 use shares::SharesReply;
 
 // A refusal's number and place, or so many values; behind them the entries that stay.
-pub(crate) struct Told {
-    pub(crate) refused: bool,
-    pub(crate) count: usize,
-    pub(crate) values: [u64; 8],
+pub struct Told {
+    pub refused: bool,
+    pub count: usize,
+    pub values: [u64; 8],
 }
 
-pub(crate) fn refusal(r: Refusal) -> Told {
+pub fn refusal(r: Refusal) -> Told {
     Told {
         refused: true,
         count: 2,
@@ -34,7 +34,7 @@ pub(crate) fn refusal(r: Refusal) -> Told {
     }
 }
 
-pub(crate) fn one(x: u64) -> Told {
+pub fn one(x: u64) -> Told {
     Told {
         refused: false,
         count: 1,
@@ -42,7 +42,7 @@ pub(crate) fn one(x: u64) -> Told {
     }
 }
 
-pub(crate) fn nothing() -> Told {
+pub fn nothing() -> Told {
     Told {
         refused: false,
         count: 0,
@@ -50,7 +50,7 @@ pub(crate) fn nothing() -> Told {
     }
 }
 
-pub(crate) fn of_measured(m: IndicesReply) -> Told {
+pub fn of_measured(m: IndicesReply) -> Told {
     match m {
         IndicesReply::Refused(r) => refusal(r),
         IndicesReply::Of(x) => Told {
@@ -62,14 +62,14 @@ pub(crate) fn of_measured(m: IndicesReply) -> Told {
 }
 
 // The largest distance alone: of a molecule, and of a row.
-pub(crate) fn of_largest(m: IndicesReply) -> Told {
+pub fn of_largest(m: IndicesReply) -> Told {
     match m {
         IndicesReply::Refused(r) => refusal(r),
         IndicesReply::Of(x) => one(x.largest),
     }
 }
 
-pub(crate) fn of_row(seen: OneRow) -> Told {
+pub fn of_row(seen: OneRow) -> Told {
     let reply = seen.reply;
     match reply {
         Reply::Refused(r) => refusal(r),
@@ -77,7 +77,7 @@ pub(crate) fn of_row(seen: OneRow) -> Told {
     }
 }
 
-pub(crate) fn of_six(m: IndicesReply) -> Told {
+pub fn of_six(m: IndicesReply) -> Told {
     match m {
         IndicesReply::Refused(r) => refusal(r),
         IndicesReply::Of(x) => Told {
@@ -97,7 +97,7 @@ pub(crate) fn of_six(m: IndicesReply) -> Told {
     }
 }
 
-pub(crate) fn of_around(a: VertexReply) -> Told {
+pub fn of_around(a: VertexReply) -> Told {
     match a {
         VertexReply::Refused(r) => refusal(r),
         VertexReply::Of(x) => Told {
@@ -108,14 +108,14 @@ pub(crate) fn of_around(a: VertexReply) -> Told {
     }
 }
 
-pub(crate) fn of_apart(a: DistanceReply) -> Told {
+pub fn of_apart(a: DistanceReply) -> Told {
     match a {
         DistanceReply::Refused(r) => refusal(r),
         DistanceReply::Of(d) => one(d),
     }
 }
 
-pub(crate) fn of_shares(s: SharesReply) -> Told {
+pub fn of_shares(s: SharesReply) -> Told {
     match s {
         SharesReply::Refused(r) => refusal(r),
         SharesReply::Denominator(d) => one(d),
@@ -124,7 +124,7 @@ pub(crate) fn of_shares(s: SharesReply) -> Told {
 
 impl Told {
     // Whether these are the line's numbers behind what it asks, and all of them.
-    pub(crate) fn is(self, row: Row, asked: usize) -> bool {
+    pub fn is(self, row: Row, asked: usize) -> bool {
         let values = self.values;
         row.refused == self.refused
             && row.left(asked) == self.count
@@ -133,7 +133,7 @@ impl Told {
 }
 
 // Whether a buffer has the line's numbers at its front, and later entries stayed.
-pub(crate) fn entries_are(out: &[u64], row: Row, asked: usize) -> bool {
+pub fn entries_are(out: &[u64], row: Row, asked: usize) -> bool {
     let mut i = 0;
     while i < out.len() {
         if out[i] != row.at(asked, i) {
@@ -145,7 +145,7 @@ pub(crate) fn entries_are(out: &[u64], row: Row, asked: usize) -> bool {
 }
 
 // The same of bytes, where one number is what is asked.
-pub(crate) fn bytes_are(out: &[u8], row: Row) -> bool {
+pub fn bytes_are(out: &[u8], row: Row) -> bool {
     let mut i = 0;
     while i < out.len() {
         if reply::wide(out[i]) != row.at(1, i) {

@@ -1,9 +1,9 @@
 // How many comparisons came out right. What is wrong is printed with its name.
 use libc::STDOUT_FILENO;
 
-pub(crate) struct Tally {
-    pub(crate) right: u64,
-    pub(crate) wrong: u64,
+pub struct Tally {
+    pub right: u64,
+    pub wrong: u64,
 }
 
 // The most that a tally counts.
@@ -14,12 +14,12 @@ fn more(n: u64) -> u64 {
 }
 
 impl Tally {
-    pub(crate) fn none() -> Tally {
+    pub fn none() -> Tally {
         Tally { right: 0, wrong: 0 }
     }
 
     // One comparison more: the line that says of what, and the line that asks.
-    pub(crate) fn count(self, name: &[u8], line: &[u8], ok: bool) -> Tally {
+    pub fn count(self, name: &[u8], line: &[u8], ok: bool) -> Tally {
         if ok {
             return Tally {
                 right: more(self.right),
@@ -35,7 +35,7 @@ impl Tally {
         }
     }
 
-    pub(crate) fn print(self) {
+    pub fn print(self) {
         io::print_decimal(STDOUT_FILENO, self.right);
         io::write_all(STDOUT_FILENO, b" right, ");
         io::print_decimal(STDOUT_FILENO, self.wrong);
