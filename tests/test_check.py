@@ -142,6 +142,8 @@ class Checking(Room):
             self.assertEqual(self.check(BENZENE, "W=W", table=f"name,W\n{rows}")[0], 2)
             self.assertIn('"benzene" stands twice in column name: line 2 and line ' + ("4" if "x\ny" not in rows else "5"), self.fault)
         self.assertEqual(self.check(two, "W=W", "--by", "number", table="number,W\n1,27\n2,0\n3,27\n")[0], 0)
+        other, both = self.put("b.sdf", BENZENE.encode(), self.room), self.put("n.csv", b"n,W\n1,27\n2,0\n3,27\n4,27\n", self.room)
+        self.assertEqual(self.run_command("check", self.sdf, other, both, "W=W", "--by", "number")[0], 0, "the number is that among all")
         text = "".join(record("same", "C" * 6, RING, [("ID", f"x{k}")]) for k in range(3))
         self.assertEqual(self.check(text, "W=W", "--id-item", "ID", table="W,ID\n27,x2\n27,x0\n27,x1\n", )[0], 2, "the first column has the names")
         self.assertEqual(self.check(text, "W=W", "--id-item", "ID", "--id", "ID", table="W,ID\n27,x2\n27,x0\n27,x1\n")[0], 0)
