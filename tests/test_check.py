@@ -263,6 +263,23 @@ class Checking(Room):
         self.assertEqual(self.run_command("verify", paths["notice"], self.room)[0], 2)
         self.assertIn("a notice of molecules", self.fault)
 
+    def test_a_program_that_is_a_file(self):
+        program, notice = self.put("program.jar", b"code", self.room), os.path.join(self.room, "n.txt")
+        self.check(BENZENE, "W=W", "--program", program, "--notice", notice, table="name,W\nbenzene,27\n")
+        self.assertIn(f"Program: {program}, SHA-256 {hashlib.sha256(b'code').hexdigest()}\n", self.read(notice).decode())
+
+    def test_a_long_table(self):
+        """Rows are taken in parts: a name that stands twice is found in one part and over two."""
+        rows = [f"m{k},0\n" for k in range(7)]
+        text = "".join(record(f"m{k}", "C", []) for k in reversed(range(7)))
+        with mock.patch.object(claims, "_ROWS", 2):
+            self.assertEqual(self.check(text, "W=W", table="name,W\n" + "".join(rows))[0], 0)
+            for first, second in ((0, 1), (0, 2), (1, 5), (5, 7)):
+                self.assertEqual(self.check(text, "W=W", table="".join(["name,W\n", *rows[:second], rows[first], *rows[second:]]))[0], 2)
+                self.assertIn(f'"m{first}" stands twice in column name: line {first + 2} and line {second + 2}', self.fault)
+            status, lines = self.check(record("m3", "C", []), "W=W", table="name,W\n" + "".join(rows))
+        self.assertEqual((status, lines), (2, ["m3 (record 1): accepted W", *(f"m{k} (line {k + 2}): no molecule" for k in (0, 1, 2, 4, 5, 6))]))
+
     def test_green_only_if_all_is(self):
         table, paths = "name,W\nbenzene,27\n", [os.path.join(self.room, name) for name in ("b.html", "n.txt")]
         for text, more, green in ((BENZENE, "", True), (BENZENE, "lost,1\n", False), (BENZENE + SALT, "", False), ("", "", False)):
