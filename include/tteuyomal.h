@@ -325,7 +325,7 @@ tteuyomal_reply tteuyomal_write_neighbours(size_t atoms, const uint8_t *bonds, s
  * queue, else the night queue. What a queue is told depends only on its own calls since the table was made empty, whatever
  * the other queue calls. On a table that these functions did not leave, its bytes fix every reply. Each function first
  * refuses with 9 at 0 a shorter table. A refusal changes no byte of the table. */
-#define TTEUYOMAL_TABLE_BYTES 49408
+#define TTEUYOMAL_TABLE_BYTES 8448
 
 /* Makes the table empty, for both queues: its bytes become 0. Refusals: 9. */
 tteuyomal_reply tteuyomal_queue_empty(uint8_t *table, size_t table_len);

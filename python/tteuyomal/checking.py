@@ -81,7 +81,8 @@ class Checked(NamedTuple):
             return f"refused {self.number} at {self.place}: {self.refusal}"
         if not self.each or all(word == NO_CLAIM for _, word in self.each):
             return self.word
-        return "; ".join(self._told(word) for word in (NOT_READ, NO_CLAIM, DIFFERS, REFUSED, ACCEPTED) if any(word == one for _, one in self.each))
+        words = {word for _, word in self.each}
+        return "; ".join(self._told(word) for word in (NOT_READ, NO_CLAIM, DIFFERS, REFUSED, ACCEPTED) if word in words)
 
     def _told(self, word: str) -> str:
         """What is said of the fields with one verdict."""
@@ -128,7 +129,8 @@ class Checked(NamedTuple):
     def row(self) -> str:
         """One row of a table."""
         item, each = self.item, dict(self.each)
-        cells: list[Any] = [item.file, item.record or "", item.name, item.line or "", self.word, self.verdict() + (f": {self.fault}" if self.fault else "")]
+        words = f"{self.verdict()}: {self.fault}" if self.fault else self.verdict()
+        cells: list[Any] = [item.file, item.record or "", item.name, item.line or "", self.word, words]
         for one in self.asked:
             k = one.field - 1
             claim, number = (self.claimed[k], self.worked[k]) if self.claimed else ("", "")
@@ -224,7 +226,8 @@ class Judge:
         """A molecule whose claims are not simply accepted, or of which all numbers are wanted."""
         what = reply % 256
         texts = claimed_texts.texts(claims)
-        each = tuple((one.field, self._one(atoms, bonds, one.field, texts)) for one in self.asked)
+        all_right = reply == 0 and len(texts) == len(self.asked)
+        each = tuple((one.field, ACCEPTED if all_right else self._one(atoms, bonds, one.field, texts)) for one in self.asked)
         words = [word for _, word in each]
         word = {0: ACCEPTED, _DIFFERS: DIFFERS, _NOT_READ: NOT_READ, _NO_CLAIM: NO_CLAIM}.get(what, REFUSED)
         if word in (ACCEPTED, DIFFERS) and NO_CLAIM in words:

@@ -41,7 +41,7 @@ def asked(word: str) -> Asked | None:
 
 def claim(field: int, text: bytes) -> bytes:
     """A claim's bytes; of blanks none, since nothing was printed. A text that a claim has no room for is cut so that nobody reads it."""
-    if not text.strip():
+    if not text.strip(b" \t\r\n"):
         return b""
     if len(text) > _ROOM:
         text = text[:80] + _CUT.encode()
@@ -133,7 +133,8 @@ class Table:
         for name, number, line, _ in some:
             (first, other) = self._kept.execute("SELECT number, line FROM rows WHERE name = ?", (name,)).fetchone()
             if first != number:
-                raise Stop(f"{files.shown(self.path)}: {_quoted(name)} stands twice in column {files.shown(self.column)}: line {other} and line {line}")
+                places = f"line {other} and line {line}"
+                raise Stop(f"{files.shown(self.path)}: {_quoted(name)} stands twice in column {files.shown(self.column)}: {places}")
 
     def look(self, name: bytes, molecule: int) -> tuple[Row | None, int]:
         """The row of a name, and the molecule, counted from 1, that had this name before; 0 where there is none."""

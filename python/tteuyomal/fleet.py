@@ -6,6 +6,8 @@ given to another one by the scheduler; its lines are printed once, when they are
 
 from __future__ import annotations
 
+import asyncio
+import logging
 import os
 from collections.abc import Callable, Generator, Iterable
 from typing import Any
@@ -38,6 +40,8 @@ def answers(address: str, function: Callable[..., tuple[str, Any]], tasks: Itera
         from distributed import Client
     except ImportError:
         raise Stop("--dask needs Dask: install Debian's python3-distributed, or distributed from PyPI") from None
+    for name in ("asyncio", *(one for one in logging.root.manager.loggerDict if one.startswith("distributed"))):
+        logging.getLogger(name).setLevel(logging.CRITICAL)  # what is wrong is said here, in a sentence
     try:
         client = Client(address, timeout="20s", set_as_default=False)
     except (OSError, ValueError, TimeoutError) as fault:
@@ -54,10 +58,12 @@ def answers(address: str, function: Callable[..., tuple[str, Any]], tasks: Itera
                 if there != here:
                     raise Stop("a worker has another library than this machine: install the same one everywhere")
                 yield answer
-        except (Stop, OSError):
+        except Stop:
             raise
-        except Exception as fault:  # whatever a worker met
-            raise Stop(f"the fleet could not do a batch: {type(fault).__name__}: {fault}") from fault
+        except OSError as fault:
+            raise Stop(f"the scheduler at {address} has gone ({str(fault).rstrip('.')}): nothing is known of what was under way, so no verdict stands") from None
+        except (Exception, asyncio.CancelledError) as fault:  # whatever a worker met; a task is cancelled where its scheduler ends
+            raise Stop(f"the fleet could not do a batch: {type(fault).__name__}: {fault}") from None
 
 
 def _on_worker(function: Callable[[list[Found]], Any], folder: str, batch: list[Found]) -> tuple[str, Any]:

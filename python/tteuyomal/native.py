@@ -325,10 +325,11 @@ def judge(deck: Bytes) -> int:
     return _told(_judge(*_lent(deck)))
 
 
-def judge_reply(deck: bytes) -> int:
+def judge_reply(deck: Bytes) -> int:
     """The reply as C has it: 0 accepted, 255 + 256 k where field k is the first wrong one, else the refusal's number + 256 times
     its place."""
-    reply: int = _judge(deck, len(deck))
+    data = deck if type(deck) is bytes else _bytes(deck)
+    reply: int = _judge(data, len(data))
     return reply
 
 
@@ -548,7 +549,7 @@ def write_neighbours(atoms: int, bonds: Bonds) -> bytes:
     return _write_text(_write_neighbours, atoms, bonds)
 
 
-TABLE_BYTES = 49_408  # of a table of sixteen blocks, eight for each queue
+TABLE_BYTES = 8_448  # of a table of sixteen blocks, eight for each queue
 DAY, NIGHT = 0, 1
 
 
@@ -606,6 +607,8 @@ def claim_bytes(claims: Iterable[tuple[int, str]]) -> bytes:
     """Claims as C takes them; each is a field's number, from 1 as in `CLAIM_NAMES`, and the text that a program printed for it."""
     written = bytearray()
     for place, (field, text) in enumerate(claims, 1):
+        if not isinstance(text, str):
+            raise TypeError(f"claim {place} is no text that was printed: {text!r}")
         printed = text.encode("utf-8", "surrogateescape")
         head = (field, f"the field of claim {place}"), (len(printed), f"the bytes of claim {place}")
         written += bytes(_exactly(n, what, 255) for n, what in head) + printed

@@ -6,6 +6,7 @@ from __future__ import annotations
 import contextlib
 import importlib
 import itertools
+import tempfile
 from collections.abc import Iterable, Sequence
 from typing import Any
 
@@ -48,9 +49,13 @@ class Outputs:
 
     def add(self, rows: dict[str, list[Any]]) -> None:
         """Adds some decks."""
-        for form, those in rows.items():
-            for row in those:
-                self.pages[form].add(row)
+        try:
+            for form, those in rows.items():
+                for row in those:
+                    self.pages[form].add(row)
+        except OSError as fault:  # what a page keeps until it is written
+            kept = files.shown(tempfile.gettempdir())
+            raise files.Unwritten(f"{kept}, the folder for temporary files: cannot be written: {files.reason(fault)}") from None
 
     def write(self, tally: Tally, run: Run) -> None:
         """Writes all files; the run says by now what was expected."""

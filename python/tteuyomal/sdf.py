@@ -136,8 +136,8 @@ def records(read: Callable[[int], bytes]) -> Iterator[Piece]:
 
 
 def title(record: bytes) -> bytes:
-    """A record's title line, blanks and tabs off both sides."""
-    return record[: record.find(b"\n")].strip(b" \t\r") if b"\n" in record else record.strip(b" \t\r")
+    """A record's title line, blanks and tabs off both sides; a mark that UTF-8 stands in the file is no letter of it."""
+    return record.partition(b"\n")[0].removeprefix(b"\xef\xbb\xbf").strip(b" \t\r")
 
 
 def line_of(text: bytes, refusal: Refused) -> str:

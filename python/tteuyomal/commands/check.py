@@ -45,8 +45,9 @@ def options(parser: argparse.ArgumentParser) -> None:
     parser.add_argument("--id", metavar="COLUMN", help="the table's column that names the molecule; else its first")
     parser.add_argument("--id-item", metavar="ITEM", help="a molecule's name is this data item")
     parser.add_argument(
-        "--by", choices=molecules.NAMES, help="a molecule's name is its title line (so it is in an SDF), its file's name (so it is of molfiles) or its number"
-    )
+        "--by", choices=molecules.NAMES,
+        help="a molecule's name is its title line (so it is in an SDF), its file's name (so it is of molfiles) or its number",
+    )  # fmt: skip
     parser.add_argument("--program", default="", metavar="WORDS", help='the program that printed, as "CDK 2.8"; of a file the SHA-256 is said too')
     parser.add_argument("--json", action=common.Objects, help="print one JSON object a line; behind the paths, FILE gets them and lines are printed")
     parser.add_argument("--csv", action=common.Objects, help="print a table, a row each; behind the paths, FILE gets it and lines are printed")

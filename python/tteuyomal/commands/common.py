@@ -87,7 +87,8 @@ def processes(options: argparse.Namespace) -> int:
 
 
 def lines(
-    function: Callable[[list[Any]], list[tuple[str, bool]]], options: argparse.Namespace, out: Output, what: str, items: Iterable[Any] | None = None
+    function: Callable[[list[Any]], list[tuple[str, bool]]], options: argparse.Namespace, out: Output, what: str,
+    items: Iterable[Any] | None = None,
 ) -> int:
     """The lines of all files, or of other items; 0 only if there was one and each was answered."""
     items = files.find(options.paths) if items is None else items
