@@ -41,8 +41,9 @@ extern "C" {
 /* ---- The reply of every function: one number ----
  *
  * reply % 256 says what: 0 fine (judging: accepted); 1 to 253 a refusal, by the number of the list below; 254 all
- * products of a library are done; 255 the sheet differs (judging only). reply / 256 says where: the place of a
- * refusal, or the first wrong field, 1 to 5 or, of a sheet of kind 4, 1 to 6.
+ * products of a library, or all records of an SDF, are done; 255 the sheet or a claim differs (judging only). reply / 256
+ * says where: the place of a refusal, or the first wrong field, 1 to 5 or, of a sheet of kind 4, 1 to 6, or the number of
+ * the first wrong claim, from 1.
  *
  * A refusal changes no byte of any output. A success writes what the function's comment says, from the front of the
  * output; whatever follows in it stays as it was.
@@ -103,8 +104,12 @@ enum tteuyomal_refusal {
     TTEUYOMAL_CANDIDATE_COUNT = 32, /* a site's candidate count is 0 or above 8 */
     TTEUYOMAL_SITE_TAKEN = 33,      /* a site's atom was used by an earlier site */
     TTEUYOMAL_NO_TREE = 34,         /* the block's bonds are not one fewer than its atoms */
-    TTEUYOMAL_CLAIM = 35            /* the claim is of no field, or is cut off; at place 0: no such field as was asked
+    TTEUYOMAL_CLAIM = 35,           /* the claim is of no field, or is cut off; at place 0: no such field as was asked
                                        about */
+    TTEUYOMAL_NO_CLAIM = 36,        /* there is no claim */
+    TTEUYOMAL_CLAIM_TEXT = 37,      /* the text is no number as the rules read it */
+    TTEUYOMAL_NO_ITEM = 38,         /* the record has no such data item */
+    TTEUYOMAL_ITEM_AGAIN = 39       /* the record has that data item twice */
 };
 
 /* The place of a refusal. Lone block: the number of the bond, from 1, for 3 to 6, else 0. Deck: the first byte of
@@ -112,12 +117,13 @@ enum tteuyomal_refusal {
  * library; the deck's length where a record is expected and the deck ends; the first byte too many. Molfile: for 25 to 27 the first byte of
  * the line, or the file's length where it is missing; for 3 to 6 the number of the kept bond. Neighbour
  * text: for 21 and 22 that byte or the number's first, or the text's length where it ends too early; for 3 to 6 the
- * number of the bond. 0 for 8, 9, 10, 20, 28, 29, 30 and 34. */
+ * number of the bond. Claims: for 35 and 37 the number of the claim, from 1. Data item: for 39 the first byte of the second
+ * header. 0 for 8, 9, 10, 20, 28, 29, 30, 34, 36 and 38. */
 
 /* 0, a refusal's number, TTEUYOMAL_DONE or TTEUYOMAL_DIFFERS. */
 static inline unsigned tteuyomal_what(tteuyomal_reply reply) { return (unsigned)(reply % 256); }
 
-/* The place of a refusal; for TTEUYOMAL_DIFFERS the first wrong field, 1 to 6. */
+/* The place of a refusal; for TTEUYOMAL_DIFFERS the first wrong field, 1 to 6, or claim, from 1. */
 static inline uint64_t tteuyomal_where(tteuyomal_reply reply) { return reply / 256; }
 
 /* What the number of a refusal says, in the words of the list above: a table, no proved function. "" for a number that no
@@ -161,6 +167,10 @@ static inline const char *tteuyomal_words(unsigned number)
         "a site's atom was used by an earlier site",
         "the block's bonds are not one fewer than its atoms",
         "the claim is of no field, or is cut off; at place 0: no such field as was asked about",
+        "there is no claim",
+        "the text is no number as the rules read it",
+        "the record has no such data item",
+        "the record has that data item twice",
     };
     return number < sizeof words / sizeof words[0] ? words[number] : "";
 }
@@ -315,7 +325,7 @@ tteuyomal_reply tteuyomal_write_neighbours(size_t atoms, const uint8_t *bonds, s
  * queue, else the night queue. What a queue is told depends only on its own calls since the table was made empty, whatever
  * the other queue calls. On a table that these functions did not leave, its bytes fix every reply. Each function first
  * refuses with 9 at 0 a shorter table. A refusal changes no byte of the table. */
-#define TTEUYOMAL_TABLE_BYTES 49408
+#define TTEUYOMAL_TABLE_BYTES 8448
 
 /* Makes the table empty, for both queues: its bytes become 0. Refusals: 9. */
 tteuyomal_reply tteuyomal_queue_empty(uint8_t *table, size_t table_len);
@@ -346,6 +356,53 @@ tteuyomal_reply tteuyomal_queue_compose(const uint8_t *table, size_t table_len, 
  * Refusals: the block's, then 34 (no tree), then 9 (counts_len below 2). */
 tteuyomal_reply tteuyomal_count_sets(size_t atoms, const uint8_t *bonds, size_t bonds_len, uint64_t *counts,
                                      size_t counts_len);
+
+/* ---- Claims: what a program printed ---- */
+
+/* A CLAIM is the number of a field and the text that a program printed for it; nobody else reads the number. Claims are bytes,
+ * claim after claim: field (1), length (1), so many bytes of text. Fields: 1 atoms, 2 W, 3 even part, 4 odd part, 5 polarity,
+ * 6 largest distance; of a lone block also 7 Szeged index, 8 Hosoya index, 9 Merrifield-Simmons index, 10 Balaban's J.
+ * A text of 1 to 9 says a whole number below 2^64: blanks and tabs come off both sides; digits, and if anything a point and
+ * zeros. A text of 10 has any digits behind the point, of which the first nine count, and claims J within one unit of its
+ * last digit. docs/RULES.md says when that is right. */
+#define TTEUYOMAL_FIELD_ATOMS 1
+#define TTEUYOMAL_FIELD_W 2
+#define TTEUYOMAL_FIELD_EVEN 3
+#define TTEUYOMAL_FIELD_ODD 4
+#define TTEUYOMAL_FIELD_POLARITY 5
+#define TTEUYOMAL_FIELD_LARGEST 6
+#define TTEUYOMAL_FIELD_SZEGED 7
+#define TTEUYOMAL_FIELD_HOSOYA 8
+#define TTEUYOMAL_FIELD_MERRIFIELD_SIMMONS 9
+#define TTEUYOMAL_FIELD_BALABAN 10
+#define TTEUYOMAL_CLAIM_BYTES 257
+
+/* Judges claims of the molecule of a deck without a sheet, fields 1 to 6: fine when there is one and all are right, else
+ * TTEUYOMAL_DIFFERS with the number of the first wrong one. All claims are read before any is compared.
+ * Refusals: the deck's, then 36, then claim by claim 35, 37. */
+tteuyomal_reply tteuyomal_judge_claims(const uint8_t *deck, size_t deck_len, const uint8_t *claims, size_t claims_len);
+
+/* Judges claims of a lone block, fields 1 to 10. Only what is claimed is worked out besides the six fields.
+ * Refusals: the block's, then 36, then claim by claim 35, 37, then 34 (8 or 9 is claimed, and it is no tree). */
+tteuyomal_reply tteuyomal_judge_block(size_t atoms, const uint8_t *bonds, size_t bonds_len, const uint8_t *claims,
+                                      size_t claims_len);
+
+/* ---- SDF ---- */
+
+/* Writes three numbers of the record of an SDF that begins at byte `from`: its first byte, how many it has, and where the next
+ * one begins. A record ends where a line begins with `$$$$`, or at the text's end; the next one begins behind that line.
+ * TTEUYOMAL_DONE, with nothing written, where only blanks, tabs, CR and LF are left. From 0 on no byte is passed over, and what
+ * is told of a record does not depend on what follows its `$$$$` line, so that a file may be lent in pieces.
+ * Refusals: 9 (span_len below 3). */
+tteuyomal_reply tteuyomal_sdf_record(const uint8_t *text, size_t text_len, size_t from, uint64_t *span, size_t span_len);
+
+/* Writes two numbers of the data item of a name in one record of an SDF: the first byte of its value, and how many it has. The
+ * header is a line behind the molfile's own `M  END` that begins with `>` and has `<`, the name, `>` in it; the value is the
+ * line behind it, and empty where that is missing or is a header itself.
+ * Refusals: 38 (no such header, no name or one with more than 16 `<`, or the molfile's lines are refused), 39 (two), then 9
+ * (span_len below 2). */
+tteuyomal_reply tteuyomal_sdf_item(const uint8_t *record, size_t record_len, const uint8_t *name, size_t name_len,
+                                   uint64_t *span, size_t span_len);
 
 #ifdef __cplusplus
 }

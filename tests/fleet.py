@@ -18,7 +18,9 @@ import tempfile
 import time
 import unittest
 
-from common import FORTY, PYTHON, RIGHT, sheet
+from common import FORTY, PYTHON, RIGHT, RING, sheet
+
+from tteuyomal import Block
 
 DECKS = 24_000
 KINDS = [FORTY + RIGHT, FORTY + sheet(12, 198, 97, 101, 14), FORTY, b"", FORTY + RIGHT]
@@ -108,6 +110,18 @@ class OneUser(Fleet):
                     made[who, form] = [{key: value for key, value in json.loads(line).items() if key != "time"} for line in text.replace(run, "").splitlines()]
         for form in ("board", "notice", "json", "junit"):
             self.assertEqual(made["here", form], made["fleet", form])
+
+    def test_check(self):
+        """Molecules are checked as they are on this machine, from a folder that no worker is in."""
+        ring = Block(6, RING).molfile()
+        with open(os.path.join(self.room, "a.sdf"), "wb") as file:
+            file.writelines(b"m%d" % k + ring + b"$$$$\n" for k in range(3_000))
+        with open(os.path.join(self.room, "a.csv"), "w") as file:
+            file.writelines(["name,W\n", *(f"m{k},{27 + (k % 7 == 0)}\n" for k in range(3_000))])
+        words = [sys.executable, "-m", "tteuyomal", "check", "a.sdf", "a.csv", "W=W"]
+        here, there = (subprocess.run([*words, *more], cwd=self.room, env=ENVIRONMENT, capture_output=True) for more in ([], ["--dask", self.address]))
+        self.assertEqual((here.stdout, here.returncode), (there.stdout, 1))
+        self.assertEqual((here.stdout.count(b"\n"), here.stdout.count(b"differs W: 28 printed, 27"), there.returncode), (3_000, 429, 1))
 
     def test_status(self):
         for kind, status in ((0, 0), (1, 1), (2, 2)):

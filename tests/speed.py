@@ -1,12 +1,14 @@
-"""How many small decks (two rings of 6) the command and the package judge in a second.
+"""How many small decks (two rings of 6) the command and the package judge in a second, and how many records of an SDF `check` holds
+against a table: molecules of 15 to 30 atoms and some hydrogens, 3.4 KB each, rows in another order.
 
-    make && python3 tests/speed.py [DECKS]
+    make && python3 tests/speed.py [DECKS [RECORDS]]
 
 Prints the time on the clock, the processor time of all processes together, and decks a second by each: on a machine that does other
 work too, the processor time says what two free cores would do.
 """
 
 import os
+import random
 import resource
 import subprocess
 import sys
@@ -32,7 +34,43 @@ def told(what, count, cores, work):
     print(f"| {what} | {count} | {clock:.2f} s | {count / clock:,.0f} | {used:.2f} s | {cores * count / used:,.0f} |")
 
 
-def main(count):
+def molecules(room, count):
+    """An SDF of so many records, and a table with W and polarity of each."""
+    chance, kinds = random.Random(5), []
+    for _ in range(200):
+        atoms = chance.randint(15, 30)
+        bonds = [(chance.randint(max(1, k - 3), k - 1), k) for k in range(2, atoms + 1)]
+        block = tteuyomal.Block(atoms, bonds)
+        hydrogens = [(chance.randint(1, atoms), atoms + 1 + k) for k in range(atoms * 5 // 6)]
+        lines = ["", "  made", "", f"{atoms + len(hydrogens):3d}{len(bonds) + len(hydrogens):3d}  0  0  0  0  0  0  0  0999 V2000"]
+        lines += [f"    0.0000    0.0000    0.0000 {symbol}   0  0  0  0  0  0  0  0  0  0  0  0" for symbol in "C" * atoms + "H" * len(hydrogens)]
+        lines += [f"{a:3d}{b:3d}  1  0  0  0  0" for a, b in bonds + hydrogens]
+        try:
+            kinds.append(("\n".join([*lines, "M  END", "$$$$", ""]), block.measure()))
+        except tteuyomal.Refused:  # seven bonds at an atom
+            pass
+    chosen = [chance.choice(kinds) for _ in range(count)]
+    with open(os.path.join(room, "a.sdf"), "w", encoding="ascii") as file:
+        file.writelines(f"compound {k}{text}" for k, (text, _) in enumerate(chosen))
+    rows = [f"compound {k},{sheet.w},{sheet.polarity}\n" for k, (_, sheet) in enumerate(chosen)]
+    chance.shuffle(rows)
+    with open(os.path.join(room, "a.csv"), "w", encoding="ascii") as file:
+        file.writelines(["name,W,P\n", *rows])
+    return os.path.getsize(os.path.join(room, "a.sdf")) // count
+
+
+def check(count):
+    with tempfile.TemporaryDirectory() as room:
+        size = molecules(room, count)
+        for jobs in ("1", "2"):
+            command = [sys.executable, "-m", "tteuyomal", "check", "a.sdf", "a.csv", "W=W", "polarity=P", "-j", jobs]
+            run = lambda: subprocess.run(command, cwd=room, env=os.environ | {"PYTHONPATH": PYTHON}, stdout=subprocess.DEVNULL, check=True)
+            told(f"SDF of {size} bytes a record and a table, check -j {jobs}", count, int(jobs), run)
+    most = resource.getrusage(resource.RUSAGE_CHILDREN).ru_maxrss
+    print(f"\nAt most {most // 1024} MB in one process.")
+
+
+def main(count, records):
     print("| what | decks | clock | decks a second | processor time | decks a second by it |\n|---|---|---|---|---|---|")
     decks = [bytes(bytearray(DECK)) for _ in range(count)]
     told("in memory, judge_many, one core", count, 1, lambda: tteuyomal.judge_many(decks))
@@ -46,7 +84,8 @@ def main(count):
             command = [sys.executable, "-m", "tteuyomal", *words, room]
             run = lambda: subprocess.run(command, env=os.environ | {"PYTHONPATH": PYTHON}, stdout=subprocess.DEVNULL, check=True)
             told(what, count, 2, run)
+    check(records)
 
 
 if __name__ == "__main__":
-    main(int(sys.argv[1]) if len(sys.argv) > 1 else 100_000)
+    main(*(int(sys.argv[k]) if len(sys.argv) > k else 100_000 for k in (1, 2)))

@@ -242,3 +242,70 @@ class Libraries(unittest.TestCase):
             with self.assertRaises(Refused) as caught:
                 function(self.DECK)
             self.assertEqual((caught.exception.number, caught.exception.place), (12, 32))
+
+
+class Claims(unittest.TestCase):
+    PATH = 4, [(1, 2), (2, 3), (3, 4)]
+
+    def refuses(self, number, place, function, *arguments):
+        with self.assertRaises(Refused) as caught:
+            function(*arguments)
+        self.assertEqual((caught.exception.number, caught.exception.place), (number, place))
+
+    def test_decks(self):
+        right = native.compose_six(FORTY)
+        all_six = list(enumerate(map(str, right), 1))
+        self.assertEqual(native.judge_claims(FORTY, all_six), 0)
+        self.assertEqual(native.judge_claims(FORTY, native.claim_bytes(all_six)), 0)
+        for k in range(1, 7):
+            self.assertEqual(native.judge_claims(FORTY, [(field, f" {n + (field == k)}.0\t") for field, n in enumerate(right, 1)]), k)
+        self.assertEqual(native.judge_claims(FORTY, [(2, str(right.w)), (2, "0"), (1, "0")]), 2)
+
+    def test_blocks(self):
+        ten = list(enumerate(("4", "10", "4", "6", "1", "3", "10", "5", "8", "1.9747448"), 1))
+        self.assertEqual(native.judge_block(*self.PATH, ten), 0)
+        self.assertEqual(len(native.CLAIM_NAMES), len(ten))
+        self.assertEqual([native.judge_block(*self.PATH, [(10, j)]) for j in ("1.97", "1.98", "1.99", "2", "1.974744868")], [0, 0, 1, 0, 1])
+
+    def test_refusals(self):
+        self.refuses(36, 0, native.judge_claims, FORTY, [])
+        self.refuses(36, 0, native.judge_block, 6, RING, b"")
+        self.refuses(35, 2, native.judge_claims, FORTY, [(2, "0"), (7, "0")])
+        self.refuses(35, 1, native.judge_block, 6, RING, [(11, "0")])
+        self.refuses(35, 1, native.judge_block, 6, RING, b"\x02\x02" b"1")
+        for text in ("", "nan", "1e2", "-1", "31.0000004", ".5", "7\n", str(2**64), "\u0663"):
+            self.refuses(37, 2, native.judge_block, 6, RING, [(2, "0"), (1, text)])
+        self.refuses(34, 0, native.judge_block, 6, RING, [(2, "0"), (8, "18")])
+        self.refuses(7, 0, native.judge_block, 2, [], [])
+        self.refuses(20, 0, native.judge_claims, bytes(32769), [])
+
+    def test_what_no_claim_has_room_for(self):
+        for claim in ((256, "1"), (2, "1" * 256), (-1, "1")):
+            with self.assertRaises(ValueError):
+                native.claim_bytes([claim])
+
+
+class Sdf(unittest.TestCase):
+    FRONT = b"\n\n\n  0  0\n"
+
+    def test_records(self):
+        text = b"ab\n$$$$\r\nc $$$$\nd\n \t\r\n"
+        self.assertEqual(native.sdf_record(text), (0, 3, 9))
+        self.assertEqual(native.sdf_record(text, 9), (9, len(text) - 9, len(text)))
+        for done in (text[:0], b" \t\r\n"):
+            self.assertIsNone(native.sdf_record(done))
+        self.assertIsNone(native.sdf_record(text, 2**70))
+
+    def test_items(self):
+        record = self.FRONT + b"> <A>\nM  END\n>  <A> (1)\r\n12.5\r\n\r\n> <C>\n1\n> <C>\n2\n> <E>\n><F>\n"
+        self.assertEqual(native.sdf_item(record, "A"), (35, 4))
+        self.assertEqual(native.sdf_item(record, b"E").length, 0)
+        for name, number, place in (("", 38, 0), ("a", 38, 0), ("C", 39, record.rindex(b"> <C>"))):
+            with self.assertRaises(Refused) as caught:
+                native.sdf_item(record, name)
+            self.assertEqual((caught.exception.number, caught.exception.place), (number, place))
+
+    def test_a_title_that_forges_an_item(self):
+        with self.assertRaises(Refused) as caught:
+            native.sdf_item(b"M  END\n> <W>\n999\n  0  0\nM  END\n", "W")
+        self.assertEqual(caught.exception.number, 38)

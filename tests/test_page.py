@@ -18,7 +18,7 @@ SQUARES = [pair for k in range(20) for pair in ((3 * k + 1, 3 * k + 2), (3 * k +
 def listed():
     """The names of the table of objects, each with the commands that it stands in."""
     rows = re.findall(r"^\| (`.*?) \| (.*?) \| .* \|$", PAGE[PAGE.index("## Objects") :], re.M)
-    return {name: {"judge", "sheet", "measure"} if where == "all" else set(where.split(", ")) for names, where in rows for name in re.findall(r"`(.*?)`", names)}
+    return {name: {"judge", "check", "sheet", "measure"} if where == "all" else set(where.split(", ")) for names, where in rows for name in re.findall(r"`(.*?)`", names)}
 
 
 class Objects(Room):
@@ -30,10 +30,12 @@ class Objects(Room):
         tree, ring = Block(4, [(1, 2), (2, 3), (3, 4)]).molfile(), Block(3, [(1, 2), (2, 3), (3, 1)]).molfile()
         for name, data in (("a.mol", tree), ("b.sdf", ring + b"$$$$\n" + tree), ("c.mol", b""), ("d", ring), ("e.mol", Block(61, SQUARES).molfile())):
             self.put(name, data, self.folder("molecules"))
+        claimed = self.put("claimed\n.sdf", ring + b">  <W>\n6\n\n$$$$\n" + b"$$$$\n".join((tree, b"", tree)), self.room)
         found = {}
         for replaced in ("", "other.so"):
             with mock.patch("tteuyomal.native.REPLACED", replaced):
-                for words in (["judge", self.decks], ["sheet", self.decks], ["measure", os.path.join(self.room, "molecules"), os.path.join(self.decks, "e\n")]):
+                for words in (["judge", self.decks], ["sheet", self.decks], ["measure", os.path.join(self.room, "molecules"), os.path.join(self.decks, "e\n")],
+                              ["check", claimed, os.path.join(self.room, "molecules"), "W=W"]):  # fmt: skip
                     for line in self.run_command(words[0], "--json", *words[1:])[1].splitlines():
                         for name in json.loads(line):
                             found.setdefault(name, set()).add(words[0])

@@ -177,6 +177,29 @@ mod c {
             out: *mut u8,
             out_len: usize,
         ) -> u64;
+        pub fn tteuyomal_judge_claims(deck: *const u8, deck_len: usize, claims: *const u8, claims_len: usize) -> u64;
+        pub fn tteuyomal_judge_block(
+            atoms: usize,
+            bonds: *const u8,
+            bonds_len: usize,
+            claims: *const u8,
+            claims_len: usize,
+        ) -> u64;
+        pub fn tteuyomal_sdf_record(
+            text: *const u8,
+            text_len: usize,
+            from: usize,
+            span: *mut u64,
+            span_len: usize,
+        ) -> u64;
+        pub fn tteuyomal_sdf_item(
+            record: *const u8,
+            record_len: usize,
+            name: *const u8,
+            name_len: usize,
+            span: *mut u64,
+            span_len: usize,
+        ) -> u64;
     }
 }
 
@@ -312,4 +335,21 @@ pub fn queue_compose(table: &[u8], queue: usize, kind: usize, record: &[u8], out
     unsafe {
         c::tteuyomal_queue_compose(table.as_ptr(), table.len(), queue, kind, record.as_ptr(), record.len(), to, room)
     }
+}
+
+pub fn judge_claims(deck: &[u8], claims: &[u8]) -> u64 {
+    unsafe { c::tteuyomal_judge_claims(deck.as_ptr(), deck.len(), claims.as_ptr(), claims.len()) }
+}
+
+pub fn judge_block(atoms: usize, bonds: &[u8], claims: &[u8]) -> u64 {
+    unsafe { c::tteuyomal_judge_block(atoms, bonds.as_ptr(), bonds.len(), claims.as_ptr(), claims.len()) }
+}
+
+pub fn sdf_record(text: &[u8], from: usize, span: &mut [u64]) -> u64 {
+    unsafe { c::tteuyomal_sdf_record(text.as_ptr(), text.len(), from, span.as_mut_ptr(), span.len()) }
+}
+
+pub fn sdf_item(record: &[u8], name: &[u8], span: &mut [u64]) -> u64 {
+    let (out, room) = (span.as_mut_ptr(), span.len());
+    unsafe { c::tteuyomal_sdf_item(record.as_ptr(), record.len(), name.as_ptr(), name.len(), out, room) }
 }

@@ -6,6 +6,7 @@
 pub mod answers;
 pub mod balaban;
 pub mod block;
+pub mod claims;
 pub mod count_sets;
 pub mod deck;
 pub mod documents;
@@ -21,6 +22,7 @@ pub mod polynomial;
 pub mod queues;
 pub mod ranking;
 pub mod refusal;
+pub mod sdf;
 pub mod shares;
 pub mod szeged;
 pub mod walk;

@@ -60,10 +60,11 @@ fn number(field: &[u8]) -> Option<usize> {
     Some(digits.iter().fold(0, |value, &digit| 10 * value + (digit - b'0') as usize))
 }
 
-/// What the lines say: which atoms are H (entry 0 belongs to none), and the bonds.
+/// What the lines say: which atoms are H (entry 0 belongs to none), the bonds, and where the line behind M  END begins.
 struct File {
     is_h: Vec<bool>,
     bonds: Vec<[usize; 2]>,
+    end: usize,
 }
 
 fn read_lines(file: &[u8]) -> Result<File, Refusal> {
@@ -90,7 +91,7 @@ fn read_lines(file: &[u8]) -> Result<File, Refusal> {
     loop {
         match lines.next() {
             None => return refuse(25, file.len()),
-            Some(line) if line.chars.starts_with(b"M  END") => return Ok(File { is_h, bonds }),
+            Some(line) if line.chars.starts_with(b"M  END") => return Ok(File { is_h, bonds, end: lines.at }),
             Some(_) => {}
         }
     }
@@ -131,6 +132,11 @@ pub fn read(file: &[u8], room: usize, entries: usize) -> Result<(usize, Vec<u8>)
         return refuse(9, 0);
     }
     Ok((atoms, bytes))
+}
+
+/// Where the data items of an SDF's record begin, behind the molfile's own M  END; there are none where its lines are refused.
+pub fn items_place(record: &[u8]) -> Option<usize> {
+    read_lines(record).ok().map(|file| file.end)
 }
 
 /// The text of a block: the block's refusals, then 9 for the text or for its length.

@@ -20,7 +20,8 @@ from collections import Counter
 from collections.abc import Iterable, Iterator
 from typing import IO, Any, NamedTuple
 
-from . import decks, drawing, explain, files
+from . import drawing, explain, files
+from .claims import FIELDS, SHORT
 from .judging import ACCEPTED, DIFFERS, REFUSED, UNREAD, Judged, Tally
 from .notice import relative
 from .run import Expected, Run, unmet
@@ -34,8 +35,6 @@ WORDS_OF_EXPLAIN = 60  # lines of explain's words on a card
 
 ORDER = (REFUSED, UNREAD, DIFFERS, ACCEPTED)  # what differs or is refused stands first
 KINDS = {UNREAD: "unread", "not listed": "unlisted"}  # how a verdict of several words is called in a class and in a search
-FIELDS = (*decks.FIELD_NAMES, "Szeged index", "Hosoya index", "Merrifield-Simmons index", "Balaban's J")
-SHORT = (*decks.SHORT_NAMES, "Szeged", "Hosoya", "Merrifield-Simmons", "J")
 
 # a light is a colour, a shape and a word
 _SHAPES = {
@@ -155,6 +154,8 @@ def _said(judged: Judged) -> str:
 
 def _difference(claim: Any, number: Any) -> str:
     """How much too great a wrong claim is, or too small."""
+    if isinstance(claim, str) and claim.isascii() and claim.isdigit() and len(claim) < 20:
+        claim = int(claim)  # to be shown: what is wrong the library said
     if isinstance(claim, int) and isinstance(number, int):
         return f"{claim - number:+d}".replace("-", "\u2212")
     return ""
@@ -209,6 +210,12 @@ def _words(judged: Judged) -> str:
     if judged.word == REFUSED:
         return f'<pre class="words">{words}</pre>'
     return f'<details class="words"><summary>The deck in words</summary><pre class="words">{words}</pre></details>'
+
+
+def _guesses(judged: Judged) -> str:
+    """What may be the cause, said to be a guess."""
+    found = sorted({words for _, words in getattr(judged, "guessed", ())})
+    return f"<p>A guess at the cause, no part of the verdict: {text('; '.join(found))}.</p>" if found else ""
 
 
 def card(judged: Judged, picture: str, words: str) -> str:
@@ -280,7 +287,7 @@ class Page:
         group.count += 1
         self._counts[row.word] += 1
         if len(group.cards) < FULL:
-            words = _words(row.judged) if self.what == "deck" else ""
+            words = _words(row.judged) if self.what == "deck" else _guesses(row.judged)
             group.cards.append(card(row.judged, self._picture(row.judged), words))
         else:
             group.lines.write(row.line.encode("utf-8"))
@@ -307,8 +314,8 @@ class Page:
         if self._counts != Counter({word: count for word, count in tally.counts.items() if count}):
             raise ValueError(f"the board has {dict(self._counts)}, and the tally counts {tally.counts}")
         kind, title = summary(tally, self.run.expected, self.what)
-        _put(file, _head(kind, title, self.run, "judged" if tally.total else f"looked for {self.what}s"))
-        _put(file, _about(self.run, tally.total, self.what))
+        _put(file, _head(kind, title, self.run, "judged" if tally.found else f"looked for {self.what}s"))
+        _put(file, _about(self.run, tally.found, self.what))
         _put(file, ["</header>\n", *self._controls(tally), f'<main data-fields="{"|".join(SHORT)}" data-names="{text("|".join(FIELDS))}">\n'])
         _put(file, _names(self.run.expected))
         alone = len(self._groups) == 1
@@ -321,7 +328,7 @@ class Page:
 
     def _controls(self, tally: Tally) -> Iterator[str]:
         """Search and counts. A count is a label where JavaScript is off."""
-        if not tally.total and not unmet(self.run.expected, tally.total):
+        if not tally.total and not unmet(self.run.expected, tally.found):
             return
         yield '<div class="controls"><div>\n'
         hint = "name, refused 7, differs odd, SHA-256"
@@ -351,12 +358,14 @@ def failed(run: Run, why: str) -> bytes:
 def summary(tally: Tally, expected: Expected | None = None, what: str = "deck") -> tuple[str, str]:
     """The light over the whole board, and its words. It is green only if there was a deck, every one was accepted, and nothing that
     was expected is missing, not listed or changed."""
-    accepted, wrong = tally.counts[ACCEPTED], unmet(expected, tally.total, what)
-    bad = tally.total - accepted
-    if not tally.total:
+    accepted, wrong = tally.counts[ACCEPTED], unmet(expected, tally.found, what)
+    bad, rows = tally.found - accepted, tally.total - tally.found
+    if rows:
+        wrong = [f"{_so_many(rows, 'row')} of the table with no molecule", *wrong]
+    if not tally.found:
         kind, title = "nothing", f"Nothing was judged: no {what} was found"
     elif bad:
-        kind, title = "refused" if tally.status == 2 or wrong else "differs", f"{bad} of {_so_many(tally.total, what)} not accepted"
+        kind, title = "refused" if tally.status == 2 or wrong else "differs", f"{bad} of {_so_many(tally.found, what)} not accepted"
     elif wrong:
         return "refused", f"Not what was expected: {'; '.join(wrong)}"
     else:

@@ -56,6 +56,19 @@ def _ended(sign: int, _: Any) -> NoReturn:
     raise SystemExit(128 + sign)
 
 
+def _run(words: list[str] | None, out: Output) -> int:
+    """Runs the command that the words name. One that takes many words takes them also behind its options."""
+    parser = _parser()
+    options, more = parser.parse_known_args(words)
+    if more and (not getattr(options, "anywhere", False) or any(word.startswith("-") for word in more)):
+        parser.error(f"unrecognized arguments: {' '.join(files.shown(word) for word in more)}")
+    if more:
+        options.paths = [*options.paths, *more]
+    if native.REPLACED:
+        complain(f"TTEUYOMAL_SO is set, so {files.shown(native.REPLACED)} answers here and not the package's own library")
+    return int(options.run(options, out))
+
+
 def main(words: list[str] | None = None) -> int:
     """Runs the command and answers its exit status."""
     console.fill()
@@ -66,10 +79,7 @@ def main(words: list[str] | None = None) -> int:
     out = Output()
     try:
         try:
-            options = _parser().parse_args(words)
-            if native.REPLACED:
-                complain(f"TTEUYOMAL_SO is set, so {files.shown(native.REPLACED)} answers here and not the package's own library")
-            return int(options.run(options, out))
+            return _run(words, out)
         finally:
             out.flush()
     except OutputFailed as fault:

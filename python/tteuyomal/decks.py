@@ -6,11 +6,12 @@ import os
 import struct
 from collections.abc import Iterable, Iterator, Mapping
 from dataclasses import dataclass
-from typing import Any, NamedTuple
+from typing import Any, NamedTuple, TypeVar
 
 from . import files, native
 from .native import Contributions, Fields, Refused, Sets, Szeged, Values, Vertex
 
+Kind = TypeVar("Kind")
 BLOCK, ASSEMBLY, SHEET, SIX, LIBRARY = 1, 2, 3, 4, 5  # kinds of records
 FIELD_NAMES = native.SHEET_NAMES
 SHORT_NAMES = ("atoms", "W", "even", "odd", "polarity", "largest")  # the same, as they stand in lines and texts
@@ -48,6 +49,8 @@ class Block:
         """The block of an RDKit molecule, which is that of the molfile that RDKit writes of it: an H with exactly one bond, to an atom
         that is no H, is left out, and the others keep their order. RDKit has no symbols D and T: it says H with an isotope, which is
         an H. A file that has such symbols is read by `from_molfile`."""
+        if not hasattr(mol, "GetAtoms"):
+            raise TypeError(f"a molecule of RDKit is meant, not {mol!r}")
         atoms = list(mol.GetAtoms())
         kept = [atom.GetIdx() for atom in atoms if not _left_out(atom)]
         numbers = {index: number for number, index in enumerate(kept, 1)}
@@ -178,10 +181,9 @@ class Deck:
         placements: Iterable[Placement],
         sheet: Sheet | None = None,
     ) -> None:
-        pairs = blocks.items() if isinstance(blocks, Mapping) else blocks
-        object.__setattr__(self, "blocks", tuple(pairs))
-        object.__setattr__(self, "placements", tuple(placements))
-        object.__setattr__(self, "sheet", sheet)
+        object.__setattr__(self, "blocks", numbered(blocks))
+        object.__setattr__(self, "placements", tuple(of_kind(one, Placement, "a placement") for one in placements))
+        object.__setattr__(self, "sheet", sheet if sheet is None else of_kind(sheet, Sheet, "a sheet"))
 
     @classmethod
     def from_bytes(cls, data: native.Bytes) -> Deck:
@@ -216,6 +218,24 @@ class Deck:
         return native.placed_distance(bytes(self.without_sheet()), k, i, l, j)
 
 
+def numbered(blocks: Mapping[int, Block] | Iterable[tuple[int, Block]]) -> tuple[tuple[int, Block], ...]:
+    """Blocks with their numbers, as a deck and a library have them."""
+    found = []
+    for pair in blocks.items() if isinstance(blocks, Mapping) else blocks:
+        try:
+            number, block = pair
+        except (TypeError, ValueError):
+            raise TypeError(f"a block stands with its number, as (1, block), not {pair!r}") from None
+        found.append((number, of_kind(block, Block, "a block")))
+    return tuple(found)
+
+
+def of_kind(value: Any, kind: type[Kind], what: str) -> Kind:
+    if not isinstance(value, kind):
+        raise TypeError(f"{what} is meant, a {kind.__name__}, not {value!r}")
+    return value
+
+
 def judge(deck: Deck | native.Bytes) -> Verdict:
     """The library's verdict on a deck with a sheet. A refusal is a verdict too: nothing is raised for it."""
     try:
@@ -226,7 +246,7 @@ def judge(deck: Deck | native.Bytes) -> Verdict:
 
 def judge_file(path: str | os.PathLike[str]) -> Verdict:
     """The library's verdict on the deck in a file. A file that can't be read is an OSError, never a verdict."""
-    with open(path, "rb") as file:
+    with open(os.fspath(path), "rb") as file:  # a number would be an open file's
         return judge(file.read(files.LONGEST + 1))  # one byte more than the longest deck is refused as any longer file is
 
 
@@ -253,17 +273,17 @@ def compose(deck: Deck | native.Bytes, six: bool = False) -> Sheet:
 
 def measure(block: Block) -> Sheet:
     """The five fields of a block; raises `Refused`."""
-    return block.measure()
+    return of_kind(block, Block, "a block").measure()
 
 
 def contributions(block: Block) -> Contributions:
     """The common denominator, and each bond's share of W over it; raises `Refused`."""
-    return block.contributions()
+    return of_kind(block, Block, "a block").contributions()
 
 
 def values(block: Block, x: float) -> Values:
     """The even and the odd polynomial value at x; raises `Refused`."""
-    return block.values(x)
+    return of_kind(block, Block, "a block").values(x)
 
 
 def records(data: bytes) -> Iterator[tuple[int, int, bytes]]:

@@ -7,7 +7,7 @@
 
     [[block]]
     number = 2
-    molfile = "toluene.mol"         # or: neighbours = "toluene.txt"
+    molfile = "toluene.mol"         # or: neighbours = "toluene.txt", or a record of an SDF: sdf = "many.sdf" and record = 3
 
     [[placement]]
     block = 1
@@ -41,6 +41,7 @@ for all bytes.
 
 from __future__ import annotations
 
+import io
 import os
 import re
 import sys
@@ -48,12 +49,14 @@ import tomllib
 from collections.abc import Callable, Iterable, Iterator
 from typing import Any
 
+from . import sdf
 from .decks import SHORT_NAMES, Block, Deck, Placement, Sheet
 from .files import Found, Unread, shown as shown_name, text_of
 from .libraries import Library
 from .native import Refused
 
-_BLOCK_KEYS = {"number", "atoms", "bonds", "molfile", "neighbours"}
+_FILES = ("molfile", "neighbours", "sdf")  # what a block may be read from
+_BLOCK_KEYS = {"number", "atoms", "bonds", "record", *_FILES}
 _NUMBERS = {sign: re.compile(f"([0-9]{{1,9}}){sign}([0-9]{{1,9}})") for sign in "-@"}
 _PLACEMENT_KEYS = {"block", "parent", "parent_atom", "atom"}
 
@@ -137,7 +140,7 @@ def named_files(text: str, folder: str) -> list[str]:
         tables = _list(_parsed(text), "block")
     except BadText:
         return []
-    return [os.path.join(folder, str(table[key])) for table in tables for key in ("molfile", "neighbours") if key in table]
+    return [os.path.join(folder, str(table[key])) for table in tables for key in _FILES if key in table]
 
 
 def _file(path: str) -> bytes:
@@ -176,30 +179,42 @@ def _block(table: dict[str, Any], place: int, read: Callable[[str], bytes]) -> t
     what = f"block {place} of the text"
     _known(table, _BLOCK_KEYS, what)
     number = _number(table, "number", what)
-    named = [key for key in ("molfile", "neighbours") if key in table]
+    named = [key for key in _FILES if key in table]
+    if "record" in table and named != ["sdf"]:
+        raise BadText(f"{what} has `record`, which goes with `sdf`")
     if not named:
         return number, Block(_number(table, "atoms", what), _bonds(table, what))
     if len(named) > 1 or "bonds" in table or "atoms" in table:
-        raise BadText(f"{what} has more than one of bonds, molfile and neighbours")
-    make = Block.from_molfile if named == ["molfile"] else Block.from_neighbours
-    name = table[named[0]]
+        raise BadText(f"{what} has more than one of bonds, {', '.join(_FILES[:-1])} and {_FILES[-1]}")
+    (key,) = named
+    name = table[key]
     if not isinstance(name, str):
-        raise BadText(f"{what}: `{named[0]}` is no name of a file")
+        raise BadText(f"{what}: `{key}` is no name of a file")
+    what = f"{what}: {key} {shown_name(name)}"
     try:
-        data = read(name)
-        return number, make(data)
+        data = sdf.text(name, read(name)) if key != "neighbours" else read(name)
+        if key != "neighbours":
+            data = _record(data, _number(table, "record", what) if key == "sdf" else None, what)
+        return number, Block.from_neighbours(data) if key == "neighbours" else Block.from_molfile(data)
     except Refused as refusal:
-        raise BadText(f"{what}: {named[0]} {shown_name(name)}: {refusal}{line_of(data, refusal)}") from None
+        raise BadText(f"{what}: {refusal}{sdf.line_of(data, refusal)}") from None
     except Unread as fault:  # a name with a NUL in it, too
-        raise BadText(f"{what}: {named[0]} {shown_name(name)}: cannot be read: {fault}") from None
+        raise BadText(f"{what}: cannot be read: {fault}") from None
 
 
-def line_of(text: bytes, refusal: Refused) -> str:
-    """What helps who looks at a refused text in an editor: the line that the refusal is about, or that the file is a V3000 one."""
-    if refusal.number == 1 and b"V3000" in b"".join(text.split(b"\n", 4)[3:4]):
-        return " (the file says V3000, and V2000 is read)"
-    line = text[: refusal.place].count(b"\n") + 1
-    return f" (line {line})" if refusal.number in (21, 22, 25, 26, 27) else ""
+def _record(data: bytes, number: int | None, what: str) -> bytes:
+    """The record of an SDF by its number, from 1; without a number the one that a molfile is."""
+    count, found = 0, data
+    for piece in sdf.records(io.BytesIO(data).read):
+        count += 1
+        if piece.number == number:
+            return piece.data
+        if count == 2 and number is None:
+            raise BadText(f"{what}: it has more than one record: write sdf = .. and record = .. to say which")
+        found = piece.data
+    if number is None:
+        return found
+    raise BadText(f"{what}: it has no record {number}: there {'is' if count == 1 else 'are'} {count}, from 1 on")
 
 
 def _bonds(table: dict[str, Any], what: str) -> list[tuple[int, int]]:

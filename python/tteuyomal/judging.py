@@ -2,8 +2,11 @@
 
 from __future__ import annotations
 
+import csv
+import io
 import json
 import os
+from collections.abc import Sequence
 from typing import Any, NamedTuple
 
 from . import decks, files, native
@@ -13,7 +16,9 @@ from .native import Refused
 
 ACCEPTED, DIFFERS, REFUSED, UNREAD = "accepted", "differs", "refused", "cannot be read"
 WORDS = (ACCEPTED, DIFFERS, REFUSED, UNREAD)
-STATUS = {ACCEPTED: 0, DIFFERS: 1, REFUSED: 2, UNREAD: 2}
+NOT_READ, NO_CLAIM, NO_MOLECULE = "not read", "no claim", "no molecule"  # of molecules and rows of a table alone
+CLAIM_WORDS = (*WORDS, NOT_READ, NO_CLAIM, NO_MOLECULE)
+STATUS = dict.fromkeys(CLAIM_WORDS, 2) | {ACCEPTED: 0, DIFFERS: 1}
 NONE_JUDGED = 2  # the exit status where there was no deck
 
 
@@ -65,6 +70,12 @@ class Judged(NamedTuple):
         """The places, from 0, of the fields that are claimed wrongly."""
         return [k for k, (claim, number) in enumerate(zip(self.claimed, self.worked)) if claim != number]
 
+    def reason(self) -> str:
+        """What is wrong, in words; nothing where it is accepted."""
+        if self.word == DIFFERS:
+            return ", ".join(f"{FIELD_NAMES[k]} {self.claimed[k]} claimed, {self.worked[k]} worked out" for k in self.wrong())
+        return self.words or self.fault
+
     def json(self) -> str:
         """One object on one line."""
         said = about(self.name) | {"sha256": self.sha256 or None, "verdict": self.word}
@@ -78,6 +89,25 @@ class Judged(NamedTuple):
         if self.fault:
             said["fault"] = self.fault
         return json.dumps(said)
+
+
+    def columns(self) -> str:
+        """The names above the rows of a table."""
+        return row_of(["file", "sha256", "verdict", "words", *(f"{name}{end}" for name in decks.SHORT_NAMES for end in (" claimed", ""))])
+
+    def row(self) -> str:
+        """One row of a table."""
+        words = self.reason()
+        pairs = [number for pair in zip(self.claimed, self.worked) for number in pair]
+        cells = [files.shown(self.name), self.sha256, self.word, f"{self.verdict()}: {words}" if words else self.verdict(), *pairs]
+        return row_of([*cells, *[""] * (4 + 2 * len(decks.SHORT_NAMES) - len(cells))])
+
+
+def row_of(cells: Sequence[Any]) -> str:
+    """Cells as a row of a table."""
+    line = io.StringIO()
+    csv.writer(line, lineterminator="\n").writerow(cells)
+    return line.getvalue()
 
 
 def about(name: str) -> dict[str, Any]:
@@ -132,8 +162,9 @@ def worked_out(deck: bytes, count: int = 5) -> tuple[int, ...]:
 class Tally:
     """How many of each verdict there were, and the exit status that they make together."""
 
-    def __init__(self) -> None:
-        self.counts = dict.fromkeys(WORDS, 0)
+    def __init__(self, words: tuple[str, ...] = WORDS, what: str = "deck") -> None:
+        self.counts = dict.fromkeys(words, 0)
+        self.what = what
 
     def add(self, word: str, count: int = 1) -> None:
         """Counts a verdict."""
@@ -146,19 +177,24 @@ class Tally:
 
     @property
     def total(self) -> int:
-        """How many files there were."""
+        """How many verdicts there were."""
         return sum(self.counts.values())
 
     @property
+    def found(self) -> int:
+        """How many decks or molecules there were: a row of a table that names no molecule is none."""
+        return self.total - self.counts.get(NO_MOLECULE, 0)
+
+    @property
     def status(self) -> int:
-        """0 only if there was a deck and every one was read and accepted; the greater wins."""
+        """0 only if there was one and every one was read and accepted; the greater wins."""
         return max((STATUS[word] for word, count in self.counts.items() if count), default=NONE_JUDGED)
 
     def __str__(self) -> str:
         if not self.total:
-            return "no deck was judged"
+            return f"no {self.what} was judged"
         kinds = ", ".join(f"{count} {word}" for word, count in self.counts.items() if count)
-        return f"{self.total} {'deck' if self.total == 1 else 'decks'}: {kinds}"
+        return f"{self.found} {self.what}{'' if self.found == 1 else 's'}: {kinds}"
 
 
 __all__ = ["FIELD_NAMES", "Judged", "Sheet", "Tally", "Verdict", "judge_bytes", "judge_file", "named", "worked_out"]

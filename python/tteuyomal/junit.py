@@ -11,7 +11,7 @@ from typing import IO, NamedTuple
 from xml.sax.saxutils import escape, quoteattr
 
 from . import files
-from .judging import ACCEPTED, DIFFERS, FIELD_NAMES, Judged, Tally
+from .judging import ACCEPTED, DIFFERS, Judged, Tally
 from .notice import relative
 from .run import Run, unmet, unmet_names
 
@@ -28,9 +28,7 @@ def row(judged: Judged, folder: str) -> Row:
     name = files.shown(relative(judged.name, folder))
     if judged.word == ACCEPTED:
         return Row(judged.word, case(name))
-    words = judged.words or judged.fault
-    if judged.word == DIFFERS:
-        words = ", ".join(f"{FIELD_NAMES[k]} {judged.claimed[k]} claimed, {judged.worked[k]} worked out" for k in judged.wrong())
+    words = judged.reason()
     message = f"{judged.verdict()}: {words}" if words else judged.verdict()
     return Row(judged.word, case(name, "failure" if judged.word == DIFFERS else "error", judged.word, message))
 
@@ -80,9 +78,9 @@ def failed(run: Run, why: str) -> bytes:
 
 def _unmet(run: Run, tally: Tally, what: str) -> Iterator[str]:
     """What is wrong with the run as a whole, and each name that is not as it was expected."""
-    if not tally.total:
+    if not tally.found:
         yield case(f"{what}s", "error", "nothing", f"no {what} was judged")
-    if sentences := unmet(run.expected, tally.total, what):
+    if sentences := unmet(run.expected, tally.found, what):
         yield case("expected", "error", "expected", "; ".join(sentences))
     for words, name in unmet_names(run.expected):
         yield case(files.shown(name), "error", words, words)

@@ -74,8 +74,7 @@ class Library:
         core: int,
         sites: Iterable[tuple[int, Iterable[tuple[int, int]]]],
     ) -> None:
-        pairs = blocks.items() if isinstance(blocks, Mapping) else blocks
-        object.__setattr__(self, "blocks", tuple(pairs))
+        object.__setattr__(self, "blocks", decks.numbered(blocks))
         object.__setattr__(self, "core", core)
         object.__setattr__(self, "sites", tuple(Site(atom, tuple(Candidate(*one) for one in those)) for atom, those in sites))
 

@@ -1,30 +1,31 @@
-"""Every index of a molfile or a neighbour text that the library has."""
+"""Every index of a molfile, of each record of an SDF or of a neighbour text that the library has."""
 
 from __future__ import annotations
 
+import hashlib
+import io
 import json
 import os
-import re
-from collections.abc import Callable
-from typing import Any
+from collections.abc import Callable, Iterable, Iterator
+from typing import Any, NamedTuple
 
-from . import files, judging, native
+from . import files, judging, native, sdf
 from .decks import Block, Deck, Placement
-from .decktext import line_of
 from .files import Found, Unread
 from .native import NotThere, Refused
+from .sdf import MOLFILE, SDF
 
-MOLFILE, NEIGHBOURS = "molfile", "neighbours"
-ENDINGS = {".mol": MOLFILE, ".sdf": MOLFILE, ".sd": MOLFILE, ".mdl": MOLFILE, ".txt": NEIGHBOURS, ".nb": NEIGHBOURS}
+NEIGHBOURS = "neighbours"
+ENDINGS = {**sdf.ENDINGS, ".txt": NEIGHBOURS, ".nb": NEIGHBOURS}
 TREES_ONLY = 34
 
-# what is measured besides the five fields: its name, and how a block answers it
-INDICES: list[tuple[str, str, Callable[[Block], Any]]] = [
-    ("largest", "compose_six", lambda block: Deck({1: block}, [Placement(1)]).compose(six=True).largest),
-    ("J", "balaban", lambda block: "{}.{:09d}".format(*divmod(block.balaban(), 10**9))),
-    ("Szeged", "szeged", lambda block: block.szeged().index),
-    ("Hosoya", "count_sets", lambda block: block.sets().bonds),
-    ("Merrifield-Simmons", "count_sets", lambda block: block.sets().atoms),
+# what is measured besides the five fields: the C function, and how a block answers it. The largest distance is that of a deck of the one
+# block: no C function tells it of a lone block.
+INDICES: list[tuple[str, Callable[[Block], dict[str, Any]]]] = [
+    ("compose_six", lambda block: {"largest": Deck({1: block}, [Placement(1)]).compose(six=True).largest}),
+    ("balaban", lambda block: {"J": "{}.{:09d}".format(*divmod(block.balaban(), 10**9))}),
+    ("szeged", lambda block: {"Szeged": block.szeged().index}),
+    ("count_sets", lambda block: dict(zip(("Hosoya", "Merrifield-Simmons"), block.sets()))),
 ]
 
 
@@ -34,10 +35,10 @@ class Unknown(Exception):
 
 def form_of(name: str, form: str | None) -> str:
     """What a file is: what was said, or what its name ends in. Its bytes are not asked: to guess would hide a refusal."""
-    found = form or ENDINGS.get(os.path.splitext(name)[1].lower())
+    found = form or ENDINGS.get(os.path.splitext(sdf.plain(name))[1].lower())
     if found is None:
-        raise Unknown(f"its name ends in none of {' '.join(ENDINGS)}: say --as molfile or --as neighbours")
-    return found
+        raise Unknown(f"its name ends in none of {' '.join(ENDINGS)}: say --as molfile, --as sdf or --as neighbours")
+    return NEIGHBOURS if found == NEIGHBOURS else MOLFILE
 
 
 def read_block(data: bytes, form: str) -> Block:
@@ -45,21 +46,15 @@ def read_block(data: bytes, form: str) -> Block:
     return Block.from_neighbours(data) if form == NEIGHBOURS else Block.from_molfile(data)
 
 
-def more_records(data: bytes) -> int:
-    """How many records of an SDF stand behind the first: whatever is not blank behind a line that begins with `$$$$`."""
-    parts = re.split(rb"^\$\$\$\$[^\n]*\n?", data, flags=re.M)
-    return sum(bool(part.strip()) for part in parts[1:])
-
-
 def measured(block: Block) -> dict[str, Any]:
     """The indices by name. One that the library has no function for is left out, and those of trees for other blocks too."""
     sheet = block.measure()
     found: dict[str, Any] = {"atoms": sheet.atoms, "bonds": len(block.bonds), "W": sheet.w, "even": sheet.even}
     found |= {"odd": sheet.odd, "polarity": sheet.polarity}
-    for name, function, answer in INDICES:
+    for function, answer in INDICES:
         if native.has(function):
             try:
-                found[name] = answer(block)
+                found |= answer(block)
             except Refused as refusal:
                 if refusal.number != TREES_ONLY:
                     raise
@@ -80,23 +75,88 @@ def details(block: Block) -> dict[str, Any]:
     return found
 
 
-def measure_file(found: Found, form: str | None, as_json: bool) -> tuple[str, bool]:
-    """The line or the object of one file, and whether all of it was measured."""
-    said = judging.about(found.name)
-    name, data = said["file"], b""
+def kept(data: bytes, block: Block) -> list[int] | None:
+    """The numbers that a block's atoms have in its molfile, to be shown to who joins there. None where what is read here is not the block
+    that the library read."""
+    lines = data.split(b"\n")
     try:
-        kind = form_of(found.name, form)
-        data, said["sha256"] = files.text_of(found)
-        more = more_records(data) if kind == MOLFILE else 0
+        atoms, count = int(lines[3][:3]), int(lines[3][3:6])
+        light = [line[31:34].strip() == b"H" for line in lines[4 : 4 + atoms]]
+        pairs = [(int(line[:3]) - 1, int(line[3:6]) - 1) for line in lines[4 + atoms : 4 + atoms + count]]
+        near: list[list[int]] = [[] for _ in light]
+        for first, second in pairs:
+            near[first].append(second)
+            near[second].append(first)
+    except (ValueError, IndexError):
+        return None
+    left = [atom for atom, ends in enumerate(near) if not (light[atom] and len(ends) == 1 and not light[ends[0]])]
+    numbers = {atom: number for number, atom in enumerate(left, 1)}
+    same = Block(len(left), [(numbers[first], numbers[second]) for first, second in pairs if first in numbers and second in numbers])
+    return [atom + 1 for atom in left] if same == block else None
+
+
+class Record(NamedTuple):
+    """A record of an SDF on its way to be measured."""
+
+    file: str
+    number: int
+    data: bytes
+
+
+def texts(paths: Iterable[str], form: str | None) -> Iterator[Found | Record]:
+    """The files that are named, and of an SDF its records one after the other, however many."""
+    for found in files.find(paths):
+        if (form or ENDINGS.get(os.path.splitext(sdf.plain(found.name))[1].lower())) != SDF:
+            yield found
+            continue
+        count = 0
+        try:
+            for count, data in sdf.Reader(found):
+                yield Record(found.name, count, data)
+        except Unread as fault:
+            yield found._replace(fault=str(fault))
+            continue
+        if not count:
+            yield found._replace(fault="it has no record")
+
+
+def measure(text: Found | Record, form: str | None, as_json: bool) -> list[tuple[str, bool]]:
+    """The line or the object of each molecule of a file, and whether it was measured."""
+    if isinstance(text, Record):
+        return [_told(judging.about(text.file), text.number, text.data, MOLFILE, as_json, _sha256(text.data))]
+    said = judging.about(text.name)
+    try:
+        kind = form_of(text.name, form)
+        data, sha256 = files.text_of(text)
+        if kind == NEIGHBOURS:
+            return [_told(said, 0, data, kind, as_json, sha256)]
+        records = list(sdf.records(io.BytesIO(sdf.text(text.name, data)).read)) or [sdf.Piece(1, b"")]
+    except Unread as fault:
+        return [(json.dumps(said | {"fault": str(fault)}) if as_json else f"{said['file']}: cannot be read: {fault}", False)]
+    except (NotThere, Unknown) as fault:
+        return [(json.dumps(said | {"fault": str(fault)}) if as_json else f"{said['file']}: {fault}", False)]
+    if len(records) == 1:
+        return [_told(said, 0, records[0].data, kind, as_json, sha256)]
+    return [_told(said, number, data, kind, as_json, _sha256(data)) for number, data in records]
+
+
+def _sha256(data: bytes) -> str:
+    return hashlib.sha256(data).hexdigest()
+
+
+def _told(said: dict[str, Any], number: int, data: bytes, kind: str, as_json: bool, sha256: str) -> tuple[str, bool]:
+    """The line or the object of one text, or of one record of several, and whether it was measured."""
+    name = f"{said['file']}, record {number}" if number else said["file"]
+    said = said | {"sha256": sha256} | ({"record": number} if number else {})
+    try:
         block = read_block(data, kind)
         indices = measured(block)
-    except Unread as fault:
-        return (json.dumps(said | {"fault": str(fault)}) if as_json else f"{name}: cannot be read: {fault}"), False
     except Refused as refusal:
-        return (json.dumps(said | {"refusal": judging.told(refusal)}) if as_json else f"{name}: {refusal}{line_of(data, refusal)}"), False
-    except (NotThere, Unknown) as fault:
+        line = f"{name}: {refusal}{sdf.line_of(data, refusal)}"
+        return (json.dumps(said | {"refusal": judging.told(refusal)}) if as_json else line), False
+    except NotThere as fault:
         return (json.dumps(said | {"fault": str(fault)}) if as_json else f"{name}: {fault}"), False
-    unread = f"; {more} more {'record' if more == 1 else 'records'} not read" if more else ""
     if as_json:
-        return json.dumps(said | {"indices": indices} | details(block) | ({"records_not_read": more} if more else {})), not more
-    return f"{name}: {' '.join(f'{key} {value}' for key, value in indices.items())}{unread}", not more
+        listed = kept(data, block) if kind == MOLFILE else None
+        return json.dumps(said | {"indices": indices} | ({"atoms_listed": listed} if listed else {}) | details(block)), True
+    return f"{name}: {' '.join(f'{key} {value}' for key, value in indices.items())}", True

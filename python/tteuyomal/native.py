@@ -22,78 +22,22 @@ import os
 import struct
 from collections.abc import Iterable, Iterator
 from ctypes import c_char_p, c_double, c_size_t, c_uint8, c_uint16, c_uint64
-from typing import Any, NamedTuple
+from typing import Any
+
+from .replies import Contributions as Contributions
+from .replies import Fields as Fields
+from .replies import Ranked as Ranked
+from .replies import ReadBlock as ReadBlock
+from .replies import Record as Record
+from .replies import Sets as Sets
+from .replies import Six as Six
+from .replies import Span as Span
+from .replies import Szeged as Szeged
+from .replies import Values as Values
+from .replies import Vertex as Vertex
 
 Bonds = Iterable[tuple[int, int]] | bytes
 Bytes = Iterable[int]
-
-
-class Fields(NamedTuple):
-    """The five fields of a block or of a deck's molecule."""
-
-    atoms: int
-    w: int
-    even: int
-    odd: int
-    polarity: int
-
-
-class Six(NamedTuple):
-    """The five fields and the largest distance."""
-
-    atoms: int
-    w: int
-    even: int
-    odd: int
-    polarity: int
-    largest: int
-
-
-class Vertex(NamedTuple):
-    """An atom's sum of distances, its even and odd part, the atoms at even and odd distance, at distance 1 and at 2."""
-
-    sum: int
-    even: int
-    odd: int
-    even_count: int
-    odd_count: int
-    ones: int
-    twos: int
-
-
-class Contributions(NamedTuple):
-    """The common denominator D, and for each bond D times its contribution to W."""
-
-    denominator: int
-    shares: list[int]
-
-
-class Values(NamedTuple):
-    """The even and the odd polynomial value."""
-
-    even: float
-    odd: float
-
-
-class Szeged(NamedTuple):
-    """The Szeged index, and its terms bond by bond."""
-
-    index: int  # type: ignore[assignment]  # it hides the index of a tuple
-    terms: list[int]
-
-
-class Sets(NamedTuple):
-    """How many sets of bonds share no atom (Hosoya), and of atoms have no bond (Merrifield and Simmons)."""
-
-    bonds: int
-    atoms: int
-
-
-class ReadBlock(NamedTuple):
-    """A block that was read from a text: the atom count, and pairs of atom numbers."""
-
-    atoms: int
-    bonds: list[tuple[int, int]]
 
 
 # The words of the refusals in include/tteuyomal.h, by number; tests/test_words.py holds them together.
@@ -133,6 +77,10 @@ WORDS = {
     33: "a site's atom was used by an earlier site",
     34: "the block's bonds are not one fewer than its atoms",
     35: "the claim is of no field, or is cut off; at place 0: no such field as was asked about",
+    36: "there is no claim",
+    37: "the text is no number as the rules read it",
+    38: "the record has no such data item",
+    39: "the record has that data item twice",
 }
 
 
@@ -377,10 +325,11 @@ def judge(deck: Bytes) -> int:
     return _told(_judge(*_lent(deck)))
 
 
-def judge_reply(deck: bytes) -> int:
+def judge_reply(deck: Bytes) -> int:
     """The reply as C has it: 0 accepted, 255 + 256 k where field k is the first wrong one, else the refusal's number + 256 times
     its place."""
-    reply: int = _judge(deck, len(deck))
+    data = deck if type(deck) is bytes else _bytes(deck)
+    reply: int = _judge(data, len(data))
     return reply
 
 
@@ -546,14 +495,6 @@ def library_products(deck: Bytes, kind: int = 3, start: int = 0) -> Iterator[byt
         yield from sheets
 
 
-class Ranked(NamedTuple):
-    """A product among the best: its value, the tag of its deck, and its position there."""
-
-    value: int
-    tag: int
-    position: int
-
-
 class Best:
     """The best products so far by one field, 1 to 6 as in `SHEET_NAMES`: those of the smallest values, or the greatest. Equal ones stand
     in the order in which they came."""
@@ -608,7 +549,7 @@ def write_neighbours(atoms: int, bonds: Bonds) -> bytes:
     return _write_text(_write_neighbours, atoms, bonds)
 
 
-TABLE_BYTES = 49_408  # of a table of sixteen blocks, eight for each queue
+TABLE_BYTES = 8_448  # of a table of sixteen blocks, eight for each queue
 DAY, NIGHT = 0, 1
 
 
@@ -649,3 +590,58 @@ def queue_compose(table: bytearray, queue: int, record: Bytes, kind: int = 3) ->
     out = (c_uint8 * room)()
     _told(_queue_compose(*_table(table), _size(queue, "the queue"), kind, *_lent(record, "a record"), out, room))
     return bytes(out)
+
+
+# ---- claims and records of an SDF ----
+
+_judge_claims = _function("judge_claims", _DECK + _TEXT)
+_judge_block = _function("judge_block", _BLOCK + _TEXT)
+_sdf_record = _function("sdf_record", _TEXT + [c_size_t] + _NUMBERS)
+_sdf_item = _function("sdf_item", _TEXT + _TEXT + _NUMBERS)
+
+Claims = Iterable[tuple[int, str]] | bytes
+CLAIM_NAMES = (*SHEET_NAMES, "Szeged index", "Hosoya index", "Merrifield-Simmons index", "Balaban's J")
+
+
+def claim_bytes(claims: Iterable[tuple[int, str]]) -> bytes:
+    """Claims as C takes them; each is a field's number, from 1 as in `CLAIM_NAMES`, and the text that a program printed for it."""
+    written = bytearray()
+    for place, (field, text) in enumerate(claims, 1):
+        if not isinstance(text, str):
+            raise TypeError(f"claim {place} is no text that was printed: {text!r}")
+        printed = text.encode("utf-8", "surrogateescape")
+        head = (field, f"the field of claim {place}"), (len(printed), f"the bytes of claim {place}")
+        written += bytes(_exactly(n, what, 255) for n, what in head) + printed
+    return bytes(written)
+
+
+def _claims(claims: Claims) -> list[Any]:
+    if isinstance(claims, (bytes, bytearray, memoryview)):
+        return _lent(claims, "a list of claims")
+    return _lent(claim_bytes(claims))
+
+
+def judge_claims(deck: Bytes, claims: Claims) -> int:
+    """0 when all claims of the molecule of a deck without a sheet are right, else the number of the first wrong one, from 1."""
+    return _told(_judge_claims(*_lent(deck), *_claims(claims)))
+
+
+def judge_block(atoms: int, bonds: Bonds, claims: Claims) -> int:
+    """The same of a lone block."""
+    return _told(_judge_block(*_block(atoms, bonds), *_claims(claims)))
+
+
+def sdf_record(text: Bytes, start: int = 0) -> Record | None:
+    """The record of an SDF that begins at a byte; None where only blanks, tabs, CR and LF are left."""
+    span = (c_uint64 * 3)()
+    reply = _sdf_record(*_lent(text, "an SDF"), _size(start, "the first byte"), span, 3)
+    if reply % 256 == 254:
+        return None
+    _told(reply)
+    return Record(*span)
+
+
+def sdf_item(record: Bytes, name: str | Bytes) -> Span:
+    """Where the value of the data item of a name stands in a record."""
+    asked = name.encode("utf-8", "surrogateescape") if isinstance(name, str) else name
+    return Span(*_numbers(_sdf_item, _lent(record, "a record") + _lent(asked, "a name"), 2))

@@ -105,10 +105,14 @@ def head(run: Run, tally: Tally, what: str = "deck") -> Iterator[str]:
     for kind, name, sha256 in run.inputs:
         yield f"{kind.capitalize()}: {files.shown(name)}, SHA-256 {sha256}\n"
     yield f"Expected: {expectation(run)}\n"
-    yield f"{what.capitalize()}s: {tally.total}\n\n"
-    yield sentence(run, tally, what) + "\n"
+    yield f"{_counted(what)}: {tally.found}\n"
+    if tally.total > tally.found:
+        yield f"Rows of the table with no molecule: {tally.total - tally.found}\n"
+    yield "\n" + sentence(run, tally, what) + "\n"
     yield from (f"  {words}: {files.shown(name)}\n" for words, name in unmet_names(run.expected))
-    if tally.total:
+    if tally.total and what != "deck":
+        yield f"\nEach SHA-256 is that of a {what}'s record, and stands under its verdict; that of a molfile is its file's.\n"
+    elif tally.total:
         yield f"\nEach SHA-256 stands under the verdict of its {what}. `sha256sum -c` in the folder checks these lines, `tteuyomal verify`\n"
         yield "judges again.\n"
 
@@ -122,17 +126,24 @@ def expectation(run: Run) -> str:
 
 def sentence(run: Run, tally: Tally, what: str = "deck") -> str:
     """What the verdicts are together. That all were accepted is said only if it is so, and if all came that were expected."""
-    wrong = unmet(run.expected, tally.total, what)
-    if not tally.total:
+    wrong = unmet(run.expected, tally.found, what)
+    if not tally.found:
         return "; ".join([f"No {what} was judged", *wrong]) + "."
     accepted = tally.counts[ACCEPTED]
     if accepted == tally.total and not wrong:
         which = f"The one {what} was" if accepted == 1 else f"All {accepted} {what}s were"
+        if what != "deck":
+            return f"{which} checked and accepted: what was printed of each is what the library works out from it. Nothing else was judged."
         return f"{which} checked and accepted: the fields of each sheet are those that the library works out from its {what}."
     others = [f"{word}: {count}" for word, count in tally.counts.items() if count and word != ACCEPTED]
     not_accepted = f"Not accepted: {tally.total - accepted} of {tally.total} ({', '.join(others)}). " if others else ""
     unmet_words = f"Not as expected: {', '.join(wrong)}. " if wrong else ""
     return f"{unmet_words}{not_accepted}Accepted: {accepted}."
+
+
+def _counted(what: str) -> str:
+    """What stands before the number of decks or molecules; a molecule file has a line of its own."""
+    return "Decks" if what == "deck" else f"Judged {what}s"
 
 
 class Read(NamedTuple):
@@ -154,6 +165,8 @@ def read(text: str) -> Read:
     lines = text.split("\n")
     if not lines[0].startswith("Notice of judged "):
         raise NoNotice("it does not begin as a notice does")
+    if lines[0] != "Notice of judged decks":
+        raise NoNotice("it is a notice of molecules: `tteuyomal check` of the same files makes it again")
     found = re.search(rf"^{LIBRARY}([0-9a-f]*)$", text, re.M), re.search(r"^Decks: (\d{1,18})$", text, re.M)
     if found[0] is None or found[1] is None:
         raise NoNotice("it does not say which library judged, and how many decks")

@@ -6,16 +6,17 @@ from __future__ import annotations
 import contextlib
 import importlib
 import itertools
+import tempfile
 from collections.abc import Iterable, Sequence
 from typing import Any
 
 from . import files
-from .judging import Judged, Tally
+from .judging import Tally
 from .run import Run
 
 # in the order in which they are written: the module that makes each. It has `row`, asked in the processes that judge, `Page`, to which
 # rows are added, and perhaps `failed`. A module is loaded where its file is asked for: the board's takes RDKit along.
-FORMS = {"json": "objects", "junit": "junit", "board": "board", "notice": "notice"}
+FORMS = {"json": "objects", "csv": "rows", "junit": "junit", "board": "board", "notice": "notice"}
 
 
 def module(form: str) -> Any:
@@ -23,7 +24,7 @@ def module(form: str) -> Any:
     return importlib.import_module(f".{FORMS[form]}", __package__)
 
 
-def rows(judged: Sequence[Judged], folder: str, forms: Iterable[str]) -> dict[str, list[Any]]:
+def rows(judged: Sequence[Any], folder: str, forms: Iterable[str]) -> dict[str, list[Any]]:
     """What each form needs of some decks."""
     return {form: [module(form).row(one, folder) for one in judged] for form in forms}
 
@@ -48,9 +49,13 @@ class Outputs:
 
     def add(self, rows: dict[str, list[Any]]) -> None:
         """Adds some decks."""
-        for form, those in rows.items():
-            for row in those:
-                self.pages[form].add(row)
+        try:
+            for form, those in rows.items():
+                for row in those:
+                    self.pages[form].add(row)
+        except OSError as fault:  # what a page keeps until it is written
+            kept = files.shown(tempfile.gettempdir())
+            raise files.Unwritten(f"{kept}, the folder for temporary files: cannot be written: {files.reason(fault)}") from None
 
     def write(self, tally: Tally, run: Run) -> None:
         """Writes all files; the run says by now what was expected."""

@@ -24,6 +24,7 @@ class Queue:
 
     def add(self, number: int, block: Block) -> None:
         """Adds a block under a number of this queue: 14 for number 0, 29 for one that it holds, 28 where it holds eight."""
+        block = decks.of_kind(block, Block, "a block")
         native.queue_add(self._table, self._which, number, block.atoms, block.bonds)
 
     def look(self, number: int) -> Sheet:
@@ -37,7 +38,7 @@ class Queue:
     def compose(self, placements: Iterable[Placement], six: bool = False) -> Sheet:
         """The fields of the whole molecule of placements of this queue's blocks, with its largest distance if `six`; 16 for a
         number that it does not hold."""
-        record = native.assembly_record(one.numbers() for one in placements)
+        record = native.assembly_record(decks.of_kind(one, Placement, "a placement").numbers() for one in placements)
         sheet = native.queue_compose(self._table, self._which, record, decks.SIX if six else decks.SHEET)
         return Sheet(*decks.claimed(sheet)[1])
 

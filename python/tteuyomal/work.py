@@ -54,7 +54,12 @@ def over(
 ) -> Generator[Answer, None, None]:
     """The function's answer for each batch of items, in order, by so many processes. A process that ends before its work is done
     stops the command."""
-    tasks = batches(items, size)
+    yield from each(function, batches(items, size), jobs)
+
+
+def each(function: Callable[[Any], Answer], tasks: Iterable[Any], jobs: int) -> Generator[Answer, None, None]:
+    """The function's answer for each task, in order, by so many processes."""
+    tasks = iter(tasks)
     first = list(itertools.islice(tasks, 2))
     if jobs == 1 or len(first) < 2:
         yield from map(function, itertools.chain(first, tasks))
@@ -184,9 +189,13 @@ class Progress:
         told("\r" + text.ljust(self.width))
         self.width = len(text)
 
-    def end(self, text: str) -> None:
-        """Takes the line away and says what came out, on a terminal and in a log."""
+    def clear(self) -> None:
+        """Takes the line away."""
         if self.width:
             self._put("")
             told("\r")
+
+    def end(self, text: str) -> None:
+        """Takes the line away and says what came out, on a terminal and in a log."""
+        self.clear()
         told(text + "\n")

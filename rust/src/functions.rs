@@ -193,4 +193,22 @@ extern "C" {
         out: *mut u8,
         out_len: usize,
     ) -> u64;
+    pub fn tteuyomal_judge_claims(deck: *const u8, deck_len: usize, claims: *const u8, claims_len: usize) -> u64;
+    pub fn tteuyomal_judge_block(
+        atoms: usize,
+        bonds: *const u8,
+        bonds_len: usize,
+        claims: *const u8,
+        claims_len: usize,
+    ) -> u64;
+    pub fn tteuyomal_sdf_record(text: *const u8, text_len: usize, from: usize, span: *mut u64, span_len: usize) -> u64;
+    #[rustfmt::skip]
+    pub fn tteuyomal_sdf_item(
+        record: *const u8,
+        record_len: usize,
+        name: *const u8,
+        name_len: usize,
+        span: *mut u64,
+        span_len: usize,
+    ) -> u64;
 }

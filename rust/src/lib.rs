@@ -11,18 +11,22 @@
 //! ```
 
 mod block;
+mod claims;
 mod deck;
 mod functions;
 mod library;
 mod reply;
+mod sdf;
 mod table;
 mod text;
 
 pub use block::{balaban, check_block, contributions, count_sets, farthest, indices, polynomial, szeged, vertex};
 pub use block::{Contributions, Sets, Szeged};
+pub use claims::{judge_block, judge_claims, Claims, Field};
 pub use deck::{compose, compose_six, judge, placed_distance, write_sheet, write_six, Kind};
 pub use library::{library_best, library_count, library_run, library_step, Ranked};
 pub use reply::{Refusal, Verdict};
+pub use sdf::{sdf_item, sdf_record, sdf_records};
 pub use table::{Queue, Table};
 pub use text::{read_molfile, read_neighbours, write_molfile, write_neighbours, Block};
 

@@ -114,4 +114,8 @@ const WORDS: &[&str] = &[
     "a site's atom was used by an earlier site",
     "the block's bonds are not one fewer than its atoms",
     "the claim is of no field, or is cut off; at place 0: no such field as was asked about",
+    "there is no claim",
+    "the text is no number as the rules read it",
+    "the record has no such data item",
+    "the record has that data item twice",
 ];

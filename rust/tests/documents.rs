@@ -70,3 +70,28 @@ fn queues() {
     let sheet = table.compose(Queue::Day, Kind::Six, &deck()[22..]).unwrap();
     assert_eq!(sheet, write_six(&deck()).unwrap());
 }
+
+#[test]
+fn claims() {
+    let six = Claims::new().claim(Field::Atoms, "12").claim(Field::W, " 198.0").claim(Field::Largest, "7");
+    assert_eq!(judge_claims(&deck(), &six), Verdict::Accepted);
+    assert_eq!(judge_claims(&deck(), &six.claim(Field::Polarity, "13")), Verdict::Differs(4));
+    assert_eq!(judge_claims(&deck(), &Claims::new()), Verdict::Refused(Refusal { number: 36, place: 0 }));
+    assert_eq!(judge_block(6, &RING, &Claims::new().claim(Field::Balaban, "2.0")), Verdict::Accepted);
+    let long = Claims::new().claim(Field::W, &"0".repeat(300));
+    assert_eq!(judge_block(6, &RING, &long), Verdict::Refused(Refusal { number: 37, place: 1 }));
+    let hosoya = Claims::new().claim(Field::W, "27").claim(Field::Hosoya, "18");
+    assert_eq!(judge_block(6, &RING, &hosoya), Verdict::Refused(Refusal { number: 34, place: 0 }));
+}
+
+#[test]
+fn sdf() {
+    let mut text = write_molfile(6, &RING).unwrap();
+    text.extend(b"> <W>\n27\n\n$$$$\n");
+    let again = [&text[..], &text, b"\r\n"].concat();
+    let records: Vec<&[u8]> = sdf_records(&again).collect();
+    assert_eq!(records, [&text[..text.len() - 5]; 2]);
+    assert_eq!(sdf_item(records[0], b"W"), Ok(&b"27"[..]));
+    assert_eq!(sdf_item(records[0], b"w"), Err(Refusal { number: 38, place: 0 }));
+    assert_eq!(sdf_record(&again, again.len() - 2), None);
+}

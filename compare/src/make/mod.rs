@@ -1,6 +1,7 @@
 //! Makers of blocks and decks: named shapes, random ones, damaged ones, and one for each refusal number.
 
 pub mod blocks;
+pub mod claims;
 pub mod damage;
 pub mod damage_bytes;
 pub mod damage_library;
@@ -12,5 +13,6 @@ pub mod neighbours;
 pub mod plan;
 pub mod random;
 pub mod relisted;
+pub mod sdf;
 pub mod shapes;
 pub mod specimens;

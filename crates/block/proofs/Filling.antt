@@ -16,7 +16,7 @@ use Rattle.half.specs.Half.{allPairs, abovePlace, halfWithRow}
 use Rattle.half.specs.Places.{Pair}
 use Rattle.half.specs.Rows.{row-size, row-same, row-past, row-other}
 use Rattle.block.specs.Block.{mostAtoms, graphOf, blockReply}
-use Rattle.block.specs.Rows.{table, rowOf, noRow, saidRow, rowReply, farOf, halfTable}
+use Rattle.block.specs.Rows.{table, rowOf, noRow, saidRow, rowReply, farOf, halfTable, unlessRefused}
 use Rattle.block.specs.Tables.{length-table, getD-table}
 use Rattle.block.specs.Opened.{neighboursOf, openedReply, saidOpened}
 use Rattle.block.specs.Near.{ReadyBlock}
@@ -116,9 +116,12 @@ module _ (n : ℕ) (xs : List ℕ) where
       fill-end (λ k. saidRow (rowReply n xs (suc k)) .largest) n (λ k l. sym (within k l)) (λ k l m. sym (beyond k l)) far (P .largest),
     )
 
-  pub refused-far : (r : Refusal) → blockReply n xs ≡ refused r → noRow ≡ farOf n xs
-  unfolding farOf rowReply table
-  refused-far r e = rw e
+  -- what is lent after a block that is refused, and after one that is not
+  pub kept : (r : Refusal) → blockReply n xs ≡ refused r → (old new : List ℕ) → old ≡ unlessRefused (blockReply n xs) old new
+  kept r e old new = rw e
+
+  pub stored : blockReply n xs ≡ read tt → (old new now : List ℕ) → now ≡ new → now ≡ unlessRefused (blockReply n xs) old new
+  stored e old new now p = rw e p
 
   module _ (i : ℕ) (v : OneRow) where
     pub row-refused : (r : Refusal) → blockReply n xs ≡ refused r → v .reply ≡ Refused r → v .row ≡ noRow → v .largest ≡ 0 → v ≡ saidRow (rowReply n xs i)

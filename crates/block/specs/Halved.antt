@@ -17,7 +17,7 @@ use Rattle.half.specs.Half.{allPairs, abovePlace, noPair, halfAt, halfRow, half
 use Rattle.half.specs.Places.{Pair}
 use Rattle.half.specs.Reads.{half-ext, length-half, half-reads, Halved, half-is-rows}
 use Rattle.block.specs.Block.{mostAtoms, graphOf, blockReply}
-use Rattle.block.specs.Rows.{table, rowOf, noRow, saidRow, rowReply, rowsOf, distanceAt, halfTable}
+use Rattle.block.specs.Rows.{table, rowOf, noRow, saidRow, rowReply, rowsOf, farOf, distanceAt, halfTable, unlessRefused, halfAfter, farAfter}
 use Rattle.block.specs.Tables.{length-table, getD-table}
 use Rattle.block.specs.Lent.{zeros}
 use Rattle.block.specs.Faults.{inside}
@@ -165,6 +165,25 @@ module _ (n : ℕ) (xs : List ℕ) where
   table-refused r e =
       half-ext (replicate allPairs 0) (halfOf (distanceAt (rowsOf n xs))) (length-replicate {A = ℕ} allPairs 0) (length-half (distanceAt (rowsOf n xs)))
       (λ i j p. zeros allPairs (abovePlace i j) ∙ sym (half-reads (distanceAt (rowsOf n xs)) p ∙ at-refused r e (pair-one p) (pair-two p)))
+
+  pub far-refused : (r : Refusal) → blockReply n xs ≡ refused r → noRow ≡ farOf n xs
+  unfolding farOf rowReply table
+  far-refused r e = rw e
+
+  -- lent all 0, they are the half and what is farthest, whatever is told of the block
+  pub half-lent : halfAfter n xs (replicate allPairs 0) ≡ halfTable n xs
+  half-lent = go (blockReply n xs) refl
+    where
+      go : (m : Read (Unit {0})) → blockReply n xs ≡ m → unlessRefused m (replicate allPairs 0) (halfTable n xs) ≡ halfTable n xs
+      go (refused r) e = table-refused r e
+      go (read u) e = refl
+
+  pub far-lent : farAfter n xs noRow ≡ farOf n xs
+  far-lent = go (blockReply n xs) refl
+    where
+      go : (m : Read (Unit {0})) → blockReply n xs ≡ m → unlessRefused m noRow (farOf n xs) ≡ farOf n xs
+      go (refused r) e = far-refused r e
+      go (read u) e = refl
 
   module _ (fine : blockReply n xs ≡ read tt) where
     pub table-distance : {i j : ℕ} → Within n i → Within n j → halfAt (halfTable n xs) i j ≡ distance (graphOf n xs) i j

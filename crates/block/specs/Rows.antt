@@ -46,3 +46,14 @@ distanceAt rows i j = cond (isOutside mostAtoms i || isOutside mostAtoms j) 0 (g
 -- half of the rows
 unfoldable pub halfTable : ℕ → List ℕ → List ℕ
 halfTable n xs = halfOf (distanceAt (rowsOf n xs))
+
+-- what is lent after a block was read into it: a refused one changes nothing
+abbrev pub unlessRefused : Read (Unit {0}) → List ℕ → List ℕ → List ℕ
+unlessRefused (refused r) old new = old
+unlessRefused (read u) old new = new
+
+abbrev pub halfAfter : ℕ → List ℕ → List ℕ → List ℕ
+halfAfter n xs old = unlessRefused (blockReply n xs) old (halfTable n xs)
+
+abbrev pub farAfter : ℕ → List ℕ → List ℕ → List ℕ
+farAfter n xs old = unlessRefused (blockReply n xs) old (farOf n xs)

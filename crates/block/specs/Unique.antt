@@ -6,7 +6,7 @@ use Rattle.half.specs.Half.{halfAt}
 use Rattle.reply.specs.Read.{saidReply}
 use Rattle.reply.specs.Chain.{unique}
 use Rattle.block.specs.Block.{mostAtoms, blockReply}
-use Rattle.block.specs.Rows.{rowsOf, farOf, halfTable, rowReply, saidRow}
+use Rattle.block.specs.Rows.{halfTable, halfAfter, farAfter, rowReply, saidRow}
 use Rattle.block.specs.Opened.{openedReply, saidOpened}
 use Rattle.block.specs.Index.{indicesReply, saidIndices, vertexReply, saidVertex, distanceReply, saidDistance, pairsReply, saidPairs}
 use Rattle.block.specs.Sums.{entry, indicesBy, vertexBy}
@@ -24,19 +24,16 @@ module _ (n : ℕ) (xs : List ℕ) where
   pub unique-check : (r s : Reply) → r ≡ saidReply (blockReply n xs) → s ≡ saidReply (blockReply n xs) → r ≡ s
   unique-check r s = unique
 
-  pub unique-rows : (r s : List (List ℕ)) → r ≡ rowsOf n xs → s ≡ rowsOf n xs → r ≡ s
-  unique-rows r s = unique
-
   pub unique-neighbours : (r s : Opened) → r ≡ saidOpened (openedReply n xs) → s ≡ saidOpened (openedReply n xs) → r ≡ s
   unique-neighbours r s = unique
 
-  -- the reply, and the lent half and largest distances
-  pub unique-table : (r s : Opened) (p q u v : List ℕ) → (r ≡ saidOpened (openedReply n xs)) × (p ≡ halfTable n xs) × (u ≡ farOf n xs)
-      → (s ≡ saidOpened (openedReply n xs)) × (q ≡ halfTable n xs) × (v ≡ farOf n xs) → (r ≡ s) × (p ≡ q) × (u ≡ v)
-  unique-table r s p q u v x y = (unique (x .0) (y .0), unique (x .1) (y .1), unique (x .2) (y .2))
+  -- the reply, and the lent half and largest distances, h and f before
+  pub unique-table : (h f : List ℕ) (r s : Opened) (p q u v : List ℕ) → (r ≡ saidOpened (openedReply n xs)) × (p ≡ halfAfter n xs h) × (u ≡ farAfter n xs f)
+      → (s ≡ saidOpened (openedReply n xs)) × (q ≡ halfAfter n xs h) × (v ≡ farAfter n xs f) → (r ≡ s) × (p ≡ q) × (u ≡ v)
+  unique-table h f r s p q u v x y = (unique (x .0) (y .0), unique (x .1) (y .1), unique (x .2) (y .2))
 
-  pub unique-distances : (p q u v : List ℕ) → (p ≡ halfTable n xs) × (u ≡ farOf n xs) → (q ≡ halfTable n xs) × (v ≡ farOf n xs) → (p ≡ q) × (u ≡ v)
-  unique-distances p q u v x y = (unique (x .0) (y .0), unique (x .1) (y .1))
+  pub unique-distances : (f p q u v : List ℕ) → (p ≡ halfTable n xs) × (u ≡ farAfter n xs f) → (q ≡ halfTable n xs) × (v ≡ farAfter n xs f) → (p ≡ q) × (u ≡ v)
+  unique-distances f p q u v x y = (unique (x .0) (y .0), unique (x .1) (y .1))
 
   pub unique-row : (i : ℕ) (r s : OneRow) → r ≡ saidRow (rowReply n xs i) → s ≡ saidRow (rowReply n xs i) → r ≡ s
   unique-row i r s = unique

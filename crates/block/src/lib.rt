@@ -1,11 +1,11 @@
 // One block: its refusals 1 to 7, its distances, indices and vertex sums.
 ghost use mathlib.Core.Path.{_≡_};
-ghost use Prim.Native.Nat.{suc, min};
+ghost use Prim.Native.Nat.{min};
 ghost use lib.ListN.{replicate};
 ghost use Rattle.reply.specs.Read.{refusal, saidReply};
 ghost use Rattle.block.specs.Block.{mostAtoms, blockReply};
-ghost use Rattle.half.specs.Half.{allPairs, table, halfAt, halfRow};
-ghost use Rattle.block.specs.Rows.{noRow, rowsOf, farOf, halfTable, rowReply, saidRow};
+ghost use Rattle.half.specs.Half.{allPairs, halfAt};
+ghost use Rattle.block.specs.Rows.{noRow, halfTable, halfAfter, farAfter, rowReply, saidRow};
 ghost use Rattle.block.specs.Index.{indicesReply, saidIndices, vertexReply, saidVertex, distanceReply, saidDistance, pairsReply, saidPairs};
 ghost use Rattle.block.specs.Sums.{entry, indicesBy, vertexBy};
 ghost use Rattle.block.specs.Opened.{openedReply, saidOpened};
@@ -30,10 +30,8 @@ pub const LIMIT: usize = 6;
 
 pub const BYTES: usize = ATOMS * LIMIT;
 
-// The distances from one atom, and those from all, the distance matrix: that of atoms i and j stands in row i - 1 at j - 1. Inside, half of it is kept.
+// The distances from one atom, that to atom j at j - 1.
 pub type DistanceRow = [u8; ATOMS];
-
-pub type DistanceMatrix = [DistanceRow; ATOMS];
 
 // How far the farthest atom is from each: from atom i at i - 1.
 pub type Farthest = [u8; ATOMS];
@@ -169,72 +167,47 @@ pub fn check(n: usize, bonds: &[u8]) -> Reply
     admit(n, bonds, &mut near)
 }
 
-// The rows that a half says.
-fn square(half: &Half) -> DistanceMatrix
-    ensures { λ r. ⌜ r ≡ table mostAtoms (λ i. halfRow (now (half .entry)) (suc i)) ⌝ }
-{
-    let mut rows = [[0u8; ATOMS]; ATOMS];
-    let mut i = 0;
-    while i < ATOMS {
-        rows[i] = half::row(half, i + 1);
-        i += 1;
-    }
-    rows
-}
-
-// Half of the distances of a block and how far the farthest is from each atom, in what is lent, the half all 0 before.
+// Half of the distances of a block and how far the farthest is from each atom, in what is lent, the half all 0 before. A refused block changes nothing.
 fn fill(n: usize, bonds: &[u8], out: &mut [u8], far: &mut Farthest)
     requires { ⌜ now out ≡ replicate allPairs 0 ⌝ }
     ensures half { λ _. ⌜ now (out .exit) ≡ halfTable n (now (bonds .entry)) ⌝ }
-    ensures far { λ _. ⌜ now (far .exit) ≡ farOf n (now (bonds .entry)) ⌝ }
+    ensures far { λ _. ⌜ now (far .exit) ≡ farAfter n (now (bonds .entry)) (now (far .entry)) ⌝ }
 {
     let mut near = [0u64; ATOMS];
     let reply = admit(n, bonds, &mut near);
     let Reply::Fine = reply else {
-        *far = [0u8; ATOMS];
         return;
     };
     search::from_all(&near, n, out, far);
 }
 
-// Half of the distances of a block, and in what is lent how far the farthest is from each atom. All is 0 beyond the atoms, and where the block
-// is refused.
+// Half of the distances of a block, all 0 where it is refused, and in what is lent how far the farthest is from each atom, 0 beyond them. A refused
+// block changes nothing that is lent.
 pub fn distances(n: usize, bonds: &[u8], far: &mut Farthest) -> Half
     ensures half { λ r. ⌜ r ≡ halfTable n (now (bonds .entry)) ⌝ }
-    ensures far { λ _. ⌜ now (far .exit) ≡ farOf n (now (bonds .entry)) ⌝ }
+    ensures far { λ _. ⌜ now (far .exit) ≡ farAfter n (now (bonds .entry)) (now (far .entry)) ⌝ }
 {
     let mut half = [0u8; PAIRS];
     fill(n, bonds, &mut half, far);
     half
 }
 
-// The distances of a block: those from atom i are row i - 1, and that to atom j stands there at j - 1. All is 0 beyond the atoms, and
-// where the block is refused.
-pub fn rows(n: usize, bonds: &[u8]) -> DistanceMatrix
-    ensures { λ r. ⌜ r ≡ rowsOf n (now (bonds .entry)) ⌝ }
-{
-    let mut far = [0u8; ATOMS];
-    let half = distances(n, bonds, &mut far);
-    square(&half)
-}
-
-// The reply to a block and its neighbours; and in what is lent half of its distances, and how far the farthest is from each atom. All is 0
-// beyond the atoms, and where the block is refused.
+// The reply to a block and its neighbours; and in what is lent half of its distances, and how far the farthest is from each atom, all 0 beyond
+// the atoms. A refused block changes nothing that is lent.
 pub fn table(n: usize, bonds: &[u8], half: &mut Half, far: &mut Farthest) -> Opened
     ensures reply { λ r. ⌜ r ≡ saidOpened (openedReply n (now (bonds .entry))) ⌝ }
-    ensures half { λ _. ⌜ now (half .exit) ≡ halfTable n (now (bonds .entry)) ⌝ }
-    ensures far { λ _. ⌜ now (far .exit) ≡ farOf n (now (bonds .entry)) ⌝ }
+    ensures half { λ _. ⌜ now (half .exit) ≡ halfAfter n (now (bonds .entry)) (now (half .entry)) ⌝ }
+    ensures far { λ _. ⌜ now (far .exit) ≡ farAfter n (now (bonds .entry)) (now (far .entry)) ⌝ }
 {
     let mut near = [0u64; ATOMS];
     let reply = admit(n, bonds, &mut near);
-    *half = [0u8; PAIRS];
     let Reply::Fine = reply else {
-        *far = [0u8; ATOMS];
         return Opened {
             reply,
             near: [0u64; ATOMS],
         };
     };
+    *half = [0u8; PAIRS];
     search::from_all(&near, n, half, far);
     Opened { reply, near }
 }

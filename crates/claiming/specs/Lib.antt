@@ -10,9 +10,10 @@
 -- | `bytesOf ps`        | the bytes of printouts: field, length, text                                      |                                                                                  |
 -- | `Claimed P cs`      | cs are the bytes of one printout or more, of which each is P                     |                                                                                  |
 pub mod Claims
+pub mod Asked
 pub mod Work
 pub mod Printout
 pub mod Going
 pub mod Listed
-pub mod Asked
+pub mod Alike
 pub mod Headline

@@ -35,7 +35,8 @@ use Rattle.sets.specs.declared.SetsReply.the-variants as setsAnswer
 use Rattle.balaban.specs.Balaban.{bondCount, divisor, reckoned, balabanReply, saidBalaban}
 use Rattle.balaban.specs.declared.BalabanReply.the-variants as fineAnswer
 use Rattle.claiming.specs.Claims.{truth, fieldOf, claimsReply}
-use Rattle.claiming.specs.Asked.{asks, AlikeIn, told-alike}
+use Rattle.claiming.specs.Asked.{asks}
+use Rattle.claiming.specs.Alike.{AlikeIn, told-alike}
 use Rattle.claims.specs.Molecules.{deckTruth, deckClaimsReply, isTree, ofTree, blockFields, fineAbove, blockTruth, blockClaimsReply}
 
 -- of a deck

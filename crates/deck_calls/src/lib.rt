@@ -23,15 +23,22 @@ fn field_of(k: usize) -> u64
     255 + 256 * ((k % PLACES) as u64)
 }
 
-pub fn judge(deck: &[u8]) -> u64
-    ensures { λ r. ⌜ r ≡ verdictCode (saidVerdict (judgeReply (now (deck .entry)))) ⌝ }
+// A verdict as one number.
+pub fn verdict_code(verdict: Verdict) -> u64
+    ensures { λ x. ⌜ x ≡ verdictCode verdict ⌝ }
 {
-    let verdict = judging::judge(deck);
     match verdict {
         Verdict::Refused(r) => code_of(r),
         Verdict::Accepted => 0,
         Verdict::Differs(k) => field_of(k),
     }
+}
+
+pub fn judge(deck: &[u8]) -> u64
+    ensures { λ r. ⌜ r ≡ verdictCode (saidVerdict (judgeReply (now (deck .entry)))) ⌝ }
+{
+    let verdict = judging::judge(deck);
+    verdict_code(verdict)
 }
 
 // The reply about a sheet that is to be written, as one number.

@@ -1,4 +1,4 @@
--- Work. The table of the calls where composing goes by a whole record and hands a sheet out; and what its calls mean with no bytes.
+-- Definitions. The table of the calls where composing goes by a whole record and hands a sheet out; and what its calls mean with no bytes.
 use Prim.Native.Nat.{ℕ}
 use mathlib.Core.List.{List, []}
 use lib.ListN.{length}

@@ -1,10 +1,10 @@
 // What is asked of a block: its reply is compared with the numbers of a line.
 ghost use Prim.Native.Nat.{_≤_};
 ghost use lib.ListN.{length};
-use crate::row::FAR;
-use crate::row::Row;
-use crate::row::STAYS;
-use crate::told;
+use lines::row::FAR;
+use lines::row::Row;
+use lines::row::STAYS;
+use lines::told;
 use poly::Values;
 use poly::ValuesReply;
 use reply::Reply;

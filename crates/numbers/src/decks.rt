@@ -1,12 +1,12 @@
 // What is asked of a deck: its reply is compared with the numbers of a line.
 ghost use Prim.Native.Nat.{_≤_};
 ghost use lib.ListN.{length};
-use crate::row;
-use crate::row::FAR;
-use crate::row::Row;
-use crate::told;
 use judging::SheetWritten;
 use judging::Verdict;
+use lines::row;
+use lines::row::FAR;
+use lines::row::Row;
+use lines::told;
 use records::Sheet;
 
 // What stands in a lent buffer before it is written to.

@@ -1,17 +1,16 @@
 // Puts the documents' numbers, a table on standard input, to the public functions: prints the lines that are wrong, and how many were right.
-ghost use Prim.Native.Nat.{_≤_};
+ghost use Prim.Native.Nat.{_<_, _≤_};
+ghost use lib.ListN.{length};
 
 mod blocks;
 mod decks;
-mod row;
 mod subject;
-mod tally;
-mod told;
 
 use libc::STDIN_FILENO;
-use row::Row;
+use lines::row;
+use lines::row::Row;
+use lines::tally::Tally;
 use subject::Subject;
-use tally::Tally;
 
 // The tally, and what the next lines ask about.
 struct Table {
@@ -34,6 +33,9 @@ impl Table {
     // A line that starts with a capital says what is asked about; any other asks.
     fn after_line(self, text: &[u8], line: &[u8], at: usize) -> Table {
         let letter = records::byte_at(line, 0);
+        if letter == b'#' {
+            return self;
+        }
         let row = row::row_of(line, letter);
         match letter {
             b'B' | b'D' | b'W' | b'F' => {
@@ -44,7 +46,7 @@ impl Table {
                     subject: subject.next(letter, row, at, line.len()),
                 }
             }
-            b'#' | b'\n' => self,
+            b'\n' => self,
             _ => self.asked(text, line, letter, row),
         }
     }
@@ -57,6 +59,22 @@ impl Table {
     }
 }
 
+// The place behind the line that starts at a place: behind its line feed, or the end of the text.
+fn line_end(text: &[u8], from: usize) -> usize
+    requires { ⌜ from < length (now text) ⌝ }
+    ensures { λ r. ⌜ from < r ⌝ }
+{
+    let mut at = from;
+    while at < text.len() {
+        let byte = text[at];
+        at += 1;
+        if byte == b'\n' {
+            return at;
+        }
+    }
+    at
+}
+
 fn read_table(text: &[u8]) -> Tally {
     let mut table = Table {
         tally: Tally::none(),
@@ -64,7 +82,7 @@ fn read_table(text: &[u8]) -> Tally {
     };
     let mut at = 0;
     while at < text.len() {
-        let end = row::line_end(text, at);
+        let end = line_end(text, at);
         let next = table.after(text, at, end);
         table = next;
         at = end;

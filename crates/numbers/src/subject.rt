@@ -1,9 +1,9 @@
 // What the lines ask about: a block or a deck.
 use crate::blocks;
 use crate::decks;
-use crate::row;
-use crate::row::ROOM;
-use crate::row::Row;
+use lines::row;
+use lines::row::ROOM;
+use lines::row::Row;
 
 // As its own line gives it, as later lines change it, and where its line stands.
 pub(crate) struct Subject {

@@ -1,4 +1,4 @@
--- Work. What a queue holds, with no bytes: blocks under numbers; and what its calls are told.
+-- Definitions. What a queue holds, with no bytes: blocks under numbers; and what its calls are told.
 use Prim.Native.Nat.{ℕ}
 use mathlib.Core.List.{List, []}
 use Rattle.graph.specs.Graph.{Graph}

@@ -15,6 +15,7 @@ pub mod Distances
 pub mod Bonds
 pub mod Shares
 pub mod Blocks
+pub mod Shorter
 pub mod Decks
 pub mod Ways
 pub mod Examples

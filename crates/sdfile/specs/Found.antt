@@ -13,7 +13,7 @@ use Rattle.reply.specs.Chain.{then-read, if-read, not-read}
 use Rattle.reply.specs.declared.Refusal.{Refusal}
 use Rattle.text.specs.Text.{nextLine, laterLine, lineChars}
 use Rattle.text.specs.Laws.{next-later, next-within, chars-within}
-use Rattle.sdfile.specs.Sdf.{isHeader, isSomeHeader, itemsFrom, headerFrom, headerOne, valueChars, valueReply, itemReply}
+use Rattle.sdfile.specs.Sdf.{isHeader, isSomeHeader, itemsFrom, headerFrom, headerOne, valueChars, opensIn, mostOpens, isNoName, valueReply, itemReply}
 use Rattle.sdfile.specs.Headers.{itemLine, HeaderAt, Valued, Twice}
 use Rattle.sdfile.specs.Laws.{from-from}
 use Rattle.sdfile.specs.Lines.{later-within, later-add, from-holds, from-is-line, none-earlier}
@@ -122,20 +122,25 @@ valued d name s h l e = record {
 pub item-value : (d name : List ℕ) (s : Span) → itemReply d name ≡ read s → Valued d name s
 unfolding itemReply valueReply
 item-value d name s e =
-    let (u, a, f) = then-read (refuseIf (eqb (length name) 0) 38 0) _ e in
+    let (u, a, f) = then-read (refuseIf (isNoName name) 38 0) _ e in
     let (v, b, g) = then-read (refuseIf (leb (length d) (headerOne d name)) 38 0) _ f in
     let (w, c, h) = then-read (refuseIf (ltb (headerTwo d name) (length d)) 39 (headerTwo d name)) _ g in
     let one = leb-false (length d) (headerOne d name) (if-read (leb (length d) (headerOne d name)) 38 0 b) in
     let two = ltb-false (headerTwo d name) (length d) (if-read (ltb (headerTwo d name) (length d)) 39 (headerTwo d name) c) in
     valued d name s one two (sym (same-span h))
 
+-- a name is some bytes, of which at most so many are <
+pub is-name : (name : List ℕ) → (length name ≡ 0 → ⊥) → opensIn name ≤ mostOpens → isNoName name ≡ false
+unfolding isNoName
+is-name name n h = rw (ne-eqb (length name) 0 n, le-ltb mostOpens (opensIn name) h)
+
 -- and where there is one header only, it is read
-pub one-header : (d name : List ℕ) (h : ℕ) → (length name ≡ 0 → ⊥) → HeaderAt d name h → ((at : ℕ) → HeaderAt d name at → at ≡ h) → itemReply d name ≡ read (record { start = nextLine d h; len = valueChars d (nextLine d h) })
+pub one-header : (d name : List ℕ) (h : ℕ) → isNoName name ≡ false → HeaderAt d name h → ((at : ℕ) → HeaderAt d name at → at ≡ h) → itemReply d name ≡ read (record { start = nextLine d h; len = valueChars d (nextLine d h) })
 unfolding itemReply valueReply
 one-header d name h n x only =
     let l : headerOne d name < length d = omega (arith, first-least d name h x, x .inside) in
     let e = only (headerOne d name) (first-is d name l) in
-    rw (ne-eqb (length name) 0 n, lt-leb (length d) (headerOne d name) l, le-ltb (headerTwo d name) (length d) (go l e (ℕ-discrete (length d - headerTwo d name) 0)), e)
+    rw (n, lt-leb (length d) (headerOne d name) l, le-ltb (headerTwo d name) (length d) (go l e (ℕ-discrete (length d - headerTwo d name) 0)), e)
   where
     go : headerOne d name < length d → headerOne d name ≡ h → Dec (length d - headerTwo d name ≡ 0) → length d ≤ headerTwo d name
     go l e (yes z) = omega arith
@@ -152,17 +157,17 @@ value-refused : (t : Bool) (p : ℕ) (s : Span) (r : Refusal) → _≡_ {A = Rea
 value-refused true p s r e = let f = same-refusal (sym e) in (refl, ap (λ (q : Refusal). q .number) f, ap (λ (q : Refusal). q .place) f)
 value-refused false p s r e = absurd (not-read (sym e))
 
-pub item-none : (d name : List ℕ) → itemReply d name ≡ refused (refusal 38 0) → (length name ≡ 0 → ⊥) → (at : ℕ) → HeaderAt d name at → ⊥
+pub item-none : (d name : List ℕ) → itemReply d name ≡ refused (refusal 38 0) → isNoName name ≡ false → (at : ℕ) → HeaderAt d name at → ⊥
 unfolding itemReply valueReply
 item-none d name e n at x =
     let l : headerOne d name < length d = omega (arith, first-least d name at x, x .inside) in
-    let f = rw (ne-eqb (length name) 0 n, lt-leb (length d) (headerOne d name) l) at e in
+    let f = rw (n, lt-leb (length d) (headerOne d name) l) at e in
     let (t, a, b) = value-refused (ltb (headerTwo d name) (length d)) (headerTwo d name) _ (refusal 38 0) f in
     omega (arith, a)
 
 pub item-twice : (d name : List ℕ) (at : ℕ) → itemReply d name ≡ refused (refusal 39 at) → Twice d name at
 unfolding itemReply valueReply
-item-twice d name at e = named (eqb (length name) 0) (leb (length d) (headerOne d name)) refl e
+item-twice d name at e = named (isNoName name) (leb (length d) (headerOne d name)) refl e
   where
     twice : headerOne d name < length d → headerTwo d name < length d → at ≡ headerTwo d name → Twice d name at
     twice l m f = rw f (record {

@@ -6,6 +6,7 @@
 -- | `Walk`, `joined`            | record after record until done, and the bytes gone over                       | `all-of-it`: they are the text; `it-ends`; `one-walk`                         |
 -- | `isHeader`                  | a line that begins with > and has <NAME> in it                                | `first-least`, `second-least`                                                 |
 -- | `isSomeHeader`              | a header of some name                                                         | `some-header`: exactly where it is a header of a name                         |
+-- | `isNoName`                  | no byte, or more than sixteen <                                               | `is-name`                                                                     |
 -- | `HeaderAt`                  | a line behind M  END that is a header of a name                               | `one-header`: read where there is exactly one                                 |
 -- | `valueReply`, `itemReply`   | the line behind the only header, empty for a header, or refusal 38 or 39      | `item-value`, `item-none`, `item-twice`                                       |
 -- | `saidValue`, `spanOf`       | how the code says it                                                          | `unique-record`, `unique-item`, `unique-item-part`                            |

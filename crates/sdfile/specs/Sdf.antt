@@ -99,9 +99,20 @@ valueReply d name at =
     refuseIf (ltb (headerFrom d name at) (length d)) 39 (headerFrom d name at) then λ _.
     read (record { start = at; len = valueChars d at })
 
+-- how many < a name has, and the most that it may have: at each of them looking for it may begin anew, so with any number of them it could take the square of the bytes
+unfoldable pub opensIn : List ℕ → ℕ
+opensIn [] = 0
+opensIn (b ∷ bs) = cond (eqb b opens) 1 0 + opensIn bs
+
+abbrev pub mostOpens : ℕ
+mostOpens = 16
+
+unfoldable pub isNoName : List ℕ → Bool
+isNoName name = eqb (length name) 0 || ltb mostOpens (opensIn name)
+
 -- 38 where there is no name or no header of it
 unfoldable pub itemReply : List ℕ → List ℕ → Read Span
 itemReply d name =
-    refuseIf (eqb (length name) 0) 38 0 then λ _.
+    refuseIf (isNoName name) 38 0 then λ _.
     refuseIf (leb (length d) (headerOne d name)) 38 0 then λ _.
     valueReply d name (nextLine d (headerOne d name))

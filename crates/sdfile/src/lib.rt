@@ -1,11 +1,13 @@
 // SDF: every record of a file, and what its data items say.
 ghost use mathlib.Core.Path.{_≡_};
-ghost use Prim.Native.Nat.{_<_};
+ghost use mathlib.Core.Bool.{cond};
+ghost use Prim.Native.Nat.{_≤_, _<_};
+ghost use lib.Dec.{eqb};
 ghost use lib.ListN.{length, drop};
 ghost use Rattle.reply.specs.Read.{refused, refusal};
 ghost use Rattle.records.specs.Bytes.{PartOf};
 ghost use Rattle.text.specs.Text.{startsWith, nextLine};
-ghost use Rattle.sdfile.specs.Sdf.{lineFrom, isWhite, allWhite, stepAt, itemsFrom, tagged, holds, isHeader, headerFrom, stands, hasTag, isSomeHeader, valueChars, valueReply, itemReply};
+ghost use Rattle.sdfile.specs.Sdf.{lineFrom, isWhite, allWhite, stepAt, itemsFrom, tagged, holds, isHeader, headerFrom, stands, hasTag, isSomeHeader, valueChars, opens, opensIn, isNoName, valueReply, itemReply};
 ghost use Rattle.sdfile.specs.Said.{saidValue, spanOf};
 use reply::Refusal;
 use text::BLANK;
@@ -18,6 +20,9 @@ const TAB: u8 = 9;
 const OPENS: u8 = 60;
 
 const CLOSES: u8 = 62;
+
+// The most of the first in a name.
+const MOST_OPENS: usize = 16;
 
 // Refusals: no item of a name, and more than one.
 const NO_ITEM: usize = 38;
@@ -263,11 +268,44 @@ fn items_from(d: &[u8]) -> usize
     next_line(d, end)
 }
 
+// 1 for a < and 0 for any other byte.
+fn opening(b: u8) -> usize
+    ensures { λ r. ⌜ (r ≡ cond (eqb b opens) 1 0) × (r ≤ 1) ⌝ }
+{
+    if b == OPENS {
+        return 1;
+    }
+    0
+}
+
+// How many < there are.
+fn opens_in(name: &[u8]) -> usize
+    ensures { λ r. ⌜ r ≡ opensIn (now (name .entry)) ⌝ }
+{
+    let mut k: usize = 0;
+    let mut i = 0;
+    while i < name.len() {
+        k += opening(name[i]);
+        i += 1;
+    }
+    k
+}
+
+fn is_no_name(name: &[u8]) -> bool
+    ensures { λ r. ⌜ r ≡ isNoName (now (name .entry)) ⌝ }
+{
+    if name.len() == 0 {
+        return true;
+    }
+    let many = opens_in(name);
+    many > MOST_OPENS
+}
+
 // The value of the data item of a name.
 pub fn item(d: &[u8], name: &[u8]) -> Value
     ensures { λ r. ⌜ r ≡ saidValue (itemReply (now (d .entry)) (now (name .entry))) ⌝ }
 {
-    if name.len() == 0 {
+    if is_no_name(name) {
         return none();
     }
     let items = items_from(d);

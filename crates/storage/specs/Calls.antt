@@ -1,4 +1,4 @@
--- Work. The calls of both queues at a table, by its bytes; for anything that is added, looked up and composed.
+-- Definitions. The calls of both queues at a table, by its bytes; for anything that is added, looked up and composed.
 use Prim.Native.Nat.{ℕ, _<_}
 use mathlib.Core.Bool.{Bool, true, false}
 use mathlib.Core.List.{List, [], _∷_}
@@ -73,7 +73,7 @@ module _ {G F O S T : Type 0} (trade : Trade G F O S T) where
   answers s [] = []
   answers s (c ∷ cs) = answer s c ∷ answers (after s c) cs
 
-  -- the same at the table: 9 first. These are the promises of the calls.
+  -- the same at the table: 9 first. That the calls promise these is said where they are (`add-told`, `look-told` .., queues).
   abbrev pub tableAnswer : Queue → List ℕ → Call G O → Answer F T
   tableAnswer q t (add x g) = done (onTable (trade .width) t (addReply (trade .width) (shelf (trade .width) q t) (x .value) (trade .check g)))
   tableAnswer q t (look x) = fields (onTable (trade .width) t (lookReply (trade .width) (shelf (trade .width) q t) (trade .fieldsOf) x))

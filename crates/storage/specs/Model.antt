@@ -1,4 +1,4 @@
--- Work. A queue with no bytes: what it holds, at most eight, each under its number; and what a call is told and leaves.
+-- Definitions. A queue with no bytes: what it holds, at most eight, each under its number; and what a call is told and leaves.
 use Prim.Native.Nat.{ℕ}
 use mathlib.Core.Bool.{Bool, _&&_, not, cond}
 use mathlib.Core.List.{List, [], _∷_}

@@ -1,4 +1,4 @@
--- Laws. What the one number of a C reply about a molfile tells. The place of a refused text is a place in it, so the text is here shorter than 2^56 bytes.
+-- Laws. What the one number of a C reply about a molfile tells, with nothing assumed; of a text shorter than 2^56 bytes it tells the place itself.
 use Prim.Native.Nat.{ℕ, zero, suc, _+_, _<_}
 use mathlib.Core.Bool.{true, not, _||_}
 use mathlib.Core.List.{List}
@@ -15,19 +15,19 @@ use Rattle.molfile.specs.Molfile.{countsPlace, atomLinePlace, atomLineCount, bo
 use Rattle.calls.specs.Convention.{mostPlace}
 use Rattle.told.specs.Bounded.{Bounded, then-bounded, if-bounded, wider, block-bounded}
 use Rattle.text_calls.specs.Molfiles.{readReply}
-use Rattle.told.specs.Recovered.{Tells, roomed}
+use Rattle.told.specs.Recovered.{Tells, roomed, TellsText, roomed-text}
 
 turn-bounded : (c k : ℕ) (f : ℕ → Read (Unit {0})) → ((i : ℕ) → Bounded c (f i)) → Bounded c (inTurn k f)
 unfolding inTurn
 turn-bounded c zero f h = tt
 turn-bounded c (suc k) f h = then-bounded c (inTurn k f) _ (turn-bounded c k f h) (λ u e. h k)
 
-module _ (d : List ℕ) (l : length d < mostPlace) where
-  line-bounded : (least at : ℕ) → Bounded mostPlace (lineReply least d at)
+module _ (d : List ℕ) (c : ℕ) (big : mostBytes < c) (l : length d < c) where
+  line-bounded : (least at : ℕ) → Bounded c (lineReply least d at)
   unfolding lineReply
   line-bounded least at =
-      then-bounded mostPlace (refuseIf (leb (length d) at) 25 (length d)) _ (if-bounded mostPlace (leb (length d) at) 25 (length d) (omega (arith, l))) (λ u e.
-      if-bounded mostPlace (ltb (lineChars d at) least) 25 at (omega (arith, l, leb-false (length d) at (if-read (leb (length d) at) 25 (length d) e))))
+      then-bounded c (refuseIf (leb (length d) at) 25 (length d)) _ (if-bounded c (leb (length d) at) 25 (length d) (omega (arith, l))) (λ u e.
+      if-bounded c (ltb (lineChars d at) least) 25 at (omega (arith, l, leb-false (length d) at (if-read (leb (length d) at) 25 (length d) e))))
 
   -- a line that is there begins within the text
   line-within : (least at : ℕ) {u : Unit {0}} → lineReply least d at ≡ read u → at < length d
@@ -36,38 +36,43 @@ module _ (d : List ℕ) (l : length d < mostPlace) where
       let (v, e, f) = then-read (refuseIf (leb (length d) at) 25 (length d)) _ p in
       leb-false (length d) at (if-read (leb (length d) at) 25 (length d) e)
 
-  numbers-bounded : (at : ℕ) → Bounded mostPlace (numbersReply d at)
+  numbers-bounded : (at : ℕ) → Bounded c (numbersReply d at)
   unfolding numbersReply
   numbers-bounded at =
       let t = not (isNumber (threeAt d at)) || not (isNumber (threeAt d (at + 3))) in
-      then-bounded mostPlace (lineReply 6 d at) _ (line-bounded 6 at) (λ u e. if-bounded mostPlace t 26 at (omega (arith, l, line-within 6 at e)))
+      then-bounded c (lineReply 6 d at) _ (line-bounded 6 at) (λ u e. if-bounded c t 26 at (omega (arith, l, line-within 6 at e)))
 
   numbers-within : (at : ℕ) {u : Unit {0}} → numbersReply d at ≡ read u → at < length d
   unfolding numbersReply
   numbers-within at p = let (v, e, f) = then-read (lineReply 6 d at) _ p in line-within 6 at e
 
-  bond-bounded : (n at : ℕ) → Bounded mostPlace (bondReply n d at)
+  bond-bounded : (n at : ℕ) → Bounded c (bondReply n d at)
   unfolding bondReply
   bond-bounded n at =
       let t = isOutside n (endsOfLine d at .one) || isOutside n (endsOfLine d at .two) in
-      then-bounded mostPlace (numbersReply d at) _ (numbers-bounded at) (λ u e. if-bounded mostPlace t 27 at (omega (arith, l, numbers-within at e)))
+      then-bounded c (numbersReply d at) _ (numbers-bounded at) (λ u e. if-bounded c t 27 at (omega (arith, l, numbers-within at e)))
 
-  lines-bounded : Bounded mostPlace (linesReply d)
+  lines-bounded : Bounded c (linesReply d)
   unfolding linesReply endLineReply
   lines-bounded =
-      then-bounded mostPlace (inTurn 3 (headerReply d)) _ (turn-bounded mostPlace 3 (headerReply d) (λ i. line-bounded 0 (laterLine d 0 i))) (λ u e.
-      then-bounded mostPlace (numbersReply d (countsPlace d)) _ (numbers-bounded (countsPlace d)) (λ v f.
-      then-bounded mostPlace (inTurn (atomLineCount d) (atomReply d)) _ (turn-bounded mostPlace (atomLineCount d) (atomReply d) (λ i. line-bounded 32 (atomLinePlace d i))) (λ w g.
-      then-bounded mostPlace (inTurn (bondLineCount d) (bondReplyOf d)) _ (turn-bounded mostPlace (bondLineCount d) (bondReplyOf d) (λ i. bond-bounded (atomLineCount d) (bondLinePlace d i))) (λ x h.
-      if-bounded mostPlace (not (lineStarts endWord true (drop (restPlace d) d))) 25 (length d) (omega (arith, l))))))
+      then-bounded c (inTurn 3 (headerReply d)) _ (turn-bounded c 3 (headerReply d) (λ i. line-bounded 0 (laterLine d 0 i))) (λ u e.
+      then-bounded c (numbersReply d (countsPlace d)) _ (numbers-bounded (countsPlace d)) (λ v f.
+      then-bounded c (inTurn (atomLineCount d) (atomReply d)) _ (turn-bounded c (atomLineCount d) (atomReply d) (λ i. line-bounded 32 (atomLinePlace d i))) (λ w g.
+      then-bounded c (inTurn (bondLineCount d) (bondReplyOf d)) _ (turn-bounded c (bondLineCount d) (bondReplyOf d) (λ i. bond-bounded (atomLineCount d) (bondLinePlace d i))) (λ x h.
+      if-bounded c (not (lineStarts endWord true (drop (restPlace d) d))) 25 (length d) (omega (arith, l))))))
 
-  molfile-bounded : (room : ℕ) → Bounded mostPlace (molfileReply d room)
+  molfile-bounded : (room : ℕ) → Bounded c (molfileReply d room)
   unfolding molfileReply
   molfile-bounded room =
       let b = blockReply (keptAtoms d) (bytesOf d) in
-      then-bounded mostPlace (linesReply d) _ lines-bounded (λ u e.
-      then-bounded mostPlace b _ (wider (suc mostBytes) mostPlace b (omega arith) (block-bounded (keptAtoms d) (bytesOf d))) (λ v f.
-      if-bounded mostPlace (ltb room (length (bytesOf d))) 9 0 (omega arith)))
+      then-bounded c (linesReply d) _ lines-bounded (λ u e.
+      then-bounded c b _ (wider (suc mostBytes) c b (omega arith) (block-bounded (keptAtoms d) (bytesOf d))) (λ v f.
+      if-bounded c (ltb room (length (bytesOf d))) 9 0 (omega arith)))
 
-  pub molfile-read-tells : (room entries : ℕ) → Tells (readReply d room entries)
-  molfile-read-tells room entries = roomed entries 2 (molfileReply d room) (molfile-bounded room)
+-- WHATEVER THE TEXT: 0 exactly where nothing is refused; else the refusal's number, and its place as far as 56 bits go
+pub molfile-read-tells : (d : List ℕ) (room entries : ℕ) → TellsText (readReply d room entries)
+molfile-read-tells d room entries = roomed-text (suc (length d + mostBytes)) entries 2 (molfileReply d room) (omega arith) (molfile-bounded d (suc (length d + mostBytes)) (omega arith) (omega arith) room)
+
+-- the place of a refused text is a place in it
+pub molfile-read-place : (d : List ℕ) → length d < mostPlace → (room entries : ℕ) → Tells (readReply d room entries)
+molfile-read-place d l room entries = roomed entries 2 (molfileReply d room) (molfile-bounded d mostPlace (omega arith) l room)

@@ -76,13 +76,32 @@ pub tells : {A : Type 0} (x : Read A) → Bounded mostPlace x → Tells x
 tells (refused r) s = record { fine = λ e. absurd (not-zero r s e); refusal = λ q e. says r q (same-refusal r q e) s }
 tells (read a) s = record { fine = λ e. (a, refl); refusal = λ q e. absurd (never e) }
 
+-- THE LAW with no bound on places: of the place as much is told as 56 bits hold
+pub record TellsText {A : Type 0} (x : Read A) : Type 0 where
+  pub fine : coded x ≡ 0 → (a : A) × (x ≡ read a)
+  pub number : (r : Refusal) → x ≡ refused r → (coded x % 256 ≡ r .number) × (1 ≤ r .number) × (r .number ≤ mostNumber)
+  pub place : (r : Refusal) → x ≡ refused r → coded x / 256 ≡ r .place % mostPlace
+
+code-low : (r : Refusal) → r .number ≤ mostNumber → (code r % 256 ≡ r .number) × (code r / 256 ≡ r .place % mostPlace)
+code-low r h = rw (mod-eq-of-lt {n = r .number} {m = 256} (omega arith)) (parts (r .number) (r .place % mostPlace) (omega arith))
+
+tells-text : {A : Type 0} (c : ℕ) (x : Read A) → Bounded c x → TellsText x
+tells-text c (refused r) s =
+    let p = code-low r (s .high) in
+    record {
+      fine = λ e. absurd (omega (arith, s .low, p .0, ap (λ (n : ℕ). n % 256) e));
+      number = λ q e. let f = same-refusal r q e in rw (← f) (p .0, s .low, s .high);
+      place = λ q e. let f = same-refusal r q e in rw (← f) (p .1);
+    }
+tells-text c (read a) s = record { fine = λ e. (a, refl); number = λ q e. absurd (never e); place = λ q e. absurd (never e) }
+
 -- and for the judge
 pub record Judges (x : Read ℕ) : Type 0 where
   pub accepted : verdictCode (saidVerdict x) ≡ 0 → x ≡ read 0
   pub differs : (k : ℕ) → x ≡ read (suc k) → (verdictCode (saidVerdict x) % 256 ≡ 255) × (verdictCode (saidVerdict x) / 256 ≡ suc k)
   pub refusal : (r : Refusal) → x ≡ refused r → Says (verdictCode (saidVerdict x)) r
 
-judges : (x : Read ℕ) → Bounded mostPlace x → ((k : ℕ) → x ≡ read k → k < mostPlace) → Judges x
+pub judges : (x : Read ℕ) → Bounded mostPlace x → ((k : ℕ) → x ≡ read k → k < mostPlace) → Judges x
 judges (refused r) s h = record {
   accepted = λ e. absurd (not-zero r s e);
   differs = λ k e. absurd (let z : _≡_ {A = ℕ} 0 1 = cc in omega arith);
@@ -207,6 +226,12 @@ roomed entries wanted x s =
     tells (withRoom entries wanted x)
     (then-bounded mostPlace x _ s (λ a e.
     then-bounded mostPlace (refuseIf (ltb entries wanted) 9 0) (λ _. read a) (if-bounded mostPlace (ltb entries wanted) 9 0 (omega arith)) (λ v f. tt)))
+
+pub roomed-text : {A : Type 0} (c entries wanted : ℕ) (x : Read A) → 1 ≤ c → Bounded c x → TellsText (withRoom entries wanted x)
+roomed-text c entries wanted x l s =
+    tells-text c (withRoom entries wanted x)
+    (then-bounded c x _ s (λ a e.
+    then-bounded c (refuseIf (ltb entries wanted) 9 0) (λ _. read a) (if-bounded c (ltb entries wanted) 9 0 (omega arith)) (λ v f. tt)))
 
 -- the first wrong field of two lists of fields
 first-wrong : (k : ℕ) (xs ys : List ℕ) → firstWrong k xs ys ≤ k + length xs

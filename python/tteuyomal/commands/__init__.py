@@ -6,7 +6,7 @@ import argparse
 from typing import Protocol
 
 from ..console import Output
-from . import board, deck, explain, judge, library, measure, notice, rank, sheet, show, verify
+from . import board, check, deck, explain, judge, library, measure, notice, rank, sheet, show, verify
 
 
 class Command(Protocol):
@@ -21,4 +21,4 @@ class Command(Protocol):
     def run(self, options: argparse.Namespace, out: Output) -> int: ...
 
 
-ALL: tuple[Command, ...] = (judge, explain, sheet, measure, deck, show, library, rank, board, notice, verify)
+ALL: tuple[Command, ...] = (judge, check, explain, sheet, measure, deck, show, library, rank, board, notice, verify)

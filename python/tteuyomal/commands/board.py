@@ -4,6 +4,7 @@ from __future__ import annotations
 
 import argparse
 
+from ..batch import NOTHING
 from ..console import Output
 from . import common, judge
 
@@ -20,4 +21,4 @@ def options(parser: argparse.ArgumentParser) -> None:
 
 def run(options: argparse.Namespace, out: Output) -> int:
     """Judges the folder and writes the board."""
-    return judge.judge([options.folder], {"board": options.output}, options, out, judge.NOTHING)
+    return judge.judge([options.folder], {"board": options.output}, options, out, NOTHING)

@@ -5,7 +5,7 @@ from __future__ import annotations
 import argparse
 import contextlib
 import json
-from collections.abc import Callable
+from collections.abc import Callable, Iterable
 from typing import Any
 
 from .. import files, run as runs, work
@@ -29,7 +29,8 @@ def add_folder(parser: argparse.ArgumentParser) -> None:
 
 
 class Objects(argparse.Action):
-    """`--json`. Before the paths it stands alone, and objects are printed; behind them the next word is the file that gets them."""
+    """`--json` and the like. Before the paths it stands alone, and objects are printed; behind them the next word is the file that gets
+    them."""
 
     def __init__(self, **more: Any) -> None:
         super().__init__(nargs="?", metavar="FILE", **more)
@@ -85,11 +86,15 @@ def processes(options: argparse.Namespace) -> int:
     return 1 if "-" in getattr(options, "paths", []) else count
 
 
-def lines(function: Callable[[list[Found]], list[tuple[str, bool]]], options: argparse.Namespace, out: Output, what: str) -> int:
-    """The lines of all files; 0 only if there was one and each was answered."""
+def lines(
+    function: Callable[[list[Any]], list[tuple[str, bool]]], options: argparse.Namespace, out: Output, what: str,
+    items: Iterable[Any] | None = None,
+) -> int:
+    """The lines of all files, or of other items; 0 only if there was one and each was answered."""
+    items = files.find(options.paths) if items is None else items
     progress = work.Progress(what)
     fine = 0
-    with contextlib.closing(work.over(function, files.find(options.paths), processes(options), size=100)) as answers:
+    with contextlib.closing(work.over(function, items, processes(options), size=100)) as answers:
         for answer in answers:
             out.write("".join(f"{line}\n" for line, _ in answer))
             fine += sum(good for _, good in answer)

@@ -8,13 +8,13 @@ import functools
 import json
 import os
 from collections.abc import Generator
-from typing import Any, NamedTuple
+from typing import Any
 
-from .. import files, judging, manifest, objects, outputs, run as runs, work
-from ..console import Output, Stop, complain
+from .. import batch, files, judging, manifest, outputs, run as runs, work
+from ..batch import LINES, NOTHING, OBJECTS, Batch, Wanted
+from ..console import Output, Stop
 from ..files import Found
-from ..judging import ACCEPTED, Tally
-from ..run import Run, unmet, unmet_names
+from ..judging import Tally
 from . import common
 
 NAME = "judge"
@@ -24,14 +24,13 @@ STATUS = (
     "refused or can't be read, if there was none, if something expected is missing, if a file can't be written or the run "
     "fails. The greatest that fits."
 )
-LINES, OBJECTS, NOTHING = "lines", "objects", ""  # what goes to standard output
 
 
 def options(parser: argparse.ArgumentParser) -> None:
     """Decks, who judges them, and what is written."""
     parser.add_argument("paths", nargs="*", metavar="PATH", help="decks, or folders of decks; - is standard input")
     parser.add_argument("--json", action=common.Objects, help="print one JSON object a line; behind the paths, FILE gets them and lines are printed")
-    add_outputs(parser, ("board", "notice", "junit"))
+    add_outputs(parser, ("board", "notice", "junit", "csv"))
     add_expected(parser)
     parser.add_argument("-q", dest="quiet", action="store_true", help="print lines or objects only for what is not accepted")
     parser.add_argument("--dask", metavar="ADDRESS", help="judge on the workers of a Dask scheduler, as tcp://host:8786")
@@ -44,6 +43,7 @@ def add_outputs(parser: argparse.ArgumentParser, forms: tuple[str, ...]) -> None
         "board": "write the board: one file of HTML, a light for each deck",
         "notice": "write the notice, after everything else: SHA-256 and verdict of each deck",
         "junit": "write a report as JUnit's XML, for Jenkins and GitLab",
+        "csv": "write a table: a row for each deck",
     }
     for form in forms:
         parser.add_argument(f"--{form}", metavar="FILE", help=words[form])
@@ -62,7 +62,7 @@ def add_expected(parser: argparse.ArgumentParser) -> None:
 def run(options: argparse.Namespace, out: Output) -> int:
     """Lines or objects, one a deck, and the files that were asked for."""
     paths = common.paths(options)
-    written = {form: path for form in ("board", "notice", "junit") if (path := getattr(options, form)) is not None}
+    written = {form: path for form in ("board", "notice", "junit", "csv") if (path := getattr(options, form)) is not None}
     if options.json not in (None, "-"):
         written["json"] = options.json
     return judge(paths, written, options, out, OBJECTS if options.json == "-" else LINES)
@@ -78,24 +78,19 @@ def judge(paths: list[str], written: dict[str, str], options: argparse.Namespace
             raise Stop(f"{files.shown(paths[0])} is no folder")
         expectation = manifest.Expectation(options.expect, options.manifest)
         run = run._replace(inputs=expectation.inputs)
-        work_on = functools.partial(
-            judge_batch, folder=folder, printed=printed, quiet=options.quiet, stamp=json.dumps(run.stamp()), forms=tuple(written),
-            named=expectation.path is not None,
-        )  # fmt: skip
+        wanted = Wanted(folder, printed, options.quiet, json.dumps(run.stamp()), tuple(written), expectation.path is not None)
         tally, progress = Tally(), work.Progress("decks")
-        with contextlib.closing(answers(paths, options, work_on)) as batches:
-            for answer in batches:
-                out.write(answer.text)
-                pages.add(answer.rows)
-                for name, sha256 in answer.names:
-                    expectation.add(name, sha256, folder)
-                tally.add_all(answer.counts)
-                progress.add(sum(answer.counts.values()))
-        out.flush()
+
+        def came(some: Batch) -> None:
+            for name, sha256 in some.names:
+                expectation.add(name, sha256, folder)
+
+        with contextlib.closing(answers(paths, options, functools.partial(judge_batch, wanted=wanted))) as batches:
+            batch.gather(batches, out, pages, tally, progress, came)
         run = run._replace(expected=expectation.end())
         pages.write(tally, run)
     progress.end(str(tally))
-    return ended(tally, run)
+    return batch.ended(tally, run)
 
 
 def answers(paths: list[str], options: argparse.Namespace, function: Any) -> Generator[Batch, None, None]:
@@ -107,36 +102,6 @@ def answers(paths: list[str], options: argparse.Namespace, function: Any) -> Gen
     return work.over(function, files.find(paths), 1 if "-" in paths else options.jobs)
 
 
-def ended(tally: Tally, run: Run) -> int:
-    """The exit status, with a complaint where nothing was judged or something is not as it was expected."""
-    if not tally.total:
-        complain("no deck was judged")
-    for sentence in unmet(run.expected, tally.total):
-        complain(sentence)
-    for words, name in unmet_names(run.expected):
-        complain(f"{words}: {files.shown(name)}")
-    return 2 if unmet(run.expected, tally.total) else tally.status
-
-
-class Batch(NamedTuple):
-    """What came out for some files: what is printed, how many of each verdict, rows of files, and names where they are asked for."""
-
-    text: str
-    counts: dict[str, int]
-    rows: dict[str, list[Any]]
-    names: list[tuple[str, str]]
-
-
-def judge_batch(
-    batch: list[Found], folder: str, printed: str, quiet: bool, stamp: str, forms: tuple[str, ...], named: bool
-) -> Batch:
+def judge_batch(some: list[Found], wanted: Wanted) -> Batch:
     """Reads and judges some files, each once."""
-    fields = printed == OBJECTS or any(form != "notice" for form in forms)
-    judged = [judging.judge_file(found, fields) for found in batch]
-    tally = Tally()
-    for one in judged:
-        tally.add(one.word)
-    said = [one for one in judged if not quiet or one.word != ACCEPTED] if printed else []
-    lines = [objects.ended(one.json(), stamp) if printed == OBJECTS else one.line() for one in said]
-    names = [(one.name, one.sha256) for one in judged] if named else []
-    return Batch("".join(f"{line}\n" for line in lines), tally.counts, outputs.rows(judged, folder, forms), names)
+    return batch.of([judging.judge_file(found, wanted.fields) for found in some], wanted)

@@ -12,7 +12,13 @@ pub struct Szeged {
 
 impl Szeged {
     pub fn new() -> Box<Szeged> {
-        Box::new(Szeged { degree: [0; 64], near: [[0; MOST_DEGREE]; 64], rows: [[0; 64]; 64], terms: [0; MOST_BONDS], index: 0 })
+        Box::new(Szeged {
+            degree: [0; 64],
+            near: [[0; MOST_DEGREE]; 64],
+            rows: [[0; 64]; 64],
+            terms: [0; MOST_BONDS],
+            index: 0,
+        })
     }
 
     pub fn work(&mut self, atoms: usize, bonds: &[u8]) {

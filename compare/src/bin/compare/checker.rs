@@ -37,7 +37,10 @@ pub struct Checker {
     pub accepted: usize,
     /// How often each field was the first wrong one.
     pub differed: [usize; 7],
-    /// How often the products of a library were done.
+    /// How often claims were accepted, and how often one was wrong.
+    pub claims_accepted: usize,
+    pub claims_differed: usize,
+    /// How often the products of a library, or the records of an SDF, were done.
     pub done: usize,
     pub measurer: Measurer,
     faults: Vec<String>,
@@ -107,8 +110,27 @@ impl Checker {
         }
     }
 
+    /// The same of claims, which have no field of their own.
+    fn count_claims(&mut self, right: u64) {
+        match right % 256 {
+            0 => self.claims_accepted += 1,
+            255 => self.claims_differed += 1,
+            _ => return self.count(right),
+        }
+        self.calls += 1;
+    }
+
     pub fn agree(&mut self, call: impl Fn() -> String, right: u64, reply: u64, fault: Option<String>) {
         self.count(right);
+        self.same(call, right, reply, fault);
+    }
+
+    pub fn agree_claims(&mut self, call: impl Fn() -> String, right: u64, reply: u64) {
+        self.count_claims(right);
+        self.same(call, right, reply, None);
+    }
+
+    fn same(&mut self, call: impl Fn() -> String, right: u64, reply: u64, fault: Option<String>) {
         if reply != right {
             self.faults.push(format!("{}: {}, right is {}", call(), words(reply), words(right)));
         } else if let Some(fault) = fault {

@@ -54,7 +54,12 @@ impl Checker {
             count = vec![held.len() as u64];
         }
         let fault = best.fault(&after).or(many.fault(&count));
-        let call = || format!("library_best field {field} greatest {greatest} tag {tag} held {held:?} in {entries:?} {}", hex(deck));
+        let call = || {
+            format!(
+                "library_best field {field} greatest {greatest} tag {tag} held {held:?} in {entries:?} {}",
+                hex(deck)
+            )
+        };
         self.agree(call, code(&right), reply, fault);
     }
 

@@ -1,13 +1,15 @@
 //! Compares libtteuyomal.a with the second opinion. The last line is 'N passed, M failed'; the exit status is 0 when
 //! nothing failed.
 //!
-//!     compare [--seed N] [--cases N] [--first N] [--programs FOLDER]
+//!     compare [--seed N] [--cases N] [--printed N] [--first N] [--programs FOLDER]
 //!
+//! With --printed, so many random cases of claims and of SDFs, and not as many as of all else.
 //! With a folder, the programs `sheet`, `judge` and `measure` in it are run and their lines compared too.
 
 #[path = "../../archive.rs"]
 mod archive;
 mod checker;
+mod claims;
 mod fixed;
 mod lent;
 mod libraries;
@@ -20,6 +22,7 @@ mod random;
 mod random_libraries;
 mod rankings;
 mod relisted;
+mod sdf;
 
 use checker::Checker;
 use std::path::PathBuf;
@@ -28,19 +31,21 @@ use std::process::ExitCode;
 struct Options {
     seed: u64,
     cases: u64,
+    printed: Option<u64>,
     first: u64,
     programs: Option<PathBuf>,
 }
 
 /// The options of the command line, or what is wrong with it.
 fn options(mut words: impl Iterator<Item = String>) -> Result<Options, String> {
-    let mut options = Options { seed: 20_011, cases: 4_000, first: 0, programs: None };
+    let mut options = Options { seed: 20_011, cases: 4_000, printed: None, first: 0, programs: None };
     while let Some(word) = words.next() {
         let value = words.next().ok_or(format!("{word} wants a value"))?;
         let number = || value.parse::<u64>().map_err(|_| format!("{value} is no number"));
         match word.as_str() {
             "--seed" => options.seed = number()?,
             "--cases" => options.cases = number()?,
+            "--printed" => options.printed = Some(number()?),
             "--first" => options.first = number()?,
             "--programs" => options.programs = Some(PathBuf::from(&value)),
             _ => return Err(format!("{word} is no option")),
@@ -53,7 +58,9 @@ fn main() -> ExitCode {
     let options = match options(std::env::args().skip(1)) {
         Ok(options) => options,
         Err(fault) => {
-            eprintln!("compare: {fault}\nusage: compare [--seed N] [--cases N] [--first N] [--programs FOLDER]");
+            eprintln!(
+                "compare: {fault}\nusage: compare [--seed N] [--cases N] [--printed N] [--first N] [--programs FOLDER]"
+            );
             return ExitCode::from(2);
         }
     };
@@ -67,6 +74,9 @@ fn main() -> ExitCode {
     rankings::run(checker);
     random_libraries::run(checker, options.seed, options.first, options.cases);
     queues::run(checker, options.seed, options.first, options.cases);
+    let printed = options.printed.unwrap_or(options.cases);
+    claims::run(checker, options.seed, options.first, printed);
+    sdf::run(checker, options.seed, options.first, printed);
     if let Some(folder) = &options.programs {
         programs::run(checker, folder, options.seed);
     }
@@ -87,10 +97,16 @@ fn report(checker: &mut Checker, options: &Options) {
         let seen = checker.differed[field] > 0;
         checker.case(format!("differs {field}"), |checker| checker.holds(seen, "never met"));
     }
-    println!("done {} times", checker.done);
-    let seen = checker.done > 0;
-    checker.case("done", |checker| checker.holds(seen, "never met"));
-    for number in 1..=34 {
+    let met = [
+        ("claims accepted", checker.claims_accepted),
+        ("claims differ", checker.claims_differed),
+        ("done", checker.done),
+    ];
+    for (what, times) in met {
+        println!("{what}: {times} times");
+        checker.case(what, |checker| checker.holds(times > 0, "never met"));
+    }
+    for number in 1..=39 {
         println!("refused {number}: {} times", checker.refused.0[number]);
         let seen = checker.refused.0[number] > 0;
         checker.case(format!("refusal {number}"), |checker| checker.holds(seen, "never met"));

@@ -20,6 +20,8 @@ const TEXT: usize = 50 + 70 * 64 + 22 * 192;
 pub fn run(checker: &mut Checker, seed: u64, first: u64, cases: u64) {
     named(checker);
     cuts(checker);
+    bytes(checker);
+    long(checker);
     rooms(checker);
     naphthalene(checker);
     for case in first..first + cases {
@@ -84,6 +86,42 @@ fn cuts(checker: &mut Checker) {
             checker.read_molfile(&file.as_bytes()[..length], BONDS, 2);
         }
     });
+}
+
+/// Each byte of a small file given every value: counts, symbols, ends, feeds and the last line.
+fn bytes(checker: &mut Checker) {
+    let file = format!("\n\n\n  3  2\n{}{}{}  1  2\r\n  3  2\nM  END\n", atom("C"), atom("H  "), atom("  C"));
+    for at in 0..file.len() {
+        checker.case(format!("byte {at} of a molfile changed"), |checker| {
+            let mut changed = file.clone().into_bytes();
+            for value in 0..=255 {
+                changed[at] = value;
+                checker.read_molfile(&changed, BONDS, 2);
+            }
+        });
+    }
+}
+
+/// Files of as many atoms and bonds as the counts can say, of thousands of lines that are read over, of lines without end, and a
+/// megabyte behind the last line.
+fn long(checker: &mut Checker) {
+    let (c, h) = (atom("C"), atom("H  "));
+    let bonds: String = (2..=999).map(|end| format!("{:3}{end:3}\n", 1 + (end - 2) % 64)).collect();
+    let (few, over) = (format!("\n\n\n  2  1\n{c}{h}  1  2\n"), "M  CHG  1   1   0\n".repeat(5_000));
+    let blanks = " ".repeat(100_000);
+    for (name, file) in [
+        ("999 atoms, one heavy", format!("\n\n\n999998\n{c}{}{}M  END\n", h.repeat(998), bonds)),
+        ("999 atoms, 64 heavy", format!("\n\n\n999998\n{}{}{}M  END\n", c.repeat(64), h.repeat(935), bonds)),
+        ("5,000 lines read over", format!("{few}{over}M  END\n")),
+        ("5,000 lines read over, and no end", format!("{few}{over}")),
+        (
+            "lines of 100,000 characters",
+            format!("{blanks}\n{blanks}\n\n  1  0{blanks}\n{}{blanks}\nM  END{blanks}\n", c.trim_end()),
+        ),
+        ("a megabyte behind the end", format!("{few}M  END\n{}", blanks.repeat(10))),
+    ] {
+        checker.case(format!("a long molfile: {name}"), |checker| checker.read_molfile(file.as_bytes(), BONDS, 2));
+    }
 }
 
 /// Outputs of every length about what is needed.

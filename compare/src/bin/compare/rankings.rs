@@ -57,7 +57,8 @@ fn some_entries(random: &mut Random) -> Vec<u64> {
         1 => values.sort_unstable_by_key(|value| u64::MAX - value),
         _ => {}
     }
-    let mut numbers: Vec<u64> = values.iter().flat_map(|&value| [value, random.below(9) as u64, random.below(99) as u64]).collect();
+    let mut numbers: Vec<u64> =
+        values.iter().flat_map(|&value| [value, random.below(9) as u64, random.below(99) as u64]).collect();
     numbers.extend((0..random.below(3)).map(|at| at as u64));
     numbers
 }
@@ -84,5 +85,6 @@ pub fn in_turn(checker: &mut Checker, random: &mut Random, deck: &[u8]) {
     all.sort_by_key(|entry| (entry[1], entry[2]));
     let right = first(Vec::new(), all, greatest != 0, room);
     checker.holds(entries(&numbers, held[0] as usize) == right, "decks in turn are not their products joined");
-    checker.holds(first(Vec::new(), shards, greatest != 0, room) == right, "the best of shards are not the best of all");
+    checker
+        .holds(first(Vec::new(), shards, greatest != 0, room) == right, "the best of shards are not the best of all");
 }

@@ -5,7 +5,8 @@ use lib.ListN.{length}
 use denote.Ref.{now}
 use native.Mathlib.Omega.{arith}
 use borrow.Author.Needs.{needs}
-use Rattle.claiming.specs.Asked.{asks, asksFrom, asks-end, asks-here, asks-later, asks-all}
+use Rattle.claiming.specs.Asked.{asks, asksFrom}
+use Rattle.claiming.specs.Alike.{asks-end, asks-here, asks-later, asks-all}
 use Rattle.claiming.proofs.is_asked.Statement.{statement}
 use Rattle.claiming.proofs.is_asked.Tie as tie
 

@@ -7,13 +7,16 @@ use borrow.Author.Needs.{needs}
 use Rattle.sdfile.proofs.item.Statement.{statement}
 use Rattle.sdfile.proofs.item.Tie as tie
 
+is-no-name-requires : tie.Need-is-no-name-requires
+is-no-name-requires c κs = search needs
+
 none-requires : tie.Need-none-requires
 none-requires c κs = search needs
 
 returns : tie.Need-returns
 returns c =
-    let a = c .before .before .before .before .args in
-    c .none .ensures ∙ sym (ap saidValue (item-no-name (a .d .now) (a .name .now) (c .before .if1 .taken)))
+    let a = c .before .before .before .before .before .args in
+    c .none .ensures ∙ sym (ap saidValue (item-no-name (a .d .now) (a .name .now) (sym (c .before .before .is-no-name .ensures) ∙ c .before .if1 .taken)))
 
 items-from-requires : tie.Need-items-from-requires
 items-from-requires c κs = search needs
@@ -26,9 +29,9 @@ none-requires-2 c κs = search needs
 
 returns-2 : tie.Need-returns-2
 returns-2 c =
-    let a = c .before .before .before .before .before .before .before .args in
+    let a = c .before .before .before .before .before .before .before .before .args in
     let h = c .before .before .header-from in
-    let n = c .before .before .before .before .if1 .left in
+    let n = sym (c .before .before .before .before .before .is-no-name .ensures) ∙ c .before .before .before .before .if1 .left in
     let is = h .ensures ∙ ap (headerFrom (a .d .now) (a .name .now)) (c .before .before .before .items-from .ensures) in
     c .none2 .ensures ∙ sym (ap saidValue (item-none (a .d .now) (a .name .now) n (h .result) is (c .before .if2 .taken)))
 
@@ -40,10 +43,10 @@ value-at-requires c κs = search needs
 
 returns-3 : tie.Need-returns-3
 returns-3 c =
-    let a = c .before .before .before .before .before .before .before .before .args in
+    let a = c .before .before .before .before .before .before .before .before .before .args in
     let v = c .before .next-line in
     let h = c .before .before .before .header-from in
-    let n = c .before .before .before .before .before .if1 .left in
+    let n = sym (c .before .before .before .before .before .before .is-no-name .ensures) ∙ c .before .before .before .before .before .if1 .left in
     let is = h .ensures ∙ ap (headerFrom (a .d .now) (a .name .now)) (c .before .before .before .before .items-from .ensures) in
     c .value-at .ensures ∙ sym (ap saidValue (item-there (a .d .now) (a .name .now) n (h .result) is (c .before .before .if2 .left) (v .result) (v .ensures)))
 
@@ -51,6 +54,7 @@ pub item-spec : {M : Type 1} → statement M
 item-spec =
     tie.close
     (tie.spec
+    is-no-name-requires
     none-requires
     returns
     items-from-requires

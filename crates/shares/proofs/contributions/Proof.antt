@@ -1,6 +1,7 @@
 -- `contributions` meets its contract: the block's refusal, or the answer for a block that is not refused.
-use mathlib.Core.Path.{sym, ap}
+use mathlib.Core.Path.{sym, _∙_, ap}
 use borrow.Author.Needs.{needs}
+use Rattle.block.specs.Halved.{half-lent, far-lent}
 use Rattle.shares.specs.Reply.{saidShares}
 use Rattle.shares.proofs.Blocks.{opened-in, opened-out}
 use Rattle.shares.proofs.Reply.{reply-refused, entries-stay}
@@ -21,7 +22,7 @@ answered-requires c κs =
     let a = c .before .before .before .before .before .before .before .before .before .before .before .before .args in
     let t = c .before .before .before .before .before .before .before .table in
     let o = opened-in (a .n) (a .bonds .now) (t .result) (t .ensures .0) (c .before .before .before .before .before .enum-told .given .1) in
-    (o .0, o .1, t .ensures .1 .0, t .ensures .1 .1)
+    (o .0, o .1, t .ensures .1 .0 ∙ half-lent (a .n) (a .bonds .now), t .ensures .1 .1 ∙ far-lent (a .n) (a .bonds .now))
 
 returns : tie.Need-returns
 returns c =

@@ -3,6 +3,7 @@ use mathlib.Core.Path.{sym, _∙_, ap}
 use Rattle.reply.specs.Chain.{fine-read, refused-read}
 use Rattle.block.specs.Block.{blockReply}
 use Rattle.block.specs.Drawn.{opened-reply}
+use Rattle.block.specs.Halved.{half-lent}
 use Rattle.szeged.specs.Reply.{saidSzeged}
 use Rattle.szeged.proofs.Reply.{reply-refused, entries-stay, tree-told}
 use borrow.Author.Needs.{needs}
@@ -22,7 +23,7 @@ answered-requires : tie.Need-answered-requires
 answered-requires c κs =
     let a = c .before .before .before .before .before .before .before .before .before .args in
     let t = c .before .before .before .before .table in
-    (fine-read (blockReply (a .n) (a .bonds .now)) (sym (opened-reply _ _ _ (t .ensures .0)) ∙ c .before .before .enum-told .given .1), t .ensures .1 .0)
+    (fine-read (blockReply (a .n) (a .bonds .now)) (sym (opened-reply _ _ _ (t .ensures .0)) ∙ c .before .before .enum-told .given .1), t .ensures .1 .0 ∙ half-lent (a .n) (a .bonds .now))
 
 returns : tie.Need-returns
 returns c =

@@ -1,0 +1,60 @@
+-- `row_of` is safe and ends: what is left of the line falls.
+use Prim.Native.Nat.{_-_}
+use mathlib.Core.Path.{_≡_}
+use lib.ListN.{length}
+use borrow.Author.Needs.{needs}
+use Rattle.lines.proofs.row.row_of.Statement.{statement}
+use Rattle.lines.proofs.row.row_of.Tie as tie
+
+abbrev Inv-loop : tie.InvT-loop
+Inv-loop line letter hex row₀ at₀ row at = length line ≡ length line
+
+abbrev μ-loop : tie.MeasureT-loop
+μ-loop line letter hex row₀ at₀ row at = length line - at
+
+is-hex-requires : tie.Need-is-hex-requires Inv-loop μ-loop
+is-hex-requires c κs = search needs
+
+none-requires : tie.Need-none-requires Inv-loop μ-loop
+none-requires c κs = search needs
+
+loop-holds : tie.Need-loop-holds Inv-loop μ-loop
+loop-holds c = search needs
+
+shared-slice-read-with-byte : tie.Need-shared-slice-read-with-byte Inv-loop μ-loop
+shared-slice-read-with-byte c = search needs
+
+with-byte-requires : tie.Need-with-byte-requires Inv-loop μ-loop
+with-byte-requires c κs = search needs
+
+add-at : tie.Need-add-at Inv-loop μ-loop
+add-at c = search needs
+
+loop-less : tie.Need-loop-less Inv-loop μ-loop
+loop-less c = search needs
+
+loop-again : tie.Need-loop-again Inv-loop μ-loop
+loop-again c = search needs
+
+with-mark-requires : tie.Need-with-mark-requires Inv-loop μ-loop
+with-mark-requires c κs = search needs
+
+returns : tie.Need-returns Inv-loop μ-loop
+returns c = search needs
+
+pub row-of-spec : {M : Type 1} → statement M
+row-of-spec =
+    tie.close
+    (tie.spec
+    Inv-loop
+    μ-loop
+    is-hex-requires
+    none-requires
+    loop-holds
+    shared-slice-read-with-byte
+    with-byte-requires
+    add-at
+    loop-less
+    loop-again
+    with-mark-requires
+    returns)

@@ -1,0 +1,108 @@
+use Prim.Native.Nat.{ℕ, suc, _≤_, _-_}
+use mathlib.Core.List.{List, []}
+use mathlib.Core.Path.{_≡_, refl, sym, ap, _∙_}
+use native.Mathlib.Omega.{arith}
+use native.Mathlib.Numerals.{add-one}
+use borrow.Author.Needs.{needs}
+use Rattle.reply.specs.Chain.{fine-read, refused-read}
+use Rattle.block.specs.Block.{mostAtoms, blockReply}
+use Rattle.block.specs.Rows.{noRow, rowReply, saidRow, rowsOf, farOf}
+use Rattle.block.specs.declared.OneRow.{OneRow}
+use Rattle.block.proofs.Filling.{Filled, fill-start, fill-next, fill-end, kept, stored}
+use Rattle.matrix.proofs.rows.Statement.{statement}
+use Rattle.matrix.proofs.rows.Tie as tie
+
+abbrev Inv-loop : tie.InvT-loop
+Inv-loop n bonds far reply rows₀ deep₀ i₀ rows deep i =
+    (i ≤ mostAtoms) × Filled (λ k. saidRow (rowReply n bonds (suc k)) .row) noRow [] rows i × Filled (λ k. saidRow (rowReply n bonds (suc k)) .largest) 0 0 deep i
+
+abbrev μ-loop : tie.MeasureT-loop
+μ-loop n bonds far reply rows₀ deep₀ i₀ rows deep i = mostAtoms - i
+
+check-requires : tie.Need-check-requires Inv-loop μ-loop
+check-requires c κs = search needs
+
+loop-holds : tie.Need-loop-holds Inv-loop μ-loop
+loop-holds c = (omega arith, fill-start, fill-start)
+
+add-row : tie.Need-add-row Inv-loop μ-loop
+add-row c = omega arith
+
+row-requires : tie.Need-row-requires Inv-loop μ-loop
+row-requires c κs = search needs
+
+mul-rows : tie.Need-mul-rows Inv-loop μ-loop
+mul-rows c = omega arith
+
+array-set-from-rows : tie.Need-array-set-from-rows Inv-loop μ-loop
+array-set-from-rows c = omega arith
+
+array-write-deep : tie.Need-array-write-deep Inv-loop μ-loop
+array-write-deep c = omega arith
+
+add-i : tie.Need-add-i Inv-loop μ-loop
+add-i c = omega arith
+
+loop-less : tie.Need-loop-less Inv-loop μ-loop
+loop-less c = omega arith
+
+loop-again : tie.Need-loop-again Inv-loop μ-loop
+loop-again c =
+    let l = c .before .before .before .loop in
+    let i = l .i in
+    let e = rw (add-one i) at (c .before .row .ensures) in (
+      omega arith,
+      rw (add-one i) (fill-next _ i _ (omega arith) (l .inv .1) (ap (λ (x : OneRow). x .row) e)),
+      rw (add-one i) (fill-next _ i _ (omega arith) (l .inv .2) (ap (λ (x : OneRow). x .largest) e)),
+    )
+
+enum-told : tie.Need-enum-told Inv-loop μ-loop
+enum-told c = search needs
+
+enum-told-2 : tie.Need-enum-told-2 Inv-loop μ-loop
+enum-told-2 c = search needs
+
+-- what the loop has made
+made : (n : ℕ) (xs : List ℕ) (rows : List (List ℕ)) (deep : List ℕ) → Filled (λ k. saidRow (rowReply n xs (suc k)) .row) noRow [] rows mostAtoms
+    → Filled (λ k. saidRow (rowReply n xs (suc k)) .largest) 0 0 deep mostAtoms → (rows ≡ rowsOf n xs) × (deep ≡ farOf n xs)
+unfolding rowsOf farOf
+made n xs rows deep p q = (
+  fill-end (λ k. saidRow (rowReply n xs (suc k)) .row) mostAtoms (λ k l. refl) (λ k l m. absurd (omega arith)) rows p,
+  fill-end (λ k. saidRow (rowReply n xs (suc k)) .largest) mostAtoms (λ k l. refl) (λ k l m. absurd (omega arith)) deep q,
+)
+
+returns : tie.Need-returns Inv-loop μ-loop
+returns c =
+    let l = c .before .before .before .loop in
+    let e : l .i ≡ mostAtoms = omega arith in
+    let b = refused-read _ _ (sym (c .before .before .before .before .check .ensures) ∙ c .enum-told2 .given .1) in
+    (made _ _ _ _ (rw e at (l .inv .1)) (rw e at (l .inv .2)) .0, kept _ _ _ b _ _)
+
+returns-2 : tie.Need-returns-2 Inv-loop μ-loop
+returns-2 c =
+    let l = c .before .before .before .loop in
+    let e : l .i ≡ mostAtoms = omega arith in
+    let f = fine-read _ (sym (c .before .before .before .before .check .ensures) ∙ c .enum-told .given .1) in
+    let m = made _ _ _ _ (rw e at (l .inv .1)) (rw e at (l .inv .2)) in
+    (m .0, stored _ _ f _ _ _ (m .1))
+
+pub rows-spec : {M : Type 1} → statement M
+rows-spec =
+    tie.close
+    (tie.spec
+    Inv-loop
+    μ-loop
+    check-requires
+    loop-holds
+    add-row
+    row-requires
+    mul-rows
+    array-set-from-rows
+    array-write-deep
+    add-i
+    loop-less
+    loop-again
+    enum-told
+    enum-told-2
+    returns
+    returns-2)
