@@ -325,7 +325,7 @@ tteuyomal_reply tteuyomal_write_neighbours(size_t atoms, const uint8_t *bonds, s
  * queue, else the night queue. What a queue is told depends only on its own calls since the table was made empty, whatever
  * the other queue calls. On a table that these functions did not leave, its bytes fix every reply. Each function first
  * refuses with 9 at 0 a shorter table. A refusal changes no byte of the table. */
-#define TTEUYOMAL_TABLE_BYTES 49408
+#define TTEUYOMAL_TABLE_BYTES 8448
 
 /* Makes the table empty, for both queues: its bytes become 0. Refusals: 9. */
 tteuyomal_reply tteuyomal_queue_empty(uint8_t *table, size_t table_len);
@@ -364,7 +364,7 @@ tteuyomal_reply tteuyomal_count_sets(size_t atoms, const uint8_t *bonds, size_t 
  * 6 largest distance; of a lone block also 7 Szeged index, 8 Hosoya index, 9 Merrifield-Simmons index, 10 Balaban's J.
  * A text of 1 to 9 says a whole number below 2^64: blanks and tabs come off both sides; digits, and if anything a point and
  * zeros. A text of 10 has any digits behind the point, of which the first nine count, and claims J within one unit of its
- * last digit. docs/RULES.md says when that is right. */
+ * last digit. docs/RULES.md says when that is right. One claim has at most TTEUYOMAL_CLAIM_BYTES. */
 #define TTEUYOMAL_FIELD_ATOMS 1
 #define TTEUYOMAL_FIELD_W 2
 #define TTEUYOMAL_FIELD_EVEN 3

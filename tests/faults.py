@@ -153,6 +153,29 @@ class Killed(Faults):
         seen(f"a worker killed {self.TRIES} times: {killed} runs ended with 2, {self.TRIES - killed} were over; the longest took {longest:.2f} s to end")
         self.assertGreater(killed, self.TRIES // 2)
 
+    def test_a_worker_of_check(self):
+        ring = b"ring\n\n\n  3  3\n" + 3 * (b" " * 31 + b"C\n") + b"  1  2\n  2  3\n  3  1\nM  END\n> <W>\n3\n\n$$$$\n"
+        molecules = self.put("many.sdf", ring * self.DECKS)
+        chance, killed, longest = random.Random(43), 0, 0.0
+        for turn in range(self.PARENTS):
+            one, workers = self.begun("check", molecules, "W=W", "-q", *self.asked("board", "notice"))
+            time.sleep(chance.random() * 0.9)
+            with contextlib.suppress(ProcessLookupError, IndexError):
+                os.kill(chance.choice(workers), signal.SIGKILL)
+            begun = time.monotonic()
+            status, said = one.wait(SECONDS), one.stderr.read().decode()
+            longest = max(longest, time.monotonic() - begun)
+            self.assertEqual((self.parts(), [pid for pid in workers if alive(pid)]), ([], []))
+            if status == 0:
+                self.assertIn(f"All {self.DECKS} molecules were checked and accepted", self.read(self.outputs["notice"]).decode())
+                continue
+            killed += 1
+            self.assertEqual((status, self.read(self.outputs["notice"])), (2, YESTERDAY))
+            self.assertRegex(said, r"^tteuyomal: a worker process was killed by signal 9 before its work was done: [^\n]*\n$")
+            self.assertIn("The run failed", self.read(self.outputs["board"]).decode())
+        seen(f"a worker of check killed {self.PARENTS} times: {killed} runs ended with 2; the longest took {longest:.2f} s to end")
+        self.assertGreater(killed, self.PARENTS // 2)
+
     def test_the_parent(self):
         self.fill(self.DECKS)
         chance, left, longest = random.Random(42), 0, 0.0

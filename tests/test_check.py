@@ -142,6 +142,8 @@ class Checking(Room):
             self.assertEqual(self.check(BENZENE, "W=W", table=f"name,W\n{rows}")[0], 2)
             self.assertIn('"benzene" stands twice in column name: line 2 and line ' + ("4" if "x\ny" not in rows else "5"), self.fault)
         self.assertEqual(self.check(two, "W=W", "--by", "number", table="number,W\n1,27\n2,0\n3,27\n")[0], 0)
+        other, both = self.put("b.sdf", BENZENE.encode(), self.room), self.put("n.csv", b"n,W\n1,27\n2,0\n3,27\n4,27\n", self.room)
+        self.assertEqual(self.run_command("check", self.sdf, other, both, "W=W", "--by", "number")[0], 0, "the number is that among all")
         text = "".join(record("same", "C" * 6, RING, [("ID", f"x{k}")]) for k in range(3))
         self.assertEqual(self.check(text, "W=W", "--id-item", "ID", table="W,ID\n27,x2\n27,x0\n27,x1\n", )[0], 2, "the first column has the names")
         self.assertEqual(self.check(text, "W=W", "--id-item", "ID", "--id", "ID", table="W,ID\n27,x2\n27,x0\n27,x1\n")[0], 0)
@@ -260,6 +262,23 @@ class Checking(Room):
             self.assertIn(next(iter(numbers)), made[form])
         self.assertEqual(self.run_command("verify", paths["notice"], self.room)[0], 2)
         self.assertIn("a notice of molecules", self.fault)
+
+    def test_a_program_that_is_a_file(self):
+        program, notice = self.put("program.jar", b"code", self.room), os.path.join(self.room, "n.txt")
+        self.check(BENZENE, "W=W", "--program", program, "--notice", notice, table="name,W\nbenzene,27\n")
+        self.assertIn(f"Program: {program}, SHA-256 {hashlib.sha256(b'code').hexdigest()}\n", self.read(notice).decode())
+
+    def test_a_long_table(self):
+        """Rows are taken in parts: a name that stands twice is found in one part and over two."""
+        rows = [f"m{k},0\n" for k in range(7)]
+        text = "".join(record(f"m{k}", "C", []) for k in reversed(range(7)))
+        with mock.patch.object(claims, "_ROWS", 2):
+            self.assertEqual(self.check(text, "W=W", table="name,W\n" + "".join(rows))[0], 0)
+            for first, second in ((0, 1), (0, 2), (1, 5), (5, 7)):
+                self.assertEqual(self.check(text, "W=W", table="".join(["name,W\n", *rows[:second], rows[first], *rows[second:]]))[0], 2)
+                self.assertIn(f'"m{first}" stands twice in column name: line {first + 2} and line {second + 2}', self.fault)
+            status, lines = self.check(record("m3", "C", []), "W=W", table="name,W\n" + "".join(rows))
+        self.assertEqual((status, lines), (2, ["m3 (record 1): accepted W", *(f"m{k} (line {k + 2}): no molecule" for k in (0, 1, 2, 4, 5, 6))]))
 
     def test_green_only_if_all_is(self):
         table, paths = "name,W\nbenzene,27\n", [os.path.join(self.room, name) for name in ("b.html", "n.txt")]

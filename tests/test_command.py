@@ -313,7 +313,22 @@ class Measuring(Room):
         said = json.loads(self.run_command("measure", "--json", self.put("a.mol", self.NAPHTHALENE.molfile()))[1])
         self.assertEqual((said["denominator"], sum(said["contributions"])), (6, 6 * 109))
         self.assertEqual((sum(said["vertex_sums"]), sum(said["szeged_terms"])), (2 * 109, 243))
-        self.assertEqual((said["indices"]["W"], len(said["bonds_listed"])), (109, 11))
+        self.assertEqual((said["indices"]["W"], len(said["bonds_listed"]), said["atoms_listed"]), (109, 11, list(range(1, 11))))
+
+    def test_numbers_of_atoms(self):
+        """A block's atoms with the numbers that they have in the file, whichever hydrogens are left out."""
+        chance = random.Random(6)
+        for _ in range(200):
+            symbols = [chance.choice(["C", "H", "H", "D", "O"]) for _ in range(chance.randrange(1, 9))]
+            pairs = [(k, chance.randrange(1, k)) for k in range(2, len(symbols) + 1)]
+            text = f"\n\n\n{len(symbols):3}{len(pairs):3}\n" + "".join(f"{'':31}{one}\n" for one in symbols)
+            text += "".join(f"{first:3}{second:3}\n" for first, second in pairs) + "M  END\n"
+            said = json.loads(self.run_command("measure", "--json", "--as", "molfile", self.put("a", text.encode()))[1])
+            ends = {k: [sum(pair) - k for pair in pairs if k in pair] for k in range(1, len(symbols) + 1)}
+            kept = [k for k, symbol in enumerate(symbols, 1) if not (symbol == "H" and len(ends[k]) == 1 and symbols[ends[k][0] - 1] != "H")]
+            if "indices" in said:
+                self.assertEqual(said["atoms_listed"], kept)
+                self.assertEqual(len(kept), said["indices"]["atoms"])
 
     def test_refusals(self):
         good, bad = self.put("a.mol", self.NAPHTHALENE.molfile()), self.put("b.mol", b"no molfile")

@@ -84,6 +84,20 @@ class Readme(unittest.TestCase):
                 told = refusal
             self.assertEqual(f" {told}", words)
 
+    def test_claims(self):
+        names = {}
+        for line in self.indented("from tteuyomal import native").splitlines():
+            call, _, words = line.partition("#")
+            if not words:
+                exec(line, names)
+                continue
+            try:
+                told = eval(call, names)
+            except Refused as refusal:
+                told = refusal
+            self.assertEqual(words.strip().startswith(f"{told}:"), not isinstance(told, Refused), line)
+            self.assertIn(str(told), words)
+
     def test_commands(self):
         """The commands of the morning, of who gets a notice and of the chemist, in order, in a folder that has the examples' files."""
         here = os.getcwd()

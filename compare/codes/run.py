@@ -6,6 +6,7 @@
 FOLDER keeps the one SDF, the tables and what `tteuyomal check` said.
 """
 
+import collections
 import json
 import os
 import shutil
@@ -132,6 +133,8 @@ def main(words):
         titles = [record.partition("\n")[0] for record in printing.records(os.path.join(folder, "made.sdf"))]
     with open(os.path.join(HERE, "page.md"), encoding="utf-8") as file:
         text = file.read().replace("{files}", ", ".join(parts)).replace("{versions}", versions).replace("{records}", str(len(real[0][2][0])))
+    refused = collections.Counter((one["refusal"]["number"], one["refusal"]["words"]) for one in real[0][2][0] if "refusal" in one)
+    text = text.replace("{refused}", "; ".join(f"{count} by {number}, {words}" for (number, words), count in sorted(refused.items())))
     tables = {"table": table_of(real), "smallest": smallest(real), "made": of_made(made, titles)}
     for name, lines in tables.items():
         text = text.replace(f"<!-- {name} -->\n", "".join(lines))

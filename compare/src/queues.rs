@@ -7,7 +7,7 @@ use crate::molecule::write_out;
 use crate::refusal::{refuse, Refusal};
 
 /// The bytes that the table must have, and how many blocks a queue may hold.
-pub const TABLE: usize = 49_408;
+pub const TABLE: usize = 8_448;
 pub const PLACES: usize = 8;
 
 /// A sheet of kind 4 has the sixth field.

@@ -24,6 +24,7 @@ against what they read.
 from __future__ import annotations
 
 import contextlib
+import io
 import os
 import re
 import tomllib
@@ -31,7 +32,7 @@ from collections import Counter
 from collections.abc import Callable, Iterable, Iterator
 from typing import Any, NamedTuple
 
-from . import files, native
+from . import files, native, sdf
 from .decks import Block
 from .files import Found, Unread, shown
 from .native import Refused
@@ -165,18 +166,11 @@ def joined(text: bytes, join: int | str | None) -> tuple[Block, int]:
 
 
 def _item(record: bytes, name: str) -> int:
-    span = _reader().sdf_item(record, name)
+    span = native.sdf_item(record, name)
     told = record[span.start : span.start + span.length].strip()
     if not re.fullmatch(rb"[0-9]{1,4}", told):
         raise Unfit(f"its data item {name} is no atom's number: {shown(told.decode('utf-8', 'surrogateescape'))!r}")
     return int(told)
-
-
-def _reader() -> Any:
-    """The library's functions for SDFs."""
-    if not native.has("sdf_record"):
-        raise native.NotThere("this library reads no records of an SDF")
-    return native
 
 
 class Record(NamedTuple):
@@ -189,11 +183,8 @@ class Record(NamedTuple):
 
 def records(data: bytes) -> Iterator[Record]:
     """Every record of an SDF."""
-    number = start = 0
-    while (one := _reader().sdf_record(data, start)) is not None:
-        number, start = number + 1, one.next
-        text = data[one.start : one.start + one.length]
-        yield Record(number, text.split(b"\n", 1)[0].strip().decode("utf-8", "surrogateescape"), text)
+    for number, text in sdf.records(io.BytesIO(data).read):
+        yield Record(number, sdf.title(text).decode("utf-8", "surrogateescape"), text)
 
 
 # ---- the text ----

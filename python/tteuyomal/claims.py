@@ -41,7 +41,7 @@ def asked(word: str) -> Asked | None:
 
 def claim(field: int, text: bytes) -> bytes:
     """A claim's bytes; of blanks none, since nothing was printed. A text that a claim has no room for is cut so that nobody reads it."""
-    if not text.strip():
+    if not text.strip(b" \t\r\n"):
         return b""
     if len(text) > _ROOM:
         text = text[:80] + _CUT.encode()

@@ -19,13 +19,13 @@ NEIGHBOURS = "neighbours"
 ENDINGS = {**sdf.ENDINGS, ".txt": NEIGHBOURS, ".nb": NEIGHBOURS}
 TREES_ONLY = 34
 
-# what is measured besides the five fields: its name, and how a block answers it
-INDICES: list[tuple[str, str, Callable[[Block], Any]]] = [
-    ("largest", "compose_six", lambda block: Deck({1: block}, [Placement(1)]).compose(six=True).largest),
-    ("J", "balaban", lambda block: "{}.{:09d}".format(*divmod(block.balaban(), 10**9))),
-    ("Szeged", "szeged", lambda block: block.szeged().index),
-    ("Hosoya", "count_sets", lambda block: block.sets().bonds),
-    ("Merrifield-Simmons", "count_sets", lambda block: block.sets().atoms),
+# what is measured besides the five fields: the C function, and how a block answers it. The largest distance is that of a deck of the one
+# block: no C function tells it of a lone block.
+INDICES: list[tuple[str, Callable[[Block], dict[str, Any]]]] = [
+    ("compose_six", lambda block: {"largest": Deck({1: block}, [Placement(1)]).compose(six=True).largest}),
+    ("balaban", lambda block: {"J": "{}.{:09d}".format(*divmod(block.balaban(), 10**9))}),
+    ("szeged", lambda block: {"Szeged": block.szeged().index}),
+    ("count_sets", lambda block: dict(zip(("Hosoya", "Merrifield-Simmons"), block.sets()))),
 ]
 
 
@@ -51,10 +51,10 @@ def measured(block: Block) -> dict[str, Any]:
     sheet = block.measure()
     found: dict[str, Any] = {"atoms": sheet.atoms, "bonds": len(block.bonds), "W": sheet.w, "even": sheet.even}
     found |= {"odd": sheet.odd, "polarity": sheet.polarity}
-    for name, function, answer in INDICES:
+    for function, answer in INDICES:
         if native.has(function):
             try:
-                found[name] = answer(block)
+                found |= answer(block)
             except Refused as refusal:
                 if refusal.number != TREES_ONLY:
                     raise
@@ -73,6 +73,26 @@ def details(block: Block) -> dict[str, Any]:
     if native.has("szeged"):
         found["szeged_terms"] = block.szeged().terms
     return found
+
+
+def kept(data: bytes, block: Block) -> list[int] | None:
+    """The numbers that a block's atoms have in its molfile, to be shown to who joins there. None where what is read here is not the block
+    that the library read."""
+    lines = data.split(b"\n")
+    try:
+        atoms, count = int(lines[3][:3]), int(lines[3][3:6])
+        light = [line[31:34].strip() == b"H" for line in lines[4 : 4 + atoms]]
+        pairs = [(int(line[:3]) - 1, int(line[3:6]) - 1) for line in lines[4 + atoms : 4 + atoms + count]]
+        near: list[list[int]] = [[] for _ in light]
+        for first, second in pairs:
+            near[first].append(second)
+            near[second].append(first)
+    except (ValueError, IndexError):
+        return None
+    left = [atom for atom, ends in enumerate(near) if not (light[atom] and len(ends) == 1 and not light[ends[0]])]
+    numbers = {atom: number for number, atom in enumerate(left, 1)}
+    same = Block(len(left), [(numbers[first], numbers[second]) for first, second in pairs if first in numbers and second in numbers])
+    return [atom + 1 for atom in left] if same == block else None
 
 
 class Record(NamedTuple):
@@ -137,5 +157,6 @@ def _told(said: dict[str, Any], number: int, data: bytes, kind: str, as_json: bo
     except NotThere as fault:
         return (json.dumps(said | {"fault": str(fault)}) if as_json else f"{name}: {fault}"), False
     if as_json:
-        return json.dumps(said | {"indices": indices} | details(block)), True
+        listed = kept(data, block) if kind == MOLFILE else None
+        return json.dumps(said | {"indices": indices} | ({"atoms_listed": listed} if listed else {}) | details(block)), True
     return f"{name}: {' '.join(f'{key} {value}' for key, value in indices.items())}", True

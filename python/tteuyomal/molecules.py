@@ -59,7 +59,7 @@ class Molecules:
         """A molecule with its name and its claims."""
         number, data = piece
         by = self.by or (TITLE if form == SDF else FILE)
-        names = self._names(by, shown, form, piece)
+        names = self._names(by, shown, piece)
         name = names[0].decode("utf-8", "surrogateescape")
         claims, line = self._claims(name, names)
         record = number if form == SDF or number > 1 else 0
@@ -78,7 +78,7 @@ class Molecules:
             raise Stop(f'"{files.shown(name)}" names two molecules, {places}: --by or --id-item names them otherwise')
         return (b"", 0) if row is None else (row.claims, row.line)
 
-    def _names(self, by: str, shown: str, form: str, piece: Piece) -> list[bytes]:
+    def _names(self, by: str, shown: str, piece: Piece) -> list[bytes]:
         """What a molecule may be called in the table; the first is how it is called here. None is an empty name."""
         if self.id_item is not None:
             start, length = self._value(piece.data)
@@ -86,7 +86,7 @@ class Molecules:
         if by == TITLE:
             return [sdf.title(piece.data)]
         if by == NUMBER:
-            return [str(piece.number if form == SDF else self.count).encode()]
+            return [str(self.count).encode()]
         name = os.path.basename(shown) if not self.folder else shown
         return [one.encode("utf-8", "surrogateescape") for one in (name, os.path.splitext(sdf.plain(name))[0])]
 

@@ -549,7 +549,7 @@ def write_neighbours(atoms: int, bonds: Bonds) -> bytes:
     return _write_text(_write_neighbours, atoms, bonds)
 
 
-TABLE_BYTES = 49_408  # of a table of sixteen blocks, eight for each queue
+TABLE_BYTES = 8_448  # of a table of sixteen blocks, eight for each queue
 DAY, NIGHT = 0, 1
 
 

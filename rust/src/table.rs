@@ -3,7 +3,7 @@ use crate::deck::Kind;
 use crate::functions as c;
 use crate::reply::{fine, Refusal};
 
-const TABLE_BYTES: usize = 49408;
+const TABLE_BYTES: usize = 8448;
 
 /// One of the two queues. What it is told depends only on its own calls.
 #[derive(Clone, Copy, Debug, PartialEq, Eq, Hash)]

@@ -2,10 +2,7 @@
 --
 -- | notion                             | meaning                                                           | the law that matters |
 -- | `fieldsReply form d`               | the six fields of the molecule written out, or the deck's refusal | `unique-fields`      |
--- | `Laid`, `JoinsCounted`, `JoinTask` | what the arrays of composing describe                             | proofs/Seeing        |
+-- | `Blank`, `Booked`                  | a book before and after it is filled from a deck's blocks         | proofs/Booking       |
 pub mod Fields
-pub mod Links
-pub mod Joints
-pub mod Tables
-pub mod Ready
+pub mod Booked
 pub mod Unique

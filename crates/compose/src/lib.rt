@@ -1,49 +1,41 @@
-// Composing: the six fields of the molecule that a deck describes, by the building-block rules.
-mod ends;
-mod joints;
-mod kept;
-mod links;
-
+// Composing: the six fields of the molecule that a deck describes, over a book of its blocks.
 use assembly::BLOCKS;
 use assembly::BlockAt;
-use assembly::PLACEMENTS;
 use assembly::bonds_part;
-use assembly::find_block;
-use assembly::placement_at;
-use block::ATOMS;
 use block::Indices;
-use block::distances;
-use block::sums;
+use block::IndicesReply;
 use deck::Form;
 use deck::Layout;
 use deck::read_deck;
-use ends::copy_ends;
-use joints::composed;
-use kept::CountRow;
-use kept::NumberRow;
-use kept::number_row;
-use links::ENDS;
-use links::FIRST;
-use links::Links;
-use links::fill_links;
+use filling::fill;
 use records::payload_at;
 use reply::Refusal;
 use reply::Reply;
+use summaries::compose;
+use summary::SUMMARY;
 ghost use mathlib.Core.Path.{_≡_};
-ghost use Prim.Native.Nat.{_-_};
-ghost use lib.ListN.{length};
+ghost use Prim.Native.Nat.{_+_, _*_, _-_, _≤_, _<_};
+ghost use lib.ListN.{length, take};
+ghost use lib.Seq.{sets};
 ghost use Rattle.graph.specs.Assembly.{written};
 ghost use Rattle.reply.specs.Read.{read};
+ghost use Rattle.block.specs.Block.{blockReply};
 ghost use Rattle.block.specs.Index.{indicesOf};
-ghost use Rattle.assembly.specs.Book.{bondBytes};
+ghost use Rattle.assembly.specs.Book.{mostBlocks, bondBytes, blockGraph, bookOf};
+ghost use Rattle.assembly.specs.Placements.{placementCount, placementAt, graphOn, joinOn, assemblyReply};
 ghost use Rattle.deck.specs.Deck.{Deck, deckReply};
 ghost use Rattle.deck.specs.Molecule.{moleculeOf};
 ghost use Rattle.deck.specs.Said.{layoutOf};
 ghost use Rattle.deck.specs.declared.Form.{Form};
+ghost use Rattle.summary.specs.Layout.{summaryBytes};
+ghost use Rattle.summary.specs.Summary.{summaryOf};
+ghost use Rattle.compose.specs.Booked.{Blank, Booked};
 ghost use Rattle.compose.specs.Fields.{composeReply, saidComposed};
-ghost use Rattle.compose.specs.Joints.{ends, numbersOf, joinsOf};
-ghost use Rattle.compose.specs.Tables.{numbersFrom, rowFrom, countsFrom, Ranged, Copied};
-ghost use Rattle.compose.specs.Ready.{placedBlock, placedGraph, ReadyDeck};
+
+// The blocks of a small deck and of a middling one, for which a shorter book is cleared.
+const FEW: usize = 2;
+
+const SOME: usize = 6;
 
 // The six fields of a deck's molecule, and the first byte after its assembly.
 pub struct Composed {
@@ -57,84 +49,62 @@ pub enum ComposeReply {
     Composed(Composed),
 }
 
-// The block of the placement at index f.
-fn block_of(xs: &[u8], blocks: [BlockAt; BLOCKS], count: usize, f: usize) -> BlockAt
-    ensures { λ r. ⌜ r ≡ placedBlock (now (xs .entry)) blocks count f ⌝ }
+// The summary of a block that is not refused, put at place i of a book.
+fn fill_at(d: &[u8], b: BlockAt, book: &mut [u8], i: usize)
+    requires { ⌜ (blockReply (b .atoms) (bondBytes (now d) b) ≡ read tt) × (i < mostBlocks)
+        × (summaryBytes * i + summaryBytes ≤ length (now book)) ⌝ }
+    ensures bytes { λ _. ⌜
+        now (book .exit) ≡ sets (now (book .entry)) (summaryBytes * i) (summaryOf (b .number) (blockGraph (now (d .entry)) b))
+        ⌝ }
+    ensures number { λ _. ⌜ b .number < 65536 ⌝ }
 {
-    let q = placement_at(xs, f);
-    find_block(blocks, count, q.block as usize)
+    let start = SUMMARY * i;
+    let end = start + SUMMARY;
+    fill(b.number, b.atoms as usize, bonds_part(d, b), &mut book[start..end]);
 }
 
-// The six numbers of the block that the placement at index f has first. Stores the rows of the ends that are in it, and what is counted from them.
-fn take_block(
-    d: &[u8],
-    b: BlockAt,
-    links: &Links,
-    placements: usize,
-    f: usize,
-    out: &mut [[u8; ATOMS]],
-    counts: &mut [CountRow],
-) -> NumberRow
-    requires { ⌜ Ranged (now links) placements × (length (now out) ≡ ends) × (length (now counts) ≡ ends) ⌝ }
-    ensures numbers { λ r. ⌜ numbersOf r ≡ numbersFrom (b .atoms) (bondBytes (now (d .entry)) b) ⌝ }
-    ensures rows { λ _. ⌜
-        Copied (now (links .entry)) placements f (rowFrom (b .atoms) (bondBytes (now (d .entry)) b)) (now (out .entry)) (now (out .exit))
-        ⌝ }
-    ensures counts { λ _. ⌜
-        Copied (now (links .entry)) placements f (countsFrom (b .atoms) (bondBytes (now (d .entry)) b)) (now (counts .entry))
-        (now (counts .exit))
-        ⌝ }
+// The book of a table of blocks: a summary for each, in its order.
+fn fill_book(d: &[u8], blocks: [BlockAt; BLOCKS], count: usize, book: &mut [u8])
+    requires { ⌜ Blank (now d) blocks count (now book) ⌝ }
+    ensures { λ _. ⌜ Booked (now (d .entry)) blocks (now (book .exit)) count ⌝ }
 {
-    let n = b.atoms as usize;
-    let mut far = [0u8; ATOMS];
-    let half = distances(n, bonds_part(d, b), &mut far);
-    copy_ends(&half, &far, n, links, placements, f, out, counts);
-    number_row(sums(&half, &far, n))
-}
-
-// The six numbers of the molecule: each placed block's table is filled once, its numbers and what joins need of it are kept.
-fn filled(
-    d: &[u8],
-    xs: &[u8],
-    blocks: [BlockAt; BLOCKS],
-    count: usize,
-    placements: usize,
-    links: &Links,
-) -> Indices
-    requires { ⌜ ReadyDeck (now d) (now xs) blocks count placements (now links) ⌝ }
-    ensures { λ r. ⌜
-        r ≡ indicesOf (written (placedGraph (now (d .entry)) (now (xs .entry)) blocks count) (joinsOf (now (links .entry)))
-        (placements - 1))
-        ⌝ }
-{
-    let mut numbers = [[0u64; 6]; PLACEMENTS];
-    let mut ends = [[0u8; ATOMS]; ENDS];
-    let mut counts = [[0u64; 8]; ENDS];
-    let mut f: usize = 0;
-    while f < placements {
-        if links[f][FIRST] == f {
-            let b = block_of(xs, blocks, count, f);
-            numbers[f] = take_block(d, b, links, placements, f, &mut ends, &mut counts);
-        }
-        f += 1;
+    let mut i: usize = 0;
+    while i < count {
+        fill_at(d, blocks[i], book, i);
+        i += 1;
     }
-    composed(links, &ends, &numbers, &mut counts, placements)
+}
+
+// The six fields of an assembly over a table of blocks, by a lent book that is all 0.
+fn over(d: &[u8], xs: &[u8], blocks: [BlockAt; BLOCKS], count: usize, book: &mut [u8]) -> IndicesReply
+    requires { ⌜ Blank (now d) blocks count (now book) × (assemblyReply (bookOf (now d) (take count blocks)) (now xs) ≡ read tt) ⌝ }
+    ensures { λ r. ⌜
+        r ≡ IndicesReply.Of (indicesOf (written (graphOn (bookOf (now (d .entry)) (take count blocks)) (placementAt (now (xs .entry))))
+        (joinOn (placementAt (now (xs .entry)))) (placementCount (now (xs .entry)) - 1)))
+        ⌝ }
+{
+    fill_book(d, blocks, count, book);
+    compose(book, xs)
 }
 
 // The six numbers of the molecule that a layout of the deck describes.
-fn laid_out(d: &[u8], layout: Layout) -> Indices
+fn laid_out(d: &[u8], layout: Layout) -> IndicesReply
     requires { ⌜ ((form : Form) × (k : Deck) × (deckReply form (now d) ≡ read k) × (layout ≡ layoutOf k)) ⌝ }
     ensures { λ r. ⌜
         ((form : Form) (k : Deck) → deckReply form (now (d .entry)) ≡ read k → layout ≡ layoutOf k
-        → r ≡ indicesOf (moleculeOf (now (d .entry)) k))
+        → r ≡ IndicesReply.Of (indicesOf (moleculeOf (now (d .entry)) k)))
         ⌝ }
 {
     let blocks = layout.blocks;
-    let placements = layout.placements;
+    let count = layout.count;
     let xs = payload_at(d, layout.assembly);
-    let mut links = [[0usize; 4]; PLACEMENTS];
-    fill_links(xs, placements, &mut links);
-    filled(d, xs, blocks, layout.count, placements, &links)
+    if count <= FEW {
+        return over(d, xs, blocks, count, &mut [0u8; SUMMARY * FEW]);
+    }
+    if count <= SOME {
+        return over(d, xs, blocks, count, &mut [0u8; SUMMARY * SOME]);
+    }
+    over(d, xs, blocks, count, &mut [0u8; SUMMARY * BLOCKS])
 }
 
 // The six fields of a deck in a form: atom count, W, even part, odd part, polarity and largest distance of its molecule, and where a sheet stands
@@ -144,15 +114,14 @@ pub fn fields(d: &[u8], form: Form) -> ComposeReply
 {
     let k = read_deck(d, form);
     let reply = k.reply;
-    match reply {
-        Reply::Refused(refusal) => ComposeReply::Refused(refusal),
-        Reply::Fine => {
-            let layout = k.layout;
-            let fields = laid_out(d, layout);
-            ComposeReply::Composed(Composed {
-                fields,
-                sheet: layout.sheet,
-            })
-        }
+    if let Reply::Refused(refusal) = reply {
+        return ComposeReply::Refused(refusal);
+    }
+    let layout = k.layout;
+    let sheet = layout.sheet;
+    let answer = laid_out(d, layout);
+    match answer {
+        IndicesReply::Refused(refusal) => ComposeReply::Refused(refusal),
+        IndicesReply::Of(fields) => ComposeReply::Composed(Composed { fields, sheet }),
     }
 }

@@ -8,7 +8,7 @@ use lib.ListN.{length, set}
 use lib.Seq.{sets}
 use Rattle.block.specs.declared.Indices.{Indices}
 use Rattle.records.specs.Bytes.{littleBytes}
-use Rattle.filling.specs.Work.{threeSets, firstBytes, totalBytes, headOn}
+use Rattle.filling.specs.Work.{firstBytes, totalBytes, headOn}
 
 pub sets-append : (xs ys l : List ℕ) (at : ℕ) → sets l at (xs ++ ys) ≡ sets (sets l at xs) (at + length xs) ys
 sets-append [] ys l at = let e : at ≡ at + 0 = omega arith in ap (λ (k : ℕ). sets l k ys) e
@@ -35,10 +35,6 @@ eight l at x e f = joined l (littleBytes 4 x) (littleBytes 4 (x / 256 / 256 / 25
 -- three runs of bytes
 runs : (l : List ℕ) {m r s : List ℕ} (at p q : ℕ) (xs ys zs : List ℕ) → m ≡ sets l at xs → r ≡ sets m p ys → s ≡ sets r q zs → p ≡ at + length xs → q ≡ p + length ys → s ≡ sets l at (xs ++ (ys ++ zs))
 runs l {m} at p q xs ys zs a b c e f = joined l xs (ys ++ zs) at p a (joined m ys zs p q b c f) e
-
-pub three-put : (l : List ℕ) {m r s : List ℕ} (at x y z : ℕ) → m ≡ sets l at (littleBytes 8 x) → r ≡ sets m (at + 8) (littleBytes 8 y) → s ≡ sets r (at + 16) (littleBytes 8 z) → s ≡ sets l at (threeSets x y z)
-unfolding threeSets littleBytes
-three-put l at x y z a b c = let q : at + 16 ≡ at + 8 + 8 = omega arith in runs l at (at + 8) (at + 16) (littleBytes 8 x) (littleBytes 8 y) (littleBytes 8 z) a b c refl q
 
 pub first-put : (l : List ℕ) {m r s : List ℕ} (x n far : ℕ) → m ≡ sets l 0 (littleBytes 2 x) → r ≡ set m 2 (n % 256) → s ≡ set r 3 (far % 256) → s ≡ sets l 0 (firstBytes x n far)
 unfolding firstBytes littleBytes

@@ -5,7 +5,7 @@ ghost use Prim.Native.Nat.{_+_, _%_, _≤_, _<_};
 ghost use lib.ListN.{length, set};
 ghost use lib.Seq.{sets};
 ghost use Rattle.records.specs.Bytes.{littleBytes};
-ghost use Rattle.filling.specs.Work.{threeSets, firstBytes, totalBytes, headOn};
+ghost use Rattle.filling.specs.Work.{firstBytes, totalBytes, headOn};
 
 fn low(x: u64) -> u8
     ensures { λ r. ⌜ r ≡ x % 256 ⌝ }
@@ -36,22 +36,13 @@ fn put4(out: &mut [u8], at: usize, x: u64)
     put2(out, at + 2, x / 256 / 256);
 }
 
-fn put8(out: &mut [u8], at: usize, x: u64)
+// A set of atoms.
+pub(crate) fn put8(out: &mut [u8], at: usize, x: u64)
     requires { ⌜ at + 8 ≤ length (now out) ⌝ }
     ensures { λ _. ⌜ now (out .exit) ≡ sets (now (out .entry)) at (littleBytes 8 x) ⌝ }
 {
     put4(out, at, x);
     put4(out, at + 4, x / 256 / 256 / 256 / 256);
-}
-
-// Three sets of atoms.
-pub(crate) fn put_three(out: &mut [u8], at: usize, x: u64, y: u64, z: u64)
-    requires { ⌜ at + 24 ≤ length (now out) ⌝ }
-    ensures { λ _. ⌜ now (out .exit) ≡ sets (now (out .entry)) at (threeSets x y z) ⌝ }
-{
-    put8(out, at, x);
-    put8(out, at + 8, y);
-    put8(out, at + 16, z);
 }
 
 fn put_first(out: &mut [u8], number: u64, n: u64, largest: u64)

@@ -26,7 +26,7 @@ use Rattle.storage.specs.Calls.{Sent, own, answersTo, tableAll}
 use Rattle.storage.specs.Model.{Entry, lookup, has, toldLook, toldAll, leftAll}
 use Rattle.storage.specs.Entries.{has-positive}
 use Rattle.storage.specs.Keeps.{KeepsQueue, HonestTrade}
-use Rattle.storage.specs.Kept.{KeptPlaces, proper-at, place-long, stands, same-look}
+use Rattle.storage.specs.Kept.{KeptPlaces, proper-at, stands, same-look}
 use Rattle.storage.specs.Alone.{own-calls-only, keeps-own}
 use Rattle.storage.specs.declared.Queue.{Queue}
 use Rattle.queues.specs.Queues.{storedBlock}
@@ -75,15 +75,12 @@ module _ (s : List ℕ) (q : List (Entry Block)) (k : KeepsQueue summaryTable bl
   begins : (x : ℕ) → has noBlock q x ≡ true → let b = storedBlock x (blockIn q x .atoms) (blockIn q x .bytes) in take (length b) (summaryAt s (placeIn s x)) ≡ b
   begins x e = rw (there x e) (stands summaryTable blocks (lit≤ tt) k x e)
 
-  long : (x : ℕ) → has noBlock q x ≡ true → summaryBytes ≤ length (summaryAt s (placeIn s x))
-  long x e = rw (there x e) (omega (arith, place-long summaryTable blocks (lit≤ tt) k x e))
-
   tells : HonestBook s (bookIn q)
   tells = record {
     has = λ x. has-same s (k .stores .size) x ∙ k .stores .numbers x;
     molecules = λ x e. molecule (blockIn q x .atoms) (blockIn q x .bytes) (fine-at x e);
-    told = λ x e. summary-told x (blockIn q x .atoms) (blockIn q x .bytes) (fine-at x e) (summaryAt s (placeIn s x)) (begins x e) (long x e);
-    ends = λ x a e w. ends-told x (blockIn q x .atoms) (blockIn q x .bytes) (fine-at x e) (summaryAt s (placeIn s x)) (begins x e) (long x e) a w;
+    told = λ x e. summary-told x (blockIn q x .atoms) (blockIn q x .bytes) (fine-at x e) (summaryAt s (placeIn s x)) (begins x e);
+    ends = λ x a e w. ends-told x (blockIn q x .atoms) (blockIn q x .bytes) (fine-at x e) (summaryAt s (placeIn s x)) (begins x e) a w;
   }
 
 -- THE BYTES SAY WHAT THE BLOCKS MEAN

@@ -4,8 +4,5 @@ pub mod Leaving
 pub mod Touching
 pub mod Summing
 pub mod Digits
-pub mod DigitSets
-pub mod Marked
 pub mod Levels
-pub mod ByDigits
 pub mod Reply

@@ -1,4 +1,4 @@
--- The replies to a block and to lent sets, and the vertex sums that are left. Assumes nothing.
+-- The replies to a block, and the vertex sums that are left. Assumes nothing.
 use Prim.Native.Nat.{ℕ, suc, _+_, _-_, _*_, _≤_, _<_}
 use mathlib.Core.Bool.{cond}
 use mathlib.Core.List.{List}
@@ -8,29 +8,30 @@ use native.Mathlib.Numerals.{add-one}
 use native.Mathlib.Omega.{arith}
 use borrow.Author.Tests.{lt-ltb, le-ltb}
 use lib.Dec.{ltb}
-use lib.ListN.{length, getD}
+use lib.ListN.{getD}
 use Rattle.graph.specs.Graph.{Graph, Within, vertexSum}
 use Rattle.graph.specs.Farthest.{largest}
 use Rattle.graph.specs.Largest.{largest-over, largest-below}
 use Rattle.half.specs.Half.{table}
-use Rattle.reply.specs.Read.{refused, read, refusal}
+use Rattle.reply.specs.Read.{refused, read}
 use Rattle.reply.specs.declared.Refusal.{Refusal}
 use Rattle.reply.specs.declared.Reply.{Reply}
 use Rattle.reply.specs.declared.Reply.the-variants as reply
 use Rattle.block.specs.Block.{mostAtoms, graphOf, blockReply}
 use Rattle.block.specs.Index.{indicesOf, indicesReply, saidIndices}
 use Rattle.block.specs.Near.{around}
+use Rattle.block.specs.Opened.{openedReply, saidOpened}
 use Rattle.block.specs.Rows.{noRow}
+use Rattle.block.specs.declared.Opened.{Opened}
 use Rattle.block.specs.Told.{few-atoms, molecule}
 use Rattle.block.specs.declared.Indices.{Indices}
 use Rattle.block.specs.declared.IndicesReply.{IndicesReply}
 use Rattle.block.specs.declared.IndicesReply.the-variants as measured
-use Rattle.reach.specs.DigitSets.{mostDigits, changedSets, digitSetsReply, changedBy, digitSetsAfter}
-use Rattle.reach.specs.Marked.{digitSetOf}
+use Rattle.reach.specs.Taken.{takenOf}
+use Rattle.reach.specs.declared.Taken.{Taken}
 use Rattle.reach.specs.Reach.{Reached}
 use Rattle.reach.specs.Sums.{vertexSumsOf, sumsReply, saidSums}
 use Rattle.reach.proofs.Summing.{all-wanting}
-use Rattle.reach.proofs.ByDigits.{all-digits}
 use Rattle.reach.proofs.Leaving.{table-cong}
 
 module _ (n : ℕ) (xs : List ℕ) where
@@ -42,29 +43,20 @@ module _ (n : ℕ) (xs : List ℕ) where
   unfolding sumsReply
   sums-refused r b p e = rw b (λ j. record { reply = e j; at = noRow })
 
-  -- a reply to lent sets, and the sets before and after
-  abbrev SetsSaid : IndicesReply → List ℕ → List ℕ → Type 0
-  SetsSaid p old new = (p ≡ saidIndices (digitSetsReply n xs (length old))) × (new ≡ digitSetsAfter n xs old)
+  -- a block that is opened, where the reply beside its neighbours is known
+  module _ (v : Opened) (e : v ≡ saidOpened (openedReply n xs)) where
+    pub open-refused : (r : Refusal) → blockReply n xs ≡ refused r → _≡_ {A = Taken} (record { reply = measured.Refused r; near = v .near }) (takenOf n xs)
+    unfolding takenOf indicesReply
+    open-refused r b = rw b (λ i. record { reply = measured.Refused r; near = e i .near })
 
-  pub sets-refused : (r : Refusal) → blockReply n xs ≡ refused r → (old : List ℕ) → SetsSaid (measured.Refused r) old old
-  unfolding digitSetsReply changedBy
-  sets-refused r b old = rw b (refl, refl)
+    pub open-fine : blockReply n xs ≡ read tt → (x : Indices) → x ≡ indicesOf (graphOf n xs) → _≡_ {A = Taken} (record { reply = measured.Of x; near = v .near }) (takenOf n xs)
+    unfolding takenOf indicesReply
+    open-fine f x q = rw f (λ i. record { reply = measured.Of (q i); near = e i .near })
 
   module _ (fine : blockReply n xs ≡ read tt) where
     pub fine-reply : (x : Indices) → x ≡ indicesOf (graphOf n xs) → measured.Of x ≡ saidIndices (indicesReply n xs)
     unfolding indicesReply
     fine-reply x e = rw (fine, e)
-
-    pub sets-short : (old : List ℕ) → length old < mostDigits * n → SetsSaid (measured.Refused (refusal 9 0)) old old
-    unfolding digitSetsReply changedBy
-    sets-short old l = rw (fine, lt-ltb (length old) (mostDigits * n) l) (refl, refl)
-
-    pub sets-fine : (old : List ℕ) → mostDigits * n ≤ length old → (x : Indices) → x ≡ indicesOf (graphOf n xs) → (new : List ℕ)
-        → new ≡ changedSets (digitSetOf (graphOf n xs) mostDigits) old → SetsSaid (measured.Of x) old new
-    unfolding digitSetsReply changedBy
-    sets-fine old l x e new q =
-        rw (fine, le-ltb (length old) (mostDigits * n) l)
-        (ap measured.Of e, q ∙ ap (λ (f : ℕ → ℕ). changedSets f old) (all-digits (graphOf n xs)))
 
     abbrev g : Graph
     g = graphOf n xs

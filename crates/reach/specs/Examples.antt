@@ -1,20 +1,25 @@
--- Laws. A worked example, computed: the distances 0, 1, 2 and 3 along a path, by their digits. Assumes nothing.
+-- Laws. Worked examples, computed. Assumes nothing.
 use Prim.Native.Nat.{ℕ}
 use mathlib.Core.List.{List, [], _∷_}
 use mathlib.Core.Path.{_≡_, refl}
-use Rattle.graph.specs.Graph.{Graph, bond, distance, firstFrom, reaches, anyAtom, bonded, anyJoins, joins, sum}
+use lib.ListN.{getD}
+use Rattle.graph.specs.Graph.{joins, anyJoins, bonded, anyAtom, reaches, firstFrom, distance, allAtoms, connected, degree, sum, sumPairs, evenOf, oddOf, isAt, total}
+use Rattle.graph.specs.Farthest.{most, mostPairs, largest}
 use Rattle.half.specs.Half.{table}
-use Rattle.reach.specs.DigitSets.{setOf, digitSet, digitSetAt, changedSets}
+use Rattle.reply.specs.Read.{refusal}
+use Rattle.block.specs.Block.{bondsOf, bondFault, bondsReply, blockReply}
+use Rattle.block.specs.Index.{indicesOf, indicesReply}
+use Rattle.block.specs.Opened.{neighboursOf, openedReply}
+use Rattle.block.specs.declared.IndicesReply.the-variants.{Of, Refused}
+use Rattle.reach.specs.Taken.{takenOf}
 
-abbrev pub path : Graph
-path = record { atoms = 4; bonds = bond 1 2 ∷ bond 2 3 ∷ bond 3 4 ∷ [] }
+-- a path of three: W is 4; atom 2 is next to atoms 1 and 3
+pub path : (takenOf 3 (1 ∷ 2 ∷ 2 ∷ 3 ∷ []) .reply ≡ Of (record { atoms = 3; w = 4; even = 2; odd = 2; polarity = 0; largest = 2 }))
+    × (getD (takenOf 3 (1 ∷ 2 ∷ 2 ∷ 3 ∷ []) .near) 1 0 ≡ 5)
+unfolding takenOf indicesReply openedReply indicesOf neighboursOf table blockReply bondsReply bondFault bondsOf joins anyJoins bonded anyAtom reaches firstFrom distance allAtoms connected degree sum sumPairs evenOf oddOf isAt total most mostPairs largest
+path = (refl, refl)
 
--- from atom 1 atoms 2 and 4 are at an odd distance, atoms 3 and 4 at 2 or 3
-pub odd-ones : (digitSet path 0 1 ≡ 10) × (digitSet path 1 1 ≡ 12) × (digitSet path 2 1 ≡ 0)
-unfolding setOf distance firstFrom reaches anyAtom bonded anyJoins joins sum
-odd-ones = (refl, refl, refl)
-
--- the sets of atom 2, the second of four: its odd distances at place 1, the next digit at place 5
-pub places : (digitSetAt path 1 ≡ 5) × (digitSetAt path 5 ≡ 8) × (digitSetAt path 24 ≡ 0)
-unfolding digitSetAt setOf distance firstFrom reaches anyAtom bonded anyJoins joins sum
-places = (refl, refl, refl)
+-- two atoms without a bond
+pub apart : (takenOf 2 [] .reply ≡ Refused (refusal 7 0)) × (getD (takenOf 2 [] .near) 0 0 ≡ 0)
+unfolding takenOf indicesReply openedReply neighboursOf blockReply bondsReply bondsOf joins anyJoins bonded anyAtom reaches firstFrom distance allAtoms connected
+apart = (refl, refl)

@@ -1,12 +1,19 @@
--- Laws. What a reply with vertex sums tells: it is the block's refusal, or the block is fine and the sums are its. Assumes nothing.
+-- Laws. What a reply with vertex sums tells, and one with neighbours: it is the block's refusal, or the block is fine and they are its. Assumes nothing.
 use Prim.Native.Nat.{ℕ}
 use mathlib.Core.List.{List}
 use mathlib.Core.Path.{_≡_, refl, sym, ap, _∙_}
+use native.Mathlib.Omega.{arith}
 use Rattle.reply.specs.Read.{Read, refused, read, _then_, saidReply}
 use Rattle.reply.specs.Chain.{fine-read, refused-read}
 use Rattle.reply.specs.declared.Refusal.{Refusal}
 use Rattle.reply.specs.declared.Reply.the-variants.{Fine, Refused}
 use Rattle.block.specs.Block.{graphOf, blockReply}
+use Rattle.block.specs.Index.{indicesOf, indicesReply, saidIndices}
+use Rattle.block.specs.Opened.{neighboursOf, openedReply, saidOpened}
+use Rattle.block.specs.declared.Indices.{Indices}
+use Rattle.block.specs.declared.IndicesReply.the-variants as measured
+use Rattle.reach.specs.Taken.{takenOf}
+use Rattle.reach.specs.declared.Taken.{Taken}
 use Rattle.reach.specs.Sums.{vertexSumsOf, sumsReply, saidSums}
 use Rattle.reach.specs.declared.VertexSums.{VertexSums}
 
@@ -28,3 +35,31 @@ module _ (n : ℕ) (xs : List ℕ) (v : VertexSums) (e : v ≡ saidSums (sumsRep
   sums-told q =
       let f = fine-read (blockReply n xs) (sym reply-is ∙ q) in
       (f, ap (λ (w : VertexSums). w .at) e ∙ rw f refl)
+
+-- WHAT OPENING TELLS: the block's refusal, or its indices and its neighbours
+module _ (n : ℕ) (xs : List ℕ) (v : Taken) (e : v ≡ takenOf n xs) where
+  not-refused : (x : Indices) (r : Refusal) → measured.Of x ≡ measured.Refused r → ⊥
+  not-refused x r f = let z : _≡_ {A = ℕ} 0 1 = cc in absurd (omega arith)
+
+  pub taken-refused : (r : Refusal) → v .reply ≡ measured.Refused r → blockReply n xs ≡ refused r
+  unfolding takenOf indicesReply
+  taken-refused r q = go (blockReply n xs) (sym (ap (λ (t : Taken). t .reply) e) ∙ q)
+    where
+      go : (b : Read (Unit {0})) → saidIndices (b then λ _. read (indicesOf (graphOf n xs))) ≡ measured.Refused r → b ≡ refused r
+      go (refused s) f = same s f
+        where
+          same : (s : Refusal) → measured.Refused s ≡ measured.Refused r → _≡_ {A = Read (Unit {0})} (refused s) (refused r)
+          same s f = cc
+      go (read u) f = absurd (not-refused (indicesOf (graphOf n xs)) r f)
+
+  pub taken-fine : (x : Indices) → v .reply ≡ measured.Of x → (blockReply n xs ≡ read tt) × (x ≡ indicesOf (graphOf n xs)) × (v .near ≡ neighboursOf (graphOf n xs))
+  unfolding takenOf indicesReply openedReply
+  taken-fine x q = go (blockReply n xs) (sym (ap (λ (t : Taken). t .reply) e) ∙ q) (ap (λ (t : Taken). t .near) e)
+    where
+      same : (y : Indices) → measured.Of y ≡ measured.Of x → x ≡ y
+      same y f = cc
+
+      go : (b : Read (Unit {0})) → saidIndices (b then λ _. read (indicesOf (graphOf n xs))) ≡ measured.Of x → v .near ≡ saidOpened (b then λ _. read (neighboursOf (graphOf n xs))) .near
+          → (b ≡ read tt) × (x ≡ indicesOf (graphOf n xs)) × (v .near ≡ neighboursOf (graphOf n xs))
+      go (refused s) f h = absurd (not-refused x s (sym f))
+      go (read tt) f h = (refl, same (indicesOf (graphOf n xs)) f, h)

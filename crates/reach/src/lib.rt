@@ -12,20 +12,13 @@ ghost use Rattle.block.specs.Index.{indicesOf, indicesReply, saidIndices};
 ghost use Rattle.block.specs.Near.{around};
 ghost use Rattle.half.specs.Half.{table};
 ghost use Rattle.reach.specs.Sums.{sumsReply, saidSums};
-ghost use Rattle.reach.specs.DigitSets.{mostDigits, changedSets, digitSetsReply, digitSetsAfter};
-ghost use Rattle.reach.specs.Marked.{digitSetOf};
+ghost use Rattle.reach.specs.Taken.{takenOf};
 ghost use Rattle.reach.specs.Reach.{Own, Reach, LowSums, fartherOf, Room, Added, Reached};
 use block::ATOMS;
 use block::Indices;
 use block::IndicesReply;
-use marking::mark_level;
-use reply::Refusal;
+use block::Neighbours;
 use reply::Reply;
-
-mod marking;
-
-// A distance is below 64, and has six digits.
-pub const DIGITS: usize = 6;
 
 // A set of atoms for each atom: that of atom v at v - 1.
 type Sets = [u64; ATOMS];
@@ -41,6 +34,12 @@ struct Both {
 pub struct VertexSums {
     pub reply: Reply,
     pub at: [u64; ATOMS],
+}
+
+// The indices of a block or its refusal; and its neighbours, none where it is refused.
+pub struct Taken {
+    pub reply: IndicesReply,
+    pub near: Neighbours,
 }
 
 // Each of n atoms alone.
@@ -122,14 +121,11 @@ fn farther(s: Both, d: u64, pairs: u64) -> Both
     }
 }
 
-// The indices of a block that is not refused; and lent, from 1 for each atom on, how many atoms were within its reach, all levels together, and the
-// sets of as many digits as are asked for.
-fn summed(n: usize, bonds: &[u8], reached: &mut [u64], digits: usize, out: &mut [u64]) -> Indices
-    requires { ⌜ (blockReply n (now bonds) ≡ read tt) × (now reached ≡ replicate mostAtoms 1)
-        × (digits ≤ mostDigits) × (digits * n ≤ length (now out)) ⌝ }
+// The indices of a block that is not refused; and lent, from 1 for each atom on, how many atoms were within its reach, all levels together.
+fn summed(n: usize, bonds: &[u8], reached: &mut [u64]) -> Indices
+    requires { ⌜ (blockReply n (now bonds) ≡ read tt) × (now reached ≡ replicate mostAtoms 1) ⌝ }
     ensures indices { λ r. ⌜ r ≡ indicesOf (graphOf n (now (bonds .entry))) ⌝ }
     ensures reached { λ r. ⌜ Reached (graphOf n (now (bonds .entry))) (r .largest) (now (reached .exit)) ⌝ }
-    ensures sets { λ _. ⌜ now (out .exit) ≡ changedSets (digitSetOf (graphOf n (now (bonds .entry))) digits) (now (out .entry)) ⌝ }
 {
     let pairs = n as u64 * n as u64;
     let mut near = alone(n);
@@ -143,7 +139,6 @@ fn summed(n: usize, bonds: &[u8], reached: &mut [u64], digits: usize, out: &mut 
     let mut d: u64 = 0;
     while met < pairs {
         spread(&near, n, bonds, &mut sets);
-        mark_level(&near, n, d + 1, digits, out);
         let reached = settled(&sets, n, &mut near, reached);
         d += 1;
         s = farther(s, d, reached - met);
@@ -168,31 +163,33 @@ pub fn measure(n: usize, bonds: &[u8]) -> IndicesReply
         Reply::Refused(refusal) => IndicesReply::Refused(refusal),
         Reply::Fine => {
             let mut reached = [1u64; ATOMS];
-            let indices = summed(n, bonds, &mut reached, 0, &mut [0u64; 0]);
+            let indices = summed(n, bonds, &mut reached);
             IndicesReply::Of(indices)
         }
     }
 }
 
-// The indices of a block; and in the lent set at n * k + v - 1 the atoms whose distance from atom v has binary digit k change sides.
-// Or it is a refusal, and no set changes: the block's, then 9 at 0 where fewer than 6 * n sets are lent.
-pub fn digit_sets(n: usize, bonds: &[u8], out: &mut [u64]) -> IndicesReply
-    ensures reply { λ r. ⌜ r ≡ saidIndices (digitSetsReply n (now (bonds .entry)) (length (now (out .entry)))) ⌝ }
-    ensures sets { λ _. ⌜ now (out .exit) ≡ digitSetsAfter n (now (bonds .entry)) (now (out .entry)) ⌝ }
+// A block that is opened, its bonds read once: its indices or its refusal, and its neighbours, none where it is refused.
+pub fn opened(n: usize, bonds: &[u8]) -> Taken
+    ensures { λ r. ⌜ r ≡ takenOf n (now (bonds .entry)) ⌝ }
 {
-    let reply = block::check(n, bonds);
-    if let Reply::Refused(refusal) = reply {
-        return IndicesReply::Refused(refusal);
+    let read = block::neighbours(n, bonds);
+    let reply = read.reply;
+    let near = read.near;
+    match reply {
+        Reply::Refused(refusal) => Taken {
+            reply: IndicesReply::Refused(refusal),
+            near,
+        },
+        Reply::Fine => {
+            let mut reached = [1u64; ATOMS];
+            let indices = summed(n, bonds, &mut reached);
+            Taken {
+                reply: IndicesReply::Of(indices),
+                near,
+            }
+        }
     }
-    if out.len() < DIGITS * n {
-        return IndicesReply::Refused(Refusal {
-            number: 9,
-            place: 0,
-        });
-    }
-    let mut reached = [1u64; ATOMS];
-    let indices = summed(n, bonds, &mut reached, DIGITS, out);
-    IndicesReply::Of(indices)
 }
 
 // What is left of so many levels of n atoms each, for each of the n atoms: a distance is how many levels an atom was not within reach.
@@ -222,7 +219,7 @@ pub fn vertex_sums(n: usize, bonds: &[u8]) -> VertexSums
         };
     };
     let mut reached = [1u64; ATOMS];
-    let indices = summed(n, bonds, &mut reached, 0, &mut [0u64; 0]);
+    let indices = summed(n, bonds, &mut reached);
     let at = left(n, indices.largest + 1, &reached);
     VertexSums { reply, at }
 }

@@ -1,4 +1,5 @@
 -- Laws that the proofs of the functions cite.
+pub mod Small
 pub mod Ports
-pub mod Links
-pub mod Owns
+pub mod Linking
+pub mod Storing

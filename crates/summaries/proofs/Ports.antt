@@ -3,19 +3,14 @@ use Prim.Native.Nat.{ℕ, zero, suc, _+_, _*_, _-_, _^_, _≤_, _<_, min}
 use mir.Syntax.{w64}
 use mir.Val.{Fits as Fit}
 use borrow.Author.Needs.{scaled-fits}
-use lib.Dec.{ltb, lit<}
-use mathlib.Core.Bool.{Bool, true, false, _||_, cond}
-use mathlib.Core.List.{List, []}
-use mathlib.Core.Logic.{⊎-elim}
-use native.Mathlib.Nat.{eq-or-lt-of-le}
+use lib.Dec.{lit<}
+use mathlib.Core.List.{List}
 use native.Mathlib.Decide.{decLt}
-use lib.ListN.{length, getD, set, take, drop, length-take, List·getD-eq-default}
-use lib.Seq.{getD-set-same, getD-set-other, getD-take, getD-drop}
+use lib.ListN.{getD, take, drop, length-take, List·getD-eq-default}
+use lib.Seq.{getD-take, getD-drop}
 use mathlib.Core.Path.{_≡_, refl, sym, _∙_, ap}
 use native.Mathlib.Omega.{arith}
 use Rattle.graph.specs.Graph.{Within}
-use Rattle.half.specs.Half.{mostAtoms}
-use Rattle.reply.specs.Read.{isOutside}
 use Rattle.records.specs.Bytes.{little, part}
 use Rattle.assembly.specs.Placements.{mostPlacements}
 use Rattle.block.specs.declared.Indices.{Indices}
@@ -25,11 +20,10 @@ use Rattle.tables.specs.Table.{Fits}
 use Rattle.tables.specs.Climb.{far-same, far-later, far-earlier, sight-here, sight-there, six-here}
 use Rattle.tables.specs.Bounds.{SmallSight, Bytes, SixHeld, SixBytes, SmallPart, far-most, sight-held, six-held, held-bytes}
 use Rattle.joining.specs.Small.{SmallCounts, SmallFields}
-use Rattle.counting.specs.Counting.{countedBy}
-use Rattle.counting.proofs.Low.{LowCounts, counted-low}
-use Rattle.summary.specs.Layout.{summaryBytes, storedAtoms, storedFields, setIn, vertexAt, digitIn, digitsIn, farAt, keptOf}
+use Rattle.summary.specs.Layout.{summaryBytes, storedAtoms, storedFields, vertexAt, farAt, keptOf}
 use Rattle.shelf.specs.Shelf.{summaryAt}
-use Rattle.summaries.specs.Ready.{placeIn, keptIn, joinsIn, LentBytes, ReadyShelf, between, sightFrom, sightOfRow, coreAt, Known}
+use Rattle.summaries.specs.Ready.{placeIn, keptIn, joinsIn, LentBytes, ReadyShelf, between, sightFrom}
+use Rattle.summaries.proofs.Small.{vertex-bytes, far-few}
 
 -- the offset of a row of four numbers
 pub row-at : {k : ℕ} → k < mostPlacements → Fit w64 (k * 32)
@@ -43,41 +37,6 @@ lent-part {b} from n l = record {
     | no h ↦ omega (arith, List·getD-eq-default (take n (drop from b)) 0 {n = i} (omega (arith, length-take n (drop from b))))
   ];
 }
-
--- six digits say less than 64
-digits-few : (a b c d e f : ℕ) → a < 2 → b < 2 → c < 2 → d < 2 → e < 2 → f < 2 → a + 2 * b + 4 * c + 8 * d + 16 * e + 32 * f < 64
-digits-few a b c d e f p q r s t u = omega arith
-
-far-few : (s : List ℕ) (i j : ℕ) → farAt s i j < 64
-unfolding farAt
-far-few s i j = go (isOutside mostAtoms i || isOutside mostAtoms j || ltb (length s) summaryBytes)
-  where
-    two : (k : ℕ) → digitIn s i j k < 2
-    two k = omega arith
-
-    go : (t : Bool) → cond t 0 (digitsIn s i j) < 64
-    go true = omega arith
-    go false = digits-few (digitIn s i j 0) (digitIn s i j 1) (digitIn s i j 2) (digitIn s i j 3) (digitIn s i j 4) (digitIn s i j 5) (two 0) (two 1) (two 2) (two 3) (two 4) (two 5)
-
-low-bytes : {v : Vertex} → LowCounts v → Bytes v
-low-bytes l = record {
-  sum = omega (arith, l .sum);
-  even = omega (arith, l .even);
-  odd = omega (arith, l .odd);
-  evens = omega (arith, l .evens);
-  odds = omega (arith, l .odds);
-  ones = omega (arith, l .ones);
-  twos = omega (arith, l .twos);
-  farthest = omega (arith, l .farthest);
-}
-
-vertex-bytes : (s : List ℕ) (i : ℕ) → Bytes (vertexAt s i)
-unfolding vertexAt
-vertex-bytes s i = go (isOutside mostAtoms i || ltb (length s) summaryBytes)
-  where
-    go : (t : Bool) → Bytes (cond t (countedBy 0 0 0 0 0 0 0) (countedBy (storedAtoms s) (setIn s i 0) (setIn s i 1) (setIn s i 2) (setIn s i 3) (setIn s i 4) (setIn s i 5)))
-    go true = low-bytes (counted-low 0 0 0 0 0 0 0)
-    go false = low-bytes (counted-low (storedAtoms s) (setIn s i 0) (setIn s i 1) (setIn s i 2) (setIn s i 3) (setIn s i 4) (setIn s i 5))
 
 -- what a summary says is small
 module _ {s : List ℕ} (lent : LentBytes s) where
@@ -204,13 +163,3 @@ module _ {b : List ℕ} {ls : List (List ℕ)} {count : ℕ} (r : ReadyShelf b l
     pub six-next : let s = summaryAt b (placeIn ls k) in
         joinSix (sixIn (keptIn b ls) (joinsIn ls) (k - 1)) (storedFields s) (sightFrom b ls k k) (vertexAt s (joinsIn ls k .own)) ≡ sixIn (keptIn b ls) (joinsIn ls) k
     six-next = sym (six-here (keptIn b ls) (joinsIn ls) k (w .low))
-
--- what is kept of one join more
-pub known-more : {b : List ℕ} {ls cs : List (List ℕ)} (k : ℕ) (row : List ℕ) → k < length cs → sightOfRow row ≡ sightFrom b ls k k → Known b ls cs k → Known b ls (set cs k row) (k + 1)
-known-more {b} {ls} {cs} k row n here h = record { known = λ m p l. ⊎-elim (λ e. now m e) (λ q. before m p q) (eq-or-lt-of-le {n = m} {m = k} (omega arith)) }
-  where
-    now : (m : ℕ) → m ≡ k → coreAt (set cs k row) m ≡ sightFrom b ls m m
-    now m e = rw e (rw (getD-set-same cs k row [] n) here)
-
-    before : (m : ℕ) → 1 ≤ m → m < k → coreAt (set cs k row) m ≡ sightFrom b ls m m
-    before m p q = rw (getD-set-other cs k m row [] (λ e. omega arith)) (h .known m p q)

@@ -2,7 +2,7 @@
 --
 -- | notion                                          | meaning                                                | the law that matters                                  |
 -- | `composedReply`                                 | the six fields over what summaries say, or the refusal | `composed-written`: those of the molecule written out |
--- | `LinkedUpTo`, `ReadyShelf`, `Known`, `OwnKnown` | placements as they are read; what composing works on   | `unique-compose`                                      |
+-- | `LinkedUpTo`, `ReadyShelf`, `StepsKnown`        | placements as they are read; what composing works on   | `unique-compose`                                      |
 pub mod Composing
 pub mod Ready
 pub mod Written

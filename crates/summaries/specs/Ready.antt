@@ -1,5 +1,5 @@
 -- Work. What composing works on: a book of bytes, and for each placement the place of its summary, its parent, the parent's atom and its own.
-use Prim.Native.Nat.{ℕ, _-_, _≤_, _<_}
+use Prim.Native.Nat.{ℕ, _+_, _*_, _-_, _≤_, _<_}
 use mathlib.Core.List.{List, [], _∷_}
 use mathlib.Core.Path.{_≡_}
 use lib.ListN.{length, getD}
@@ -10,7 +10,8 @@ use Rattle.assembly.specs.declared.Placement.{Placement}
 use Rattle.block.specs.declared.Vertex.{Vertex}
 use Rattle.tables.specs.Parts.{Part, farIn, sightIn}
 use Rattle.tables.specs.Table.{Fits}
-use Rattle.summary.specs.Layout.{storedAtoms, vertexAt, keptOf}
+use Rattle.summary.specs.Layout.{storedAtoms, seenAt, keptOf}
+use Rattle.sighted.specs.declared.Seen.{Seen}
 use Rattle.shelf.specs.Shelf.{summaryAt, placeOf}
 
 abbrev pub linkOf : List ℕ → Placement → List ℕ
@@ -46,11 +47,10 @@ between b ls x y = farIn (keptIn b ls) (joinsIn ls) 31 (joinsIn ls x .parent - 1
 abbrev pub sightFrom : List ℕ → List (List ℕ) → ℕ → ℕ → Vertex
 sightFrom b ls m k = sightIn (keptIn b ls) (joinsIn ls) (m - 1) (joinsIn ls k .parent - 1) (joinsIn ls k .site)
 
--- what the placement at k counts from its own atom
-abbrev pub ownFrom : List ℕ → List (List ℕ) → ℕ → Vertex
-ownFrom b ls k = vertexAt (summaryAt b (placeIn ls k)) (joinsIn ls k .own)
+-- what is counted from an atom, as a row
+abbrev pub countRow : Vertex → List ℕ
+countRow v = v .sum ∷ v .even ∷ v .odd ∷ v .evens ∷ v .odds ∷ v .ones ∷ v .twos ∷ v .farthest ∷ []
 
--- what is kept of the joins before k
 abbrev pub sightOfRow : List ℕ → Vertex
 sightOfRow l = record {
   sum = getD l 0 0;
@@ -64,11 +64,25 @@ sightOfRow l = record {
 }
 
 abbrev pub coreAt : List (List ℕ) → ℕ → Vertex
-coreAt cs k = sightOfRow (getD cs k [])
+coreAt vs e = sightOfRow (getD vs e [])
 
-pub record Known (b : List ℕ) (ls cs : List (List ℕ)) (k : ℕ) : Type 0 where
-  pub known : (m : ℕ) → 1 ≤ m → m < k → coreAt cs m ≡ sightFrom b ls m m
+-- what is seen from the own atom of the placement at k, and from the atom that it is joined to
+abbrev pub ownSeen : List ℕ → List (List ℕ) → ℕ → Seen
+ownSeen b ls k = seenAt (summaryAt b (placeIn ls k)) (joinsIn ls k .own)
 
--- and what those placements count from their own atoms
-pub record OwnKnown (b : List ℕ) (ls os : List (List ℕ)) (k : ℕ) : Type 0 where
-  pub counted : (m : ℕ) → 1 ≤ m → m < k → coreAt os m ≡ ownFrom b ls m
+abbrev pub siteSeen : List ℕ → List (List ℕ) → ℕ → Seen
+siteSeen b ls k = seenAt (summaryAt b (placeIn ls (joinsIn ls k .parent - 1))) (joinsIn ls k .site)
+
+-- at 2 m and 2 m + 1 stand the numbers of steps from both ends of the joins before index k
+pub record StepsKnown (b : List ℕ) (ls rs : List (List ℕ)) (k : ℕ) : Type 0 where
+  pub long : 2 * k ≤ length rs
+  pub own : (m : ℕ) → 1 ≤ m → m < k → getD rs (2 * m) [] ≡ ownSeen b ls m .row
+  pub site : (m : ℕ) → 1 ≤ m → m < k → getD rs (2 * m + 1) [] ≡ siteSeen b ls m .row
+
+-- The joins before index k are made. At 2 m and 2 m + 1 stands what is counted from the own atom of the placement at index m, in its block, and from
+-- its parent's atom: in the parent's block while the join waits, and from then on as far as the placement before.
+pub record Counted (b : List ℕ) (ls vs : List (List ℕ)) (count k : ℕ) : Type 0 where
+  pub long : 2 * count ≤ length vs
+  pub own : (m : ℕ) → 1 ≤ m → m < count → coreAt vs (2 * m) ≡ ownSeen b ls m .counts
+  pub made : (m : ℕ) → 1 ≤ m → m < count → m < k → coreAt vs (2 * m + 1) ≡ sightFrom b ls m m
+  pub waits : (m : ℕ) → 1 ≤ m → m < count → k ≤ m → coreAt vs (2 * m + 1) ≡ siteSeen b ls m .counts

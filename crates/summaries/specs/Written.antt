@@ -135,15 +135,10 @@ module _ (b : List ℕ) (sizes : ℕ → ℕ) (bonds : ℕ → List ℕ) where
     pub fine : blockReply (sizes x) (bonds x) ≡ read tt
     pub begins : let s = summaryOf x (graphOf (sizes x) (bonds x)) in take (length s) (summaryAt b (placeOf b x)) ≡ s
 
-  has-long : (x : ℕ) → shelfIn b .has x ≡ true → summaryBytes ≤ length (summaryAt b (placeOf b x))
-  has-long x e =
-      let l = ltb-true (placeOf b x) (placesIn b) e in
-      omega (arith, l, length-take summaryBytes (drop (summaryBytes * placeOf b x) b), length-drop (summaryBytes * placeOf b x) b)
-
   pub honest : ((x : ℕ) → shelfIn b .has x ≡ true → Summarised x) → HonestBook b (record { has = shelfIn b .has; graph = λ x. graphOf (sizes x) (bonds x) })
   honest k = record {
     has = λ x. refl;
     molecules = λ x e. molecule (sizes x) (bonds x) (k x e .fine);
-    told = λ x e. summary-told x (sizes x) (bonds x) (k x e .fine) (summaryAt b (placeOf b x)) (k x e .begins) (has-long x e);
-    ends = λ x a e w. ends-told x (sizes x) (bonds x) (k x e .fine) (summaryAt b (placeOf b x)) (k x e .begins) (has-long x e) a w;
+    told = λ x e. summary-told x (sizes x) (bonds x) (k x e .fine) (summaryAt b (placeOf b x)) (k x e .begins);
+    ends = λ x a e w. ends-told x (sizes x) (bonds x) (k x e .fine) (summaryAt b (placeOf b x)) (k x e .begins) a w;
   }

@@ -1,15 +1,54 @@
 // Composing over a book of summaries: the six fields of an assembly by the joining rules, whatever the summaries say.
+mod ends;
 mod joins;
+mod links;
 
+use assembly::PLACEMENTS;
+use block::ATOMS;
+use block::Indices;
 use block::IndicesReply;
+use ends::CountRow;
+use ends::StepRow;
+use ends::see_ends;
 use joins::composed;
-use joins::links_of;
+use links::Links;
+use links::links_of;
 use records::le16_at;
 use reply::Reply;
 use shelf::check;
 ghost use mathlib.Core.Path.{_≡_};
+ghost use Prim.Native.Nat.{_*_, _-_, _≤_};
+ghost use lib.ListN.{length};
 ghost use Rattle.block.specs.Index.{saidIndices};
+ghost use Rattle.tables.specs.Parts.{sixIn};
 ghost use Rattle.summaries.specs.Composing.{composedReply};
+ghost use Rattle.summaries.specs.Ready.{keptIn, joinsIn, ReadyShelf};
+
+// The placements of a small assembly, for which fewer rows are cleared.
+const FEW: usize = 4;
+
+// By lent rows for both ends of each join.
+fn by_rows(book: &[u8], links: &Links, count: usize, rows: &mut [StepRow], counts: &mut [CountRow]) -> Indices
+    requires { ⌜ ReadyShelf (now book) (now links) count × (2 * count ≤ length (now rows)) × (2 * count ≤ length (now counts)) ⌝ }
+    ensures { λ r. ⌜ r ≡ sixIn (keptIn (now (book .entry)) (now (links .entry))) (joinsIn (now (links .entry))) (count - 1) ⌝ }
+{
+    see_ends(book, links, count, rows, counts);
+    composed(book, links, count, rows, counts)
+}
+
+fn placed(book: &[u8], links: &Links, count: usize) -> Indices
+    requires { ⌜ ReadyShelf (now book) (now links) count ⌝ }
+    ensures { λ r. ⌜ r ≡ sixIn (keptIn (now (book .entry)) (now (links .entry))) (joinsIn (now (links .entry))) (count - 1) ⌝ }
+{
+    if count <= FEW {
+        let mut rows = [[0u8; ATOMS]; 2 * FEW];
+        let mut counts = [[0u64; 8]; 2 * FEW];
+        return by_rows(book, links, count, &mut rows, &mut counts);
+    }
+    let mut rows = [[0u8; ATOMS]; 2 * PLACEMENTS];
+    let mut counts = [[0u64; 8]; 2 * PLACEMENTS];
+    by_rows(book, links, count, &mut rows, &mut counts)
+}
 
 // The six fields of an assembly's payload over a book of summaries, or its refusal, 15 to 19, 23 or 24, at the placement's number. The bytes
 // alone fix the reply, whatever they are.
@@ -22,7 +61,7 @@ pub fn compose(book: &[u8], xs: &[u8]) -> IndicesReply
         Reply::Fine => {
             let count = le16_at(xs, 0) as usize;
             let links = links_of(book, xs, count);
-            let all = composed(book, &links, count);
+            let all = placed(book, &links, count);
             IndicesReply::Of(all)
         }
     }

@@ -1,15 +1,14 @@
--- Definitions. A summary of a block: its number (2 bytes), atom count (1), largest distance (1), even part, odd part and polarity (4 each); then for each atom six
--- sets of atoms (8 each), in set k those whose distance from it has binary digit k. A place for a summary has room for 64 atoms. What a summary says, whatever
--- its bytes are.
-use Prim.Native.Nat.{ℕ, _+_, _-_, _*_, _/_, _%_, _^_, min}
-use mathlib.Core.Bool.{_||_, cond}
+-- Definitions. A summary of a block: its number (2 bytes), atom count (1), largest distance (1), even part, odd part and polarity (4 each); then for each atom the set
+-- of its neighbours (8). A place for a summary has room for 64 atoms. What a summary says, whatever its bytes are.
+use Prim.Native.Nat.{ℕ, _+_, _*_, min}
+use mathlib.Core.Bool.{cond}
 use mathlib.Core.List.{List}
-use lib.Dec.{ltb}
-use lib.ListN.{length}
+use lib.Count.{ones}
 use Rattle.half.specs.Half.{mostAtoms}
 use Rattle.reply.specs.Read.{isOutside}
-use Rattle.records.specs.Bytes.{byteAt, little, le16}
-use Rattle.counting.specs.Counting.{countedBy}
+use Rattle.records.specs.Bytes.{byteAt, little, le16, part}
+use Rattle.sighted.specs.Sighted.{setAt, setsIn, seenOf, stepsIn}
+use Rattle.sighted.specs.declared.Seen.{Seen}
 use Rattle.block.specs.declared.Indices.{Indices}
 use Rattle.block.specs.declared.Vertex.{Vertex}
 use Rattle.tables.specs.Parts.{Part}
@@ -19,7 +18,7 @@ abbrev pub headBytes : ℕ
 headBytes = 16
 
 abbrev pub atomBytes : ℕ
-atomBytes = 48
+atomBytes = 8
 
 abbrev pub summaryBytes : ℕ
 summaryBytes = headBytes + atomBytes * mostAtoms
@@ -41,34 +40,26 @@ storedFields s = record {
   largest = byteAt s 3;
 }
 
--- where what is kept of atom i stands
-abbrev pub seat : ℕ → ℕ
-seat i = headBytes + atomBytes * (i - 1)
+-- the bytes of the sets, and the set of atom i
+abbrev pub nearIn : List ℕ → List ℕ
+nearIn s = part s headBytes (atomBytes * mostAtoms)
 
--- set k of atom i
-abbrev pub setIn : List ℕ → ℕ → ℕ → ℕ
-setIn s i k = little 8 s (seat i + 8 * k)
+abbrev pub setIn : List ℕ → ℕ → ℕ
+setIn s i = setAt (nearIn s) i
 
--- what is counted from atom i, by its sets; nothing where it is not one of 64 or there are fewer bytes than a place has
-unfoldable pub vertexAt : List ℕ → ℕ → Vertex
-vertexAt s i =
-    cond (isOutside mostAtoms i || ltb (length s) summaryBytes) (countedBy 0 0 0 0 0 0 0)
-    (countedBy (storedAtoms s) (setIn s i 0) (setIn s i 1) (setIn s i 2) (setIn s i 3) (setIn s i 4) (setIn s i 5))
+-- all that is seen from atom i over the sets: what is counted, and the number of steps to each atom
+unfoldable pub seenAt : List ℕ → ℕ → Seen
+seenAt s i = seenOf (setsIn (nearIn s)) (storedAtoms s) i
 
--- how many bonds are at an atom: as many as atoms at distance 1
-abbrev pub storedDegree : List ℕ → ℕ → ℕ
-storedDegree s i = vertexAt s i .ones
+abbrev pub vertexAt : List ℕ → ℕ → Vertex
+vertexAt s i = seenAt s i .counts
 
--- digit k of the distance of atoms i and j
-abbrev pub digitIn : List ℕ → ℕ → ℕ → ℕ → ℕ
-digitIn s i j k = byteAt s (seat i + 8 * k + (j - 1) / 8) / 2 ^ ((j - 1) % 8) % 2
+abbrev pub farAt : List ℕ → ℕ → ℕ → ℕ
+farAt s i j = stepsIn (seenAt s i .row) j
 
-abbrev pub digitsIn : List ℕ → ℕ → ℕ → ℕ
-digitsIn s i j = digitIn s i j 0 + 2 * digitIn s i j 1 + 4 * digitIn s i j 2 + 8 * digitIn s i j 3 + 16 * digitIn s i j 4 + 32 * digitIn s i j 5
-
--- the distance of atoms i and j; 0 where they are not two of 64, or the bytes are fewer than a place has
-unfoldable pub farAt : List ℕ → ℕ → ℕ → ℕ
-farAt s i j = cond (isOutside mostAtoms i || isOutside mostAtoms j || ltb (length s) summaryBytes) 0 (digitsIn s i j)
+-- how many bonds are at an atom: as many as its set has atoms; none where it is not one of 64
+unfoldable pub storedDegree : List ℕ → ℕ → ℕ
+storedDegree s i = cond (isOutside mostAtoms i) 0 (ones (setIn s i))
 
 abbrev pub keptOf : List ℕ → Part
 keptOf s = record { six = storedFields s; sight = vertexAt s; far = farAt s }

@@ -1,4 +1,4 @@
--- Laws. As many bonds are at an atom of a block as there are atoms at distance 1. Assumes nothing.
+-- Laws. As many bonds are at an atom of a block as it has neighbours. Assumes nothing.
 use Prim.Native.Nat.{ℕ, _+_}
 use mathlib.Core.Bool.{Bool, true, false, _&&_, _||_, cond, true≢false}
 use mathlib.Core.List.{List, _∷_}
@@ -61,45 +61,11 @@ apart b bs new a j = go (joins b a j) refl (anyJoins bs a j) refl
     go false e t f = omega arith
 
 module _ (n : ℕ) (xs : List ℕ) (fine : blockReply n xs ≡ read tt) where
-  joined-ends : (a : ℕ) → sum n (λ j. cond (anyJoins (bondsOf xs) a j) 1 0) ≡ degree (bondsOf xs) a
+  -- AS MANY BONDS ARE AT AN ATOM AS NEIGHBOURS
+  pub bonds-are-ends : (a : ℕ) → sum n (λ j. cond (anyJoins (bondsOf xs) a j) 1 0) ≡ degree (bondsOf xs) a
   unfolding degree anyJoins
-  joined-ends a =
+  bonds-are-ends a =
       each-bond n xs fine (λ bs. sum n (λ j. cond (anyJoins bs a j) 1 0) ≡ degree bs a) (sum-none n)
       (λ b bs new more.
       sum-cong n (λ j w. apart b bs (new .new) a j) ∙ sum-add n (λ j. cond (joins b a j) 1 0) (λ j. cond (anyJoins bs a j) 1 0)
       ∙ ap₂ _+_ (ends-of n b (new .one) (new .two) (new .differ) a) more)
-
-  -- no bond leads to its own atom
-  no-loop : (a : ℕ) → anyJoins (bondsOf xs) a a ≡ true → ⊥
-  no-loop a = each-bond n xs fine (λ bs. anyJoins bs a a ≡ true → ⊥) (any-none a a)
-      (λ b bs new more e. ⊎-elim (⊎-elim (λ q. new .differ (q .0 ∙ sym (q .1))) (λ q. new .differ (q .0 ∙ sym (q .1)))) more (any-out b bs a a e))
-
-  at-one : (a j : ℕ) → Within n a → Within n j → isAt 1 (distance (graphOf n xs) a j) ≡ cond (anyJoins (bondsOf xs) a j) 1 0
-  unfolding isAt bonded
-  at-one a j wa wj = go (anyJoins (bondsOf xs) a j) refl (ℕ-discrete a j)
-    where
-      m : Molecule (graphOf n xs)
-      m = molecule n xs fine
-
-      far : anyJoins (bondsOf xs) a j ≡ false → (a ≡ j → ⊥) → distance (graphOf n xs) a j ≡ 1 → ⊥
-      far e ne d =
-          let (p, b, s) = parent m wa wj ne in
-          let z : distance (graphOf n xs) a p ≡ 0 = omega arith in
-          let q : a ≡ p = distance-zero m wa (m .sound .ends p j b) z in
-          true≢false (sym (rw (← q) at b) ∙ e)
-
-      go : (t : Bool) → anyJoins (bondsOf xs) a j ≡ t → Dec (a ≡ j) → cond {A = ℕ} (eqb (distance (graphOf n xs) a j) 1) 1 0 ≡ cond t 1 0
-      go true e (yes d) = absurd (no-loop a (ap (anyJoins (bondsOf xs) a) d ∙ e))
-      go true e (no d) =
-          let l = distance-bond m wa a j e in
-          let s = distance-self (m .sound) wa in
-          let z : distance (graphOf n xs) a j ≡ 0 → ⊥ = λ k. d (distance-zero m wa wj k) in
-          let one : distance (graphOf n xs) a j ≡ 1 = omega arith in
-          rw one
-      go false e (yes d) = rw (← d) (ap (λ (k : ℕ). cond (eqb k 1) 1 0) (distance-self (m .sound) wa))
-      go false e (no d) = ap (λ (t : Bool). cond t 1 0) (ne-eqb (distance (graphOf n xs) a j) 1 (far e d))
-
-  -- AS MANY BONDS ARE AT AN ATOM AS ATOMS AT DISTANCE 1
-  pub ones-are-bonds : (a : ℕ) → Within n a → countAt (graphOf n xs) a 1 ≡ degree (bondsOf xs) a
-  unfolding vertex
-  ones-are-bonds a w = sum-cong n (λ j v. at-one a j w v) ∙ joined-ends a

@@ -4,8 +4,8 @@ use mathlib.Core.List.{List}
 use mathlib.Core.Path.{_≡_}
 use Rattle.reply.specs.Chain.{unique}
 use Rattle.block.specs.declared.Indices.{Indices}
-use Rattle.block.specs.declared.Vertex.{Vertex}
-use Rattle.summary.specs.Layout.{storedAtoms, storedFields, vertexAt, storedDegree, farAt}
+use Rattle.sighted.specs.declared.Seen.{Seen}
+use Rattle.summary.specs.Layout.{storedAtoms, storedFields, seenAt, storedDegree}
 
 module _ (s : List ℕ) where
   pub unique-atoms : (p q : ℕ) → p ≡ storedAtoms s → q ≡ storedAtoms s → p ≡ q
@@ -15,11 +15,8 @@ module _ (s : List ℕ) where
   unique-fields p q = unique
 
   module _ (i : ℕ) where
-    pub unique-vertex : (p q : Vertex) → p ≡ vertexAt s i → q ≡ vertexAt s i → p ≡ q
-    unique-vertex p q = unique
+    pub unique-seen : (p q : Seen) → p ≡ seenAt s i → q ≡ seenAt s i → p ≡ q
+    unique-seen p q = unique
 
     pub unique-ends : (p q : ℕ) → p ≡ storedDegree s i → q ≡ storedDegree s i → p ≡ q
     unique-ends p q = unique
-
-    pub unique-far : (j p q : ℕ) → p ≡ farAt s i j → q ≡ farAt s i j → p ≡ q
-    unique-far j p q = unique

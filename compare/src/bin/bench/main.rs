@@ -1,4 +1,6 @@
 //! Times libtteuyomal.a beside plain search in the same process, and prints a Markdown table. Run it in release.
+//!
+//!     bench [claims]      only the rows of claims and SDFs, where that word is given
 
 #[allow(dead_code)] // the comparison calls every function, this program those it times
 #[path = "../../archive.rs"]
@@ -31,6 +33,9 @@ use timing::medians;
 fn main() {
     println!("| What | library | plain | plain / library | goal | |");
     println!("|---|---|---|---|---|---|");
+    if std::env::args().nth(1).as_deref() == Some("claims") {
+        return println!("\n{}", claims::times());
+    }
     let decks = [
         ("32 paths of 64 atoms", shapes::longest_path(), 150.0),
         ("16 blocks of 64 atoms in 32 placements", many_blocks(64, 16, 32), 30.0),
@@ -72,7 +77,6 @@ fn main() {
     limits::stack(&[&decks[0].1, &decks[1].1]);
     molfiles::stack_rows();
     neighbours::stack_rows();
-    claims::stack_rows();
     println!();
     limits::heap();
 }

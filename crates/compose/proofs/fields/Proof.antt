@@ -6,7 +6,7 @@ use Rattle.deck.specs.Deck.{Deck, deckReply}
 use Rattle.deck.specs.Said.{layoutOf}
 use Rattle.deck.specs.declared.DeckRead.{DeckRead}
 use Rattle.deck.specs.declared.Layout.{Layout}
-use Rattle.compose.proofs.Reading.{told-refused, told-fine, fields-refused, fields-fine}
+use Rattle.compose.proofs.Reading.{told-refused, told-fine, fields-refused, fields-fine, not-of, same-of}
 use Rattle.compose.proofs.fields.Statement.{statement}
 use Rattle.compose.proofs.fields.Tie as tie
 
@@ -27,14 +27,38 @@ fine c =
     let (k, e, l) = told-fine _ (sym (ap (λ (x : DeckRead). x .reply) r) ∙ c .enum-told .given .1) in
     (k, e, ap (λ (x : DeckRead). x .layout) r ∙ l)
 
-laid-out-requires : tie.Need-laid-out-requires
-laid-out-requires c κs = let (k, e, l) = fine (c .before) in (_, k, e, l)
-
 returns : tie.Need-returns
 returns c = fields-refused _ _ _ (told-refused _ (sym (ap (λ (x : DeckRead). x .reply) (c .before .before .before .read-deck .ensures)) ∙ c .before .reply .given .1))
 
+laid-out-requires : tie.Need-laid-out-requires
+laid-out-requires c κs = let (k, e, l) = fine (c .before) in (_, k, e, l)
+
+enum-known-answer : tie.Need-enum-known-answer
+enum-known-answer c = search needs
+
+enum-known-answer-2 : tie.Need-enum-known-answer-2
+enum-known-answer-2 c = search needs
+
 returns-2 : tie.Need-returns-2
-returns-2 c = let (k, e, l) = fine (c .before .before) in fields-fine _ _ k _ _ e (c .laid-out .ensures _ k e l) (ap (λ (x : Layout). x .sheet) l)
+returns-2 c =
+    let (k, e, l) = fine (c .before .before .before .before .before) in
+    absurd (not-of _ _ (sym (c .before .answer .given .1) ∙ c .before .before .before .laid-out .ensures _ k e l))
+
+returns-3 : tie.Need-returns-3
+returns-3 c =
+    let (k, e, l) = fine (c .before .before .before .before .before) in
+    fields-fine _ _ k _ _ e (same-of _ _ (sym (c .before .answer2 .given .1) ∙ c .before .before .before .laid-out .ensures _ k e l)) (ap (λ (x : Layout). x .sheet) l)
 
 pub fields-spec : {M : Type 1} → statement M
-fields-spec = tie.close (tie.spec read-deck-requires enum-known-reply enum-told laid-out-requires returns returns-2)
+fields-spec =
+    tie.close
+    (tie.spec
+    read-deck-requires
+    enum-known-reply
+    returns
+    enum-told
+    laid-out-requires
+    enum-known-answer
+    enum-known-answer-2
+    returns-2
+    returns-3)

@@ -1,59 +1,75 @@
 -- `fill` meets its contract.
+use mathlib.Core.Path.{sym, _∙_, ap}
 use native.Mathlib.Omega.{arith}
-use Rattle.filling.proofs.Told.{lent-zeros}
 use borrow.Author.Needs.{needs}
+use lib.ListN.{length}
+use Rattle.reply.specs.Read.{saidReply}
+use Rattle.block.specs.Told.{few-atoms}
+use Rattle.reach.specs.Told.{taken-refused, taken-fine}
+use Rattle.filling.proofs.Told.{reply-refused, reply-short, reply-fine, bytes-stay, bytes-put, all-put}
 use Rattle.filling.proofs.fill.Statement.{statement}
 use Rattle.filling.proofs.fill.Tie as tie
 
-slice-aggregate-fill-by : tie.Need-slice-aggregate-fill-by
-slice-aggregate-fill-by c = search needs
+opened-requires : tie.Need-opened-requires
+opened-requires c κs = search needs
 
-fill-by-requires : tie.Need-fill-by-requires
-fill-by-requires c κs = lent-zeros _ 48 (λ l. omega arith)
+enum-known-reply : tie.Need-enum-known-reply
+enum-known-reply c = search needs
+
+enum-known-reply-2 : tie.Need-enum-known-reply-2
+enum-known-reply-2 c = search needs
+
+returns : tie.Need-returns
+returns c =
+    let o = c .before .before .before .before .before in
+    let a = o .before .before .before .args in
+    let (f, x, m) = taken-fine (a .n) (a .bonds .now) _ (o .opened .ensures) _ (c .before .before .reply2 .given .1) in
+    let e = reply-short (a .n) (a .bonds .now) f (length (a .out .now)) (c .if1 .taken) in
+    (sym (ap saidReply e), bytes-stay (a .n) (a .bonds .now) (a .number) (a .out .now) e)
+
+put-head-requires : tie.Need-put-head-requires
+put-head-requires c κs = search needs
+
+put-atoms-requires : tie.Need-put-atoms-requires
+put-atoms-requires c κs =
+    let i = c .before .before .before .before .before .before in
+    let o = i .before .before .before .before .before in
+    let a = o .before .before .before .args in
+    let (f, x, m) = taken-fine (a .n) (a .bonds .now) _ (o .opened .ensures) _ (i .before .before .reply2 .given .1) in
+    (few-atoms (a .n) (a .bonds .now) f .high, omega (arith, c .before .before .before .out .given, i .if1 .left))
+
+returns-2 : tie.Need-returns-2
+returns-2 c =
+    let o = c .before .before .before .before in
+    let a = o .before .before .before .args in
+    let e = reply-refused (a .n) (a .bonds .now) (length (a .out .now)) (taken-refused (a .n) (a .bonds .now) _ (o .opened .ensures) _ (c .before .reply .given .1)) in
+    (sym (ap saidReply e), bytes-stay (a .n) (a .bonds .now) (a .number) (a .out .now) e)
 
 same-length : tie.Need-same-length
 same-length c = search needs
 
-returns : tie.Need-returns
-returns c = search needs
-
-slice-aggregate-fill-by-2 : tie.Need-slice-aggregate-fill-by-2
-slice-aggregate-fill-by-2 c = search needs
-
-fill-by-requires-2 : tie.Need-fill-by-requires-2
-fill-by-requires-2 c κs = lent-zeros _ 192 (λ l. omega arith)
-
-same-length-2 : tie.Need-same-length-2
-same-length-2 c = search needs
-
-returns-2 : tie.Need-returns-2
-returns-2 c = search needs
-
-slice-aggregate-fill-by-3 : tie.Need-slice-aggregate-fill-by-3
-slice-aggregate-fill-by-3 c = search needs
-
-fill-by-requires-3 : tie.Need-fill-by-requires-3
-fill-by-requires-3 c κs = lent-zeros _ 384 (λ l. omega arith)
-
-same-length-3 : tie.Need-same-length-3
-same-length-3 c = search needs
-
 returns-3 : tie.Need-returns-3
-returns-3 c = search needs
+returns-3 c =
+    let i = c .before .before .before .before .before .before .before .before .before in
+    let o = i .before .before .before .before .before in
+    let a = o .before .before .before .args in
+    let (f, x, m) = taken-fine (a .n) (a .bonds .now) _ (o .opened .ensures) _ (i .before .before .reply2 .given .1) in
+    let e = reply-fine (a .n) (a .bonds .now) f (length (a .out .now)) (omega (arith, i .if1 .left)) in (
+      sym (ap saidReply e),
+      bytes-put (a .n) (a .bonds .now) (a .number) (a .out .now) e
+          (all-put (a .n) (a .bonds .now) f (a .out .now) (a .number) _ x (c .before .before .before .before .before .before .before .put-head .ensures) _ m (c .before .before .put-atoms .ensures)),
+    )
 
 pub fill-spec : {M : Type 1} → statement M
 fill-spec =
     tie.close
     (tie.spec
-    slice-aggregate-fill-by
-    fill-by-requires
-    same-length
+    opened-requires
+    enum-known-reply
+    enum-known-reply-2
     returns
-    slice-aggregate-fill-by-2
-    fill-by-requires-2
-    same-length-2
+    put-head-requires
+    put-atoms-requires
     returns-2
-    slice-aggregate-fill-by-3
-    fill-by-requires-3
-    same-length-3
+    same-length
     returns-3)

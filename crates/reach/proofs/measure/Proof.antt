@@ -23,17 +23,14 @@ fine c = fine-read _ (sym (c .before .before .check .ensures) ∙ c .enum-told .
 slice-aggregate-summed : tie.Need-slice-aggregate-summed
 slice-aggregate-summed c = search needs
 
-slice-aggregate-summed-2 : tie.Need-slice-aggregate-summed-2
-slice-aggregate-summed-2 c = search needs
-
 summed-requires : tie.Need-summed-requires
-summed-requires c κs = (fine (c .before .before), refl, omega arith, omega arith)
+summed-requires c κs = (fine (c .before), refl)
 
 returns : tie.Need-returns
 returns c = refused-reply _ _ _ (refused-read _ _ (sym (c .before .before .before .check .ensures) ∙ c .before .reply .given .1))
 
 returns-2 : tie.Need-returns-2
-returns-2 c = let s = c .before .before in fine-reply _ _ (fine (s .before .before .before)) _ (s .summed .ensures .0)
+returns-2 c = let s = c .before in fine-reply _ _ (fine (s .before .before)) _ (s .summed .ensures .0)
 
 pub measure-spec : {M : Type 1} → statement M
-measure-spec = tie.close (tie.spec check-requires enum-known-reply enum-told slice-aggregate-summed slice-aggregate-summed-2 summed-requires returns returns-2)
+measure-spec = tie.close (tie.spec check-requires enum-known-reply enum-told slice-aggregate-summed summed-requires returns returns-2)

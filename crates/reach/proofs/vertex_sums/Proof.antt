@@ -28,26 +28,23 @@ fine c = fine-read _ (sym (c .before .before .check .ensures) ∙ c .enum-told .
 slice-aggregate-summed : tie.Need-slice-aggregate-summed
 slice-aggregate-summed c = search needs
 
-slice-aggregate-summed-2 : tie.Need-slice-aggregate-summed-2
-slice-aggregate-summed-2 c = search needs
-
 summed-requires : tie.Need-summed-requires
-summed-requires c κs = (fine (c .before .before), refl, omega arith, omega arith)
+summed-requires c κs = (fine (c .before), refl)
 
 add-left : tie.Need-add-left
 add-left c =
-    let s = c .before .before .before in
-    let p = sums-fit _ _ (fine (s .before .before .before)) _ (s .summed .ensures .0) _ (s .summed .ensures .1 .0) in
+    let s = c .before .before in
+    let p = sums-fit _ _ (fine (s .before .before)) _ (s .summed .ensures .0) _ (s .summed .ensures .1) in
     omega (arith, p .1)
 
 left-requires : tie.Need-left-requires
-left-requires c κs = let s = c .before .before .before .before in sums-fit _ _ (fine (s .before .before .before)) _ (s .summed .ensures .0) _ (s .summed .ensures .1 .0)
+left-requires c κs = let s = c .before .before .before in sums-fit _ _ (fine (s .before .before)) _ (s .summed .ensures .0) _ (s .summed .ensures .1)
 
 returns-2 : tie.Need-returns-2
 returns-2 c =
-    let s = c .before .before .before .before .before in
-    let t = s .before .before .before in
-    sums-fine _ _ (fine t) _ (s .summed .ensures .0) _ (s .summed .ensures .1 .0) _ (c .left .ensures) _ (t .enum-told .given .1)
+    let s = c .before .before .before .before in
+    let t = s .before .before in
+    sums-fine _ _ (fine t) _ (s .summed .ensures .0) _ (s .summed .ensures .1) _ (c .left .ensures) _ (t .enum-told .given .1)
 
 pub vertex-sums-spec : {M : Type 1} → statement M
 vertex-sums-spec =
@@ -58,7 +55,7 @@ vertex-sums-spec =
     enum-told-2
     returns
     slice-aggregate-summed
-    slice-aggregate-summed-2
+   
     summed-requires
     add-left
     left-requires

@@ -13,7 +13,7 @@ use Rattle.assembly.specs.Placements.{mostPlacements, placementCount, placement
 use Rattle.assembly.specs.Sound.{PlacedRight}
 use Rattle.shelf.specs.Shelf.{shelfIn}
 use Rattle.summaries.specs.Ready.{LentBytes}
-use Rattle.summaries.proofs.Links.{six-linked, ready, reply-refused, reply-read, fine-count, fine-right}
+use Rattle.summaries.proofs.Linking.{six-linked, ready, reply-refused, reply-read, fine-count, fine-right}
 use Rattle.summaries.proofs.compose.Statement.{statement}
 use Rattle.summaries.proofs.compose.Tie as tie
 
@@ -47,8 +47,8 @@ cast-count c = search needs
 links-of-requires : tie.Need-links-of-requires
 links-of-requires c κs = few c .high
 
-composed-requires : tie.Need-composed-requires
-composed-requires c κs =
+placed-requires : tie.Need-placed-requires
+placed-requires c κs =
     let l = c .before .before in
     let s = l .before .before .before .before .before .before in
     ready (c .before .links-of .ensures) (lent (l .before .before .before .before .before)) (few l)
@@ -63,7 +63,7 @@ returns-2 : tie.Need-returns-2
 returns-2 c =
     let l = c .before .before .before in
     let a = l .before .before .before .before .before .before .args in
-    ap measured.Of (c .composed .ensures ∙ six-linked (c .before .before .links-of .ensures) (few l .low) (l .le16-at .ensures))
+    ap measured.Of (c .placed .ensures ∙ six-linked (c .before .before .links-of .ensures) (few l .low) (l .le16-at .ensures))
     ∙ ap saidIndices (sym (reply-read (a .book .now) (a .xs .now) (fine (l .before))))
 
 pub compose-spec : {M : Type 1} → statement M
@@ -76,6 +76,6 @@ compose-spec =
     le16-at-requires
     cast-count
     links-of-requires
-    composed-requires
+    placed-requires
     returns
     returns-2)

@@ -1,8 +1,7 @@
--- `summaries::joins::composed` meets its contract. The loop's invariant: s has the fields of the first k placements, and what is counted at their joins,
--- from both atoms, is kept. Assumes nothing.
+-- `summaries::joins::composed` meets its contract. The loop's invariant: s has the fields of the first k placements, and their joins are made.
+-- Assumes nothing.
 use Prim.Native.Nat.{ℕ, _+_, _*_, _-_, _≤_, _<_}
-use mathlib.Core.List.{[]}
-use mathlib.Core.Path.{_≡_, sym, _∙_, ap}
+use mathlib.Core.Path.{_≡_, refl, _∙_, ap}
 use borrow.Author.Needs.{needs}
 use native.Mathlib.Omega.{arith}
 use lib.Dec.{lit<}
@@ -11,19 +10,18 @@ use Rattle.graph.specs.Graph.{Within}
 use Rattle.assembly.specs.Placements.{mostPlacements}
 use Rattle.tables.specs.Parts.{sixIn}
 use Rattle.joining.specs.Small.{joined-small}
-use Rattle.summaries.specs.Ready.{placeIn, keptIn, joinsIn, Known, OwnKnown}
-use Rattle.summaries.proofs.Ports.{row-at, small, own-small, block-room, six-room, from-small, six-next, known-more}
-use Rattle.summaries.proofs.Owns.{own-more}
+use Rattle.summaries.specs.Ready.{placeIn, keptIn, joinsIn, sightOfRow, Counted}
+use Rattle.summaries.proofs.Ports.{row-at, small, own-small, block-room, six-room, from-small, six-next}
+use Rattle.summaries.proofs.Storing.{made-more}
 use Rattle.summaries.proofs.joins.composed.Statement.{statement}
 use Rattle.summaries.proofs.joins.composed.Tie as tie
 
 abbrev Inv-loop : tie.InvT-loop
-Inv-loop book links count s₀ cores₀ owns₀ k₀ s cores owns k =
-    (1 ≤ k) × (k - 1 ≤ count - 1) × (length cores ≡ mostPlacements) × (s ≡ sixIn (keptIn book links) (joinsIn links) (k - 1)) × Known book links cores k
-    × (length owns ≡ mostPlacements) × OwnKnown book links owns k
+Inv-loop book links count rows counts₀ s₀ k₀ counts s k =
+    (1 ≤ k) × (k - 1 ≤ count - 1) × (length counts ≡ length counts₀) × (s .fields ≡ sixIn (keptIn book links) (joinsIn links) (k - 1)) × Counted book links counts count k
 
 abbrev μ-loop : tie.MeasureT-loop
-μ-loop book links count s₀ cores₀ owns₀ k₀ s cores owns k = count - k
+μ-loop book links count rows counts₀ s₀ k₀ counts s k = count - k
 
 index-1-fields-at : tie.Need-index-1-fields-at Inv-loop μ-loop
 index-1-fields-at c = lit< tt
@@ -36,46 +34,39 @@ fields-at-requires c κs = search needs
 
 loop-holds : tie.Need-loop-holds Inv-loop μ-loop
 unfolding sixIn
-loop-holds c = (
-  omega arith,
-  omega arith,
-  search needs,
-  c .fields-at .ensures,
-  record { known = λ m p l. absurd (omega arith) },
-  search needs,
-  record { counted = λ m p l. absurd (omega arith) },
-)
+loop-holds c = (omega arith, omega arith, refl, c .fields-at .ensures, c .before .before .before .pre .2)
 
 index : (c : tie.In-loop Inv-loop μ-loop) → Within (c .before .before .before .before .before .args .count - 1) (c .before .loop .k)
 index c = omega (arith, c .before .loop .inv .0, c .loop-test .taken)
 
 -- the placement at index k has a row
 row : (c : tie.In-loop Inv-loop μ-loop) → c .before .loop .k < mostPlacements
-row c = small (c .before .before .before .before .before .pre) (index c)
+row c = small (c .before .before .before .before .before .pre .0) (index c)
 
-mul-q : tie.Need-mul-q Inv-loop μ-loop
-mul-q c = row-at (row c)
-
-element-copy-out-q : tie.Need-element-copy-out-q Inv-loop μ-loop
-element-copy-out-q c = row c
+-- and its ends have theirs
+long : (c : tie.In-loop Inv-loop μ-loop) → 2 * c .before .loop .k + 1 < length (c .before .loop .counts)
+long c = omega (arith, index c, c .before .loop .inv .4 .long)
 
 core-of-requires : tie.Need-core-of-requires Inv-loop μ-loop
 core-of-requires c κs =
-    let t = c .before .before .before in
-    let i = t .before .loop .inv in
-    ((t .before .before .before .before .before .pre, index t, i .4), i .6)
+    let t = c .before in
+    let p = t .before .before .before .before .before .pre in
+    (p .0, index t, p .1, t .before .loop .inv .4)
 
-array-read-vertex-at : tie.Need-array-read-vertex-at Inv-loop μ-loop
-array-read-vertex-at c = lit< tt
+mul-core-at : tie.Need-mul-core-at Inv-loop μ-loop
+mul-core-at c = omega (arith, row (c .before .before .before))
 
-array-read-vertex-at-2 : tie.Need-array-read-vertex-at-2 Inv-loop μ-loop
-array-read-vertex-at-2 c = lit< tt
+core-at-requires : tie.Need-core-at-requires Inv-loop μ-loop
+core-at-requires c κs = omega (arith, long (c .before .before .before))
 
-vertex-at-requires : tie.Need-vertex-at-requires Inv-loop μ-loop
-vertex-at-requires c κs = search needs
+mul-fields-at : tie.Need-mul-fields-at Inv-loop μ-loop
+mul-fields-at c = row-at (row (c .before .before .before .before))
 
-array-read-fields-at : tie.Need-array-read-fields-at Inv-loop μ-loop
-array-read-fields-at c = lit< tt
+index-1-fields-at-2 : tie.Need-index-1-fields-at-2 Inv-loop μ-loop
+index-1-fields-at-2 c = row (c .before .before .before .before)
+
+index-2-fields-at-2 : tie.Need-index-2-fields-at-2 Inv-loop μ-loop
+index-2-fields-at-2 c = lit< tt
 
 fields-at-requires-2 : tie.Need-fields-at-requires-2 Inv-loop μ-loop
 fields-at-requires-2 c κs = search needs
@@ -86,56 +77,55 @@ joined-requires c κs = search needs
 row-of-requires : tie.Need-row-of-requires Inv-loop μ-loop
 row-of-requires c κs = search needs
 
-mul-cores : tie.Need-mul-cores Inv-loop μ-loop
-mul-cores c = omega (arith, row (c .before .before .before .before .before .before .before .before))
+mul-t21 : tie.Need-mul-t21 Inv-loop μ-loop
+mul-t21 c = omega (arith, row (c .before .before .before .before .before .before .before .before))
 
-array-set-from-cores : tie.Need-array-set-from-cores Inv-loop μ-loop
-array-set-from-cores c = row (c .before .before .before .before .before .before .before .before)
+add-t27 : tie.Need-add-t27 Inv-loop μ-loop
+add-t27 c = omega (arith, row (c .before .before .before .before .before .before .before .before))
 
-row-of-requires-2 : tie.Need-row-of-requires-2 Inv-loop μ-loop
-row-of-requires-2 c κs = search needs
+mul-t29 : tie.Need-mul-t29 Inv-loop μ-loop
+mul-t29 c = omega (arith, row (c .before .before .before .before .before .before .before .before))
 
-mul-owns : tie.Need-mul-owns Inv-loop μ-loop
-mul-owns c = omega (arith, row (c .before .before .before .before .before .before .before .before .before))
-
-array-set-from-owns : tie.Need-array-set-from-owns Inv-loop μ-loop
-array-set-from-owns c = row (c .before .before .before .before .before .before .before .before .before)
+slice-set-from-counts : tie.Need-slice-set-from-counts Inv-loop μ-loop
+slice-set-from-counts c = long (c .before .before .before .before .before .before .before .before)
 
 add-k : tie.Need-add-k Inv-loop μ-loop
-add-k c = omega (arith, row (c .before .before .before .before .before .before .before .before .before))
+add-k c = omega (arith, row (c .before .before .before .before .before .before .before .before))
 
 loop-less : tie.Need-loop-less Inv-loop μ-loop
-loop-less c = omega (arith, index (c .before .before .before .before .before .before .before .before .before))
+loop-less c = omega (arith, index (c .before .before .before .before .before .before .before .before))
 
 loop-again : tie.Need-loop-again Inv-loop μ-loop
 loop-again c =
-    let t = c .before .before .before .before .before .before .before .before .before in
+    let t = c .before .before .before .before .before .before .before .before in
     let s = t .before .before .before .before .before in
-    let r = s .pre in
+    let r = s .pre .0 in
     let w = index t in
     let i = t .before .loop .inv in
     let k = t .before .loop .k in
     let l = s .args .links .now in
-    let from = c .before .before .before .before .before .core-of .ensures in
-    let own = c .before .before .before .before .vertex-at .ensures in
+    let core = c .before .before .before .before .before .before .core-of .ensures in
+    let own = c .before .before .before .before .core-at .ensures ∙ i .4 .own k (w .low) (omega (arith, w)) in
     let e : k + 1 - 1 ≡ k = omega arith in (
       omega arith,
       omega (arith, w),
-      length-set (t .before .loop .cores) k (c .before .row-of .result) ∙ i .2,
+      length-set (t .before .loop .counts) (2 * k + 1) (c .row-of .result) ∙ i .2,
       rw e
-          (c .before .before .joined .ensures
-          ∙ rw (i .3, c .before .before .before .fields-at2 .ensures, from, own)
+          (c .before .joined .ensures
+          ∙ rw (i .3, c .before .before .fields-at2 .ensures, core, own)
           (joined-small (six-room r (k - 1) (omega (arith, row t))) (block-room r (placeIn l k)) (from-small r k k (omega (arith, row t))) (own-small r (placeIn l k) (joinsIn l k .own)) ∙ six-next r w)),
-      known-more k _ (omega (arith, i .2, row t)) (c .before .row-of .ensures ∙ from) (i .4),
-      length-set (t .before .loop .owns) k (c .row-of2 .result) ∙ i .5,
-      own-more k _ (omega (arith, i .5, row t)) (c .row-of2 .ensures ∙ own) (i .6),
+      made-more _ _ (s .args .count) k _ (omega (arith, w)) (ap sightOfRow (c .row-of .ensures) ∙ core) (i .4),
     )
+
+same-length : tie.Need-same-length Inv-loop μ-loop
+same-length c = c .before .before .loop .inv .2
 
 returns : tie.Need-returns Inv-loop μ-loop
 returns c =
-    let a = c .before .before .before .before .before .args in
-    let e : c .before .loop .k - 1 ≡ a .count - 1 = omega (arith, c .before .loop .inv .1) in
-    c .before .loop .inv .3 ∙ ap (sixIn (keptIn (a .book .now) (a .links .now)) (joinsIn (a .links .now))) e
+    let a = c .before .before .before .before .before .before .args in
+    let i = c .before .before .loop .inv in
+    let e : c .before .before .loop .k - 1 ≡ a .count - 1 = omega (arith, i .1, c .before .loop-test .left) in
+    i .3 ∙ ap (sixIn (keptIn (a .book .now) (a .links .now)) (joinsIn (a .links .now))) e
 
 pub composed-spec : {M : Type 1} → statement M
 composed-spec =
@@ -147,22 +137,21 @@ composed-spec =
     index-2-fields-at
     fields-at-requires
     loop-holds
-    mul-q
-    element-copy-out-q
     core-of-requires
-    array-read-vertex-at
-    array-read-vertex-at-2
-    vertex-at-requires
-    array-read-fields-at
+    mul-core-at
+    core-at-requires
+    mul-fields-at
+    index-1-fields-at-2
+    index-2-fields-at-2
     fields-at-requires-2
     joined-requires
     row-of-requires
-    mul-cores
-    array-set-from-cores
-    row-of-requires-2
-    mul-owns
-    array-set-from-owns
+    mul-t21
+    add-t27
+    mul-t29
+    slice-set-from-counts
     add-k
     loop-less
     loop-again
+    same-length
     returns)

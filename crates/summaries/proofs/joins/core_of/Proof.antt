@@ -13,35 +13,38 @@ use Rattle.summaries.proofs.joins.core_of.Statement.{statement}
 use Rattle.summaries.proofs.joins.core_of.Tie as tie
 
 abbrev Inv-loop : tie.InvT-loop
-Inv-loop book links count cores owns k v₀ m₀ v m = (joinsIn links k .parent ≤ m) × (m ≤ k) × (v ≡ sightFrom book links m k)
+Inv-loop book links count rows counts k v₀ m₀ v m = (joinsIn links k .parent ≤ m) × (m ≤ k) × (v ≡ sightFrom book links m k)
 
 abbrev μ-loop : tie.MeasureT-loop
-μ-loop book links count cores owns k v₀ m₀ v m = k - m
+μ-loop book links count rows counts k v₀ m₀ v m = k - m
 
 begun-requires : tie.Need-begun-requires Inv-loop μ-loop
-begun-requires c κs = c .before .pre .0
+begun-requires c κs = c .before .pre
 
 mul-m : tie.Need-mul-m Inv-loop μ-loop
-mul-m c = row-at (small (c .before .before .pre .0 .0) (c .before .before .pre .0 .1))
+mul-m c = row-at (small (c .before .before .pre .0) (c .before .before .pre .1))
 
 index-1-m : tie.Need-index-1-m Inv-loop μ-loop
-index-1-m c = small (c .before .before .pre .0 .0) (c .before .before .pre .0 .1)
+index-1-m c = small (c .before .before .pre .0) (c .before .before .pre .1)
 
 index-2-m : tie.Need-index-2-m Inv-loop μ-loop
 index-2-m c = lit< tt
 
 loop-holds : tie.Need-loop-holds Inv-loop μ-loop
-loop-holds c = (omega arith, earlier (c .before .before .before .pre .0 .0) (c .before .before .before .pre .0 .1) .high, c .before .begun .ensures)
+loop-holds c = (omega arith, earlier (c .before .before .before .pre .0) (c .before .before .before .pre .1) .high, c .before .begun .ensures)
 
 -- the placement at index m has joined before
 joined : (c : tie.In-loop Inv-loop μ-loop) → Within (c .before .before .before .before .before .args .count - 1) (c .before .loop .m)
-joined c = let p = c .before .before .before .before .before .pre .0 in omega (arith, earlier (p .0) (p .1), p .1, c .before .loop .inv .0, c .loop-test .taken)
+joined c = let p = c .before .before .before .before .before .pre in omega (arith, earlier (p .0) (p .1), p .1, c .before .loop .inv .0, c .loop-test .taken)
 
 apart-requires : tie.Need-apart-requires Inv-loop μ-loop
-apart-requires c κs = let p = c .before .before .before .before .before .pre .0 in (p .0, joined c, p .1)
+apart-requires c κs = let p = c .before .before .before .before .before .pre in (p .0, joined c, p .1, p .2)
+
+mul-core-at : tie.Need-mul-core-at Inv-loop μ-loop
+mul-core-at c = omega (arith, small (c .before .before .before .before .before .before .pre .0) (joined (c .before)))
 
 core-at-requires : tie.Need-core-at-requires Inv-loop μ-loop
-core-at-requires c κs = small (c .before .before .before .before .before .before .pre .0 .0) (joined (c .before))
+core-at-requires c κs = omega (arith, joined (c .before), c .before .before .before .before .before .before .pre .3 .long)
 
 grown-requires : tie.Need-grown-requires Inv-loop μ-loop
 grown-requires c κs = search needs
@@ -56,12 +59,12 @@ loop-again : tie.Need-loop-again Inv-loop μ-loop
 loop-again c =
     let t = c .before .before .before in
     let s = t .before .before .before .before .before in
-    let p = s .pre .0 in
+    let p = s .pre in
     let l = s .args .links .now in
     let i = t .before .loop .inv in
     let m = t .before .loop .m in
     let k = s .args .k in
-    let o = c .before .core-at .ensures ∙ s .pre .1 .counted m (joined t .low) (t .loop-test .taken) in (
+    let o = c .before .core-at .ensures ∙ p .3 .own m (joined t .low) (omega (arith, joined t)) in (
       omega arith,
       omega arith,
       c .grown .ensures
@@ -88,6 +91,7 @@ core-of-spec =
     index-2-m
     loop-holds
     apart-requires
+    mul-core-at
     core-at-requires
     grown-requires
     add-m

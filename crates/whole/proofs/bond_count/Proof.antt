@@ -1,0 +1,96 @@
+-- `whole::bond_count` meets its contract. The loop's invariant: the bonds of the placements before k are counted, at most 193 each.
+use Prim.Native.Nat.{ℕ, _+_, _*_, _-_, _/_, _≤_, _<_}
+use mathlib.Core.Path.{_≡_, refl, sym, _∙_, ap, ap₂}
+use native.Mathlib.Omega.{arith}
+use borrow.Author.Needs.{needs}
+use denote.Ref.{now}
+use lib.ListN.{length}
+use Rattle.block.specs.Block.{bondsOf}
+use Rattle.deck.specs.Molecule.{graphAt, joinAt}
+use Rattle.climb.specs.Pairs.{deckOf}
+use Rattle.whole.specs.Work.{joinsOf, brought, bondsBefore}
+use Rattle.whole.specs.Joins.{bonds-few, bonds-are, brought-length, joining-length, before-none, before-length}
+use Rattle.whole.proofs.bond_count.Statement.{statement}
+use Rattle.whole.proofs.bond_count.Tie as tie
+
+abbrev Inv-loop : tie.InvT-loop
+Inv-loop d deck m₀ k₀ m k = (k ≤ deck .placements) × (m ≡ length (bondsBefore (graphAt d (deckOf deck)) (joinAt d (deckOf deck)) k)) × (m ≤ 193 * k)
+
+abbrev μ-loop : tie.MeasureT-loop
+μ-loop d deck m₀ k₀ m k = deck .placements - k
+
+loop-holds : tie.Need-loop-holds Inv-loop μ-loop
+loop-holds c = let a = c .before .args in (omega arith, ap length (sym (before-none (graphAt (now (a .d)) (deckOf (a .deck))) (joinAt (now (a .d)) (deckOf (a .deck))))), omega arith)
+
+block-at-requires : tie.Need-block-at-requires Inv-loop μ-loop
+block-at-requires c κs = search needs
+
+bonds-part-requires : tie.Need-bonds-part-requires Inv-loop μ-loop
+bonds-part-requires c κs = search needs
+
+joins-of-requires : tie.Need-joins-of-requires Inv-loop μ-loop
+joins-of-requires c κs = search needs
+
+-- a block has at most 192 bonds
+few : (c : tie.After-bonds-part Inv-loop μ-loop) → length (now (c .bonds-part .result)) ≤ 384
+few c =
+    let l = c .before .before .before .before .loop in
+    let s = c .before .before .before .before .before .before in
+    let b = c .before .block-at in
+    omega (arith, ap length (c .bonds-part .ensures .bytes), bonds-few (s .pre) (l .k) (omega (arith, c .before .before .if1 .taken)) (b .result) (b .ensures))
+
+add-m : tie.Need-add-m Inv-loop μ-loop
+add-m c = omega (arith, few (c .before), c .joins-of .ensures .1)
+
+add-m-2 : tie.Need-add-m-2 Inv-loop μ-loop
+add-m-2 c =
+    let l = c .before .before .before .before .before .loop in
+    omega (arith, few (c .before), c .joins-of .ensures .1, l .inv .2, l .inv .0, c .before .before .before .before .before .before .before .pre .count .high)
+
+add-k : tie.Need-add-k Inv-loop μ-loop
+add-k c = search needs
+
+loop-less : tie.Need-loop-less Inv-loop μ-loop
+loop-less c = omega (arith, c .before .before .before .if1 .taken)
+
+loop-again : tie.Need-loop-again Inv-loop μ-loop
+loop-again c =
+    let p = c .before in
+    let l = p .before .before .before .before .loop in
+    let s = p .before .before .before .before .before .before in
+    let a = s .args in
+    let b = p .before .block-at in
+    let h : l .k < a .deck .placements = omega (arith, p .before .before .if1 .taken) in
+    let blocks = graphAt (now (a .d)) (deckOf (a .deck)) in
+    let joins = joinAt (now (a .d)) (deckOf (a .deck)) in
+    let e = bonds-are (s .pre) (l .k) h (b .result) (b .ensures) ∙ ap bondsOf (sym (p .bonds-part .ensures .bytes)) in
+    let n = brought-length blocks joins (l .k) (now (p .bonds-part .result)) e in (
+      omega arith,
+      omega (arith, before-length blocks joins (l .k), n, joining-length blocks joins (l .k), c .joins-of .ensures .0, l .inv .1),
+      omega (arith, few p, c .joins-of .ensures .1, l .inv .2),
+    )
+
+returns : tie.Need-returns Inv-loop μ-loop
+returns c =
+    let l = c .before .before .loop in
+    let s = c .before .before .before .before in
+    let a = s .args in
+    let e : l .k ≡ a .deck .placements = omega (arith, c .if1 .left, l .inv .0) in
+    (l .inv .1 ∙ ap (λ (k : ℕ). length (bondsBefore (graphAt (now (a .d)) (deckOf (a .deck))) (joinAt (now (a .d)) (deckOf (a .deck))) k)) e, omega (arith, l .inv .2, l .inv .0, s .pre .count .high))
+
+pub bond-count-spec : {M : Type 1} → statement M
+bond-count-spec =
+    tie.close
+    (tie.spec
+    Inv-loop
+    μ-loop
+    loop-holds
+    block-at-requires
+    bonds-part-requires
+    joins-of-requires
+    add-m
+    add-m-2
+    add-k
+    loop-less
+    loop-again
+    returns)

@@ -1,0 +1,106 @@
+-- `whole::put_join` meets its contract: the first placement brings no bond, a later one the bond to its parent.
+use Prim.Native.Nat.{ℕ, _+_, _*_, _-_, _≤_, _<_}
+use mathlib.Core.Path.{_≡_, refl, sym, _∙_, ap, ap₂}
+use mathlib.Core.List.{List, [], _∷_}
+use native.Mathlib.Omega.{arith}
+use borrow.Author.Needs.{needs}
+use denote.Ref.{now}
+use lib.ListN.{length}
+use lib.Seq.{sets}
+use Rattle.graph.specs.Graph.{Bond, Within}
+use Rattle.graph.specs.Assembly.{startAt}
+use Rattle.deck.specs.Molecule.{graphAt, joinAt}
+use Rattle.climb.specs.Pairs.{deckOf}
+use Rattle.whole.specs.Whole.{pairNumbers}
+use Rattle.whole.specs.Work.{joining}
+use Rattle.whole.specs.Joins.{start-few, parent-earlier, joining-is, joining-none}
+use Rattle.whole.proofs.put_join.Statement.{statement}
+use Rattle.whole.proofs.put_join.Tie as tie
+
+returns : tie.Need-returns
+unfolding pairNumbers
+returns c =
+    let a = c .before .before .before .args in
+    let k : a .k ≡ 0 = omega (arith, c .if1 .taken) in
+    rw (k, joining-none (now (a .d)) (deckOf (a .deck))) (refl, omega arith)
+
+placement-requires : tie.Need-placement-requires
+placement-requires c κs = search needs
+
+cast-start-of : tie.Need-cast-start-of
+cast-start-of c = search needs
+
+-- its parent is an earlier placement
+earlier : (c : tie.After-placement) → let a = c .before .before .before .before .args in Within (a .k) (c .placement .result .parent)
+earlier c =
+    let s = c .before .before .before .before in
+    parent-earlier (s .pre .0) (s .args .k) (omega (arith, c .before .if1 .left)) (s .pre .1) (c .placement .result) (c .placement .ensures)
+
+sub-start-of : tie.Need-sub-start-of
+sub-start-of c = omega (arith, earlier (c .before) .low)
+
+start-of-requires : tie.Need-start-of-requires
+start-of-requires c κs = search needs
+
+start-of-requires-2 : tie.Need-start-of-requires-2
+start-of-requires-2 c κs = search needs
+
+wide-requires : tie.Need-wide-requires
+wide-requires c κs = search needs
+
+add-put-bond : tie.Need-add-put-bond
+add-put-bond c = search needs
+
+wide-requires-2 : tie.Need-wide-requires-2
+wide-requires-2 c κs = search needs
+
+add-put-bond-2 : tie.Need-add-put-bond-2
+add-put-bond-2 c = search needs
+
+put-bond-requires : tie.Need-put-bond-requires
+put-bond-requires c κs =
+    let t = c .before .before .before in
+    let p = t .before .before .before in
+    let s = p .before .before .before .before in
+    let e = earlier p in
+    let x = start-few (s .pre .0) (p .placement .result .parent - 1) (omega (arith, e .high, s .pre .1)) in
+    let y = start-few (s .pre .0) (s .args .k) (omega (arith, s .pre .1)) in
+    let n = s .pre .0 .count .high in
+    (s .pre .2, omega (arith, c .before .wide .ensures, t .before .start-of .ensures, x, n, e .high, s .pre .1), omega (arith, c .wide2 .ensures, t .start-of2 .ensures, y, n, s .pre .1))
+
+add-result : tie.Need-add-result
+add-result c = search needs
+
+same-length : tie.Need-same-length
+same-length c = search needs
+
+returns-2 : tie.Need-returns-2
+unfolding pairNumbers
+returns-2 c =
+    let t = c .before .before .before .before .before .before in
+    let p = t .before .before .before in
+    let s = p .before .before .before .before in
+    let a = s .args in
+    let j = joining-is (s .pre .0) (a .k) (omega (arith, p .before .if1 .left)) (s .pre .1) (p .placement .result) (p .placement .ensures) in
+    let one = ap₂ _+_ (t .before .start-of .ensures .0) (c .before .before .before .before .wide .ensures .0) in
+    let two = ap₂ _+_ (t .start-of2 .ensures .0) (c .before .before .before .wide2 .ensures .0) in
+    rw j (c .before .before .put-bond .ensures ∙ ap₂ (λ (x y : ℕ). sets (a .out .now) (a .at) (x ∷ (y ∷ []))) one two, omega arith)
+
+pub put-join-spec : {M : Type 1} → statement M
+put-join-spec =
+    tie.close
+    (tie.spec
+    returns
+    placement-requires
+    cast-start-of
+    sub-start-of
+    start-of-requires
+    start-of-requires-2
+    wide-requires
+    add-put-bond
+    wide-requires-2
+    add-put-bond-2
+    put-bond-requires
+    add-result
+    same-length
+    returns-2)

@@ -1,0 +1,87 @@
+-- `whole::put_placed` meets its contract: the block's bonds, and behind them its join.
+use Prim.Native.Nat.{ℕ, _+_, _*_, _/_, _≤_, _<_}
+use mathlib.Core.Path.{_≡_, refl, sym, _∙_, ap, ap₂}
+use mathlib.Core.List.{List}
+use native.Mathlib.Omega.{arith}
+use borrow.Author.Needs.{needs}
+use denote.Ref.{now}
+use lib.ListN.{length}
+use lib.Seq.{sets}
+use Rattle.graph.specs.Assembly.{startAt}
+use Rattle.block.specs.Block.{bondsOf}
+use Rattle.assembly.specs.Book.{bondBytes}
+use Rattle.deck.specs.Molecule.{graphAt, joinAt}
+use Rattle.climb.specs.Pairs.{deckOf}
+use Rattle.whole.specs.Work.{blockNumbers, joining, brought}
+use Rattle.whole.specs.Joins.{start-few, bonds-few, bonds-are, brought-numbers, brought-length, joining-few}
+use Rattle.whole.proofs.put_placed.Statement.{statement}
+use Rattle.whole.proofs.put_placed.Tie as tie
+
+block-at-requires : tie.Need-block-at-requires
+block-at-requires c κs = search needs
+
+bonds-part-requires : tie.Need-bonds-part-requires
+bonds-part-requires c κs = search needs
+
+start-of-requires : tie.Need-start-of-requires
+start-of-requires c κs = search needs
+
+put-block-requires : tie.Need-put-block-requires
+put-block-requires c κs =
+    let s = c .before .before .before .before .before .before in
+    let b = c .before .before .before .block-at in
+    let n = s .pre .0 .count .high in
+    let few = bonds-few (s .pre .0) (s .args .k) (s .pre .1) (b .result) (b .ensures) in
+    let x = start-few (s .pre .0) (s .args .k) (omega (arith, s .pre .1)) in
+    (omega (arith, c .before .start-of .ensures, x, n, s .pre .1), s .pre .2, omega (arith, ap length (c .before .before .bonds-part .ensures .bytes), few))
+
+mul-next : tie.Need-mul-next
+mul-next c = search needs
+
+add-next : tie.Need-add-next
+add-next c = search needs
+
+put-join-requires : tie.Need-put-join-requires
+put-join-requires c κs =
+    let t = c .before .before .before .before .before in
+    let s = t .before .before .before .before .before in
+    let b = t .before .before .block-at in
+    let few = bonds-few (s .pre .0) (s .args .k) (s .pre .1) (b .result) (b .ensures) in
+    (s .pre .0, s .pre .1, omega (arith, ap length (t .before .bonds-part .ensures .bytes), few, s .pre .2))
+
+same-length : tie.Need-same-length
+same-length c = search needs
+
+returns : tie.Need-returns
+returns c =
+    let t = c .before .before .before .before .before .before .before .before in
+    let s = t .before .before .before .before .before in
+    let a = s .args in
+    let b = t .before .before .block-at in
+    let xs = now (t .before .bonds-part .result) in
+    let blocks = graphAt (now (a .d)) (deckOf (a .deck)) in
+    let joins = joinAt (now (a .d)) (deckOf (a .deck)) in
+    let same = t .before .bonds-part .ensures .bytes in
+    let e = bonds-are (s .pre .0) (a .k) (s .pre .1) (b .result) (b .ensures) ∙ ap bondsOf (sym same) in
+    let few = bonds-few (s .pre .0) (a .k) (s .pre .1) (b .result) (b .ensures) in
+    let len = brought-length blocks joins (a .k) xs e in
+    let put = c .before .before .before .before .before .before .put-block in
+    let join = c .before .before .put-join in
+    let first = put .ensures ∙ ap (λ (n : ℕ). sets (a .out .now) (a .at) (blockNumbers n xs)) (t .start-of .ensures .0) in (
+      brought-numbers blocks joins (a .k) xs (a .out .now) (put .last .1 .1 .0) (join .last .1 .1 .1 .0) (a .at) e first (join .ensures .0),
+      (omega (arith, join .ensures .1, len), omega (arith, join .ensures .1, joining-few blocks joins (a .k), ap length same, few)),
+    )
+
+pub put-placed-spec : {M : Type 1} → statement M
+put-placed-spec =
+    tie.close
+    (tie.spec
+    block-at-requires
+    bonds-part-requires
+    start-of-requires
+    put-block-requires
+    mul-next
+    add-next
+    put-join-requires
+    same-length
+    returns)

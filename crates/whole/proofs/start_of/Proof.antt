@@ -1,0 +1,67 @@
+-- `whole::start_of` meets its contract. The loop's invariant: the atoms of the placements before i are added up.
+use Prim.Native.Nat.{ℕ, _+_, _*_, _-_, _≤_}
+use mathlib.Core.Path.{_≡_, refl, sym, _∙_, ap, ap₂}
+use native.Mathlib.Omega.{arith}
+use borrow.Author.Needs.{needs}
+use denote.Ref.{now}
+use Rattle.graph.specs.Assembly.{startAt}
+use Rattle.deck.specs.Molecule.{graphAt}
+use Rattle.climb.specs.Pairs.{deckOf}
+use Rattle.climb.proofs.Reading.{block-atoms}
+use Rattle.whole.specs.Laws.{start-none, start-more}
+use Rattle.whole.proofs.start_of.Statement.{statement}
+use Rattle.whole.proofs.start_of.Tie as tie
+
+abbrev Inv-loop : tie.InvT-loop
+Inv-loop d deck k start₀ i₀ start i = (i ≤ k) × (start ≡ startAt (graphAt d (deckOf deck)) i) × (start ≤ 65535 * i)
+
+abbrev μ-loop : tie.MeasureT-loop
+μ-loop d deck k start₀ i₀ start i = k - i
+
+loop-holds : tie.Need-loop-holds Inv-loop μ-loop
+loop-holds c = let a = c .before .args in (omega arith, sym (start-none (graphAt (now (a .d)) (deckOf (a .deck)))), omega arith)
+
+block-at-requires : tie.Need-block-at-requires Inv-loop μ-loop
+block-at-requires c κs = search needs
+
+cast-start : tie.Need-cast-start Inv-loop μ-loop
+cast-start c = search needs
+
+add-start : tie.Need-add-start Inv-loop μ-loop
+add-start c = omega (arith, c .struct-known .given, c .before .before .before .loop .inv .2)
+
+add-i : tie.Need-add-i Inv-loop μ-loop
+add-i c = search needs
+
+loop-less : tie.Need-loop-less Inv-loop μ-loop
+loop-less c = search needs
+
+loop-again : tie.Need-loop-again Inv-loop μ-loop
+loop-again c =
+    let l = c .before .before .before .loop in
+    let a = c .before .before .before .before .before .args in
+    let b = c .before .block-at in
+    let e = block-atoms (now (a .d)) (deckOf (a .deck)) (l .i) (b .result) (b .ensures) in
+    (omega arith, ap₂ _+_ (l .inv .1) (sym e) ∙ sym (start-more (graphAt (now (a .d)) (deckOf (a .deck))) (l .i)), omega (arith, c .struct-known .given, l .inv .2))
+
+returns : tie.Need-returns Inv-loop μ-loop
+returns c =
+    let l = c .before .loop in
+    let a = c .before .before .before .args in
+    let e : l .i ≡ a .k = omega (arith, c .loop-test .left) in
+    (l .inv .1 ∙ ap (startAt (graphAt (now (a .d)) (deckOf (a .deck)))) e, omega (arith, l .inv .2))
+
+pub start-of-spec : {M : Type 1} → statement M
+start-of-spec =
+    tie.close
+    (tie.spec
+    Inv-loop
+    μ-loop
+    loop-holds
+    block-at-requires
+    cast-start
+    add-start
+    add-i
+    loop-less
+    loop-again
+    returns)

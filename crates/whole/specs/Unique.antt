@@ -1,0 +1,14 @@
+-- Laws. Two replies that meet the promise are equal, and so are the lent numbers after both. Assumes nothing.
+use Prim.Native.Nat.{ℕ}
+use mathlib.Core.List.{List}
+use mathlib.Core.Path.{_≡_, sym, _∙_}
+use lib.ListN.{length}
+use Rattle.whole.specs.Whole.{wholeReply, numbersAfter}
+use Rattle.whole.specs.Said.{saidMolecule}
+use Rattle.whole.specs.declared.MoleculeReply.{MoleculeReply}
+
+pub unique-bonds : (d : List ℕ) (n : ℕ) {a b : MoleculeReply} → a ≡ saidMolecule (wholeReply d n) → b ≡ saidMolecule (wholeReply d n) → a ≡ b
+unique-bonds d n p q = p ∙ sym q
+
+pub unique-numbers : (d out : List ℕ) {a b : List ℕ} → a ≡ numbersAfter (wholeReply d (length out)) out → b ≡ numbersAfter (wholeReply d (length out)) out → a ≡ b
+unique-numbers d out p q = p ∙ sym q
