@@ -364,7 +364,7 @@ tteuyomal_reply tteuyomal_count_sets(size_t atoms, const uint8_t *bonds, size_t 
  * 6 largest distance; of a lone block also 7 Szeged index, 8 Hosoya index, 9 Merrifield-Simmons index, 10 Balaban's J.
  * A text of 1 to 9 says a whole number below 2^64: blanks and tabs come off both sides; digits, and if anything a point and
  * zeros. A text of 10 has any digits behind the point, of which the first nine count, and claims J within one unit of its
- * last digit. docs/RULES.md says when that is right. */
+ * last digit. docs/RULES.md says when that is right. One claim has at most TTEUYOMAL_CLAIM_BYTES. */
 #define TTEUYOMAL_FIELD_ATOMS 1
 #define TTEUYOMAL_FIELD_W 2
 #define TTEUYOMAL_FIELD_EVEN 3
