@@ -47,7 +47,7 @@ returns-2 c =
     let first = from-first (valueIn (a .values .now)) (a .tag) (length (a .values .now)) in
     let come = coming (valueIn (a .values .now)) (a .tag) (length (a .values .now)) in
     let e = ap (λ (l : List Entry). putAll (room (a .entries .now)) (a .greatest) l (entriesIn (a .entries .now) k)) first
-        ∙ all-said (a .greatest) come (a .entries .now) (a .held) k (c .before .before .before .before .before .before .before .fewer .ensures) in
+    ∙ all-said (a .greatest) come (a .entries .now) (a .held) k (c .before .before .before .before .before .before .before .fewer .ensures) in
     let p = c .before .before .put-each .ensures in
     (p .0 ∙ ap length e, p .1 ∙ ap (λ (l : List Entry). laid l (a .entries .now)) e)
 
