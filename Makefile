@@ -37,7 +37,8 @@ made:
 	made/code write
 	$(MAKE) python
 
-$(SHARED): $(STATIC)
+# its name has the version, which stands here
+$(SHARED): $(STATIC) Makefile
 	CC='$(CC)' made/code shared $(SONAME)
 
 $(PACKED): $(SHARED)

@@ -89,7 +89,7 @@ class Shards(unittest.TestCase):
             time.sleep(0.1)
         time.sleep(0.2)
         with open(place) as file:
-            address = json.load(file)["address"]
+            self.address = address = json.load(file)["address"]
         alone = ["--nthreads", "1", "--no-nanny", "--no-dashboard"]
         self.workers = [self.start("dask_worker", address, *alone, "--name", name, **quiet) for name in ("one", "two")]
         self.client = Client(address, timeout="20s", set_as_default=False)
@@ -125,6 +125,38 @@ class Shards(unittest.TestCase):
         self.assertIn("pending", {one.status for one in futures}, "the work is not over when the worker dies")
         self.joined(futures)
         self.assertIsNone(self.workers[1].poll())
+
+    def test_rank_while_a_worker_dies(self):
+        """`tteuyomal rank` of 8,000,000 products here and on the workers, of which one is killed: the same table, byte for byte."""
+        chance = random.Random(38)
+
+        def candidate(number):
+            atoms = chance.randint(4, 16)
+            bonds = ", ".join(f'"{max(1, atom - chance.randint(1, 3))}-{atom}"' for atom in range(2, atoms + 1))
+            return f'    {{ name = "c{number}", atoms = {atoms}, bonds = [{bonds}], join = {chance.randint(1, atoms)} }},\n'
+
+        text = '[core]\natoms = 6\nbonds = ["1-2", "2-3", "3-4", "4-5", "5-6", "6-1"]\n'
+        for atom in (1, 3, 5):
+            text += f"\n[[site]]\natom = {atom}\ncandidates = [\n{''.join(map(candidate, range(200)))}]\n"
+        library, here, there = (os.path.join(self.room, name) for name in ("library.toml", "here.csv", "there.csv"))
+        with open(library, "w") as file:
+            file.write(text)
+        words = [sys.executable, "-m", "tteuyomal", "rank", library, "--by", "W", "--top", "1000"]
+        run = subprocess.Popen([*words, "--dask", self.address, "-o", there], env=ENVIRONMENT, stderr=subprocess.PIPE)
+        self.addCleanup(run.stderr.close)
+        self.addCleanup(run.kill)
+        while not self.client.run_on_scheduler(lambda dask_scheduler: any(task.state == "memory" for task in dask_scheduler.tasks.values())):
+            self.assertIsNone(run.poll())
+            time.sleep(0.02)
+        self.workers[0].send_signal(signal.SIGKILL)
+        self.workers[0].wait()
+        self.assertIsNone(run.poll(), "the work is not over when the worker dies")
+        said = run.communicate(timeout=600)[1].decode()
+        self.assertEqual(run.returncode, 0, said)
+        self.assertIn("8,000,000 products in 64,000 decks ranked by W", said)
+        subprocess.run([*words, "-j", "1", "-o", here], env=ENVIRONMENT, check=True, capture_output=True)
+        with open(here, "rb") as one, open(there, "rb") as other:
+            self.assertTrue(one.read() == other.read(), "the tables differ")
 
     def test_a_range_left_out_is_seen(self):
         futures = [self.client.submit(listed, shard, pure=False) for shard in self.shards[:-1]]

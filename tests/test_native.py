@@ -3,7 +3,7 @@
 import pickle
 import unittest
 
-from common import FORTY, JUDGED, RIGHT, RIGHT_SIX, RING
+from common import FORTY, JUDGED, LIBRARY, RIGHT, RIGHT_SIX, RING
 
 from tteuyomal import native
 from tteuyomal.native import Refused
@@ -215,6 +215,14 @@ class Libraries(unittest.TestCase):
                 with self.subTest(kind), self.assertRaisesRegex(ValueError, "kind 3 or 4"):
                     call()
         self.assertRaises(TypeError, native.library_step, self.DECK, 0, "4")
+
+    def test_as_many_as_are_asked_for(self):
+        """Any number of sheets can be asked for; a library has 4,096 products at most."""
+        whole = native.library_run(LIBRARY, 0, 3, 2)
+        for sheets in (4096, 4097, 2**64, 10**30):
+            self.assertEqual(native.library_run(LIBRARY, 0, 3, sheets), whole)
+        self.assertRaises(ValueError, native.library_run, LIBRARY, 0, 3, -1)
+        self.assertRaises(Refused, native.library_run, LIBRARY, 0, 3, 0)
 
     def test_run_is_the_steps(self):
         for kind in (3, 4):

@@ -477,9 +477,10 @@ def library_step(deck: Bytes, position: int, kind: int = 3) -> tuple[bytes, int]
 
 def library_run(deck: Bytes, position: int = 0, kind: int = 3, sheets: int = 4096) -> tuple[list[bytes], int] | None:
     """The sheets of at most so many products from a position on, and the next position; None past the last."""
-    size = _sheet_bytes(kind)
-    out, following = (c_uint8 * (size * sheets))(), (c_uint64 * 1)()
-    reply = _library_run(*_lent(deck), kind, _size(position, "the position"), out, size * sheets, following, 1)
+    size, position = _sheet_bytes(kind), _size(position, "the position")
+    room = size * _whole(sheets, "the number of sheets", 4096)  # no library has more products
+    out, following = (c_uint8 * room)(), (c_uint64 * 1)()
+    reply = _library_run(*_lent(deck), kind, position, out, room, following, 1)
     if reply % 256 == 254:
         return None
     _told(reply)

@@ -1,4 +1,4 @@
-// BalabanReply's J of a block, in whole numbers.
+// Balaban's J of a block, in whole numbers.
 ghost use mathlib.Core.Path.{_≡_};
 ghost use Prim.Native.Nat.{_+_, _-_, _*_, _/_, _≤_};
 ghost use Rattle.graph.specs.Graph.{Within};
@@ -61,7 +61,7 @@ fn reckon(n: usize, bonds: &[u8], sums: &[u64; ATOMS]) -> u64
     divided(m, total, n)
 }
 
-// BalabanReply's J of a block, times 10^9 and in whole numbers, or the block's refusal.
+// Balaban's J of a block, times 10^9 and in whole numbers, or the block's refusal.
 pub fn index(n: usize, bonds: &[u8]) -> BalabanReply
     ensures { λ r. ⌜ r ≡ saidBalaban (balabanReply n (now (bonds .entry))) ⌝ }
 {

@@ -60,7 +60,12 @@ fn fill_at(d: &[u8], b: BlockAt, book: &mut [u8], i: usize)
 {
     let start = SUMMARY * i;
     let end = start + SUMMARY;
-    fill(b.number, b.atoms as usize, bonds_part(d, b), &mut book[start..end]);
+    fill(
+        b.number,
+        b.atoms as usize,
+        bonds_part(d, b),
+        &mut book[start..end],
+    );
 }
 
 // The book of a table of blocks: a summary for each, in its order.
@@ -76,7 +81,13 @@ fn fill_book(d: &[u8], blocks: [BlockAt; BLOCKS], count: usize, book: &mut [u8])
 }
 
 // The six fields of an assembly over a table of blocks, by a lent book that is all 0.
-fn over(d: &[u8], xs: &[u8], blocks: [BlockAt; BLOCKS], count: usize, book: &mut [u8]) -> IndicesReply
+fn over(
+    d: &[u8],
+    xs: &[u8],
+    blocks: [BlockAt; BLOCKS],
+    count: usize,
+    book: &mut [u8],
+) -> IndicesReply
     requires { ⌜ Blank (now d) blocks count (now book) × (assemblyReply (bookOf (now d) (take count blocks)) (now xs) ≡ read tt) ⌝ }
     ensures { λ r. ⌜
         r ≡ IndicesReply.Of (indicesOf (written (graphOn (bookOf (now (d .entry)) (take count blocks)) (placementAt (now (xs .entry))))

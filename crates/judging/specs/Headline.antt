@@ -1,6 +1,6 @@
 -- Laws. THE HEADLINE, on one page: what a judged deck is told, the molecule that it is told of, and what accepting means. The first five say what the
 -- definitions are, and hold by computing; then what the molecule and its distances are, and the theorem. The same of the number that C is told is
--- `zero-exactly` (tteuyomal/specs/Accepted.antt). Assumes nothing.
+-- `zero-exactly` (told/specs/Accepted.antt). Assumes nothing.
 use Prim.Native.Nat.{ℕ, zero, suc, _-_}
 use mathlib.Core.List.{List, [], _∷_}
 use mathlib.Core.Logic.{_↔_}

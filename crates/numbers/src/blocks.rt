@@ -19,9 +19,11 @@ fn checked(n: usize, bonds: &[u8], row: Row) -> bool {
     }
 }
 
+// By two ways: level by level with no distance stored, and the plain one, by the matrix. Both have to say what the line says.
 fn measured(n: usize, bonds: &[u8], row: Row) -> bool {
-    let reply = block::measure(n, bonds);
-    told::of_measured(reply).is(row, 0)
+    let reply = reach::measure(n, bonds);
+    let plain = matrix::measure(n, bonds);
+    told::of_measured(reply).is(row, 0) && told::of_measured(plain).is(row, 0)
 }
 
 fn around(n: usize, bonds: &[u8], row: Row) -> bool {
@@ -35,8 +37,9 @@ fn farthest(n: usize, bonds: &[u8], row: Row) -> bool {
 }
 
 fn largest(n: usize, bonds: &[u8], row: Row) -> bool {
-    let reply = block::measure(n, bonds);
-    told::of_largest(reply).is(row, 0)
+    let reply = reach::measure(n, bonds);
+    let plain = matrix::measure(n, bonds);
+    told::of_largest(reply).is(row, 0) && told::of_largest(plain).is(row, 0)
 }
 
 fn apart(n: usize, bonds: &[u8], row: Row) -> bool {

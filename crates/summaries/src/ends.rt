@@ -81,7 +81,14 @@ fn seen_at(book: &[u8], at: usize, i: usize) -> Seen
 }
 
 // Stores what is seen from an atom of the summary at a place as end e.
-fn see_end(book: &[u8], at: usize, i: usize, rows: &mut [StepRow], counts: &mut [CountRow], e: usize)
+fn see_end(
+    book: &[u8],
+    at: usize,
+    i: usize,
+    rows: &mut [StepRow],
+    counts: &mut [CountRow],
+    e: usize,
+)
     requires { ⌜ (e < length (now rows)) × (e < length (now counts)) ⌝ }
     ensures rows { λ _. ⌜ now (rows .exit) ≡ set (now (rows .entry)) e (seenAt (summaryAt (now (book .entry)) at) i .row) ⌝ }
     ensures counts { λ _. ⌜
@@ -95,7 +102,13 @@ fn see_end(book: &[u8], at: usize, i: usize, rows: &mut [StepRow], counts: &mut 
 }
 
 // At 2 k what is seen from the own atom of the placement at index k, at 2 k + 1 what is seen from its parent's.
-pub(crate) fn see_ends(book: &[u8], links: &Links, count: usize, rows: &mut [StepRow], counts: &mut [CountRow])
+pub(crate) fn see_ends(
+    book: &[u8],
+    links: &Links,
+    count: usize,
+    rows: &mut [StepRow],
+    counts: &mut [CountRow],
+)
     requires { ⌜ ReadyShelf (now book) (now links) count × (2 * count ≤ length (now rows)) × (2 * count ≤ length (now counts)) ⌝ }
     ensures rows { λ _. ⌜ StepsKnown (now (book .entry)) (now (links .entry)) (now (rows .exit)) count ⌝ }
     ensures counts { λ _. ⌜ Counted (now (book .entry)) (now (links .entry)) (now (counts .exit)) count 1 ⌝ }

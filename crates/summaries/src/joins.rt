@@ -48,7 +48,14 @@ fn apart(book: &[u8], links: &Links, count: usize, rows: &[StepRow], x: usize, y
 }
 
 // What is counted from the parent's atom of the placement at index k, as far as the parent.
-fn begun(book: &[u8], links: &Links, count: usize, rows: &[StepRow], counts: &[CountRow], k: usize) -> Vertex
+fn begun(
+    book: &[u8],
+    links: &Links,
+    count: usize,
+    rows: &[StepRow],
+    counts: &[CountRow],
+    k: usize,
+) -> Vertex
     requires { ⌜ ReadyShelf (now book) (now links) count × Within (count - 1) k
         × StepsKnown (now book) (now links) (now rows) count × Counted (now book) (now links) (now counts) count k ⌝ }
     ensures { λ r. ⌜ r ≡ sightFrom (now (book .entry)) (now (links .entry)) (joinsIn (now (links .entry)) k .parent) k ⌝ }
@@ -67,7 +74,14 @@ fn begun(book: &[u8], links: &Links, count: usize, rows: &[StepRow], counts: &[C
 }
 
 // And as far as the placement before: each placement since the parent adds what is counted from its own atom.
-fn core_of(book: &[u8], links: &Links, count: usize, rows: &[StepRow], counts: &[CountRow], k: usize) -> Vertex
+fn core_of(
+    book: &[u8],
+    links: &Links,
+    count: usize,
+    rows: &[StepRow],
+    counts: &[CountRow],
+    k: usize,
+) -> Vertex
     requires { ⌜ ReadyShelf (now book) (now links) count × Within (count - 1) k
         × StepsKnown (now book) (now links) (now rows) count × Counted (now book) (now links) (now counts) count k ⌝ }
     ensures { λ r. ⌜ r ≡ sightFrom (now (book .entry)) (now (links .entry)) k k ⌝ }
@@ -75,7 +89,11 @@ fn core_of(book: &[u8], links: &Links, count: usize, rows: &[StepRow], counts: &
     let mut v = begun(book, links, count, rows, counts, k);
     let mut m = links[k][PARENT];
     while m < k {
-        v = grown(v, apart(book, links, count, rows, m, k), core_at(counts, 2 * m));
+        v = grown(
+            v,
+            apart(book, links, count, rows, m, k),
+            core_at(counts, 2 * m),
+        );
         m += 1;
     }
     v
@@ -98,7 +116,13 @@ impl Summary {
 }
 
 // The six fields of the first `count` placements. What is counted at a join is kept for the later ones.
-pub(crate) fn composed(book: &[u8], links: &Links, count: usize, rows: &[StepRow], counts: &mut [CountRow]) -> Indices
+pub(crate) fn composed(
+    book: &[u8],
+    links: &Links,
+    count: usize,
+    rows: &[StepRow],
+    counts: &mut [CountRow],
+) -> Indices
     requires { ⌜ ReadyShelf (now book) (now links) count × StepsKnown (now book) (now links) (now rows) count
         × Counted (now book) (now links) (now counts) count 1 ⌝ }
     ensures { λ r. ⌜ r ≡ sixIn (keptIn (now (book .entry)) (now (links .entry))) (joinsIn (now (links .entry))) (count - 1) ⌝ }

@@ -28,7 +28,13 @@ ghost use Rattle.summaries.specs.Ready.{keptIn, joinsIn, ReadyShelf};
 const FEW: usize = 4;
 
 // By lent rows for both ends of each join.
-fn by_rows(book: &[u8], links: &Links, count: usize, rows: &mut [StepRow], counts: &mut [CountRow]) -> Indices
+fn by_rows(
+    book: &[u8],
+    links: &Links,
+    count: usize,
+    rows: &mut [StepRow],
+    counts: &mut [CountRow],
+) -> Indices
     requires { ⌜ ReadyShelf (now book) (now links) count × (2 * count ≤ length (now rows)) × (2 * count ≤ length (now counts)) ⌝ }
     ensures { λ r. ⌜ r ≡ sixIn (keptIn (now (book .entry)) (now (links .entry))) (joinsIn (now (links .entry))) (count - 1) ⌝ }
 {

@@ -1,4 +1,4 @@
-// The SzegedReply index of a block, with the term of each bond.
+// The Szeged index of a block, with the term of each bond.
 ghost use mathlib.Core.Path.{_≡_};
 ghost use Prim.Native.Nat.{ℕ, _+_, _≤_};
 ghost use lib.ListN.{length};
@@ -81,7 +81,7 @@ fn answered(n: usize, bonds: &[u8], half: &Half, out: &mut [u64]) -> SzegedReply
     SzegedReply::Index(s)
 }
 
-// The SzegedReply index of a block. The reply is the index; the entry of each bond, in list order, is its term, and later entries stay. Or it is a
+// The Szeged index of a block. The reply is the index; the entry of each bond, in list order, is its term, and later entries stay. Or it is a
 // refusal, and no entry changes: the block's, then 9 where there are fewer entries than bonds. Where there is one bond fewer than atoms, the index is W.
 pub fn terms(n: usize, bonds: &[u8], out: &mut [u64]) -> SzegedReply
     ensures reply { λ r. ⌜ r ≡ saidSzeged (szegedReply n (now (bonds .entry)) (length (now (out .entry)))) ⌝ }

@@ -11,6 +11,7 @@ use opinion::neighbours;
 use opinion::refusal::Refusal;
 use opinion::szeged;
 use std::fmt::Display;
+use std::{process, ptr};
 
 /// Failures told in full; the others are only counted.
 const MOST_TOLD: usize = 20;
@@ -43,6 +44,8 @@ pub struct Checker {
     /// How often the products of a library, or the records of an SDF, were done.
     pub done: usize,
     pub measurer: Measurer,
+    /// Whether the first failure, or a case of more than two seconds, ends the program.
+    pub ends: bool,
     faults: Vec<String>,
 }
 
@@ -75,9 +78,22 @@ pub fn written<T, E: Clone>(answer: &Result<T, Refusal>, entries: impl Fn(&T) ->
     answer.as_ref().map_or(Vec::new(), entries)
 }
 
+extern "C" {
+    fn setitimer(which: i32, new: *const [i64; 4], old: *mut [i64; 4]) -> i32;
+}
+
+/// Two seconds of processor time from now the program is killed.
+pub fn limit_time() {
+    const VIRTUAL: i32 = 1;
+    unsafe { setitimer(VIRTUAL, &[0, 0, 2, 0], ptr::null_mut()) };
+}
+
 impl Checker {
     /// One case: it passes when every call in it agrees.
     pub fn case(&mut self, name: impl Display, calls: impl FnOnce(&mut Checker)) {
+        if self.ends {
+            limit_time();
+        }
         calls(self);
         if self.faults.is_empty() {
             self.passed += 1;
@@ -89,6 +105,9 @@ impl Checker {
             for fault in self.faults.iter().take(3) {
                 println!("  {fault}");
             }
+        }
+        if self.ends {
+            process::exit(1);
         }
         self.faults.clear();
     }

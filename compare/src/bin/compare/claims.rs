@@ -39,7 +39,7 @@ fn code(verdict: Verdict) -> u64 {
     }
 }
 
-fn judge_claims(checker: &mut Checker, deck: &[u8], list: &[u8]) {
+pub fn judge_claims(checker: &mut Checker, deck: &[u8], list: &[u8]) {
     let (shown, lent) = (Shown::new(deck), Shown::new(list));
     let reply = archive::judge_claims(shown.part(), lent.part());
     checker.holds(shown.is_still(deck) && lent.is_still(list), "an input was changed");
@@ -47,7 +47,7 @@ fn judge_claims(checker: &mut Checker, deck: &[u8], list: &[u8]) {
     checker.agree_claims(|| format!("judge_claims {} of {}", hex(list), hex(deck)), right, reply);
 }
 
-fn judge_block(checker: &mut Checker, atoms: usize, bonds: &[u8], list: &[u8]) {
+pub fn judge_block(checker: &mut Checker, atoms: usize, bonds: &[u8], list: &[u8]) {
     let (shown, lent) = (Shown::new(bonds), Shown::new(list));
     let reply = archive::judge_block(atoms, shown.part(), lent.part());
     checker.holds(shown.is_still(bonds) && lent.is_still(list), "an input was changed");

@@ -1,7 +1,7 @@
 //! Compares libtteuyomal.a with the second opinion. The last line is 'N passed, M failed'; the exit status is 0 when
 //! nothing failed.
 //!
-//!     compare [--seed N] [--cases N] [--printed N] [--first N] [--programs FOLDER]
+//!     compare [--seed N] [--cases N] [--printed N] [--first N] [--programs FOLDER] [--until failure]
 //!
 //! With --printed, so many random cases of claims and of SDFs, and not as many as of all else.
 //! With a folder, the programs `sheet`, `judge` and `measure` in it are run and their lines compared too.
@@ -11,6 +11,7 @@ mod archive;
 mod checker;
 mod claims;
 mod fixed;
+mod inputs;
 mod lent;
 mod libraries;
 mod library_calls;
@@ -34,11 +35,13 @@ struct Options {
     printed: Option<u64>,
     first: u64,
     programs: Option<PathBuf>,
+    until_failure: bool,
 }
 
 /// The options of the command line, or what is wrong with it.
 fn options(mut words: impl Iterator<Item = String>) -> Result<Options, String> {
-    let mut options = Options { seed: 20_011, cases: 4_000, printed: None, first: 0, programs: None };
+    let mut options =
+        Options { seed: 20_011, cases: 4_000, printed: None, first: 0, programs: None, until_failure: false };
     while let Some(word) = words.next() {
         let value = words.next().ok_or(format!("{word} wants a value"))?;
         let number = || value.parse::<u64>().map_err(|_| format!("{value} is no number"));
@@ -47,6 +50,7 @@ fn options(mut words: impl Iterator<Item = String>) -> Result<Options, String> {
             "--cases" => options.cases = number()?,
             "--printed" => options.printed = Some(number()?),
             "--first" => options.first = number()?,
+            "--until" if value == "failure" => options.until_failure = true,
             "--programs" => options.programs = Some(PathBuf::from(&value)),
             _ => return Err(format!("{word} is no option")),
         }
@@ -59,12 +63,16 @@ fn main() -> ExitCode {
         Ok(options) => options,
         Err(fault) => {
             eprintln!(
-                "compare: {fault}\nusage: compare [--seed N] [--cases N] [--printed N] [--first N] [--programs FOLDER]"
+                "compare: {fault}\nusage: compare [--seed N] [--cases N] [--printed N] [--first N] [--programs FOLDER] [--until failure]"
             );
             return ExitCode::from(2);
         }
     };
     let checker = &mut Checker::default();
+    checker.ends = options.until_failure;
+    if checker.ends {
+        checker::limit_time();
+    }
     fixed::run(checker);
     random::run(checker, options.seed, options.first, options.cases);
     molfiles::run(checker, options.seed, options.first, options.cases);
@@ -74,6 +82,7 @@ fn main() -> ExitCode {
     rankings::run(checker);
     random_libraries::run(checker, options.seed, options.first, options.cases);
     queues::run(checker, options.seed, options.first, options.cases);
+    inputs::run(checker);
     let printed = options.printed.unwrap_or(options.cases);
     claims::run(checker, options.seed, options.first, printed);
     sdf::run(checker, options.seed, options.first, printed);

@@ -16,7 +16,7 @@ use opinion::queues::{sheet_bytes, Held, Queue, FIVE, SIX, TABLE};
 const QUEUES: [Queue; 2] = [Queue::Day, Queue::Night];
 
 #[derive(Clone, Debug)]
-enum Call {
+pub enum Call {
     Add(u16, usize, Vec<u8>),
     Look(u16, usize),
     Drop(u16),
@@ -159,6 +159,20 @@ fn interleaved(checker: &mut Checker, random: &mut Random, fine: &mut Fine) {
         if let (Call::Compose(kind, record, _), 0) = (&call, told.reply) {
             as_deck(checker, &held[which], *kind, record, &told.out.part()[..sheet_bytes(*kind)]);
         }
+    }
+}
+
+/// These calls, each of the day queue or of the night queue, at a table with so many bytes behind it: beside the lists of what the
+/// queues hold.
+pub fn calls(checker: &mut Checker, behind: usize, calls: &[(usize, Call)]) {
+    let mut lent = Lent::new(TABLE + behind);
+    let table = lent.part();
+    checker.holds(archive::queue_empty(table) == 0, "a table was not made empty");
+    let mut held = [Held::default(), Held::default()];
+    for (which, call) in calls {
+        let told = perform(checker, table, QUEUES[*which], call);
+        let (reply, fault) = right(&mut held[*which], call, &told);
+        checker.agree(|| format!("{:?} {call:?}", QUEUES[*which]), reply, told.reply, fault);
     }
 }
 

@@ -23,7 +23,7 @@ pub fn run(checker: &mut Checker, seed: u64, first: u64, cases: u64) {
     }
 }
 
-fn record(checker: &mut Checker, text: &[u8], from: usize, room: usize) {
+pub fn record(checker: &mut Checker, text: &[u8], from: usize, room: usize) {
     let (lent, mut out) = (Shown::new(text), Lent::new(room));
     let reply = archive::sdf_record(lent.part(), from, out.part());
     checker.holds(lent.is_still(text), "an input was changed");
@@ -38,7 +38,7 @@ fn record(checker: &mut Checker, text: &[u8], from: usize, room: usize) {
     );
 }
 
-fn item(checker: &mut Checker, text: &[u8], name: &[u8], room: usize) {
+pub fn item(checker: &mut Checker, text: &[u8], name: &[u8], room: usize) {
     let (lent, asked, mut out) = (Shown::new(text), Shown::new(name), Lent::new(room));
     let reply = archive::sdf_item(lent.part(), asked.part(), out.part());
     checker.holds(lent.is_still(text) && asked.is_still(name), "an input was changed");

@@ -55,7 +55,6 @@ vertex-sums-spec =
     enum-told-2
     returns
     slice-aggregate-summed
-   
     summed-requires
     add-left
     left-requires

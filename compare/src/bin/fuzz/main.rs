@@ -1,0 +1,65 @@
+//! The comparison for a fuzzer that looks at which branches of the library an input takes (libFuzzer). Each input is a call, or calls of two
+//! queues (compare/src/bin/compare/inputs.rs), with everything that is lent between pages that nobody may touch; the second opinion
+//! judges the reply and every lent entry, and the first difference ends the process. `compare/fuzz` builds and runs it.
+#![no_main]
+#![allow(dead_code)] // of the comparison only what an input can say is used
+
+#[path = "../../archive.rs"]
+mod archive;
+#[path = "../compare/checker.rs"]
+mod checker;
+#[path = "../compare/claims.rs"]
+mod claims;
+#[path = "../compare/inputs.rs"]
+mod inputs;
+mod lent;
+#[path = "../compare/library_calls.rs"]
+mod library_calls;
+#[path = "../compare/queues.rs"]
+mod queues;
+#[path = "../compare/sdf.rs"]
+mod sdf;
+mod seeds;
+
+use checker::Checker;
+use std::sync::Mutex;
+use std::{env, process, slice};
+
+static CHECKER: Mutex<Option<Checker>> = Mutex::new(None);
+
+extern "C" {
+    fn atexit(function: extern "C" fn()) -> i32;
+}
+
+/// How many calls were compared, and what they were told.
+extern "C" fn told() {
+    if let Some(checker) = CHECKER.lock().ok().as_deref().and_then(Option::as_ref) {
+        let Checker { calls, accepted, failed, .. } = checker;
+        let refusals = checker.refused.0.iter().filter(|&&count| count > 0).count();
+        eprintln!("{calls} calls compared, {accepted} accepted, {refusals} refusals met, {failed} differences");
+    }
+}
+
+/// Writes the seeds, where TTEUYOMAL_SEEDS names a folder for them.
+#[no_mangle]
+pub extern "C" fn LLVMFuzzerInitialize(_: *mut i32, _: *mut *mut *mut u8) -> i32 {
+    if let Some(folder) = env::var_os("TTEUYOMAL_SEEDS") {
+        seeds::write(folder.as_ref()).expect("seeds can be written");
+        process::exit(0);
+    }
+    unsafe { atexit(told) }
+}
+
+/// # Safety
+/// `data` names `size` readable bytes.
+#[no_mangle]
+pub unsafe extern "C" fn LLVMFuzzerTestOneInput(data: *const u8, size: usize) -> i32 {
+    let input = if size == 0 { &[][..] } else { unsafe { slice::from_raw_parts(data, size) } };
+    let mut kept = CHECKER.lock().expect("one thread");
+    let checker = kept.get_or_insert_with(Checker::default);
+    checker.case("an input", |checker| inputs::call(checker, input));
+    if checker.failed > 0 {
+        process::abort();
+    }
+    0
+}

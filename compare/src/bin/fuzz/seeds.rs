@@ -1,0 +1,90 @@
+//! Inputs to begin with: the documents' graphs and decks, the specimens of every refusal, libraries, texts, two queues.
+
+use opinion::deck::Form;
+use opinion::documents::{ten_graphs, FORTY, NAPHTHALENE};
+use opinion::make::library_specimens::{libraries, TWO_PRODUCTS};
+use opinion::make::{shapes, specimens};
+use opinion::molecule::Measurer;
+use opinion::{answers, molfile, neighbours};
+use std::path::Path;
+use std::{fs, io};
+
+const LONGEST: usize = 2_000;
+
+/// Writes each seed to a file of its own.
+pub fn write(folder: &Path) -> io::Result<()> {
+    fs::create_dir_all(folder)?;
+    for (at, seed) in all().iter().filter(|seed| seed.len() <= LONGEST).enumerate() {
+        fs::write(folder.join(format!("seed-{at:04}")), seed)?;
+    }
+    Ok(())
+}
+
+/// A call: which function, the numbers, the bytes.
+fn input(which: u8, numbers: [u8; 4], data: &[u8]) -> Vec<u8> {
+    let [a, b, c, d] = numbers;
+    [&[which, 0, 0, a, b, c, d, 0], data].concat()
+}
+
+fn all() -> Vec<Vec<u8>> {
+    let mut seeds = Vec::new();
+    let mut decks: Vec<Vec<u8>> = ten_graphs().into_iter().map(|(_, deck, _)| deck.bytes()).collect();
+    decks.push(FORTY.to_vec());
+    decks.extend(specimens::decks().into_iter().filter(|one| one.form == Form::Composed).map(|one| one.deck));
+    let mut judged: Vec<Vec<u8>> =
+        specimens::decks().into_iter().filter(|one| one.form == Form::Judged).map(|one| one.deck).collect();
+    for deck in &decks {
+        seeds.extend((1..5).map(|which| input(which, [0; 4], deck)));
+        seeds.push(input(5, [1, 1, 2, 4], deck));
+        let written = [
+            answers::write_sheet(&mut Measurer::default(), deck, 40),
+            answers::write_six(&mut Measurer::default(), deck, 44),
+        ];
+        judged.extend(written.into_iter().flatten().map(|sheet| [&deck[..], &sheet].concat()));
+    }
+    seeds.extend(judged.iter().map(|deck| input(0, [0; 4], deck)));
+    for deck in libraries().into_iter().map(|one| one.deck).chain([TWO_PRODUCTS.to_vec()]) {
+        seeds.extend((6..9).map(|which| input(which, [4, 0, 0, 0], &deck)));
+    }
+    let mut blocks: Vec<(usize, Vec<u8>)> =
+        specimens::blocks().into_iter().map(|one| (one.atoms.min(255), one.bonds)).collect();
+    let shapes = [
+        shapes::path(4),
+        shapes::ring(6),
+        shapes::star(7),
+        shapes::cube(3),
+        shapes::path(64),
+        shapes::double_ring(64),
+        NAPHTHALENE.block(),
+    ];
+    blocks.extend(shapes.iter().map(|block| (block.atoms as usize, block.bond_bytes())));
+    for (atoms, bonds) in &blocks {
+        seeds.extend([9, 10, 11, 12, 13, 14, 15, 17, 19, 21].map(|which| input(which, [*atoms as u8, 1, 0, 0], bonds)));
+        seeds.push(input(16, [*atoms as u8, 0, 0, 0], &[&0.5f64.to_le_bytes(), &bonds[..]].concat()));
+        let texts = (molfile::write(*atoms, bonds, 9_000, 1), neighbours::write(*atoms, bonds, 1_024, 1));
+        seeds.extend(texts.0.map(|text| input(18, [0; 4], text.as_bytes())));
+        seeds.extend(texts.1.map(|text| input(20, [0; 4], text.as_bytes())));
+        seeds.extend((bonds.len() < 256).then(|| queued(*atoms as u8, bonds)));
+    }
+    for text in ["1", "4 ", " 10.0", "198", "1.9747", "nan"] {
+        for field in [1, 2, 6, 8, 10, 11] {
+            let list = [&[field, text.len() as u8], text.as_bytes()].concat();
+            seeds.push(input(24, [0, list.len() as u8, 0, 0], &[&list[..], &FORTY].concat()));
+            seeds.push(input(25, [4, list.len() as u8, 0, 0], &[&list[..], &shapes::path(4).bond_bytes()].concat()));
+        }
+    }
+    let sdf = b"W\n\n\n  0  0\nM  END\n> <W>\n12\n\n> <B>\n> <C>\nx\n> <C>\n$$$$\n\n";
+    seeds.extend([input(26, [0; 4], &sdf[1..]), input(26, [0, 40, 0, 0], &sdf[1..]), input(27, [0, 1, 0, 0], sdf)]);
+    seeds.extend((0..7).map(|field| input(28, [field, field % 2, 3, 0], &TWO_PRODUCTS)));
+    let hydrogen = format!("\n\n\n  3  2\n{0:31}H\n{0:31}C\n{0:31}C\n  1  2\n  3  2\nM  END\n", "");
+    seeds.push(input(18, [0; 4], hydrogen.as_bytes()));
+    seeds
+}
+
+/// A block added to both queues, looked up, placed twice, and dropped.
+fn queued(atoms: u8, bonds: &[u8]) -> Vec<u8> {
+    let record = [14, 0, 2, 0, 2, 0, 1, 0, 0, 0, 0, 0, 1, 0, 1, 0, 1, 1];
+    let add = |queue: u8| [&[queue, 1, bonds.len() as u8, atoms], bonds].concat();
+    let place = [&[10, 0, 18, 0], &record[..]].concat();
+    input(22, [0; 4], &[add(0), add(1), vec![6, 1, 0, 0], place, vec![8, 1, 0, 0], vec![6, 1, 0, 0]].concat())
+}
