@@ -64,7 +64,7 @@ typedef uint64_t tteuyomal_reply;
 #define TTEUYOMAL_DECK_BYTES 32768
 
 /* More stack than any function takes, on any input. */
-#define TTEUYOMAL_STACK_BYTES 32768
+#define TTEUYOMAL_STACK_BYTES 65536
 
 /* What is wrong, by number. The first refusal in a function's order is the one that is told. */
 enum tteuyomal_refusal {

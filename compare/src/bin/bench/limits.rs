@@ -7,7 +7,7 @@ use opinion::make::shapes;
 use opinion::queues::{SIX, TABLE};
 use std::fs;
 
-pub const MOST_STACK: usize = 32 << 10; // TTEUYOMAL_STACK_BYTES
+pub const MOST_STACK: usize = 64 << 10; // TTEUYOMAL_STACK_BYTES
 
 /// Prints a row for each function, measured over these decks and over large blocks.
 pub fn stack(decks: &[&DeckPlan]) {
