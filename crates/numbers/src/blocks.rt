@@ -1,6 +1,7 @@
 // What is asked of a block: its reply is compared with the numbers of a line.
 ghost use Prim.Native.Nat.{_≤_};
 ghost use lib.ListN.{length};
+use super::typed;
 use lines::row::FAR;
 use lines::row::Row;
 use lines::row::STAYS;
@@ -114,6 +115,7 @@ pub(crate) fn right(letter: u8, n: usize, bonds: &[u8], row: Row) -> bool {
         b'a' => apart(n, bonds, row),
         b'd' | b'e' => shared(letter, n, bonds, row),
         b'p' | b'm' | b'n' => valued(letter, n, bonds, row),
+        b't' => typed::of_block(n, bonds, row),
         _ => false,
     }
 }

@@ -1,8 +1,8 @@
 // What is asked of a deck: its reply is compared with the numbers of a line.
 ghost use Prim.Native.Nat.{_≤_};
 ghost use lib.ListN.{length};
+use super::typed;
 use judging::SheetWritten;
-use judging::Verdict;
 use lines::row;
 use lines::row::FAR;
 use lines::row::Row;
@@ -30,14 +30,7 @@ fn composed_six(deck: &[u8], row: Row) -> bool {
 // The first field that differs, 0 for none.
 fn judged(deck: &[u8], row: Row) -> bool {
     let reply = judging::judge(deck);
-    let field = match reply {
-        Verdict::Refused(r) => {
-            return told::refusal(r).is(row, 0);
-        }
-        Verdict::Accepted => 0,
-        Verdict::Differs(k) => k,
-    };
-    told::one(field as u64).is(row, 0)
+    typed::verdict_is(reply, row, 0)
 }
 
 // Placement and atom of each of the two ends.
@@ -90,6 +83,7 @@ pub(crate) fn right(letter: u8, deck: &[u8], row: Row) -> bool {
         b'b' => written(deck, Sheet::Five, true, row),
         b'k' => written(deck, Sheet::Six, false, row),
         b'o' => written(deck, Sheet::Six, true, row),
+        b't' => typed::of_deck(deck, row),
         _ => false,
     }
 }

@@ -5,6 +5,7 @@ ghost use lib.ListN.{length};
 mod blocks;
 mod decks;
 mod subject;
+mod typed;
 
 use libc::STDIN_FILENO;
 use lines::row;
