@@ -27,24 +27,8 @@ use Rattle.summary.specs.Back.{length-summary, summary-fits, summary-told, ends
 use Rattle.shelf.specs.Shelf.{placesIn, summaryAt, placeFrom, placeOf, shelfIn}
 use Rattle.shelf.specs.Places.{place-here, place-next, place-none, place-zero, place-some}
 use Rattle.summaries.specs.Written.{HonestBook}
+use Rattle.deck.proofs.Filled.{in-place}
 use Rattle.compose.specs.Booked.{blockIn, summaryIn, Blank, HoldsBlock, Booked}
-
--- what filling does with the part of a book that it is lent
-behind : (n w : ℕ) (d : List ℕ) → n ≤ w → drop n (take w d) ++ drop w d ≡ drop n d
-behind zero w d h = take-append-drop w d
-behind (suc n) zero d h = absurd (omega arith)
-behind (suc n) (suc w) [] h = refl
-behind (suc n) (suc w) (x ∷ d) h = behind n w d (omega arith)
-
-in-place : (w at : ℕ) (s v : List ℕ) → length v ≤ w → at + w ≤ length s → take at s ++ (sets (take w (drop at s)) 0 v ++ drop w (drop at s)) ≡ sets s at v
-in-place w at s v l h =
-    let d = drop at s in
-    let z : 0 + length v ≤ length (take w d) = omega (arith, length-take w d, length-drop at s) in
-    let n : 0 + length v ≡ length v = omega arith in
-    ap (λ (t : List ℕ). take at s ++ (t ++ drop w d)) (sets-eq v (take w d) 0 z ∙ ap (λ (k : ℕ). v ++ drop k (take w d)) n)
-    ∙ ap (λ (t : List ℕ). take at s ++ t) (append-assoc v (drop (length v) (take w d)) (drop w d) ∙ ap (λ (t : List ℕ). v ++ t) (behind (length v) w d l ∙ drop-drop (length v) at s))
-    ∙ sym (append-assoc (take at s) v (drop (at + length v) s))
-    ∙ sym (sets-eq v s at (omega arith))
 
 module _ (d : List ℕ) (c : BlockAt) (fine : blockReply (c .atoms) (bondBytes d c) ≡ read tt) (b : List ℕ) (i : ℕ) (room : summaryBytes * i + summaryBytes ≤ length b) where
   abbrev lent : List ℕ

@@ -1,10 +1,12 @@
 -- Work. A book of summaries that is filled from a deck's blocks: before, and when the first of them stand in it.
-use Prim.Native.Nat.{ℕ, _+_, _*_, _≤_, _<_}
+use Prim.Native.Nat.{ℕ, zero, suc, _+_, _*_, _≤_, _<_}
 use mathlib.Core.List.{List}
 use mathlib.Core.Path.{_≡_}
+use lib.Dec.{eqb}
 use lib.ListN.{length, getD, take}
-use Rattle.reply.specs.Read.{read}
+use Rattle.reply.specs.Read.{read, ifElse}
 use Rattle.records.specs.Bytes.{le16}
+use Rattle.records.specs.Records.{blockKind, kindAt, endAt}
 use Rattle.block.specs.Block.{blockReply}
 use Rattle.assembly.specs.Book.{mostBlocks, noBlock, bondBytes, blockGraph}
 use Rattle.assembly.specs.declared.BlockAt.{BlockAt}
@@ -25,6 +27,16 @@ pub record Blank (d : List ℕ) (bs : List BlockAt) (count : ℕ) (b : List ℕ)
   pub fine : (i : ℕ) → i < count → blockReply (blockIn bs i .atoms) (bondBytes d (blockIn bs i)) ≡ read tt
   pub room : summaryBytes * count ≤ length b
   pub zero : (p : ℕ) → getD b p 0 ≡ 0
+
+-- how many records from a place on are blocks, by their heads
+unfoldable pub headsFrom : ℕ → List ℕ → ℕ → ℕ
+headsFrom zero d at = 0
+headsFrom (suc left) d at = ifElse (eqb (kindAt d at) (blockKind .number)) (λ _. suc (headsFrom left d (endAt d at))) (λ _. 0)
+
+-- a book with a place for each of them, all 0
+pub record Unfilled (d b : List ℕ) : Type 0 where
+  pub room : summaryBytes * headsFrom mostBlocks d 0 ≤ length b
+  pub none : (p : ℕ) → getD b p 0 ≡ 0
 
 -- place i holds a block
 pub record HoldsBlock (d b : List ℕ) (i : ℕ) (c : BlockAt) : Type 0 where
