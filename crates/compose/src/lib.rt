@@ -99,12 +99,11 @@ fn in_book(d: &[u8], form: Form, book: &mut [u8]) -> ComposeReply
     }
 }
 
-// The six fields of a deck in a form: atom count, W, even part, odd part, polarity and largest distance of its molecule, and where a sheet stands
-// behind its assembly; or the deck's refusal.
-pub fn fields(d: &[u8], form: Form) -> ComposeReply
+// The same, by a book just as large as so many blocks need.
+fn sized(d: &[u8], form: Form, many: usize) -> ComposeReply
+    requires { ⌜ (headsFrom mostBlocks (now d) 0 ≤ many) × (many ≤ mostBlocks) ⌝ }
     ensures { λ r. ⌜ r ≡ saidComposed (composeReply form (now (d .entry))) ⌝ }
 {
-    let many = heads(d);
     if many <= FEW {
         return in_book(d, form, &mut [0u8; SUMMARY * FEW]);
     }
@@ -112,4 +111,12 @@ pub fn fields(d: &[u8], form: Form) -> ComposeReply
         return in_book(d, form, &mut [0u8; SUMMARY * SOME]);
     }
     in_book(d, form, &mut [0u8; SUMMARY * BLOCKS])
+}
+
+// The six fields of a deck in a form: atom count, W, even part, odd part, polarity and largest distance of its molecule, and where a sheet stands
+// behind its assembly; or the deck's refusal.
+pub fn fields(d: &[u8], form: Form) -> ComposeReply
+    ensures { λ r. ⌜ r ≡ saidComposed (composeReply form (now (d .entry))) ⌝ }
+{
+    sized(d, form, heads(d))
 }
