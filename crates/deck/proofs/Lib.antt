@@ -2,3 +2,5 @@
 pub mod Turns
 pub mod Parts
 pub mod Filled
+pub mod Booking
+pub mod Honest

@@ -1,9 +1,9 @@
 // The deck: its records one after the other, and the lookup of a block.
 ghost use mathlib.Core.Path.{_≡_};
 ghost use mathlib.Core.Bool.{_||_, cond};
-ghost use Prim.Native.Nat.{_+_, _≤_};
+ghost use Prim.Native.Nat.{ℕ, _+_, _*_, _≤_};
 ghost use lib.Dec.{eqb, leb};
-ghost use lib.ListN.{length, take};
+ghost use lib.ListN.{length, take, getD};
 ghost use Rattle.reply.specs.Read.{saidReply};
 ghost use Rattle.reply.specs.declared.Refusal.{Refusal};
 ghost use Rattle.reply.specs.declared.Reply.the-variants.{Refused};
@@ -11,8 +11,10 @@ ghost use Rattle.block.specs.Block.{blockReply};
 ghost use Rattle.records.specs.Bytes.{PartOf};
 ghost use Rattle.records.specs.Records.{blockKind, payloadAt};
 ghost use Rattle.assembly.specs.Book.{used, bondBytes, mostBlocks};
-ghost use Rattle.assembly.specs.Placements.{mostPlacements, placementAt};
-ghost use Rattle.deck.specs.Deck.{longestDeck, blockAt, blockPlace, placementPlace, blockReplyAt, assemblyReplyAt, blocksReply, openReply, endReply, sheetReply, deckReply, payload, blockSpan};
+ghost use Rattle.assembly.specs.Placements.{mostPlacements, placementAt, shelfReply};
+ghost use Rattle.summary.specs.Layout.{summaryBytes};
+ghost use Rattle.shelf.specs.Shelf.{shelfIn};
+ghost use Rattle.deck.specs.Deck.{longestDeck, blockAt, blockPlace, placementPlace, blockReplyAt, moved, blocksReply, openReply, endReply, sheetReply, deckReply, payload, blockSpan};
 ghost use Rattle.deck.specs.Said.{refusedDeck, tabledDeck, saidDeck, movedReply};
 ghost use Rattle.deck.specs.Filled.{blocksBook, openBook};
 ghost use Rattle.deck.specs.Filling.{filledBook, replyBook};
@@ -234,13 +236,12 @@ fn read_blocks(d: &[u8], last: Kind, book: &mut [u8]) -> DeckRead
     }
 }
 
-// Refusals 15 to 19, 23 and 24 of the assembly record at a place, over the first `count` blocks.
-fn assembly_reply(d: &[u8], at: usize, blocks: BlockTable, count: usize) -> Reply
+// Refusals 15 to 19, 23 and 24 of the assembly record at a place, over a book.
+fn assembly_reply(d: &[u8], at: usize, book: &[u8]) -> Reply
     requires { ⌜ at ≤ longestDeck ⌝ }
-    ensures { λ r. ⌜ r ≡ saidReply (assemblyReplyAt (now (d .entry)) (take count blocks) at) ⌝ }
+    ensures { λ r. ⌜ r ≡ saidReply (moved (placementPlace at) (shelfReply (shelfIn (now (book .entry))) (payloadAt (now (d .entry)) at))) ⌝ }
 {
-    let xs = payload_at(d, at);
-    let reply = assembly::check(d, blocks, count, xs);
+    let reply = shelf::check(book, payload_at(d, at));
     match reply {
         Reply::Fine => Reply::Fine,
         Reply::Refused(r) => Reply::Refused(Refusal {
@@ -277,18 +278,18 @@ pub fn sheet_reply(form: Form, d: &[u8], at: usize) -> Reply
     end_reply(d, at + HEAD + (le16_at(d, at) as usize))
 }
 
-// What a deck says: record by record, each taken or refused with its place.
-pub fn read_deck(d: &[u8], form: Form) -> DeckRead
+// What a deck says, by a lent book that is all 0 and has a place for each block that it can have.
+fn read_in(d: &[u8], form: Form, book: &mut [u8]) -> DeckRead
+    requires { ⌜ (summaryBytes * mostBlocks ≤ length (now book)) × ((p : ℕ) → getD (now book) p 0 ≡ 0) ⌝ }
     ensures { λ r. ⌜ r ≡ saidDeck (deckReply form (now (d .entry))) ⌝ }
 {
-    let k = open_deck(d, ASSEMBLY);
+    let k = open_book(d, ASSEMBLY, book);
     let first = k.reply;
     let Reply::Fine = first else {
         return k;
     };
     let layout = k.layout;
-    let blocks = layout.blocks;
-    let a = assembly_reply(d, layout.assembly, blocks, layout.count);
+    let a = assembly_reply(d, layout.assembly, book);
     let Reply::Fine = a else {
         return deck_refused(a);
     };
@@ -297,6 +298,13 @@ pub fn read_deck(d: &[u8], form: Form) -> DeckRead
         return deck_refused(s);
     };
     k
+}
+
+// What a deck says: record by record, each taken or refused with its place.
+pub fn read_deck(d: &[u8], form: Form) -> DeckRead
+    ensures { λ r. ⌜ r ≡ saidDeck (deckReply form (now (d .entry))) ⌝ }
+{
+    read_in(d, form, &mut [0u8; SUMMARY * BLOCKS])
 }
 
 // What stands before a record of the kind `last`, whatever that says: refusal 20, the blocks', and 11 to 13 of that record. The summary of each

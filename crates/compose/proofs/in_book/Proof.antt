@@ -16,9 +16,10 @@ use Rattle.deck.specs.Said.{saidDeck}
 use Rattle.deck.specs.declared.DeckRead.{DeckRead}
 use Rattle.deck.proofs.Parts.{deck-stopped, deck-ended, open-read, bad-blocks}
 use Rattle.deck.proofs.Filled.{book-short}
+use Rattle.deck.proofs.Honest.{honest-read}
 use Rattle.summaries.specs.Written.{HonestBook}
 use Rattle.compose.specs.Fields.{behindReply, saidComposed}
-use Rattle.compose.proofs.Filled.{honest-read}
+use Rattle.compose.proofs.Few.{few-heads}
 use Rattle.compose.proofs.Reading.{fields-refused, is-refused, placed-badly, placed-well}
 use Rattle.compose.proofs.in_book.Statement.{statement}
 use Rattle.compose.proofs.in_book.Tie as tie
@@ -34,7 +35,7 @@ book c =
     let d = s .args .d .now in
     let (k, e, r) = blocks c in
     let (short, f) = open-read assemblyKind d e in
-    honest-read assemblyKind d (λ i. omega (arith, c .before .before .before .before .before .before .before .shared-slice-known .given i)) (s .args .book .now) _ (s .pre) f (c .before .before .before .before .open-book .ensures .1 ∙ book-short assemblyKind d (s .args .book .now) short) (c .before .before .before .book .given)
+    honest-read assemblyKind d (λ i. omega (arith, c .before .before .before .before .before .before .before .shared-slice-known .given i)) (s .args .book .now) _ (omega (arith, few-heads assemblyKind d f, s .pre .room)) (s .pre .none) f (c .before .before .before .before .open-book .ensures .1 ∙ book-short assemblyKind d (s .args .book .now) short) (c .before .before .before .book .given)
 
 open-book-requires : tie.Need-open-book-requires
 open-book-requires c κs = search needs

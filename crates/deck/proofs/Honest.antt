@@ -4,26 +4,30 @@ use mathlib.Core.List.{List, [], _∷_, _++_}
 use mathlib.Core.Logic.{⊎-elim}
 use mathlib.Core.Path.{_≡_, refl, sym, _∙_, ap, subst}
 use native.Mathlib.Omega.{arith}
-use borrow.Author.Tests.{eq-eqb, ne-eqb, eqb-true, eqb-false, le-ltb}
+use borrow.Author.Tests.{eqb-true, eqb-false, le-ltb}
 use lib.Dec.{eqb}
 use lib.ListN.{length, getD, take, length-append}
 use lib.Seq.{sets, length-sets, take-length, getD-append-seam}
-use Rattle.reply.specs.Read.{read, ifElse}
+use Rattle.reply.specs.Read.{Read, refused, read, _then_}
 use Rattle.reply.specs.Chain.{not-read, then-read}
 use Rattle.records.specs.Bytes.{little}
 use Rattle.records.specs.Records.{blockKind, kindAt, endAt, recordReply}
 use Rattle.records.specs.declared.Kind.{Kind}
 use Rattle.block.specs.Block.{blockReply}
-use Rattle.assembly.specs.Book.{mostBlocks, bondBytes, bookOf}
+use Rattle.assembly.specs.Book.{mostBlocks, bondBytes, Book, bookOf}
 use Rattle.assembly.specs.declared.BlockAt.{BlockAt}
 use Rattle.summary.specs.Layout.{summaryBytes}
 use Rattle.deck.specs.Deck.{kindsAfter, Deck, blockAt, deckAt, blockReplyAt, blocksFrom, blocksReply}
 use Rattle.deck.specs.Filled.{withBlock, bookFrom, blocksBook}
 use Rattle.deck.specs.Kept.{Each, Standing, kept, fit, chosen}
 use Rattle.deck.proofs.Filled.{reply-puts, book-no-block, book-one-block}
-use Rattle.summaries.specs.Written.{HonestBook}
-use Rattle.compose.specs.Booked.{blockIn, summaryIn, headsFrom, Unfilled, HoldsBlock, Booked}
-use Rattle.compose.proofs.Booking.{booked-none, booked-more, honest-book}
+use Rattle.block.specs.declared.Indices.{Indices}
+use Rattle.assembly.specs.Placements.{shelfReply, assemblyReply}
+use Rattle.shelf.specs.Shelf.{shelfIn}
+use Rattle.summaries.specs.Composing.{composedReply}
+use Rattle.summaries.specs.Written.{HonestBook, writtenReply, composed-written}
+use Rattle.deck.specs.Booked.{blockIn, summaryIn, HoldsBlock, Booked}
+use Rattle.deck.proofs.Booking.{booked-none, booked-more, honest-book}
 
 each-fine : (d : List ℕ) (bs : List BlockAt) → Each (Standing d) bs → (i : ℕ) → i < length bs → blockReply (blockIn bs i .atoms) (bondBytes d (blockIn bs i)) ≡ read tt
 unfolding Each
@@ -35,21 +39,6 @@ first-of : (bs cs : List BlockAt) (i : ℕ) → i < length bs → blockIn (bs ++
 first-of [] cs i l = absurd (omega arith)
 first-of (b ∷ bs) cs zero l = refl
 first-of (b ∷ bs) cs (suc i) l = first-of bs cs i (omega arith)
-
--- one head more, and none
-pub heads-end : (left : ℕ) (d : List ℕ) (at : ℕ) → left ≡ 0 → headsFrom left d at ≡ 0
-unfolding headsFrom
-heads-end zero d at e = refl
-heads-end (suc left) d at e = absurd (omega arith)
-
-module _ (left : ℕ) (d : List ℕ) (at : ℕ) where
-  pub head-more : kindAt d at ≡ 1 → headsFrom (suc left) d at ≡ suc (headsFrom left d (endAt d at))
-  unfolding headsFrom
-  head-more k = rw (eq-eqb (kindAt d at) 1 k)
-
-  pub head-none : (kindAt d at ≡ 1 → ⊥) → headsFrom (suc left) d at ≡ 0
-  unfolding headsFrom
-  head-none k = rw (ne-eqb (kindAt d at) 1 k)
 
 module _ (last : Kind) (d : List ℕ) where
   grows : (fuel at : ℕ) (done : List BlockAt) {k : Deck} → blocksFrom fuel last d at done ≡ read k → length done ≤ length (k .blocks)
@@ -66,28 +55,6 @@ module _ (last : Kind) (d : List ℕ) where
       let same : deckAt d done at ≡ k = cc (t .1) in
       rw (← same) (omega arith))
       (chosen (eqb (kindAt d at) (blockKind .number)) _ _ f)
-
-  -- the blocks that are read are no more than the heads
-  few : (fuel at : ℕ) (done : List BlockAt) {k : Deck} (left : ℕ) → length done + left ≡ mostBlocks → blocksFrom fuel last d at done ≡ read k → length (k .blocks) ≤ length done + headsFrom left d at
-  unfolding blocksFrom
-  few zero at done left l e = absurd (not-read e)
-  few (suc fuel) at done {k} left l e =
-      let (u, p, f) = then-read (recordReply (kindsAfter done last) d at) _ e in
-      ⊎-elim
-      (λ t.
-      let (v, q, g) = then-read (blockReplyAt d at done) _ (t .1) in
-      let n : length (done ++ blockAt d at ∷ []) ≡ length done + 1 = simp length-append in
-      go left l (fit d at done q .room) (eqb-true (kindAt d at) (blockKind .number) (t .0)) n (λ rest m. few fuel (endAt d at) (done ++ blockAt d at ∷ []) rest m g))
-      (λ t.
-      let same : deckAt d done at ≡ k = cc (t .1) in
-      rw (← same) (omega arith))
-      (chosen (eqb (kindAt d at) (blockKind .number)) _ _ f)
-    where
-      go : (left : ℕ) → length done + left ≡ mostBlocks → length done < mostBlocks → kindAt d at ≡ 1 → length (done ++ blockAt d at ∷ []) ≡ length done + 1
-          → ((rest : ℕ) → length (done ++ blockAt d at ∷ []) + rest ≡ mostBlocks → length (k .blocks) ≤ length (done ++ blockAt d at ∷ []) + headsFrom rest d (endAt d at))
-          → length (k .blocks) ≤ length done + headsFrom left d at
-      go zero l r h n more = absurd (omega arith)
-      go (suc rest) l r h n more = omega (arith, n, head-more rest d at h, more rest (omega arith))
 
   module _ (bytes : (i : ℕ) → getD d i 0 < 256) where
     number-small : (at : ℕ) → blockAt d at .number < 65536
@@ -141,12 +108,23 @@ module _ (last : Kind) (d : List ℕ) where
         (chosen (eqb (kindAt d at) (blockKind .number)) _ _ f)
 
     -- A BOOK THAT IS FILLED WHILE A DECK IS READ is honest
-    pub honest-read : {k : Deck} (b new : List ℕ) → Unfilled d b → blocksReply last d ≡ read k → new ≡ blocksBook last d b → length new ≡ length b → HonestBook new (bookOf d (k .blocks))
+    pub honest-read : {k : Deck} (b new : List ℕ) → summaryBytes * length (k .blocks) ≤ length b → ((p : ℕ) → getD b p 0 ≡ 0) → blocksReply last d ≡ read k → new ≡ blocksBook last d b → length new ≡ length b
+        → HonestBook new (bookOf d (k .blocks))
     unfolding blocksReply blocksBook
-    honest-read {k} b new U e q l =
+    honest-read {k} b new room none e q l =
         let bs = k .blocks in
-        let room : summaryBytes * length bs ≤ length b = omega (arith, few (suc mostBlocks) 0 [] mostBlocks refl e, U .room) in
-        let none = booked-none {d = d} {bs = []} {count = 0} {b = b} (record { few = omega arith; fine = λ i h. absurd (omega arith); room = omega arith; zero = U .none }) in
-        let B = booked-from (suc mostBlocks) 0 [] b none e room in
+        let blank = booked-none {d = d} {bs = []} {count = 0} {b = b} (record { few = omega arith; fine = λ i h. absurd (omega arith); room = omega arith; zero = none }) in
+        let B = booked-from (suc mostBlocks) 0 [] b blank e room in
         subst (λ (x : List BlockAt). HonestBook new (bookOf d x)) (take-length bs)
         (honest-book d bs (length bs) new (omega arith) (omega (arith, l, room)) (each-fine d bs (kept last d e .blocks)) (subst (λ (x : List ℕ). Booked d bs x (length bs)) (sym q) B))
+
+-- over an honest book the same is refused of an assembly
+same-first : (r s : Read (Unit {0})) (x y : Indices) → _≡_ {A = Read Indices} (r then λ _. read x) (s then λ _. read y) → r ≡ s
+same-first (refused p) (refused q) x y e = cc
+same-first (refused p) (read u) x y e = absurd (not-read e)
+same-first (read u) (refused q) x y e = absurd (not-read (sym e))
+same-first (read u) (read v) x y e = refl
+
+pub same-refusals : (b : List ℕ) (book : Book) (xs : List ℕ) → HonestBook b book → shelfReply (shelfIn b) xs ≡ assemblyReply book xs
+unfolding composedReply writtenReply
+same-refusals b book xs h = same-first (shelfReply (shelfIn b) xs) (assemblyReply book xs) _ _ (composed-written b book xs h)
