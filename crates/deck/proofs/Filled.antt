@@ -20,7 +20,7 @@ use Rattle.summary.specs.Summary.{summaryOf}
 use Rattle.summary.specs.Back.{summary-fits}
 use Rattle.filling.specs.Reply.{fillReply, filledSummary, fillBytes}
 use Rattle.deck.specs.Deck.{longestDeck, kindsAfter, blockAt, moved, blockPlace, blockReplyAt}
-use Rattle.deck.specs.Filled.{withBlock, unlessRefused, bookFrom, blocksBook, openBook}
+use Rattle.deck.specs.Filled.{withBlock, afterFine, bookFrom, blocksBook, openBook}
 use Rattle.deck.specs.Filling.{filledBook, replyBook}
 use Rattle.deck.proofs.Turns.{unfit, number-fit}
 
@@ -50,7 +50,7 @@ module _ (d : List ℕ) (c : BlockAt) (b : List ℕ) (i : ℕ) where
   unfolding filledBook withBlock
   no-place h = go (blockReply (c .atoms) (bondBytes d c)) refl
     where
-      go : (r : Read (Unit {0})) → blockReply (c .atoms) (bondBytes d c) ≡ r → b ≡ unlessRefused r b (λ _. withBlock d b i c)
+      go : (r : Read (Unit {0})) → blockReply (c .atoms) (bondBytes d c) ≡ r → b ≡ afterFine r b (λ _. withBlock d b i c)
       go (refused q) e = refl
       go (read u) e = rw (lt-ltb (length b) (summaryBytes * i + summaryBytes) h) refl
 
@@ -79,7 +79,7 @@ module _ (d : List ℕ) (c : BlockAt) (b : List ℕ) (i : ℕ) where
       where
         go : (r : Read (Unit {0})) → blockReply (c .atoms) (bondBytes d c) ≡ r
             → take (summaryBytes * i) b ++ (filledSummary r (c .number) (blockGraph d c) lent ++ drop (summaryBytes * i + summaryBytes - summaryBytes * i) (drop (summaryBytes * i) b))
-            ≡ unlessRefused r b (λ _. withBlock d b i c)
+            ≡ afterFine r b (λ _. withBlock d b i c)
         go (refused p) f = untouched (summaryBytes * i + summaryBytes - summaryBytes * i) (summaryBytes * i) b
         go (read u) f =
             let width : summaryBytes * i + summaryBytes - summaryBytes * i ≡ summaryBytes = omega arith in
@@ -100,7 +100,7 @@ module _ (d : List ℕ) (at : ℕ) (done : List BlockAt) (b : List ℕ) where
   unfolding filledBook replyBook
   reply-filled e = rw (number-fit d at done e) (go (blockReply (blockAt d at .atoms) (bondBytes d (blockAt d at))))
     where
-      go : (r : Read (Unit {0})) → unlessRefused r b (λ _. withBlock d b (length done) (blockAt d at)) ≡ unlessRefused (moved (blockPlace at) r) b (λ _. withBlock d b (length done) (blockAt d at))
+      go : (r : Read (Unit {0})) → afterFine r b (λ _. withBlock d b (length done) (blockAt d at)) ≡ afterFine (moved (blockPlace at) r) b (λ _. withBlock d b (length done) (blockAt d at))
       go (refused p) = refl
       go (read u) = refl
 

@@ -18,18 +18,18 @@ use Rattle.deck.specs.Deck.{longestDeck, kindsAfter, blockAt, blockReply
 unfoldable pub withBlock : List ℕ → List ℕ → ℕ → BlockAt → List ℕ
 withBlock d b i c = cond (ltb (length b) (summaryBytes * i + summaryBytes)) b (sets b (summaryBytes * i) (summaryOf (c .number) (blockGraph d c)))
 
--- bytes that a refusal leaves as they were
-abbrev pub unlessRefused : Read (Unit {0}) → List ℕ → (Unit {0} → List ℕ) → List ℕ
-unlessRefused (refused r) b f = b
-unlessRefused (read u) b f = f tt
+-- the bytes that follow an answer which is fine, and those from before where it is a refusal
+abbrev pub afterFine : Read (Unit {0}) → List ℕ → (Unit {0} → List ℕ) → List ℕ
+afterFine (refused r) b f = b
+afterFine (read u) b f = f tt
 
 -- the book when the blocks from a place on are read, after those of `done`: turn by turn as `blocksFrom` does
 unfoldable pub bookFrom : ℕ → Kind → List ℕ → ℕ → List BlockAt → List ℕ → List ℕ
 bookFrom zero last d at done b = b
 bookFrom (suc fuel) last d at done b =
-    unlessRefused (recordReply (kindsAfter done last) d at) b λ _.
+    afterFine (recordReply (kindsAfter done last) d at) b λ _.
     ifElse (eqb (kindAt d at) (blockKind .number))
-    (λ _. unlessRefused (blockReplyAt d at done) b λ _. bookFrom fuel last d (endAt d at) (done ++ blockAt d at ∷ []) (withBlock d b (length done) (blockAt d at)))
+    (λ _. afterFine (blockReplyAt d at done) b λ _. bookFrom fuel last d (endAt d at) (done ++ blockAt d at ∷ []) (withBlock d b (length done) (blockAt d at)))
     (λ _. b)
 
 unfoldable pub blocksBook : Kind → List ℕ → List ℕ → List ℕ

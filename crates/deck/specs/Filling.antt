@@ -6,12 +6,12 @@ use Rattle.block.specs.Block.{blockReply}
 use Rattle.assembly.specs.Book.{bondBytes}
 use Rattle.assembly.specs.declared.BlockAt.{BlockAt}
 use Rattle.deck.specs.Deck.{blockAt, blockReplyAt}
-use Rattle.deck.specs.Filled.{withBlock, unlessRefused}
+use Rattle.deck.specs.Filled.{withBlock, afterFine}
 
 -- by the block alone
 unfoldable pub filledBook : List ℕ → List ℕ → ℕ → BlockAt → List ℕ
-filledBook d b i c = unlessRefused (blockReply (c .atoms) (bondBytes d c)) b (λ _. withBlock d b i c)
+filledBook d b i c = afterFine (blockReply (c .atoms) (bondBytes d c)) b (λ _. withBlock d b i c)
 
 -- by the block record at a place, after the blocks of `done`
 unfoldable pub replyBook : List ℕ → ℕ → List BlockAt → List ℕ → List ℕ
-replyBook d at done b = unlessRefused (blockReplyAt d at done) b (λ _. withBlock d b (length done) (blockAt d at))
+replyBook d at done b = afterFine (blockReplyAt d at done) b (λ _. withBlock d b (length done) (blockAt d at))
