@@ -117,10 +117,6 @@ shelf-few shelf xs r = go (isOutside mostPlacements (placementCount xs)) refl
     go false t e = omega (arith, inside mostPlacements (placementCount xs) t, placed-few shelf (placementAt xs) r (placementCount xs) 0 e)
 
 module _ (book : Book) (xs : List ℕ) where
-  pub count-outside : isOutside mostPlacements (placementCount xs) ≡ true → assemblyReply book xs ≡ refused (refusal 15 0)
-  unfolding assemblyReply
-  count-outside e = rw e
-
   pub count-within : isOutside mostPlacements (placementCount xs) ≡ false → assemblyReply book xs ≡ placementsReply (shelfOf book) (placementAt xs) 0 (placementCount xs)
   unfolding assemblyReply
   count-within e = rw e

@@ -6,15 +6,13 @@ use mathlib.Core.Path.{_≡_}
 use lib.ListN.{length, take}
 use denote.Ref.{RefT, ptr, now}
 use Rattle.graph.specs.Graph.{degree}
-use Rattle.reply.specs.Read.{saidReply}
 use Rattle.reply.specs.Chain.{unique}
-use Rattle.reply.specs.declared.Reply.{Reply}
 use Rattle.block.specs.Block.{bondsOf}
 use Rattle.records.specs.Bytes.{PartOf}
 use Rattle.records.specs.Records.{blockKind}
 use Rattle.records.specs.Unique.{unique-part}
-use Rattle.assembly.specs.Book.{find, isNumbered, bookOf}
-use Rattle.assembly.specs.Placements.{placementAt, joinOn, firstFault, parentFault, joinFault, assemblyReply}
+use Rattle.assembly.specs.Book.{find, isNumbered}
+use Rattle.assembly.specs.Placements.{placementAt, joinOn, firstFault, parentFault, joinFault}
 use Rattle.assembly.specs.declared.BlockAt.{BlockAt}
 use Rattle.assembly.specs.declared.Placement.{Placement}
 use Rattle.assembly.specs.declared.JoinSite.{JoinSite}
@@ -42,6 +40,3 @@ unique-parent-fault parent r s = unique
 
 pub unique-join-fault : (there here : JoinSite) (xs : List ℕ) (k r s : ℕ) → r ≡ joinFault there here (joinOn (placementAt xs)) k → s ≡ joinFault there here (joinOn (placementAt xs)) k → r ≡ s
 unique-join-fault there here xs k r s = unique
-
-pub unique-check : (d : List ℕ) (blocks : List BlockAt) (count : ℕ) (xs : List ℕ) (r s : Reply) → r ≡ saidReply (assemblyReply (bookOf d (take count blocks)) xs) → s ≡ saidReply (assemblyReply (bookOf d (take count blocks)) xs) → r ≡ s
-unique-check d blocks count xs r s = unique

@@ -1,23 +1,20 @@
-// An assembly: placements over any book of blocks, and refusals 15 to 19, 23 and 24.
+// An assembly: its blocks and placements, and what is wrong with a placement, 17 to 19, 23 and 24. Crate shelf tests all of them over a book.
 ghost use mathlib.Core.Path.{_≡_};
 ghost use mathlib.Core.Bool.{_&&_, cond};
 ghost use Prim.Native.Nat.{_+_, _*_, _-_, _^_, _<_, _≤_, min};
 ghost use lib.ListN.{length, take};
 ghost use Rattle.graph.specs.Graph.{degree};
-ghost use Rattle.reply.specs.Read.{saidReply};
 ghost use Rattle.block.specs.Block.{limit, bondsOf};
 ghost use Rattle.records.specs.Bytes.{PartOf};
 ghost use Rattle.records.specs.Records.{blockKind};
-ghost use Rattle.assembly.specs.Book.{find, isNumbered, blockGraph, bookOf};
-ghost use Rattle.assembly.specs.Placements.{placementAt, sitesOf, atomSite, shelfOf, joinsOn, joinOn, isFull, firstFault, parentFault, joinFault, laterFault, fault, assemblyReply};
+ghost use Rattle.assembly.specs.Book.{find, isNumbered};
+ghost use Rattle.assembly.specs.Placements.{placementAt, joinsOn, joinOn, isFull, firstFault, parentFault, joinFault};
 use block::LIMIT;
 use records::ASSEMBLY;
 use records::BLOCK;
 use records::byte_at;
 use records::le16_at;
 use records::part;
-use reply::Refusal;
-use reply::Reply;
 use reply::is_outside;
 
 // The most blocks of a book, and the most placements.
@@ -232,69 +229,4 @@ pub fn join_fault(there: JoinSite, here: JoinSite, xs: &[u8], k: usize) -> usize
         return 19;
     }
     0
-}
-
-// What is asked of a block at its atom a.
-fn site_of(d: &[u8], b: BlockAt, a: u8) -> JoinSite
-    ensures { λ r. ⌜ r ≡ atomSite (sitesOf (blockGraph (now (d .entry)) b)) a ⌝ }
-{
-    JoinSite {
-        atoms: b.atoms as usize,
-        ends: degree_of(bonds_part(d, b), a),
-    }
-}
-
-// What is wrong with a later placement, at index k: 23, 24, 18, 19, or 0.
-fn later_fault(d: &[u8], blocks: BlockTable, count: usize, xs: &[u8], k: usize) -> usize
-    ensures { λ r. ⌜ r ≡ laterFault (shelfOf (bookOf (now (d .entry)) (take count blocks))) (placementAt (now (xs .entry))) k ⌝ }
-{
-    let q = placement_at(xs, k);
-    let parent = q.parent as usize;
-    if is_outside(k, parent) {
-        return parent_fault(parent);
-    }
-    let onto = placement_at(xs, parent - 1);
-    let there = find_block(blocks, count, onto.block as usize);
-    let here = find_block(blocks, count, q.block as usize);
-    join_fault(site_of(d, there, q.site), site_of(d, here, q.own), xs, k)
-}
-
-// What is wrong with the placement at index k: 16, what first_fault or later_fault says, or 0.
-fn fault_of(d: &[u8], blocks: BlockTable, count: usize, xs: &[u8], k: usize) -> usize
-    ensures { λ r. ⌜ r ≡ fault (shelfOf (bookOf (now (d .entry)) (take count blocks))) (placementAt (now (xs .entry))) k ⌝ }
-{
-    let q = placement_at(xs, k);
-    let number = q.block as usize;
-    if !is_numbered(find_block(blocks, count, number), number) {
-        return 16;
-    }
-    if k == 0 {
-        return first_fault(q);
-    }
-    later_fault(d, blocks, count, xs, k)
-}
-
-// Refusals 15 to 19, 23 and 24 of an assembly's payload, over the first `count` blocks, which stand in d.
-pub fn check(d: &[u8], blocks: BlockTable, count: usize, xs: &[u8]) -> Reply
-    ensures { λ r. ⌜ r ≡ saidReply (assemblyReply (bookOf (now (d .entry)) (take count blocks)) (now (xs .entry))) ⌝ }
-{
-    let p = le16_at(xs, 0) as usize;
-    if is_outside(PLACEMENTS, p) {
-        return Reply::Refused(Refusal {
-            number: 15,
-            place: 0,
-        });
-    }
-    let mut k = 0;
-    while k < p {
-        let f = fault_of(d, blocks, count, xs, k);
-        k += 1;
-        if f != 0 {
-            return Reply::Refused(Refusal {
-                number: f,
-                place: k,
-            });
-        }
-    }
-    Reply::Fine
 }

@@ -1,106 +1,87 @@
--- From a deck that is read to what composing is given, and back to the deck's molecule. Assumes nothing.
-use Prim.Native.Nat.{ℕ, zero, suc, _*_, _-_, _≤_, _<_}
-use mathlib.Core.List.{List, [], _∷_, _++_}
+-- From a deck whose blocks are read to its reply, by what composing over its book says. Assumes nothing.
+use Prim.Native.Nat.{ℕ, _-_, _≤_}
+use mathlib.Core.List.{List}
 use mathlib.Core.Path.{_≡_, refl, sym, _∙_, ap}
 use native.Mathlib.Omega.{arith}
-use lib.ListN.{length, getD, take, drop}
-use lib.Seq.{take-at}
 use Rattle.graph.specs.Graph.{Graph}
 use Rattle.graph.specs.Assembly.{written}
-use Rattle.reply.specs.Read.{Read, refused, read}
-use Rattle.block.specs.Block.{blockReply}
-use Rattle.block.specs.Index.{indicesOf, saidIndices}
+use Rattle.reply.specs.Read.{Read, refused, read, refusal, _then_}
 use Rattle.reply.specs.declared.Refusal.{Refusal}
+use Rattle.block.specs.Index.{indicesOf, saidIndices}
 use Rattle.block.specs.declared.Indices.{Indices}
 use Rattle.block.specs.declared.IndicesReply.{IndicesReply}
 use Rattle.block.specs.declared.IndicesReply.the-variants as measured
-use Rattle.reply.specs.declared.Reply.the-variants as reply
 use Rattle.records.specs.Records.{payloadAt, assemblyKind}
-use Rattle.assembly.specs.Book.{mostBlocks, noBlock, bondBytes, blockGraph, bookOf}
+use Rattle.assembly.specs.Book.{Book, bookOf}
 use Rattle.assembly.specs.Placements.{placementCount, placementAt, graphOn, joinOn, assemblyReply}
-use Rattle.assembly.specs.declared.BlockAt.{BlockAt}
-use Rattle.deck.specs.Deck.{Deck, deckReply}
-use Rattle.deck.specs.Kept.{Each, Standing, KeptDeck, kept}
+use Rattle.deck.specs.Deck.{longestDeck, Deck, placementPlace, openReply, blocksReply, assemblyReplyAt, sheetReply, deckReply}
+use Rattle.deck.specs.Kept.{kept}
 use Rattle.deck.specs.Molecule.{placedIn, graphAt, joinAt, moleculeOf}
-use Rattle.deck.specs.Said.{blockTable, layoutOf, saidDeck}
-use Rattle.deck.specs.Sound.{parts}
 use Rattle.deck.specs.declared.Form.{Form}
-use Rattle.deck.specs.declared.Layout.{Layout}
-use Rattle.summary.specs.Layout.{summaryBytes}
+use Rattle.deck.proofs.Parts.{open-read, bad-blocks, bad-assembly, bad-sheet, whole-deck}
 use Rattle.summaries.specs.Composing.{composedReply}
 use Rattle.summaries.specs.Written.{HonestBook, writtenReply, composed-written}
-use Rattle.compose.specs.Booked.{blockIn, Blank}
-use Rattle.compose.specs.Fields.{composeReply, saidComposed}
+use Rattle.compose.specs.Fields.{composeReply, behindReply, saidComposed}
 use Rattle.compose.specs.declared.ComposeReply.the-variants as composed
-
--- the deck's reply, taken apart
-pub told-refused : (x : Read Deck) {r : Refusal} → saidDeck x .reply ≡ reply.Refused r → x ≡ refused r
-told-refused (refused q) e = cc
-told-refused (read k) {r} e = absurd (let z : _≡_ {A = ℕ} 0 1 = cc in omega arith)
-
-pub told-fine : (x : Read Deck) → saidDeck x .reply ≡ reply.Fine → (k : Deck) × (x ≡ read k) × (saidDeck x .layout ≡ layoutOf k)
-told-fine (refused q) e = absurd (let z : _≡_ {A = ℕ} 0 1 = cc in omega arith)
-told-fine (read k) e = (k, refl, refl)
 
 pub fields-refused : (form : Form) (d : List ℕ) (r : Refusal) → deckReply form d ≡ refused r → composed.Refused r ≡ saidComposed (composeReply form d)
 unfolding composeReply
 fields-refused form d r e = rw e
 
-pub fields-fine : (form : Form) (d : List ℕ) (k : Deck) (x : Indices) (at : ℕ) → deckReply form d ≡ read k → x ≡ indicesOf (moleculeOf d k) → at ≡ k .sheet
-    → composed.Composed (record { fields = x; sheet = at }) ≡ saidComposed (composeReply form d)
+fields-fine : (form : Form) (d : List ℕ) (k : Deck) (x : Indices) → deckReply form d ≡ read k → x ≡ indicesOf (moleculeOf d k)
+    → composed.Composed (record { fields = x; sheet = k .sheet }) ≡ saidComposed (composeReply form d)
 unfolding composeReply
-fields-fine form d k x at e q p = rw (e, q, p)
+fields-fine form d k x e q = rw (e, q)
 
-pub not-of : (x : Indices) (r : Refusal) → measured.Refused r ≡ measured.Of x → ⊥
-not-of x r e = let z : _≡_ {A = ℕ} 0 1 = cc in omega arith
+-- what the code's reply says of an assembly over a book
+abbrev whole : Book → List ℕ → Indices
+whole book xs = indicesOf (written (graphOn book (placementAt xs)) (joinOn (placementAt xs)) (placementCount xs - 1))
 
-pub same-of : (x y : Indices) → measured.Of x ≡ measured.Of y → x ≡ y
-same-of x y e = cc
+module _ (book : Book) (xs : List ℕ) where
+  written-refused : (r : Refusal) → saidIndices (writtenReply book xs) ≡ measured.Refused r → assemblyReply book xs ≡ refused r
+  unfolding writtenReply
+  written-refused r = go (assemblyReply book xs)
+    where
+      go : (a : Read (Unit {0})) → saidIndices (a then λ _. read (whole book xs)) ≡ measured.Refused r → a ≡ refused r
+      go (refused q) e = cc
+      go (read u) e = absurd (let z : _≡_ {A = ℕ} 0 1 = cc in omega arith)
 
--- over an honest book an assembly that is fine has the fields of its molecule
-pub over-fine : (b : List ℕ) (d : List ℕ) (bs : List BlockAt) (xs : List ℕ) (r : IndicesReply) → HonestBook b (bookOf d bs) → assemblyReply (bookOf d bs) xs ≡ read tt
-    → r ≡ saidIndices (composedReply b xs)
-    → r ≡ measured.Of (indicesOf (written (graphOn (bookOf d bs) (placementAt xs)) (joinOn (placementAt xs)) (placementCount xs - 1)))
-unfolding writtenReply
-over-fine b d bs xs r h f e = e ∙ ap saidIndices (composed-written b (bookOf d bs) xs h) ∙ rw f refl
+  written-of : (x : Indices) → saidIndices (writtenReply book xs) ≡ measured.Of x → (assemblyReply book xs ≡ read tt) × (x ≡ whole book xs)
+  unfolding writtenReply
+  written-of x = go (assemblyReply book xs)
+    where
+      go : (a : Read (Unit {0})) → saidIndices (a then λ _. read (whole book xs)) ≡ measured.Of x → (a ≡ read tt) × (x ≡ whole book xs)
+      go (refused q) e = absurd (let z : _≡_ {A = ℕ} 0 1 = cc in omega arith)
+      go (read u) e = (refl, cc)
 
-each-fine : (d : List ℕ) (bs : List BlockAt) → Each (Standing d) bs → (i : ℕ) → i < length bs → blockReply (blockIn bs i .atoms) (bondBytes d (blockIn bs i)) ≡ read tt
-unfolding Each
-each-fine d [] s i l = absurd (omega arith)
-each-fine d (b ∷ bs) s zero l = s .0 .fine
-each-fine d (b ∷ bs) s (suc i) l = each-fine d bs (s .1) i (omega arith)
+-- a deck whose blocks are read
+module _ (form : Form) (d : List ℕ) (k : Deck) (e : openReply assemblyKind d ≡ read k) where
+  molecule-is : whole (bookOf d (k .blocks)) (payloadAt d (k .assembly)) ≡ indicesOf (moleculeOf d k)
+  unfolding moleculeOf graphAt joinAt placedIn
+  molecule-is =
+      let b = bookOf d (k .blocks) in
+      let xs = payloadAt d (k .assembly) in
+      ap (λ (n : ℕ). indicesOf (written (graphOn b (placementAt xs)) (joinOn (placementAt xs)) (n - 1))) (sym (ap (λ (x : Deck). x .placements) (kept assemblyKind d (open-read assemblyKind d e .1) .places)))
 
-first-of : (bs cs : List BlockAt) (i : ℕ) → i < length bs → blockIn (bs ++ cs) i ≡ blockIn bs i
-first-of [] cs i l = absurd (omega arith)
-first-of (b ∷ bs) cs zero l = refl
-first-of (b ∷ bs) cs (suc i) l = first-of bs cs i (omega arith)
+  module _ (b xs : List ℕ) (h : HonestBook b (bookOf d (k .blocks))) (p : xs ≡ payloadAt d (k .assembly)) (answer : IndicesReply) (q : answer ≡ saidIndices (composedReply b xs)) where
+    told : answer ≡ saidIndices (writtenReply (bookOf d (k .blocks)) (payloadAt d (k .assembly)))
+    told = q ∙ ap saidIndices (composed-written b (bookOf d (k .blocks)) xs h ∙ ap (writtenReply (bookOf d (k .blocks))) p)
 
--- a deck that is read
-module _ (form : Form) (d : List ℕ) (k : Deck) (e : deckReply form d ≡ read k) (layout : Layout) (q : layout ≡ layoutOf k) where
-  keeps : KeptDeck assemblyKind d k
-  keeps = kept assemblyKind d (parts form d k e .blocks)
+    pub is-refused : (r : Refusal) → answer ≡ measured.Refused r → assemblyReply (bookOf d (k .blocks)) (payloadAt d (k .assembly)) ≡ refused r
+    is-refused r f = written-refused (bookOf d (k .blocks)) (payloadAt d (k .assembly)) r (sym told ∙ f)
 
-  table-is : take (layout .count) (layout .blocks) ≡ k .blocks
-  table-is = rw q (take-at (k .blocks) _ _ refl)
+    pub placed-badly : (r : Refusal) → answer ≡ measured.Refused r → saidComposed (refused (refusal (r .number) (placementPlace (k .assembly) r))) ≡ saidComposed (composeReply form d)
+    unfolding assemblyReplyAt
+    placed-badly r f = fields-refused form d _ (bad-assembly form d k e _ (rw (is-refused r f)))
 
-  pub few-blocks : layout .count ≤ mostBlocks
-  few-blocks = rw q (keeps .few)
-
-  pub blank : (b : List ℕ) → summaryBytes * layout .count ≤ length b → ((p : ℕ) → getD b p 0 ≡ 0) → Blank d (layout .blocks) (layout .count) b
-  blank b room none = record {
-    few = few-blocks;
-    fine = rw q (λ i l. rw (first-of (k .blocks) (drop (length (k .blocks)) _) i l) (each-fine d (k .blocks) (keeps .blocks) i l));
-    room = room;
-    zero = none;
-  }
-
-  module _ (xs : List ℕ) (p : xs ≡ payloadAt d (layout .assembly)) where
-    payload-is : xs ≡ payloadAt d (k .assembly)
-    payload-is = p ∙ ap (λ (x : Layout). payloadAt d (x .assembly)) q
-
-    pub laid-fine : assemblyReply (bookOf d (take (layout .count) (layout .blocks))) xs ≡ read tt
-    laid-fine = rw (table-is, payload-is) (parts form d k e .assembly)
-
-    pub laid-molecule : written (graphOn (bookOf d (take (layout .count) (layout .blocks))) (placementAt xs)) (joinOn (placementAt xs)) (placementCount xs - 1) ≡ moleculeOf d k
-    unfolding moleculeOf graphAt joinAt placedIn
-    laid-molecule = rw (table-is, payload-is) (ap (λ (n : ℕ). written (graphOn (bookOf d (k .blocks)) (placementAt (payloadAt d (k .assembly)))) (joinOn (placementAt (payloadAt d (k .assembly)))) (n - 1)) (sym (ap (λ (x : Deck). x .placements) (keeps .places))))
+    pub placed-well : (x : Indices) → answer ≡ measured.Of x → saidComposed (behindReply form d x (k .sheet)) ≡ saidComposed (composeReply form d)
+    unfolding assemblyReplyAt behindReply
+    placed-well x f =
+        let (fine, same) = written-of (bookOf d (k .blocks)) (payloadAt d (k .assembly)) x (sym told ∙ f) in
+        let a : assemblyReplyAt d (k .blocks) (k .assembly) ≡ read tt = rw fine refl in
+        go a (same ∙ molecule-is) (sheetReply form d (k .sheet)) refl
+      where
+        go : assemblyReplyAt d (k .blocks) (k .assembly) ≡ read tt → x ≡ indicesOf (moleculeOf d k) → (s : Read (Unit {0})) → sheetReply form d (k .sheet) ≡ s
+            → saidComposed (s then λ _. read (record { fields = x; sheet = k .sheet })) ≡ saidComposed (composeReply form d)
+        go a m (refused r) g = fields-refused form d r (bad-sheet form d k e a r g)
+        go a m (read u) g = fields-fine form d k x (whole-deck form d k e a g) m

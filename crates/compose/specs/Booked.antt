@@ -1,37 +1,21 @@
--- Work. A book of summaries that is filled from a deck's blocks: before, and when the first of them stand in it.
-use Prim.Native.Nat.{ℕ, _+_, _*_, _≤_, _<_}
+-- Work. How large a book a deck needs, by the heads of its records; what is filled from its blocks is the deck's.
+use Prim.Native.Nat.{ℕ, zero, suc, _*_, _≤_}
 use mathlib.Core.List.{List}
 use mathlib.Core.Path.{_≡_}
-use lib.ListN.{length, getD, take}
-use Rattle.reply.specs.Read.{read}
-use Rattle.records.specs.Bytes.{le16}
-use Rattle.block.specs.Block.{blockReply}
-use Rattle.assembly.specs.Book.{mostBlocks, noBlock, bondBytes, blockGraph}
-use Rattle.assembly.specs.declared.BlockAt.{BlockAt}
+use lib.Dec.{eqb}
+use lib.ListN.{length, getD}
+use Rattle.reply.specs.Read.{ifElse}
+use Rattle.records.specs.Records.{blockKind, kindAt, endAt}
+use Rattle.assembly.specs.Book.{mostBlocks}
 use Rattle.summary.specs.Layout.{summaryBytes}
-use Rattle.summary.specs.Summary.{summaryOf}
-use Rattle.shelf.specs.Shelf.{summaryAt}
+pub use Rattle.deck.specs.Booked.{blockIn, summaryIn, Blank, HoldsBlock, Booked}
 
--- the block at an index, and its summary
-abbrev pub blockIn : List BlockAt → ℕ → BlockAt
-blockIn bs i = getD bs i noBlock
+-- how many records from a place on are blocks, by their heads
+unfoldable pub headsFrom : ℕ → List ℕ → ℕ → ℕ
+headsFrom zero d at = 0
+headsFrom (suc left) d at = ifElse (eqb (kindAt d at) (blockKind .number)) (λ _. suc (headsFrom left d (endAt d at))) (λ _. 0)
 
-abbrev pub summaryIn : List ℕ → BlockAt → List ℕ
-summaryIn d c = summaryOf (c .number) (blockGraph d c)
-
--- blocks that are not refused, and room for them
-pub record Blank (d : List ℕ) (bs : List BlockAt) (count : ℕ) (b : List ℕ) : Type 0 where
-  pub few : count ≤ mostBlocks
-  pub fine : (i : ℕ) → i < count → blockReply (blockIn bs i .atoms) (bondBytes d (blockIn bs i)) ≡ read tt
-  pub room : summaryBytes * count ≤ length b
-  pub zero : (p : ℕ) → getD b p 0 ≡ 0
-
--- place i holds a block
-pub record HoldsBlock (d b : List ℕ) (i : ℕ) (c : BlockAt) : Type 0 where
-  pub small : c .number < 65536
-  pub begins : take (length (summaryIn d c)) (summaryAt b i) ≡ summaryIn d c
-
--- the first k places hold the first k blocks, and no number stands behind them
-pub record Booked (d : List ℕ) (bs : List BlockAt) (b : List ℕ) (k : ℕ) : Type 0 where
-  pub holds : (i : ℕ) → i < k → HoldsBlock d b i (blockIn bs i)
-  pub empty : (i : ℕ) → k ≤ i → le16 b (summaryBytes * i) ≡ 0
+-- a book with a place for each of them, all 0
+pub record Unfilled (d b : List ℕ) : Type 0 where
+  pub room : summaryBytes * headsFrom mostBlocks d 0 ≤ length b
+  pub none : (p : ℕ) → getD b p 0 ≡ 0

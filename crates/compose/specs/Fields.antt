@@ -4,7 +4,7 @@ use Prim.Native.Nat.{ℕ}
 use Rattle.reply.specs.Read.{Read, refused, read, _then_}
 use Rattle.block.specs.Index.{indicesOf}
 use Rattle.block.specs.declared.Indices.{Indices}
-use Rattle.deck.specs.Deck.{deckReply}
+use Rattle.deck.specs.Deck.{sheetReply, deckReply}
 use Rattle.deck.specs.Molecule.{moleculeOf}
 use Rattle.deck.specs.declared.Form.{Form}
 use Rattle.compose.specs.declared.Composed.{Composed}
@@ -14,6 +14,10 @@ use Rattle.compose.specs.declared.ComposeReply.the-variants as reply
 -- with the first byte after its assembly, where the sheet of a judged deck stands
 unfoldable pub composeReply : Form → List ℕ → Read Composed
 composeReply form d = deckReply form d then λ k. read (record { fields = indicesOf (moleculeOf d k); sheet = k .sheet })
+
+-- behind the assembly
+unfoldable pub behindReply : Form → List ℕ → Indices → ℕ → Read Composed
+behindReply form d fields sheet = sheetReply form d sheet then λ _. read (record { fields = fields; sheet = sheet })
 
 -- how the code says it
 abbrev pub saidComposed : Read Composed → ComposeReply

@@ -1,36 +1,28 @@
-// Composing: the six fields of the molecule that a deck describes, over a book of its blocks.
+// Composing: the six fields of the molecule that a deck describes, over a book that is filled while the deck is read.
 use assembly::BLOCKS;
-use assembly::BlockAt;
-use assembly::bonds_part;
+use assembly::PLACEMENT_BYTES;
 use block::Indices;
 use block::IndicesReply;
 use deck::Form;
-use deck::Layout;
-use deck::read_deck;
-use filling::fill;
+use deck::open_book;
+use deck::sheet_reply;
+use records::ASSEMBLY;
+use records::BLOCK;
+use records::HEAD;
+use records::le16_at;
 use records::payload_at;
 use reply::Refusal;
 use reply::Reply;
 use summaries::compose;
 use summary::SUMMARY;
 ghost use mathlib.Core.Path.{_≡_};
-ghost use Prim.Native.Nat.{_+_, _*_, _-_, _≤_, _<_};
-ghost use lib.ListN.{length, take};
-ghost use lib.Seq.{sets};
-ghost use Rattle.graph.specs.Assembly.{written};
-ghost use Rattle.reply.specs.Read.{read};
-ghost use Rattle.block.specs.Block.{blockReply};
-ghost use Rattle.block.specs.Index.{indicesOf};
-ghost use Rattle.assembly.specs.Book.{mostBlocks, bondBytes, blockGraph, bookOf};
-ghost use Rattle.assembly.specs.Placements.{placementCount, placementAt, graphOn, joinOn, assemblyReply};
-ghost use Rattle.deck.specs.Deck.{Deck, deckReply};
-ghost use Rattle.deck.specs.Molecule.{moleculeOf};
-ghost use Rattle.deck.specs.Said.{layoutOf};
-ghost use Rattle.deck.specs.declared.Form.{Form};
-ghost use Rattle.summary.specs.Layout.{summaryBytes};
-ghost use Rattle.summary.specs.Summary.{summaryOf};
-ghost use Rattle.compose.specs.Booked.{Blank, Booked};
-ghost use Rattle.compose.specs.Fields.{composeReply, saidComposed};
+ghost use Prim.Native.Nat.{_≤_};
+ghost use Rattle.reply.specs.Read.{refused, refusal};
+ghost use Rattle.assembly.specs.Book.{mostBlocks};
+ghost use Rattle.assembly.specs.Placements.{mostPlacements};
+ghost use Rattle.deck.specs.Deck.{longestDeck, placementPlace};
+ghost use Rattle.compose.specs.Booked.{headsFrom, Unfilled};
+ghost use Rattle.compose.specs.Fields.{composeReply, behindReply, saidComposed};
 
 // The blocks of a small deck and of a middling one, for which a shorter book is cleared.
 const FEW: usize = 2;
@@ -49,73 +41,76 @@ pub enum ComposeReply {
     Composed(Composed),
 }
 
-// The summary of a block that is not refused, put at place i of a book.
-fn fill_at(d: &[u8], b: BlockAt, book: &mut [u8], i: usize)
-    requires { ⌜ (blockReply (b .atoms) (bondBytes (now d) b) ≡ read tt) × (i < mostBlocks)
-        × (summaryBytes * i + summaryBytes ≤ length (now book)) ⌝ }
-    ensures bytes { λ _. ⌜
-        now (book .exit) ≡ sets (now (book .entry)) (summaryBytes * i) (summaryOf (b .number) (blockGraph (now (d .entry)) b))
-        ⌝ }
-    ensures number { λ _. ⌜ b .number < 65536 ⌝ }
-{
-    let start = SUMMARY * i;
-    let end = start + SUMMARY;
-    fill(
-        b.number,
-        b.atoms as usize,
-        bonds_part(d, b),
-        &mut book[start..end],
-    );
-}
-
-// The book of a table of blocks: a summary for each, in its order.
-fn fill_book(d: &[u8], blocks: [BlockAt; BLOCKS], count: usize, book: &mut [u8])
-    requires { ⌜ Blank (now d) blocks count (now book) ⌝ }
-    ensures { λ _. ⌜ Booked (now (d .entry)) blocks (now (book .exit)) count ⌝ }
+// How many records of blocks a deck begins with, by their heads alone, at most as many as a deck may have: no more of them are read.
+fn heads(d: &[u8]) -> usize
+    ensures { λ r. ⌜ (r ≡ headsFrom mostBlocks (now (d .entry)) 0) × (r ≤ mostBlocks) ⌝ }
 {
     let mut i: usize = 0;
-    while i < count {
-        fill_at(d, blocks[i], book, i);
+    let mut at: usize = 0;
+    while i < BLOCKS {
+        if le16_at(d, at + 2) != BLOCK.number {
+            return i;
+        }
+        at = at + HEAD + (le16_at(d, at) as usize);
         i += 1;
     }
+    i
 }
 
-// The six fields of an assembly over a table of blocks, by a lent book that is all 0.
-fn over(
-    d: &[u8],
-    xs: &[u8],
-    blocks: [BlockAt; BLOCKS],
-    count: usize,
-    book: &mut [u8],
-) -> IndicesReply
-    requires { ⌜ Blank (now d) blocks count (now book) × (assemblyReply (bookOf (now d) (take count blocks)) (now xs) ≡ read tt) ⌝ }
-    ensures { λ r. ⌜
-        r ≡ IndicesReply.Of (indicesOf (written (graphOn (bookOf (now (d .entry)) (take count blocks)) (placementAt (now (xs .entry))))
-        (joinOn (placementAt (now (xs .entry)))) (placementCount (now (xs .entry)) - 1)))
-        ⌝ }
+// A refusal of the assembly at a place.
+fn refused_at(at: usize, r: Refusal) -> ComposeReply
+    requires { ⌜ (at ≤ longestDeck) × (r .place ≤ mostPlacements) ⌝ }
+    ensures { λ x. ⌜ x ≡ saidComposed (refused (refusal (r .number) (placementPlace at r))) ⌝ }
 {
-    fill_book(d, blocks, count, book);
-    compose(book, xs)
+    ComposeReply::Refused(Refusal {
+        number: r.number,
+        place: at + PLACEMENT_BYTES * r.place,
+    })
 }
 
-// The six numbers of the molecule that a layout of the deck describes.
-fn laid_out(d: &[u8], layout: Layout) -> IndicesReply
-    requires { ⌜ ((form : Form) × (k : Deck) × (deckReply form (now d) ≡ read k) × (layout ≡ layoutOf k)) ⌝ }
-    ensures { λ r. ⌜
-        ((form : Form) (k : Deck) → deckReply form (now (d .entry)) ≡ read k → layout ≡ layoutOf k
-        → r ≡ IndicesReply.Of (indicesOf (moleculeOf (now (d .entry)) k)))
-        ⌝ }
+// What follows the assembly, and then the fields.
+fn behind(d: &[u8], form: Form, fields: Indices, sheet: usize) -> ComposeReply
+    ensures { λ r. ⌜ r ≡ saidComposed (behindReply form (now (d .entry)) fields sheet) ⌝ }
 {
-    let blocks = layout.blocks;
-    let count = layout.count;
-    let xs = payload_at(d, layout.assembly);
-    if count <= FEW {
-        return over(d, xs, blocks, count, &mut [0u8; SUMMARY * FEW]);
+    let reply = sheet_reply(form, d, sheet);
+    match reply {
+        Reply::Refused(refusal) => ComposeReply::Refused(refusal),
+        Reply::Fine => ComposeReply::Composed(Composed { fields, sheet }),
     }
-    if count <= SOME {
-        return over(d, xs, blocks, count, &mut [0u8; SUMMARY * SOME]);
+}
+
+// The fields of a deck, by a lent book that is all 0 and has a place for each of its blocks.
+fn in_book(d: &[u8], form: Form, book: &mut [u8]) -> ComposeReply
+    requires { ⌜ Unfilled (now d) (now book) ⌝ }
+    ensures { λ r. ⌜ r ≡ saidComposed (composeReply form (now (d .entry))) ⌝ }
+{
+    let k = open_book(d, ASSEMBLY, book);
+    let reply = k.reply;
+    if let Reply::Refused(refusal) = reply {
+        return ComposeReply::Refused(refusal);
     }
-    over(d, xs, blocks, count, &mut [0u8; SUMMARY * BLOCKS])
+    let layout = k.layout;
+    let at = layout.assembly;
+    let sheet = layout.sheet;
+    let answer = compose(book, payload_at(d, at));
+    match answer {
+        IndicesReply::Refused(refusal) => refused_at(at, refusal),
+        IndicesReply::Of(fields) => behind(d, form, fields, sheet),
+    }
+}
+
+// The same, by a book just as large as so many blocks need.
+fn sized(d: &[u8], form: Form, many: usize) -> ComposeReply
+    requires { ⌜ (headsFrom mostBlocks (now d) 0 ≤ many) × (many ≤ mostBlocks) ⌝ }
+    ensures { λ r. ⌜ r ≡ saidComposed (composeReply form (now (d .entry))) ⌝ }
+{
+    if many <= FEW {
+        return in_book(d, form, &mut [0u8; SUMMARY * FEW]);
+    }
+    if many <= SOME {
+        return in_book(d, form, &mut [0u8; SUMMARY * SOME]);
+    }
+    in_book(d, form, &mut [0u8; SUMMARY * BLOCKS])
 }
 
 // The six fields of a deck in a form: atom count, W, even part, odd part, polarity and largest distance of its molecule, and where a sheet stands
@@ -123,16 +118,5 @@ fn laid_out(d: &[u8], layout: Layout) -> IndicesReply
 pub fn fields(d: &[u8], form: Form) -> ComposeReply
     ensures { λ r. ⌜ r ≡ saidComposed (composeReply form (now (d .entry))) ⌝ }
 {
-    let k = read_deck(d, form);
-    let reply = k.reply;
-    if let Reply::Refused(refusal) = reply {
-        return ComposeReply::Refused(refusal);
-    }
-    let layout = k.layout;
-    let sheet = layout.sheet;
-    let answer = laid_out(d, layout);
-    match answer {
-        IndicesReply::Refused(refusal) => ComposeReply::Refused(refusal),
-        IndicesReply::Of(fields) => ComposeReply::Composed(Composed { fields, sheet }),
-    }
+    sized(d, form, heads(d))
 }

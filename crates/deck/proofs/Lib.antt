@@ -1,3 +1,6 @@
 -- Laws that the proofs of the functions cite.
 pub mod Turns
 pub mod Parts
+pub mod Filled
+pub mod Booking
+pub mod Honest

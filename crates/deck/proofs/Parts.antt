@@ -1,13 +1,15 @@
 -- A deck's answer, part by part, and what the code's answer says of it. Assumes nothing.
 use Prim.Native.Nat.{ℕ, _+_, _*_, _<_, _≤_}
-use mathlib.Core.Bool.{true, false}
+use mathlib.Core.Bool.{Bool, true, false}
 use mathlib.Core.List.{List}
 use mathlib.Core.Path.{_≡_, refl, sym, _∙_, ap, subst}
 use native.Mathlib.Omega.{arith}
-use borrow.Author.Tests.{lt-ltb, le-ltb}
+use borrow.Author.Tests.{lt-ltb, le-ltb, ltb-false}
+use lib.Dec.{ltb}
 use lib.ListN.{length, take}
 use lib.Seq.{take-append-seam}
-use Rattle.reply.specs.Read.{Read, refused, read, refusal}
+use Rattle.reply.specs.Read.{Read, refused, read, _then_, refuseIf, refusal}
+use Rattle.reply.specs.Chain.{then-read, if-read}
 use Rattle.reply.specs.declared.Refusal.{Refusal}
 use Rattle.reply.specs.declared.Reply.the-variants.{Fine, Refused}
 use denote.Ref.{RefT}
@@ -54,25 +56,38 @@ module _ (last : Kind) (d : List ℕ) where
   unfolding openReply
   open-short h = rw (le-ltb longestDeck (length d) h)
 
+  -- what is left behind the blocks
+  pub open-read : {k : Deck} → openReply last d ≡ read k → (length d ≤ longestDeck) × (blocksReply last d ≡ read k)
+  unfolding openReply
+  open-read e =
+      let (u, a, f) = then-read (refuseIf (ltb longestDeck (length d)) 20 0) _ e in
+      (ltb-false longestDeck (length d) (if-read _ 20 0 a), f)
+
 module _ (form : Form) (d : List ℕ) where
-  module _ (short : length d ≤ longestDeck) where
-    pub bad-blocks : (r : Refusal) → blocksReply assemblyKind d ≡ refused r → deckReply form d ≡ refused r
-    unfolding deckReply
-    bad-blocks r e = rw (le-ltb longestDeck (length d) short, e)
+  abbrev behind : Deck → Read Deck
+  behind k = assemblyReplyAt d (k .blocks) (k .assembly) then λ _. sheetReply form d (k .sheet) then λ _. read k
 
-    module _ (k : Deck) (e : blocksReply assemblyKind d ≡ read k) where
-      pub bad-assembly : (r : Refusal) → assemblyReplyAt d (k .blocks) (k .assembly) ≡ refused r → deckReply form d ≡ refused r
-      unfolding deckReply
-      bad-assembly r f = rw (le-ltb longestDeck (length d) short, e, f)
+  opened : deckReply form d ≡ (openReply assemblyKind d then behind)
+  unfolding deckReply openReply
+  opened = go (ltb longestDeck (length d))
+    where
+      go : (t : Bool) → _≡_ {A = Read Deck} (refuseIf t 20 0 then λ _. blocksReply assemblyKind d then behind) ((refuseIf t 20 0 then λ _. blocksReply assemblyKind d) then behind)
+      go true = refl
+      go false = refl
 
-      module _ (f : assemblyReplyAt d (k .blocks) (k .assembly) ≡ read tt) where
-        pub bad-sheet : (r : Refusal) → sheetReply form d (k .sheet) ≡ refused r → deckReply form d ≡ refused r
-        unfolding deckReply
-        bad-sheet r g = rw (le-ltb longestDeck (length d) short, e, f, g)
+  pub bad-blocks : (r : Refusal) → openReply assemblyKind d ≡ refused r → deckReply form d ≡ refused r
+  bad-blocks r e = opened ∙ rw e refl
 
-        pub whole-deck : sheetReply form d (k .sheet) ≡ read tt → deckReply form d ≡ read k
-        unfolding deckReply
-        whole-deck g = rw (le-ltb longestDeck (length d) short, e, f, g)
+  module _ (k : Deck) (e : openReply assemblyKind d ≡ read k) where
+    pub bad-assembly : (r : Refusal) → assemblyReplyAt d (k .blocks) (k .assembly) ≡ refused r → deckReply form d ≡ refused r
+    bad-assembly r f = opened ∙ rw (e, f) refl
+
+    module _ (f : assemblyReplyAt d (k .blocks) (k .assembly) ≡ read tt) where
+      pub bad-sheet : (r : Refusal) → sheetReply form d (k .sheet) ≡ refused r → deckReply form d ≡ refused r
+      bad-sheet r g = opened ∙ rw (e, f, g) refl
+
+      pub whole-deck : sheetReply form d (k .sheet) ≡ read tt → deckReply form d ≡ read k
+      whole-deck g = opened ∙ rw (e, f, g) refl
 
 -- what the code's answer says
 pub deck-stopped : (x : Read Deck) (r : DeckRead) (q : Refusal) → r ≡ saidDeck x → r .reply ≡ Refused q → x ≡ refused q

@@ -1,16 +1,23 @@
 // The deck: its records one after the other, and the lookup of a block.
 ghost use mathlib.Core.Path.{_≡_};
 ghost use mathlib.Core.Bool.{_||_, cond};
-ghost use Prim.Native.Nat.{_+_, _≤_};
+ghost use Prim.Native.Nat.{ℕ, _+_, _*_, _≤_};
 ghost use lib.Dec.{eqb, leb};
-ghost use lib.ListN.{length, take};
+ghost use lib.ListN.{length, take, getD};
 ghost use Rattle.reply.specs.Read.{saidReply};
+ghost use Rattle.reply.specs.declared.Refusal.{Refusal};
+ghost use Rattle.reply.specs.declared.Reply.the-variants.{Refused};
+ghost use Rattle.block.specs.Block.{blockReply};
 ghost use Rattle.records.specs.Bytes.{PartOf};
 ghost use Rattle.records.specs.Records.{blockKind, payloadAt};
-ghost use Rattle.assembly.specs.Book.{used, mostBlocks};
-ghost use Rattle.assembly.specs.Placements.{mostPlacements, placementAt};
-ghost use Rattle.deck.specs.Deck.{longestDeck, blockAt, blockPlace, placementPlace, blockReplyAt, assemblyReplyAt, blocksReply, openReply, endReply, sheetReply, deckReply, payload, blockSpan};
-ghost use Rattle.deck.specs.Said.{refusedDeck, tabledDeck, saidDeck};
+ghost use Rattle.assembly.specs.Book.{used, bondBytes, mostBlocks};
+ghost use Rattle.assembly.specs.Placements.{mostPlacements, placementAt, shelfReply};
+ghost use Rattle.summary.specs.Layout.{summaryBytes};
+ghost use Rattle.shelf.specs.Shelf.{shelfIn};
+ghost use Rattle.deck.specs.Deck.{longestDeck, blockAt, blockPlace, placementPlace, blockReplyAt, moved, blocksReply, openReply, endReply, sheetReply, deckReply, payload, blockSpan};
+ghost use Rattle.deck.specs.Said.{refusedDeck, tabledDeck, saidDeck, movedReply};
+ghost use Rattle.deck.specs.Filled.{blocksBook, openBook};
+ghost use Rattle.deck.specs.Filling.{filledBook, replyBook};
 use assembly::BLOCK_HEAD;
 use assembly::BLOCKS;
 use assembly::BOND_BYTES;
@@ -31,6 +38,7 @@ use records::payload_at;
 use records::record_at;
 use reply::Refusal;
 use reply::Reply;
+use summary::SUMMARY;
 
 // The most bytes of a deck.
 pub const LONGEST: usize = 32768;
@@ -106,19 +114,26 @@ fn is_unfit(blocks: BlockTable, count: usize, number: usize) -> bool
     BLOCKS <= count
 }
 
-// Refusal 14 and the block's own of the record at a place, after the first `count` blocks.
-fn block_reply(d: &[u8], at: usize, b: BlockAt, blocks: BlockTable, count: usize) -> Reply
-    requires { ⌜ (count ≤ mostBlocks) × (b ≡ blockAt (now d) at) × (at ≤ longestDeck) × (length (now d) ≤ longestDeck) ⌝ }
-    ensures { λ r. ⌜ r ≡ saidReply (blockReplyAt (now (d .entry)) at (take count blocks)) ⌝ }
+// The summary of a block put at place i of a book, or the block's refusal. Where the book has no such place the block is only checked.
+fn fill_at(d: &[u8], b: BlockAt, book: &mut [u8], i: usize) -> Reply
+    requires { ⌜ i ≤ mostBlocks ⌝ }
+    ensures reply { λ r. ⌜ r ≡ saidReply (blockReply (b .atoms) (bondBytes (now (d .entry)) b)) ⌝ }
+    ensures bytes { λ _. ⌜ now (book .exit) ≡ filledBook (now (d .entry)) (now (book .entry)) i b ⌝ }
 {
-    if is_unfit(blocks, count, b.number as usize) {
-        return Reply::Refused(Refusal {
-            number: 14,
-            place: at,
-        });
-    }
     let bonds = assembly::bonds_part(d, b);
-    let reply = block::check(b.atoms as usize, bonds);
+    let start = SUMMARY * i;
+    let end = start + SUMMARY;
+    if book.len() < end {
+        return block::check(b.atoms as usize, bonds);
+    }
+    filling::fill(b.number, b.atoms as usize, bonds, &mut book[start..end])
+}
+
+// A block's reply at its place in the deck.
+fn block_moved(at: usize, reply: Reply) -> Reply
+    requires { ⌜ (at ≤ longestDeck) × ((r : Refusal) → reply ≡ Refused r → r .place ≤ longestDeck) ⌝ }
+    ensures { λ r. ⌜ r ≡ movedReply (blockPlace at) reply ⌝ }
+{
     match reply {
         Reply::Fine => Reply::Fine,
         Reply::Refused(r) => Reply::Refused(Refusal {
@@ -126,6 +141,28 @@ fn block_reply(d: &[u8], at: usize, b: BlockAt, blocks: BlockTable, count: usize
             place: block_place(at, r),
         }),
     }
+}
+
+// Refusal 14 and the block's own of the record at a place, after the first `count` blocks; its summary in the book where it is fine.
+fn block_reply(
+    d: &[u8],
+    at: usize,
+    b: BlockAt,
+    blocks: BlockTable,
+    count: usize,
+    book: &mut [u8],
+) -> Reply
+    requires { ⌜ (count ≤ mostBlocks) × (b ≡ blockAt (now d) at) × (at ≤ longestDeck) × (length (now d) ≤ longestDeck) ⌝ }
+    ensures reply { λ r. ⌜ r ≡ saidReply (blockReplyAt (now (d .entry)) at (take count blocks)) ⌝ }
+    ensures bytes { λ _. ⌜ now (book .exit) ≡ replyBook (now (d .entry)) at (take count blocks) (now (book .entry)) ⌝ }
+{
+    if is_unfit(blocks, count, b.number as usize) {
+        return Reply::Refused(Refusal {
+            number: 14,
+            place: at,
+        });
+    }
+    block_moved(at, fill_at(d, b, book, count))
 }
 
 // The second kind that may stand after `count` blocks.
@@ -171,10 +208,11 @@ fn deck_at(d: &[u8], blocks: BlockTable, count: usize, at: usize) -> DeckRead
     }
 }
 
-// The blocks of a deck, up to a record of the kind `last`.
-fn read_blocks(d: &[u8], last: Kind) -> DeckRead
+// The blocks of a deck, up to a record of the kind `last`, and their summaries in a book, as far as it has places.
+fn read_blocks(d: &[u8], last: Kind, book: &mut [u8]) -> DeckRead
     requires { ⌜ length (now d) ≤ longestDeck ⌝ }
-    ensures { λ r. ⌜ r ≡ saidDeck (blocksReply last (now (d .entry))) ⌝ }
+    ensures reply { λ r. ⌜ r ≡ saidDeck (blocksReply last (now (d .entry))) ⌝ }
+    ensures bytes { λ _. ⌜ now (book .exit) ≡ blocksBook last (now (d .entry)) (now (book .entry)) ⌝ }
 {
     let mut blocks = [NO_BLOCK; BLOCKS];
     let mut count = 0;
@@ -188,7 +226,7 @@ fn read_blocks(d: &[u8], last: Kind) -> DeckRead
             return deck_at(d, blocks, count, next);
         }
         let b = block_at(d, next);
-        let s = block_reply(d, next, b, blocks, count);
+        let s = block_reply(d, next, b, blocks, count, book);
         let Reply::Fine = s else {
             return deck_refused(s);
         };
@@ -198,13 +236,12 @@ fn read_blocks(d: &[u8], last: Kind) -> DeckRead
     }
 }
 
-// Refusals 15 to 19, 23 and 24 of the assembly record at a place, over the first `count` blocks.
-fn assembly_reply(d: &[u8], at: usize, blocks: BlockTable, count: usize) -> Reply
+// Refusals 15 to 19, 23 and 24 of the assembly record at a place, over a book.
+fn assembly_reply(d: &[u8], at: usize, book: &[u8]) -> Reply
     requires { ⌜ at ≤ longestDeck ⌝ }
-    ensures { λ r. ⌜ r ≡ saidReply (assemblyReplyAt (now (d .entry)) (take count blocks) at) ⌝ }
+    ensures { λ r. ⌜ r ≡ saidReply (moved (placementPlace at) (shelfReply (shelfIn (now (book .entry))) (payloadAt (now (d .entry)) at))) ⌝ }
 {
-    let xs = payload_at(d, at);
-    let reply = assembly::check(d, blocks, count, xs);
+    let reply = shelf::check(book, payload_at(d, at));
     match reply {
         Reply::Fine => Reply::Fine,
         Reply::Refused(r) => Reply::Refused(Refusal {
@@ -228,7 +265,7 @@ fn end_reply(d: &[u8], at: usize) -> Reply
 }
 
 // What follows the assembly: in a deck to be judged a sheet of either kind, and then nothing.
-fn sheet_reply(form: Form, d: &[u8], at: usize) -> Reply
+pub fn sheet_reply(form: Form, d: &[u8], at: usize) -> Reply
     ensures { λ r. ⌜ r ≡ saidReply (sheetReply form (now (d .entry)) at) ⌝ }
 {
     let Form::Judged = form else {
@@ -241,24 +278,18 @@ fn sheet_reply(form: Form, d: &[u8], at: usize) -> Reply
     end_reply(d, at + HEAD + (le16_at(d, at) as usize))
 }
 
-// What a deck says: record by record, each taken or refused with its place.
-pub fn read_deck(d: &[u8], form: Form) -> DeckRead
+// What a deck says, by a lent book that is all 0 and has a place for each block that it can have.
+fn read_in(d: &[u8], form: Form, book: &mut [u8]) -> DeckRead
+    requires { ⌜ (summaryBytes * mostBlocks ≤ length (now book)) × ((p : ℕ) → getD (now book) p 0 ≡ 0) ⌝ }
     ensures { λ r. ⌜ r ≡ saidDeck (deckReply form (now (d .entry))) ⌝ }
 {
-    if LONGEST < d.len() {
-        return deck_refused(Reply::Refused(Refusal {
-            number: 20,
-            place: 0,
-        }));
-    }
-    let k = read_blocks(d, ASSEMBLY);
+    let k = open_book(d, ASSEMBLY, book);
     let first = k.reply;
     let Reply::Fine = first else {
         return k;
     };
     let layout = k.layout;
-    let blocks = layout.blocks;
-    let a = assembly_reply(d, layout.assembly, blocks, layout.count);
+    let a = assembly_reply(d, layout.assembly, book);
     let Reply::Fine = a else {
         return deck_refused(a);
     };
@@ -269,9 +300,18 @@ pub fn read_deck(d: &[u8], form: Form) -> DeckRead
     k
 }
 
-// What stands before a record of the kind `last`, whatever that says: refusal 20, the blocks', and 11 to 13 of that record.
-pub fn open_deck(d: &[u8], last: Kind) -> DeckRead
-    ensures { λ r. ⌜ r ≡ saidDeck (openReply last (now (d .entry))) ⌝ }
+// What a deck says: record by record, each taken or refused with its place.
+pub fn read_deck(d: &[u8], form: Form) -> DeckRead
+    ensures { λ r. ⌜ r ≡ saidDeck (deckReply form (now (d .entry))) ⌝ }
+{
+    read_in(d, form, &mut [0u8; SUMMARY * BLOCKS])
+}
+
+// What stands before a record of the kind `last`, whatever that says: refusal 20, the blocks', and 11 to 13 of that record. The summary of each
+// block that is taken is put into the book, at the place of its index, as far as there are places.
+pub fn open_book(d: &[u8], last: Kind, book: &mut [u8]) -> DeckRead
+    ensures reply { λ r. ⌜ r ≡ saidDeck (openReply last (now (d .entry))) ⌝ }
+    ensures bytes { λ _. ⌜ now (book .exit) ≡ openBook last (now (d .entry)) (now (book .entry)) ⌝ }
 {
     if LONGEST < d.len() {
         return deck_refused(Reply::Refused(Refusal {
@@ -279,7 +319,14 @@ pub fn open_deck(d: &[u8], last: Kind) -> DeckRead
             place: 0,
         }));
     }
-    read_blocks(d, last)
+    read_blocks(d, last, book)
+}
+
+// The same without a book.
+pub fn open_deck(d: &[u8], last: Kind) -> DeckRead
+    ensures { λ r. ⌜ r ≡ saidDeck (openReply last (now (d .entry))) ⌝ }
+{
+    open_book(d, last, &mut [0u8; 1])
 }
 
 // The payload of the block of a number among the first `count`, and nothing where there is no such block.
