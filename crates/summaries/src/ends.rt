@@ -17,10 +17,11 @@ ghost use mathlib.Core.List.{[]};
 ghost use mathlib.Core.Path.{_≡_};
 ghost use Prim.Native.Nat.{_*_, _<_, _≤_};
 ghost use lib.ListN.{length, getD, set};
+ghost use Rattle.joining.specs.Small.{SmallCounts};
 ghost use Rattle.sighted.specs.Sighted.{stepsIn};
 ghost use Rattle.summary.specs.Layout.{storedFields, seenAt};
 ghost use Rattle.shelf.specs.Shelf.{summaryAt};
-ghost use Rattle.summaries.specs.Ready.{countRow, coreAt, ReadyShelf, StepsKnown, Counted};
+ghost use Rattle.summaries.specs.Ready.{countRow, sightOfRow, coreAt, ReadyShelf, StepsKnown, Counted};
 ghost use Rattle.summaries.specs.Ends.{endOf, IsEnd, Like, Filled, stepsFrom, countsFrom};
 
 // How many places are told apart while ends are looked for.
@@ -29,38 +30,44 @@ const PLACES: usize = 16;
 // The numbers of steps from an atom; what is counted from it, in the order of the fields, since an array of structs is not lent.
 pub(crate) type StepRow = [u8; ATOMS];
 
-pub(crate) type CountRow = [u64; 8];
+pub(crate) type CountRow = [u32; 8];
 
 pub(crate) fn row_of(v: Vertex) -> CountRow
+    requires { ⌜ SmallCounts v ⌝ }
     ensures { λ r. ⌜ r ≡ countRow v ⌝ }
 {
     [
-        v.sum,
-        v.even,
-        v.odd,
-        v.evens,
-        v.odds,
-        v.ones,
-        v.twos,
-        v.farthest,
+        v.sum as u32,
+        v.even as u32,
+        v.odd as u32,
+        v.evens as u32,
+        v.odds as u32,
+        v.ones as u32,
+        v.twos as u32,
+        v.farthest as u32,
     ]
+}
+
+fn sight_of(row: CountRow) -> Vertex
+    ensures { λ r. ⌜ r ≡ sightOfRow row ⌝ }
+{
+    Vertex {
+        sum: row[0] as u64,
+        even: row[1] as u64,
+        odd: row[2] as u64,
+        evens: row[3] as u64,
+        odds: row[4] as u64,
+        ones: row[5] as u64,
+        twos: row[6] as u64,
+        farthest: row[7] as u64,
+    }
 }
 
 pub(crate) fn core_at(counts: &[CountRow], e: usize) -> Vertex
     requires { ⌜ e < length (now counts) ⌝ }
     ensures { λ r. ⌜ r ≡ coreAt (now (counts .entry)) e ⌝ }
 {
-    let row = counts[e];
-    Vertex {
-        sum: row[0],
-        even: row[1],
-        odd: row[2],
-        evens: row[3],
-        odds: row[4],
-        ones: row[5],
-        twos: row[6],
-        farthest: row[7],
-    }
+    sight_of(counts[e])
 }
 
 // The number of steps to an atom in the row of an end.
