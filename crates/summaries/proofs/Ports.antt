@@ -86,12 +86,16 @@ room-bytes p = record {
   largest = omega (arith, p .largest);
 }
 
+-- whatever the bytes are
+pub seen-small : (s : List ℕ) (i : ℕ) → SmallCounts (vertexAt s i)
+seen-small s i = small-held (omega arith) (held-bytes (vertex-bytes s i))
+
 module _ {b : List ℕ} {ls : List (List ℕ)} {count : ℕ} (r : ReadyShelf b ls count) where
   all : (k : ℕ) → SmallPart (keptIn b ls k)
   all k = kept (lent-part (summaryBytes * placeIn ls k) summaryBytes (r .lent))
 
   pub own-small : (p i : ℕ) → SmallCounts (vertexAt (summaryAt b p) i)
-  own-small p i = small-held (omega arith) (held-bytes (kept (lent-part (summaryBytes * p) summaryBytes (r .lent)) .sight i))
+  own-small p i = seen-small (summaryAt b p) i
 
   pub block-room : (p : ℕ) → SmallFields (storedFields (summaryAt b p))
   block-room p = room-bytes (kept (lent-part (summaryBytes * p) summaryBytes (r .lent)) .six)

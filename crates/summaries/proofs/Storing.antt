@@ -1,60 +1,65 @@
 -- What is seen from both ends of each join is stored, and what is counted at a join is kept. Assumes nothing.
-use Prim.Native.Nat.{ℕ, _+_, _*_, _≤_, _<_}
+use Prim.Native.Nat.{ℕ, _+_, _*_, _/_, _%_, _≤_, _<_}
 use mathlib.Core.List.{List, []}
 use mathlib.Core.Logic.{⊎-elim}
 use mathlib.Core.Path.{_≡_, _∙_, ap}
 use native.Mathlib.Nat.{eq-or-lt-of-le}
 use native.Mathlib.Omega.{arith}
+use borrow.Author.Tests.{eq-eqb, ne-eqb}
 use lib.ListN.{length, getD, set, length-set}
 use lib.Seq.{getD-set-same, getD-set-other}
-use Rattle.summaries.specs.Ready.{sightFrom, countRow, sightOfRow, coreAt, ownSeen, siteSeen, StepsKnown, Counted}
+use Rattle.summaries.specs.declared.ends.End.{End}
+use Rattle.summaries.specs.Ready.{sightFrom, countRow, sightOfRow, coreAt, StepsKnown, Counted}
+use Rattle.summaries.specs.Ends.{ownEnd, siteEnd, endOf, Like, seenFrom, Filled, stepsFrom, countsFrom}
 
--- rows of any kind, two for each join: the first two k are what they should be
-module _ {A : Type 0} (none : A) (own site : ℕ → A) where
-  pub record Paired (rs : List A) (k : ℕ) : Type 0 where
-    pub first : (m : ℕ) → 1 ≤ m → m < k → getD rs (2 * m) none ≡ own m
-    pub second : (m : ℕ) → 1 ≤ m → m < k → getD rs (2 * m + 1) none ≡ site m
+-- of the ends before e rows of any kind are what they should be
+module _ {A : Type 0} (none : A) (what : ℕ → A) where
+  pub filled-none : (rs : List A) → Filled none what rs 2
+  filled-none rs = record { at = λ f p l. absurd (omega arith) }
 
-  pub paired-none : (rs : List A) → Paired rs 1
-  paired-none rs = record { first = λ m p l. absurd (omega arith); second = λ m p l. absurd (omega arith) }
-
-  pub paired-more : (rs : List A) (k : ℕ) → 2 * k + 1 < length rs → Paired rs k → Paired (set (set rs (2 * k) (own k)) (2 * k + 1) (site k)) (k + 1)
-  paired-more rs k n P = record {
-    first = λ m p l. ⊎-elim (λ e. now m e) (λ q. before m p q) (eq-or-lt-of-le {n = m} {m = k} (omega arith));
-    second = λ m p l. ⊎-elim (λ e. later m e) (λ q. before-second m p q) (eq-or-lt-of-le {n = m} {m = k} (omega arith));
-  }
+  pub filled-more : (rs : List A) (e : ℕ) → e < length rs → Filled none what rs e → Filled none what (set rs e (what e)) (e + 1)
+  filled-more rs e n P = record { at = λ f p l. ⊎-elim (λ q. here f q) (λ q. before f p q) (eq-or-lt-of-le {n = f} {m = e} (omega arith)) }
     where
-      first-set : List A
-      first-set = set rs (2 * k) (own k)
+      here : (f : ℕ) → f ≡ e → getD (set rs e (what e)) f none ≡ what f
+      here f q = rw q (getD-set-same rs e (what e) none n)
 
-      now : (m : ℕ) → m ≡ k → getD (set first-set (2 * k + 1) (site k)) (2 * m) none ≡ own m
-      now m e = rw e (getD-set-other first-set (2 * k + 1) (2 * k) (site k) none (omega arith) ∙ getD-set-same rs (2 * k) (own k) none (omega arith))
+      before : (f : ℕ) → 2 ≤ f → f < e → getD (set rs e (what e)) f none ≡ what f
+      before f p q = getD-set-other rs e f (what e) none (omega arith) ∙ P .at f p q
 
-      before : (m : ℕ) → 1 ≤ m → m < k → getD (set first-set (2 * k + 1) (site k)) (2 * m) none ≡ own m
-      before m p q = getD-set-other first-set (2 * k + 1) (2 * m) (site k) none (omega arith) ∙ getD-set-other rs (2 * k) (2 * m) (own k) none (omega arith) ∙ P .first m p q
+-- which ends stand at 2 m and at 2 m + 1
+pub own-end : (ls : List (List ℕ)) (m : ℕ) → endOf ls (2 * m) ≡ ownEnd ls m
+unfolding endOf
+own-end ls m =
+    let half : 2 * m / 2 ≡ m = omega arith in
+    rw (eq-eqb (2 * m % 2) 0 (omega arith), half)
 
-      later : (m : ℕ) → m ≡ k → getD (set first-set (2 * k + 1) (site k)) (2 * m + 1) none ≡ site m
-      later m e = rw e (getD-set-same first-set (2 * k + 1) (site k) none (omega (arith, length-set rs (2 * k) (own k))))
-
-      before-second : (m : ℕ) → 1 ≤ m → m < k → getD (set first-set (2 * k + 1) (site k)) (2 * m + 1) none ≡ site m
-      before-second m p q = getD-set-other first-set (2 * k + 1) (2 * m + 1) (site k) none (omega arith) ∙ getD-set-other rs (2 * k) (2 * m + 1) (own k) none (omega arith) ∙ P .second m p q
+pub site-end : (ls : List (List ℕ)) (m : ℕ) → endOf ls (2 * m + 1) ≡ siteEnd ls m
+unfolding endOf
+site-end ls m =
+    let half : (2 * m + 1) / 2 ≡ m = omega arith in
+    rw (ne-eqb ((2 * m + 1) % 2) 0 (omega arith), half)
 
 module _ (b : List ℕ) (ls : List (List ℕ)) where
-  abbrev pub StepsPut : List (List ℕ) → ℕ → Type 0
-  StepsPut = Paired [] (λ m. ownSeen b ls m .row) (λ m. siteSeen b ls m .row)
+  -- an end is copied from one that is like it
+  pub same-steps : {rs : List (List ℕ)} (e f : ℕ) → Like ls e f → f < e → Filled [] (stepsFrom b ls) rs e → getD rs f [] ≡ stepsFrom b ls e
+  same-steps e f l q P = P .at f (l .low) q ∙ ap (λ (x : End). seenFrom b x .row) (l .like)
 
-  abbrev pub CountsPut : List (List ℕ) → ℕ → Type 0
-  CountsPut = Paired [] (λ m. countRow (ownSeen b ls m .counts)) (λ m. countRow (siteSeen b ls m .counts))
+  pub same-counts : {vs : List (List ℕ)} (e f : ℕ) → Like ls e f → f < e → Filled [] (countsFrom b ls) vs e → getD vs f [] ≡ countsFrom b ls e
+  same-counts e f l q P = P .at f (l .low) q ∙ ap (λ (x : End). countRow (seenFrom b x .counts)) (l .like)
 
-  pub steps-known : {rs : List (List ℕ)} (k : ℕ) → 2 * k ≤ length rs → StepsPut rs k → StepsKnown b ls rs k
-  steps-known k l P = record { long = l; own = P .first; site = P .second }
+  pub steps-known : {rs : List (List ℕ)} (k : ℕ) → 2 * k ≤ length rs → Filled [] (stepsFrom b ls) rs (2 * k) → StepsKnown b ls rs k
+  steps-known k l P = record {
+    long = l;
+    own = λ m p q. P .at (2 * m) (omega arith) (omega arith) ∙ ap (λ (x : End). seenFrom b x .row) (own-end ls m);
+    site = λ m p q. P .at (2 * m + 1) (omega arith) (omega arith) ∙ ap (λ (x : End). seenFrom b x .row) (site-end ls m);
+  }
 
-  pub counts-known : {vs : List (List ℕ)} (k : ℕ) → 2 * k ≤ length vs → CountsPut vs k → Counted b ls vs k 1
+  pub counts-known : {vs : List (List ℕ)} (k : ℕ) → 2 * k ≤ length vs → Filled [] (countsFrom b ls) vs (2 * k) → Counted b ls vs k 1
   counts-known k l P = record {
     long = l;
-    own = λ m p q. ap sightOfRow (P .first m p q);
+    own = λ m p q. ap sightOfRow (P .at (2 * m) (omega arith) (omega arith)) ∙ ap (λ (x : End). seenFrom b x .counts) (own-end ls m);
     made = λ m p q h. absurd (omega arith);
-    waits = λ m p q h. ap sightOfRow (P .second m p q);
+    waits = λ m p q h. ap sightOfRow (P .at (2 * m + 1) (omega arith) (omega arith)) ∙ ap (λ (x : End). seenFrom b x .counts) (site-end ls m);
   }
 
   -- one join more is made

@@ -5,5 +5,6 @@
 -- | `LinkedUpTo`, `ReadyShelf`, `StepsKnown`        | placements as they are read; what composing works on   | `unique-compose`                                      |
 pub mod Composing
 pub mod Ready
+pub mod Ends
 pub mod Written
 pub mod Unique

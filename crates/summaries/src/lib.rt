@@ -24,8 +24,10 @@ ghost use Rattle.tables.specs.Parts.{sixIn};
 ghost use Rattle.summaries.specs.Composing.{composedReply};
 ghost use Rattle.summaries.specs.Ready.{keptIn, joinsIn, ReadyShelf};
 
-// The placements of a small assembly, for which fewer rows are cleared.
+// The placements of a small assembly and of one of middle size, for which fewer rows are cleared.
 const FEW: usize = 4;
+
+const MORE: usize = 10;
 
 // By lent rows for both ends of each join.
 fn by_rows(
@@ -48,11 +50,16 @@ fn placed(book: &[u8], links: &Links, count: usize) -> Indices
 {
     if count <= FEW {
         let mut rows = [[0u8; ATOMS]; 2 * FEW];
-        let mut counts = [[0u64; 8]; 2 * FEW];
+        let mut counts = [[0u32; 8]; 2 * FEW];
+        return by_rows(book, links, count, &mut rows, &mut counts);
+    }
+    if count <= MORE {
+        let mut rows = [[0u8; ATOMS]; 2 * MORE];
+        let mut counts = [[0u32; 8]; 2 * MORE];
         return by_rows(book, links, count, &mut rows, &mut counts);
     }
     let mut rows = [[0u8; ATOMS]; 2 * PLACEMENTS];
-    let mut counts = [[0u64; 8]; 2 * PLACEMENTS];
+    let mut counts = [[0u32; 8]; 2 * PLACEMENTS];
     by_rows(book, links, count, &mut rows, &mut counts)
 }
 

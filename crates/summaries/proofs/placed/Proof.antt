@@ -23,10 +23,22 @@ slice-aggregate-by-rows-4 : tie.Need-slice-aggregate-by-rows-4
 slice-aggregate-by-rows-4 c = search needs
 
 by-rows-requires-2 : tie.Need-by-rows-requires-2
-by-rows-requires-2 c κs = let p = c .before .before .before .before .pre in (p, omega (arith, p .few), omega (arith, p .few))
+by-rows-requires-2 c κs = (c .before .before .before .before .before .pre, omega (arith, c .before .before .if2 .taken), omega (arith, c .before .before .if2 .taken))
 
 returns-2 : tie.Need-returns-2
 returns-2 c = c .before .before .by-rows2 .ensures
+
+slice-aggregate-by-rows-5 : tie.Need-slice-aggregate-by-rows-5
+slice-aggregate-by-rows-5 c = search needs
+
+slice-aggregate-by-rows-6 : tie.Need-slice-aggregate-by-rows-6
+slice-aggregate-by-rows-6 c = search needs
+
+by-rows-requires-3 : tie.Need-by-rows-requires-3
+by-rows-requires-3 c κs = let p = c .before .before .before .before .before .pre in (p, omega (arith, p .few), omega (arith, p .few))
+
+returns-3 : tie.Need-returns-3
+returns-3 c = c .before .before .by-rows3 .ensures
 
 pub placed-spec : {M : Type 1} → statement M
 placed-spec =
@@ -39,4 +51,8 @@ placed-spec =
     slice-aggregate-by-rows-3
     slice-aggregate-by-rows-4
     by-rows-requires-2
-    returns-2)
+    returns-2
+    slice-aggregate-by-rows-5
+    slice-aggregate-by-rows-6
+    by-rows-requires-3
+    returns-3)

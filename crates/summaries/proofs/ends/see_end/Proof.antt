@@ -1,11 +1,14 @@
 -- `summaries::ends::see_end` meets its contract. Assumes nothing.
 use Prim.Native.Nat.{ℕ}
 use mathlib.Core.List.{List}
-use mathlib.Core.Path.{_∙_, ap}
+use mathlib.Core.Path.{_∙_, ap, subst⁻¹}
 use borrow.Author.Needs.{needs}
 use lib.ListN.{set}
+use Rattle.joining.specs.Small.{SmallCounts}
 use Rattle.sighted.specs.declared.Seen.{Seen}
+use Rattle.shelf.specs.Shelf.{summaryAt}
 use Rattle.summaries.specs.Ready.{countRow}
+use Rattle.summaries.proofs.Ports.{seen-small}
 use Rattle.summaries.proofs.ends.see_end.Statement.{statement}
 use Rattle.summaries.proofs.ends.see_end.Tie as tie
 
@@ -13,7 +16,7 @@ seen-at-requires : tie.Need-seen-at-requires
 seen-at-requires c κs = search needs
 
 row-of-requires : tie.Need-row-of-requires
-row-of-requires c κs = search needs
+row-of-requires c κs = let a = c .before .before .before .args in subst⁻¹ (λ (v : Seen). SmallCounts (v .counts)) (c .before .seen-at .ensures) (seen-small (summaryAt (a .book .now) (a .at)) (a .i))
 
 mul-t10 : tie.Need-mul-t10
 mul-t10 c = search needs

@@ -1,109 +1,76 @@
--- `summaries::ends::see_ends` meets its contract. Assumes nothing.
+-- `summaries::ends::see_ends` meets its contract. The loop's invariant: the ends before e are stored. Assumes nothing.
 use Prim.Native.Nat.{ℕ, _+_, _*_, _-_, _≤_, _<_}
-use mathlib.Core.List.{List}
-use mathlib.Core.Path.{_≡_, refl, _∙_, ap, subst⁻¹}
+use mathlib.Core.List.{List, []}
+use mathlib.Core.Path.{_≡_, refl, _∙_, subst⁻¹}
 use native.Mathlib.Omega.{arith}
-use lib.Dec.{lit<}
-use lib.ListN.{length, set}
-use Rattle.graph.specs.Graph.{Within}
-use Rattle.assembly.specs.Placements.{mostPlacements}
-use Rattle.summaries.specs.Ready.{countRow, siteSeen, StepsKnown, Counted}
-use Rattle.summaries.proofs.Ports.{row-at, small, earlier, parent-small}
-use Rattle.summaries.proofs.Storing.{StepsPut, CountsPut, paired-none, paired-more, steps-known, counts-known}
+use borrow.Author.Needs.{needs}
+use lib.ListN.{length}
+use Rattle.summaries.specs.Ends.{IsEnd, Filled, stepsFrom, countsFrom}
+use Rattle.summaries.proofs.Storing.{filled-none, filled-more, steps-known, counts-known}
 use Rattle.summaries.proofs.ends.see_ends.Statement.{statement}
 use Rattle.summaries.proofs.ends.see_ends.Tie as tie
 
 abbrev Inv-loop : tie.InvT-loop
-Inv-loop book links count rows₀ counts₀ k₀ rows counts k =
-    (1 ≤ k) × (k - 1 ≤ count - 1) × (length rows ≡ length rows₀) × (length counts ≡ length counts₀) × StepsPut book links rows k × CountsPut book links counts k
+Inv-loop book links count rows₀ counts₀ met₀ e₀ rows counts met e =
+    (2 ≤ e) × (e ≤ 2 * count) × (length rows ≡ length rows₀) × (length counts ≡ length counts₀) × Filled [] (stepsFrom book links) rows e × Filled [] (countsFrom book links) counts e
 
 abbrev μ-loop : tie.MeasureT-loop
-μ-loop book links count rows₀ counts₀ k₀ rows counts k = count - k
+μ-loop book links count rows₀ counts₀ met₀ e₀ rows counts met e = 2 * count - e
 
 loop-holds : tie.Need-loop-holds Inv-loop μ-loop
-loop-holds c = (omega arith, omega arith, refl, refl, paired-none _ _ _ _, paired-none _ _ _ _)
+loop-holds c = (omega arith, omega (arith, c .before .pre .0 .few), refl, refl, filled-none _ _ _, filled-none _ _ _)
 
-index : (c : tie.In-loop Inv-loop μ-loop) → Within (c .before .before .before .args .count - 1) (c .before .loop .k)
-index c = omega (arith, c .before .loop .inv .0, c .loop-test .taken)
+mul-loop : tie.Need-mul-loop Inv-loop μ-loop
+mul-loop c = omega (arith, c .before .before .pre .0 .few)
 
-row : (c : tie.In-loop Inv-loop μ-loop) → c .before .loop .k < mostPlacements
-row c = small (c .before .before .before .pre .0) (index c)
+is-end : (c : tie.In-loop Inv-loop μ-loop) → IsEnd (c .before .before .before .args .count) (c .before .loop .e)
+is-end c = record { low = c .before .loop .inv .0; high = omega (arith, c .loop-test .taken) }
 
--- both ends have rows
-room : (c : tie.In-loop Inv-loop μ-loop) → (2 * c .before .loop .k + 1 < length (c .before .loop .rows)) × (2 * c .before .loop .k + 1 < length (c .before .loop .counts))
-room c =
-    let p = c .before .before .before .pre in
-    let i = c .before .loop .inv in
-    (omega (arith, index c, p .1, i .2), omega (arith, index c, p .2, i .3))
+end-at-requires : tie.Need-end-at-requires Inv-loop μ-loop
+end-at-requires c κs = (c .before .before .before .pre .0, is-end c)
 
-mul-q : tie.Need-mul-q Inv-loop μ-loop
-mul-q c = row-at (row c)
+shl-atom : tie.Need-shl-atom Inv-loop μ-loop
+shl-atom c = search needs
 
-element-copy-out-q : tie.Need-element-copy-out-q Inv-loop μ-loop
-element-copy-out-q c = row c
+mul-set : tie.Need-mul-set Inv-loop μ-loop
+mul-set c = search needs
 
-array-read-home : tie.Need-array-read-home Inv-loop μ-loop
-array-read-home c = lit< tt
+array-read-set : tie.Need-array-read-set Inv-loop μ-loop
+array-read-set c = search needs
 
-sub-home : tie.Need-sub-home Inv-loop μ-loop
-sub-home c = omega (arith, earlier (c .before .before .before .before .pre .0) (index (c .before)))
+put-end-requires : tie.Need-put-end-requires Inv-loop μ-loop
+put-end-requires c κs =
+    let t = c .before .before .before .before .before in
+    let p = t .before .before .before .pre in
+    let i = t .before .loop .inv in
+    (p .0, is-end t, omega (arith, is-end t .high, p .1, i .2), omega (arith, is-end t .high, p .2, i .3), i .4, i .5)
 
-mul-home : tie.Need-mul-home Inv-loop μ-loop
-mul-home c = row-at (parent-small (c .before .before .before .before .pre .0) (index (c .before)))
+mul-met : tie.Need-mul-met Inv-loop μ-loop
+mul-met c = search needs
 
-element-copy-out-home : tie.Need-element-copy-out-home Inv-loop μ-loop
-element-copy-out-home c = parent-small (c .before .before .before .before .pre .0) (index (c .before))
+array-write-met : tie.Need-array-write-met Inv-loop μ-loop
+array-write-met c = search needs
 
-array-read-see-end : tie.Need-array-read-see-end Inv-loop μ-loop
-array-read-see-end c = lit< tt
-
-array-read-see-end-2 : tie.Need-array-read-see-end-2 Inv-loop μ-loop
-array-read-see-end-2 c = lit< tt
-
-mul-see-end : tie.Need-mul-see-end Inv-loop μ-loop
-mul-see-end c = omega (arith, row (c .before .before .before .before))
-
-see-end-requires : tie.Need-see-end-requires Inv-loop μ-loop
-see-end-requires c κs = let r = room (c .before .before .before .before) in (omega (arith, r .0), omega (arith, r .1))
-
-array-read-see-end-3 : tie.Need-array-read-see-end-3 Inv-loop μ-loop
-array-read-see-end-3 c = lit< tt
-
-array-read-see-end-4 : tie.Need-array-read-see-end-4 Inv-loop μ-loop
-array-read-see-end-4 c = lit< tt
-
-mul-see-end-2 : tie.Need-mul-see-end-2 Inv-loop μ-loop
-mul-see-end-2 c = omega (arith, row (c .before .before .before .before .before .before .before .before .before))
-
-add-see-end : tie.Need-add-see-end Inv-loop μ-loop
-add-see-end c = omega (arith, row (c .before .before .before .before .before .before .before .before .before))
-
-see-end-requires-2 : tie.Need-see-end-requires-2 Inv-loop μ-loop
-see-end-requires-2 c κs =
-    let r = room (c .before .before .before .before .before .before .before .before .before) in
-    (omega (arith, r .0, c .before .before .before .rows .given), omega (arith, r .1, c .before .before .counts .given))
-
-add-k : tie.Need-add-k Inv-loop μ-loop
-add-k c = omega (arith, row (c .before .before .before .before .before .before .before .before .before .before .before .before))
+add-e : tie.Need-add-e Inv-loop μ-loop
+add-e c = let t = c .before .before .before .before .before .before .before .before in omega (arith, is-end t .high, t .before .before .before .pre .0 .few)
 
 loop-less : tie.Need-loop-less Inv-loop μ-loop
-loop-less c = omega (arith, index (c .before .before .before .before .before .before .before .before .before .before .before .before))
+loop-less c = omega (arith, is-end (c .before .before .before .before .before .before .before .before) .high)
 
 loop-again : tie.Need-loop-again Inv-loop μ-loop
 loop-again c =
-    let t = c .before .before .before .before .before .before .before .before .before .before .before .before in
+    let t = c .before .before .before .before .before .before .before .before in
     let a = t .before .before .before .args in
+    let p = t .before .before .before .pre in
     let i = t .before .loop .inv in
-    let k = t .before .loop .k in
-    let r = room t in
-    let one = c .before .before .before .before .before .before .before .see-end .ensures in
-    let two = c .before .before .see-end2 .ensures in (
-      omega arith,
-      omega (arith, index t),
-      c .before .rows2 .given ∙ c .before .before .before .before .before .before .rows .given ∙ i .2,
-      c .counts2 .given ∙ c .before .before .before .before .before .counts .given ∙ i .3,
-      subst⁻¹ (λ (x : List (List ℕ)). StepsPut (a .book .now) (a .links .now) x (k + 1)) (two .0 ∙ ap (λ (x : List (List ℕ)). set x (2 * k + 1) (siteSeen (a .book .now) (a .links .now) k .row)) (one .0)) (paired-more _ _ _ _ k (r .0) (i .4)),
-      subst⁻¹ (λ (x : List (List ℕ)). CountsPut (a .book .now) (a .links .now) x (k + 1)) (two .1 ∙ ap (λ (x : List (List ℕ)). set x (2 * k + 1) (countRow (siteSeen (a .book .now) (a .links .now) k .counts))) (one .1)) (paired-more _ _ _ _ k (r .1) (i .5)),
+    let e = t .before .loop .e in
+    let put = c .before .before .put-end .ensures in (
+      omega (arith, i .0),
+      omega (arith, is-end t .high),
+      c .before .rows .given ∙ i .2,
+      c .counts .given ∙ i .3,
+      subst⁻¹ (λ (x : List (List ℕ)). Filled [] (stepsFrom (a .book .now) (a .links .now)) x (e + 1)) (put .0) (filled-more _ _ _ e (omega (arith, is-end t .high, p .1, i .2)) (i .4)),
+      subst⁻¹ (λ (x : List (List ℕ)). Filled [] (countsFrom (a .book .now) (a .links .now)) x (e + 1)) (put .1) (filled-more _ _ _ e (omega (arith, is-end t .high, p .2, i .3)) (i .5)),
     )
 
 same-length : tie.Need-same-length Inv-loop μ-loop
@@ -117,9 +84,9 @@ returns c =
     let p = c .before .before .before .pre in
     let a = c .before .before .before .args in
     let i = c .before .loop .inv in
-    let e : a .count ≡ c .before .loop .k = omega (arith, i .0, i .1, c .loop-test .left, p .0 .few) in (
-      subst⁻¹ (StepsKnown (a .book .now) (a .links .now) (c .before .loop .rows)) e (steps-known _ _ (c .before .loop .k) (omega (arith, e, p .1, i .2)) (i .4)),
-      subst⁻¹ (λ (n : ℕ). Counted (a .book .now) (a .links .now) (c .before .loop .counts) n 1) e (counts-known _ _ (c .before .loop .k) (omega (arith, e, p .2, i .3)) (i .5)),
+    let e : 2 * a .count ≡ c .before .loop .e = omega (arith, i .1, c .loop-test .left) in (
+      steps-known _ _ (a .count) (omega (arith, p .1, i .2)) (subst⁻¹ (Filled [] (stepsFrom (a .book .now) (a .links .now)) (c .before .loop .rows)) e (i .4)),
+      counts-known _ _ (a .count) (omega (arith, p .2, i .3)) (subst⁻¹ (Filled [] (countsFrom (a .book .now) (a .links .now)) (c .before .loop .counts)) e (i .5)),
     )
 
 pub see-ends-spec : {M : Type 1} → statement M
@@ -129,22 +96,15 @@ see-ends-spec =
     Inv-loop
     μ-loop
     loop-holds
-    mul-q
-    element-copy-out-q
-    array-read-home
-    sub-home
-    mul-home
-    element-copy-out-home
-    array-read-see-end
-    array-read-see-end-2
-    mul-see-end
-    see-end-requires
-    array-read-see-end-3
-    array-read-see-end-4
-    mul-see-end-2
-    add-see-end
-    see-end-requires-2
-    add-k
+    mul-loop
+    end-at-requires
+    shl-atom
+    mul-set
+    array-read-set
+    put-end-requires
+    mul-met
+    array-write-met
+    add-e
     loop-less
     loop-again
     same-length

@@ -1,7 +1,7 @@
 -- `summaries::joins::composed` meets its contract. The loop's invariant: s has the fields of the first k placements, and their joins are made.
 -- Assumes nothing.
 use Prim.Native.Nat.{ℕ, _+_, _*_, _-_, _≤_, _<_}
-use mathlib.Core.Path.{_≡_, refl, _∙_, ap}
+use mathlib.Core.Path.{_≡_, refl, _∙_, ap, subst⁻¹}
 use borrow.Author.Needs.{needs}
 use native.Mathlib.Omega.{arith}
 use lib.Dec.{lit<}
@@ -9,7 +9,7 @@ use lib.ListN.{length, length-set}
 use Rattle.graph.specs.Graph.{Within}
 use Rattle.assembly.specs.Placements.{mostPlacements}
 use Rattle.tables.specs.Parts.{sixIn}
-use Rattle.joining.specs.Small.{joined-small}
+use Rattle.joining.specs.Small.{SmallCounts, joined-small}
 use Rattle.summaries.specs.Ready.{placeIn, keptIn, joinsIn, sightOfRow, Counted}
 use Rattle.summaries.proofs.Ports.{row-at, small, own-small, block-room, six-room, from-small, six-next}
 use Rattle.summaries.proofs.Storing.{made-more}
@@ -75,7 +75,9 @@ joined-requires : tie.Need-joined-requires Inv-loop μ-loop
 joined-requires c κs = search needs
 
 row-of-requires : tie.Need-row-of-requires Inv-loop μ-loop
-row-of-requires c κs = search needs
+row-of-requires c κs =
+    let t = c .before .before .before .before .before .before .before in
+    subst⁻¹ SmallCounts (c .before .before .before .before .before .core-of .ensures) (from-small (t .before .before .before .before .before .pre .0) (t .before .loop .k) (t .before .loop .k) (omega (arith, row t)))
 
 mul-t21 : tie.Need-mul-t21 Inv-loop μ-loop
 mul-t21 c = omega (arith, row (c .before .before .before .before .before .before .before .before))
