@@ -1,0 +1,61 @@
+-- Definitions. What is kept of a block as an arm or as a core, and the core with arms joined to it one by one, by the joining rules, whatever is kept.
+use Prim.Native.Nat.{ℕ, zero, suc}
+use mathlib.Core.List.{List, []}
+use lib.ListN.{getD, replicate}
+use Rattle.block.specs.Rows.{table}
+use Rattle.block.specs.declared.Indices.{Indices}
+use Rattle.block.specs.declared.Vertex.{Vertex}
+use Rattle.sighted.specs.Sighted.{stepsIn}
+use Rattle.sighted.specs.declared.Seen.{Seen}
+use Rattle.summary.specs.Layout.{summaryBytes, storedFields, seenAt, vertexAt}
+use Rattle.filling.specs.Reply.{fillBytes}
+use Rattle.joining.specs.Joining.{grownOf, joinedOf}
+use Rattle.arms.specs.declared.Arm.{Arm}
+use Rattle.arms.specs.declared.Core.{Core}
+use Rattle.arms.specs.declared.Stem.{Stem}
+
+abbrev pub mostArms : ℕ
+mostArms = 4
+
+abbrev pub noVertex : Vertex
+noVertex = record { sum = 0; even = 0; odd = 0; evens = 0; odds = 0; ones = 0; twos = 0; farthest = 0 }
+
+abbrev pub noArm : Arm
+noArm = record { six = record { atoms = 0; w = 0; even = 0; odd = 0; polarity = 0; largest = 0 }; end = noVertex }
+
+abbrev pub noSeen : Seen
+noSeen = record { counts = noVertex; row = [] }
+
+-- of a block's summary, whatever its bytes are
+abbrev pub armIn : List ℕ → ℕ → Arm
+armIn s a = record { six = storedFields s; end = vertexAt s a }
+
+unfoldable pub coreIn : List ℕ → List ℕ → Core
+coreIn s atoms = record { six = storedFields s; atoms = atoms; ends = table mostArms (λ k. seenAt s (getD atoms k 0)) }
+
+-- a block opened into an empty place, which stays empty where the block is refused
+unfoldable pub opened : ℕ → List ℕ → List ℕ
+opened n bonds = fillBytes 0 n bonds (replicate summaryBytes 0)
+
+abbrev pub armOf : ℕ → List ℕ → ℕ → Arm
+armOf n bonds a = armIn (opened n bonds) a
+
+abbrev pub coreOf : ℕ → List ℕ → List ℕ → Core
+coreOf n bonds atoms = coreIn (opened n bonds) atoms
+
+-- what is counted from atom b of the core once the first m arms are joined, v being counted before
+unfoldable pub sightFrom : List Seen → List Arm → ℕ → Vertex → ℕ → Vertex
+sightFrom ends arms b v zero = v
+sightFrom ends arms b v (suc m) = grownOf (sightFrom ends arms b v m) (stepsIn (getD ends m noSeen .row) b) (getD arms m noArm .end)
+
+-- Of a core with its first m arms: what is counted from the atom of arm k, and the six fields.
+module _ (core : Core) (arms : List Arm) where
+  abbrev pub sightOf : ℕ → ℕ → Vertex
+  sightOf m k = sightFrom (core .ends) arms (getD (core .atoms) k 0) (getD (core .ends) k noSeen .counts) m
+
+  unfoldable pub sixOf : ℕ → Indices
+  sixOf zero = core .six
+  sixOf (suc m) = joinedOf (sixOf m) (getD arms m noArm .six) (sightOf m m) (getD arms m noArm .end)
+
+  abbrev pub stemOf : ℕ → Stem
+  stemOf m = record { six = sixOf m; from = sightOf m m }

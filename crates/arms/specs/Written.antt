@@ -1,0 +1,2 @@
+-- Laws. To be written. Assumes nothing.
+use mathlib.Core.Path.{_≡_}
