@@ -47,7 +47,7 @@ module _ {s : List ℕ} (lent : LentBytes s) where
   far-byte : (i j : ℕ) → farAt s i j < 2 ^ 8
   far-byte i j = omega (arith, far-few s i j)
 
-  fields-bytes : SixBytes (storedFields s)
+  pub fields-bytes : SixBytes (storedFields s)
   unfolding storedFields
   fields-bytes = record { atoms = omega arith; w = omega (arith, four 4, four 8); even = four 4; odd = four 8; polarity = four 12; largest = lent .byte 3 }
 
