@@ -29,7 +29,7 @@ module _ {A : Type 0} (none : A) (f : ℕ → A) (l : List A) where
       go true q = let z : j ≡ k = eqb-true j k q in rw z (getD-set-same l k x none h ∙ e)
       go false q = let z = eqb-false j k q in getD-set-other l k j x none z ∙ old j (omega (arith, z))
 
-  put-all : (n : ℕ) → length l ≡ n → ((j : ℕ) → j < n → getD l j none ≡ f j) → l ≡ table n f
+  pub put-all : (n : ℕ) → length l ≡ n → ((j : ℕ) → j < n → getD l j none ≡ f j) → l ≡ table n f
   put-all n e h = ext-getD none l (table n f) (e ∙ sym (length-table n f)) (λ j i. h j (omega (arith, e)) ∙ sym (getD-table n f j none (omega (arith, e))))
 
 pub arm-kept : (s : List ℕ) (a : ℕ) (x : Indices) (y : Seen) → x ≡ storedFields s → y ≡ seenAt s a → record { six = x; end = y .counts } ≡ armIn s a

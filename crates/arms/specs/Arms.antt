@@ -1,6 +1,8 @@
 -- Definitions. What is kept of a block as an arm or as a core, and the core with arms joined to it one by one, by the joining rules, whatever is kept.
-use Prim.Native.Nat.{ℕ, zero, suc}
+use Prim.Native.Nat.{ℕ, zero, suc, _<_}
 use mathlib.Core.List.{List, []}
+use mathlib.Core.Path.{_≡_, refl}
+use native.Mathlib.Omega.{arith}
 use lib.ListN.{getD, replicate}
 use Rattle.block.specs.Rows.{table}
 use Rattle.block.specs.declared.Indices.{Indices}
@@ -59,3 +61,25 @@ module _ (core : Core) (arms : List Arm) where
 
   abbrev pub stemOf : ℕ → Stem
   stemOf m = record { six = sixOf m; from = sightOf m m }
+
+-- the fields with one arm more
+abbrev pub joinedTo : Stem → Arm → Indices
+joinedTo s a = joinedOf (s .six) (a .six) (s .from) (a .end)
+
+-- The first arms alone say what the core with them is.
+pub sight-kept : (ends : List Seen) (as' bs : List Arm) (b : ℕ) (v : Vertex) (m : ℕ) → ((i : ℕ) → i < m → getD as' i noArm ≡ getD bs i noArm) → sightFrom ends as' b v m ≡ sightFrom ends bs b v m
+unfolding sightFrom
+sight-kept ends as' bs b v zero h = refl
+sight-kept ends as' bs b v (suc m) h = rw (sight-kept ends as' bs b v m (λ i l. h i (omega arith)), h m (omega arith))
+
+pub six-kept : (c : Core) (as' bs : List Arm) (m : ℕ) → ((i : ℕ) → i < m → getD as' i noArm ≡ getD bs i noArm) → sixOf c as' m ≡ sixOf c bs m
+unfolding sixOf
+six-kept c as' bs zero h = refl
+six-kept c as' bs (suc m) h =
+    rw (six-kept c as' bs m (λ i l. h i (omega arith)), sight-kept (c .ends) as' bs (getD (c .atoms) m 0) (getD (c .ends) m noSeen .counts) m (λ i l. h i (omega arith)), h m (omega arith))
+
+-- ONE ARM MORE: what the first m arms are joined to, with any arm
+pub stem-joined : (c : Core) (as' bs : List Arm) (m : ℕ) → ((i : ℕ) → i < m → getD as' i noArm ≡ getD bs i noArm) → joinedTo (stemOf c as' m) (getD bs m noArm) ≡ sixOf c bs (suc m)
+unfolding sixOf
+stem-joined c as' bs m h =
+    rw (six-kept c as' bs m h, sight-kept (c .ends) as' bs (getD (c .atoms) m 0) (getD (c .ends) m noSeen .counts) m h)

@@ -3,9 +3,8 @@ use Prim.Native.Nat.{ℕ, min}
 use mathlib.Core.List.{List}
 use mathlib.Core.Path.{_≡_}
 use Rattle.reply.specs.Chain.{unique}
-use Rattle.joining.specs.Joining.{joinedOf}
 use Rattle.block.specs.declared.Indices.{Indices}
-use Rattle.arms.specs.Arms.{armOf, coreOf, stemOf}
+use Rattle.arms.specs.Arms.{armOf, coreOf, stemOf, joinedTo}
 use Rattle.arms.specs.declared.Arm.{Arm}
 use Rattle.arms.specs.declared.Core.{Core}
 use Rattle.arms.specs.declared.Stem.{Stem}
@@ -19,5 +18,5 @@ unique-core n bonds atoms r s = unique
 pub unique-stem : (core : Core) (arms : List Arm) (m : ℕ) (r s : Stem) → r ≡ stemOf core arms (min m 3) → s ≡ stemOf core arms (min m 3) → r ≡ s
 unique-stem core arms m r s = unique
 
-pub unique-joined : (stem : Stem) (arm : Arm) (r s : Indices) → let x = joinedOf (stem .six) (arm .six) (stem .from) (arm .end) in r ≡ x → s ≡ x → r ≡ s
+pub unique-joined : (stem : Stem) (arm : Arm) (r s : Indices) → r ≡ joinedTo stem arm → s ≡ joinedTo stem arm → r ≡ s
 unique-joined stem arm r s = unique

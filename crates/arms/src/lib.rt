@@ -12,8 +12,7 @@ use summary::seen;
 ghost use mathlib.Core.Path.{_≡_};
 ghost use Prim.Native.Nat.{_<_, _≤_, min};
 ghost use Rattle.filling.specs.Reply.{fillBytes};
-ghost use Rattle.joining.specs.Joining.{joinedOf};
-ghost use Rattle.arms.specs.Arms.{mostArms, armIn, armOf, coreIn, coreOf, sightOf, sixOf, stemOf};
+ghost use Rattle.arms.specs.Arms.{mostArms, armIn, armOf, coreIn, coreOf, sightOf, sixOf, stemOf, joinedTo};
 
 // The most arms of a core.
 pub const ARMS: usize = 4;
@@ -70,7 +69,7 @@ pub struct Stem {
 impl Stem {
     // The fields with one arm more.
     pub fn joined(self, arm: Arm) -> Indices
-        ensures { λ r. ⌜ r ≡ joinedOf (self .six) (arm .six) (self .from) (arm .end) ⌝ }
+        ensures { λ r. ⌜ r ≡ joinedTo self arm ⌝ }
     {
         joining::joined(self.six, arm.six, self.from, arm.end)
     }

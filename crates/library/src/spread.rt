@@ -1,10 +1,10 @@
 // All arms of a library at once, and those of a choice among them.
-use super::candidate::arm_at;
+use super::kept::arm_at;
+use arms::Arm;
+use arms::NO_ARM;
 use assembly::BlockTable;
 use block::Indices;
 use block::Vertex;
-use kept::Arm;
-use kept::NO_ARM;
 use products::CANDIDATES;
 use products::SITES;
 use products::Site;
@@ -12,9 +12,9 @@ ghost use mathlib.Core.Path.{_≡_};
 ghost use mathlib.Core.List.{[]};
 ghost use Prim.Native.Nat.{ℕ, _≤_, _<_};
 ghost use lib.ListN.{length, take, getD};
-ghost use Rattle.products.specs.Library.{mostCandidates};
+ghost use Rattle.products.specs.Library.{mostSites, mostCandidates};
 ghost use Rattle.catalogue.specs.Said.{noSite};
-ghost use Rattle.library.specs.Kept.{allPlaces, rowArm, armFor, picked};
+ghost use Rattle.library.specs.Kept.{allPlaces, rowArm, armFor, Picked};
 
 // An arm as a row of numbers, and the rows of all arms: those of each site one after the other.
 pub(crate) const PLACES: usize = SITES * CANDIDATES;
@@ -112,14 +112,17 @@ pub(crate) fn all_arms(
     all
 }
 
-// The arms of a choice among all.
-pub(crate) fn pick(all: &ArmRows, digits: [usize; SITES]) -> [Arm; SITES]
-    requires { ⌜ ((k : ℕ) → getD digits k 0 < mostCandidates) ⌝ }
-    ensures { λ r. ⌜ r ≡ picked (now (all .entry)) digits ⌝ }
+// The arms of a choice for the first n sites, among all.
+pub(crate) fn pick(all: &ArmRows, digits: [usize; SITES], n: usize) -> [Arm; SITES]
+    requires { ⌜ (n ≤ mostSites) × ((k : ℕ) → k < n → getD digits k 0 < mostCandidates) ⌝ }
+    ensures { λ r. ⌜ Picked (now (all .entry)) digits n r ⌝ }
 {
-    let a0 = row_arm(all[digits[0]]);
-    let a1 = row_arm(all[CANDIDATES + digits[1]]);
-    let a2 = row_arm(all[2 * CANDIDATES + digits[2]]);
-    let a3 = row_arm(all[3 * CANDIDATES + digits[3]]);
-    [a0, a1, a2, a3]
+    let mut arms = [NO_ARM; SITES];
+    let mut k: usize = 0;
+    while k < n {
+        let arm = row_arm(all[CANDIDATES * k + digits[k]]);
+        arms[k] = arm;
+        k += 1;
+    }
+    arms
 }
