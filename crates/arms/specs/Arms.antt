@@ -1,6 +1,6 @@
 -- Definitions. What is kept of a block as an arm or as a core, and the core with arms joined to it one by one, by the joining rules, whatever is kept.
 use Prim.Native.Nat.{ℕ, zero, suc, _<_}
-use mathlib.Core.List.{List, []}
+use mathlib.Core.List.{List, [], _∷_}
 use mathlib.Core.Path.{_≡_, refl}
 use native.Mathlib.Omega.{arith}
 use lib.ListN.{getD, replicate}
@@ -27,6 +27,26 @@ noArm = record { six = record { atoms = 0; w = 0; even = 0; odd = 0; polarity = 
 
 abbrev pub noSeen : Seen
 noSeen = record { counts = noVertex; row = [] }
+
+-- an arm in a row of numbers, and back
+abbrev pub armRow : Arm → List ℕ
+armRow a = let x = a .six in let v = a .end in
+    x .atoms ∷ x .w ∷ x .even ∷ x .odd ∷ x .polarity ∷ x .largest ∷ v .sum ∷ v .even ∷ v .odd ∷ v .evens ∷ v .odds ∷ v .ones ∷ v .twos ∷ v .farthest ∷ []
+
+abbrev pub rowArm : List ℕ → Arm
+rowArm r = record {
+  six = record { atoms = getD r 0 0; w = getD r 1 0; even = getD r 2 0; odd = getD r 3 0; polarity = getD r 4 0; largest = getD r 5 0 };
+  end = record {
+    sum = getD r 6 0;
+    even = getD r 7 0;
+    odd = getD r 8 0;
+    evens = getD r 9 0;
+    odds = getD r 10 0;
+    ones = getD r 11 0;
+    twos = getD r 12 0;
+    farthest = getD r 13 0;
+  };
+}
 
 -- of a block's summary, whatever its bytes are
 abbrev pub armIn : List ℕ → ℕ → Arm

@@ -12,7 +12,7 @@ use summary::seen;
 ghost use mathlib.Core.Path.{_≡_};
 ghost use Prim.Native.Nat.{_<_, _≤_, min};
 ghost use Rattle.filling.specs.Reply.{fillBytes};
-ghost use Rattle.arms.specs.Arms.{mostArms, armIn, armOf, coreIn, coreOf, sightOf, sixOf, stemOf, joinedTo};
+ghost use Rattle.arms.specs.Arms.{mostArms, armRow, rowArm, armIn, armOf, coreIn, coreOf, sightOf, sixOf, stemOf, joinedTo};
 
 // The most arms of a core.
 pub const ARMS: usize = 4;
@@ -52,6 +52,56 @@ pub const NO_ARM: Arm = Arm {
     six: NO_FIELDS,
     end: NO_VERTEX,
 };
+
+// An arm as a row of numbers, since an array of structs is not lent; and back.
+pub type ArmRow = [u64; 14];
+
+pub fn arm_row(arm: Arm) -> ArmRow
+    ensures { λ r. ⌜ r ≡ armRow arm ⌝ }
+{
+    let x = arm.six;
+    let v = arm.end;
+    [
+        x.atoms,
+        x.w,
+        x.even,
+        x.odd,
+        x.polarity,
+        x.largest,
+        v.sum,
+        v.even,
+        v.odd,
+        v.evens,
+        v.odds,
+        v.ones,
+        v.twos,
+        v.farthest,
+    ]
+}
+
+pub fn row_arm(row: ArmRow) -> Arm
+    ensures { λ r. ⌜ r ≡ rowArm row ⌝ }
+{
+    let six = Indices {
+        atoms: row[0],
+        w: row[1],
+        even: row[2],
+        odd: row[3],
+        polarity: row[4],
+        largest: row[5],
+    };
+    let end = Vertex {
+        sum: row[6],
+        even: row[7],
+        odd: row[8],
+        evens: row[9],
+        odds: row[10],
+        ones: row[11],
+        twos: row[12],
+        farthest: row[13],
+    };
+    Arm { six, end }
+}
 
 // What is kept of a block as the core: its fields, the atoms where arms join, and what is seen from each of them.
 pub struct Core {

@@ -21,11 +21,11 @@ use Rattle.catalogue.specs.Table.{sites-back, table-empty}
 use Rattle.catalogue.specs.declared.LibraryRead.{LibraryRead}
 use Rattle.library.specs.Said.{saidProduct}
 use Rattle.library.specs.Held.{Held, Spread}
-use Rattle.arms.specs.Arms.{noArm, armOf, coreOf, sixOf, stemOf, joinedTo, stem-joined}
+use Rattle.arms.specs.Arms.{noArm, armOf, coreOf, sixOf, stemOf, joinedTo, stem-joined, rowArm}
 use Rattle.arms.specs.declared.Arm.{Arm}
 use Rattle.arms.specs.declared.Core.{Core}
 use Rattle.arms.specs.declared.Stem.{Stem}
-use Rattle.library.specs.Kept.{armAt, atomsOf, coreAt, allPlaces, armFor, rowArm}
+use Rattle.library.specs.Kept.{armAt, atomsOf, coreAt, allPlaces, armFor}
 use Rattle.library.specs.declared.ProductReply.the-variants as product
 
 -- what the code has of a library that is read

@@ -18,9 +18,9 @@ use Rattle.products.specs.Library.{mostCandidates, Library, libraryReply}
 use Rattle.products.specs.Products.{products, productAt}
 use Rattle.products.specs.declared.Site.{Site}
 use Rattle.catalogue.specs.Said.{noSite}
-use Rattle.arms.specs.Arms.{noArm}
+use Rattle.arms.specs.Arms.{noArm, rowArm}
 use Rattle.arms.specs.declared.Arm.{Arm}
-use Rattle.library.specs.Kept.{armAt, armFor, rowArm}
+use Rattle.library.specs.Kept.{armAt, armFor}
 use Rattle.library.specs.Steps.{Ran, behind, stepsFrom}
 use Rattle.library.specs.Running.{run-next, run-done, run-full}
 use Rattle.library.specs.Turning.{Going}

@@ -17,10 +17,10 @@ use Rattle.products.specs.Sound.{whole}
 use Rattle.products.specs.declared.Site.{Site}
 use Rattle.catalogue.specs.Said.{noSite}
 use Rattle.catalogue.specs.Table.{sitesIn, sites-length}
-use Rattle.arms.specs.Arms.{noArm, sixOf}
+use Rattle.arms.specs.Arms.{noArm, sixOf, rowArm}
 use Rattle.arms.specs.declared.Arm.{Arm}
 use Rattle.arms.specs.declared.Core.{Core}
-use Rattle.library.specs.Kept.{armAt, coreAt, allPlaces, armFor, rowArm, Picked, choiceIn}
+use Rattle.library.specs.Kept.{armAt, coreAt, allPlaces, armFor, Picked, choiceIn}
 use Rattle.library.specs.Ready.{few-sites, site-stands, digit-low, product-is}
 
 -- 1 to 8 candidates

@@ -8,7 +8,7 @@ use lib.ListN.{getD}
 use Rattle.block.specs.Rows.{table}
 use Rattle.assembly.specs.Book.{find, bondBytes}
 use Rattle.assembly.specs.declared.BlockAt.{BlockAt}
-use Rattle.arms.specs.Arms.{noArm, armOf, coreOf}
+use Rattle.arms.specs.Arms.{noArm, rowArm, armOf, coreOf}
 use Rattle.arms.specs.declared.Arm.{Arm}
 use Rattle.arms.specs.declared.Core.{Core}
 use Rattle.products.specs.Library.{mostSites, mostCandidates, coreNumber, candidateNumber, candidateAtom, candidateAt}
@@ -33,22 +33,6 @@ unfoldable pub armFor : List ℕ → List BlockAt → List ℕ → List Site →
 armFor d bs xs sites i =
     let s = getD sites (i / mostCandidates) noSite in
     cond (ltb (i % mostCandidates) (s .many)) (armAt d bs xs s (i % mostCandidates)) noArm
-
--- an arm in a row of numbers
-abbrev pub rowArm : List ℕ → Arm
-rowArm r = record {
-  six = record { atoms = getD r 0 0; w = getD r 1 0; even = getD r 2 0; odd = getD r 3 0; polarity = getD r 4 0; largest = getD r 5 0 };
-  end = record {
-    sum = getD r 6 0;
-    even = getD r 7 0;
-    odd = getD r 8 0;
-    evens = getD r 9 0;
-    odds = getD r 10 0;
-    ones = getD r 11 0;
-    twos = getD r 12 0;
-    farthest = getD r 13 0;
-  };
-}
 
 -- the arms of a choice for the first n sites, among all
 pub record Picked (all : List (List ℕ)) (digits : List ℕ) (n : ℕ) (arms : List Arm) : Type 0 where

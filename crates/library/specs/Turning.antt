@@ -16,11 +16,11 @@ use Rattle.products.specs.Products.{products, choiceAt, productAt}
 use Rattle.products.specs.declared.Site.{Site}
 use Rattle.catalogue.specs.Said.{noSite}
 use Rattle.catalogue.specs.Table.{sitesIn}
-use Rattle.arms.specs.Arms.{noArm, stemOf, joinedTo, stem-joined}
+use Rattle.arms.specs.Arms.{noArm, stemOf, joinedTo, stem-joined, rowArm}
 use Rattle.arms.specs.declared.Arm.{Arm}
 use Rattle.arms.specs.declared.Core.{Core}
 use Rattle.arms.specs.declared.Stem.{Stem}
-use Rattle.library.specs.Kept.{allPlaces, rowArm, Picked, choiceIn}
+use Rattle.library.specs.Kept.{allPlaces, Picked, choiceIn}
 use Rattle.library.specs.Held.{Spread, few, many, product-spread}
 use Rattle.library.specs.Steps.{Ran, behind, stepsFrom}
 use Rattle.library.specs.declared.last.Staying.{Staying}

@@ -2,9 +2,9 @@
 use super::choice::choose;
 use super::spread::ArmRows;
 use super::spread::pick;
-use super::spread::row_arm;
 use arms::Core;
 use arms::Stem;
+use arms::row_arm;
 use arms::stem_of;
 use block::Indices;
 use products::CANDIDATES;

@@ -1,10 +1,11 @@
 // All arms of a library at once, and those of a choice among them.
 use super::kept::arm_at;
 use arms::Arm;
+use arms::ArmRow;
 use arms::NO_ARM;
+use arms::arm_row;
+use arms::row_arm;
 use assembly::BlockTable;
-use block::Indices;
-use block::Vertex;
 use products::CANDIDATES;
 use products::SITES;
 use products::Site;
@@ -14,61 +15,13 @@ ghost use Prim.Native.Nat.{ℕ, _≤_, _<_};
 ghost use lib.ListN.{length, take, getD};
 ghost use Rattle.products.specs.Library.{mostSites, mostCandidates};
 ghost use Rattle.catalogue.specs.Said.{noSite};
-ghost use Rattle.library.specs.Kept.{allPlaces, rowArm, armFor, Picked};
+ghost use Rattle.library.specs.Kept.{allPlaces, armFor, Picked};
+ghost use Rattle.arms.specs.Arms.{rowArm};
 
-// An arm as a row of numbers, and the rows of all arms: those of each site one after the other.
+// The rows of all arms: those of each site one after the other.
 pub(crate) const PLACES: usize = SITES * CANDIDATES;
 
-type ArmRow = [u64; 14];
-
 pub(crate) type ArmRows = [ArmRow; PLACES];
-
-fn arm_row(arm: Arm) -> ArmRow
-    ensures { λ r. ⌜ rowArm r ≡ arm ⌝ }
-{
-    let x = arm.six;
-    let v = arm.end;
-    [
-        x.atoms,
-        x.w,
-        x.even,
-        x.odd,
-        x.polarity,
-        x.largest,
-        v.sum,
-        v.even,
-        v.odd,
-        v.evens,
-        v.odds,
-        v.ones,
-        v.twos,
-        v.farthest,
-    ]
-}
-
-pub(crate) fn row_arm(row: ArmRow) -> Arm
-    ensures { λ r. ⌜ r ≡ rowArm row ⌝ }
-{
-    let six = Indices {
-        atoms: row[0],
-        w: row[1],
-        even: row[2],
-        odd: row[3],
-        polarity: row[4],
-        largest: row[5],
-    };
-    let end = Vertex {
-        sum: row[6],
-        even: row[7],
-        odd: row[8],
-        evens: row[9],
-        odds: row[10],
-        ones: row[11],
-        twos: row[12],
-        farthest: row[13],
-    };
-    Arm { six, end }
-}
 
 // The arm for a place among all.
 fn arm_for(

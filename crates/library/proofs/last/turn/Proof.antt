@@ -6,12 +6,11 @@ use native.Mathlib.Omega.{arith}
 use lib.ListN.{length, getD, take, drop}
 use borrow.Author.Needs.{needs}
 use Rattle.block.specs.declared.Indices.{Indices}
-use Rattle.arms.specs.Arms.{joinedTo}
+use Rattle.arms.specs.Arms.{joinedTo, rowArm}
 use Rattle.sheets.specs.Sheets.{sheetBytes}
 use Rattle.products.specs.Library.{Library}
 use Rattle.products.specs.Products.{products, productAt}
 use Rattle.products.specs.Fine.{few-products}
-use Rattle.library.specs.Kept.{rowArm}
 use Rattle.library.specs.Steps.{Ran}
 use Rattle.library.specs.Turning.{Going, Turns}
 use Rattle.arms.specs.declared.Arm.{Arm}

@@ -5,10 +5,10 @@ use mathlib.Core.Path.{_≡_, refl, _∙_}
 use native.Mathlib.Omega.{arith}
 use lib.ListN.{length, getD, length-set}
 use borrow.Author.Needs.{needs}
-use Rattle.arms.specs.Arms.{noArm}
+use Rattle.arms.specs.Arms.{noArm, rowArm}
 use Rattle.arms.proofs.Keeping.{put-next}
 use Rattle.products.specs.Library.{mostSites, mostCandidates}
-use Rattle.library.specs.Kept.{rowArm, Picked}
+use Rattle.library.specs.Kept.{Picked}
 use Rattle.library.proofs.spread.pick.Statement.{statement}
 use Rattle.library.proofs.spread.pick.Tie as tie
 

@@ -1,4 +1,4 @@
--- `sheets::put` meets its contract. The loop's invariant: what is left to store makes of the buffer what all of it makes of the first one.
+-- `sheets::store::put_bytes` meets its contract. The loop's invariant: what is left to store makes of the buffer what all of it makes of the first one.
 use Prim.Native.Nat.{ℕ, _+_, _-_, _%_, _≤_}
 use mathlib.Core.Path.{_≡_, refl, sym, _∙_, ap}
 use native.Mathlib.Omega.{arith}
@@ -8,8 +8,8 @@ use denote.Ref.{now}
 use lib.Seq.{sets}
 use Rattle.records.specs.Bytes.{littleBytes}
 use Rattle.sheets.proofs.Puts.{one-byte, no-byte}
-use Rattle.sheets.proofs.put.Statement.{statement}
-use Rattle.sheets.proofs.put.Tie as tie
+use Rattle.sheets.proofs.store.put_bytes.Statement.{statement}
+use Rattle.sheets.proofs.store.put_bytes.Tie as tie
 
 abbrev Inv-loop : tie.InvT-loop
 Inv-loop out₀ at width n end k₀ rest₀ out k rest =
@@ -52,8 +52,8 @@ returns c =
     let s = c .before .loop in
     sym (s .inv .2 ∙ no-byte (s .out) (s .k) _ (s .rest) (omega arith))
 
-pub put-spec : {M : Type 1} → statement M
-put-spec =
+pub put-bytes-spec : {M : Type 1} → statement M
+put-bytes-spec =
     tie.close
     (tie.spec
     Inv-loop
