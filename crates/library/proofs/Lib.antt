@@ -1,5 +1,4 @@
 -- The laws behind the proofs of a library's products.
-pub mod Told
 pub mod Choosing
 pub mod Making
 pub mod Spreading

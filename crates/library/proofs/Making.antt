@@ -1,17 +1,18 @@
 -- From a library that is read to its products. Assumes nothing.
-use Prim.Native.Nat.{ℕ, _≤_, _<_}
+use Prim.Native.Nat.{ℕ, suc, _-_, _≤_, _<_, min}
 use mathlib.Core.List.{List, []}
 use mathlib.Core.Path.{_≡_, refl, _∙_, ap}
+use native.Mathlib.Omega.{arith}
 use borrow.Author.Tests.{lt-ltb, le-ltb}
 use lib.ListN.{take, getD}
 use lib.Seq.{take-append-seam}
 use Rattle.reply.specs.Read.{refused, read}
 use Rattle.reply.specs.declared.Refusal.{Refusal}
 use Rattle.block.specs.declared.Indices.{Indices}
-use Rattle.records.specs.Bytes.{le16}
 use Rattle.records.specs.Records.{payloadAt}
+use Rattle.assembly.specs.Book.{find, bondBytes}
 use Rattle.assembly.specs.declared.BlockAt.{BlockAt}
-use Rattle.products.specs.Library.{Library, libraryReply}
+use Rattle.products.specs.Library.{mostSites, coreNumber, candidateNumber, candidateAtom, candidateAt, Library, libraryReply}
 use Rattle.products.specs.Products.{products, productAt, done, made, productReply}
 use Rattle.products.specs.Sound.{whole}
 use Rattle.products.specs.declared.Site.{Site}
@@ -20,11 +21,12 @@ use Rattle.catalogue.specs.Table.{sites-back, table-empty}
 use Rattle.catalogue.specs.declared.LibraryRead.{LibraryRead}
 use Rattle.library.specs.Said.{saidProduct}
 use Rattle.library.specs.Held.{Held, Spread}
-use Rattle.library.specs.Kept.{coreIn, armsAt, stemOf, joinedAt, allPlaces, armFor, rowArm}
+use Rattle.arms.specs.Arms.{noArm, armOf, coreOf, sixOf, stemOf, joinedTo, stem-joined, rowArm}
+use Rattle.arms.specs.declared.Arm.{Arm}
+use Rattle.arms.specs.declared.Core.{Core}
+use Rattle.arms.specs.declared.Stem.{Stem}
+use Rattle.library.specs.Kept.{armAt, atomsOf, coreAt, allPlaces, armFor}
 use Rattle.library.specs.declared.ProductReply.the-variants as product
-use Rattle.kept.specs.declared.Arm.{Arm}
-use Rattle.kept.specs.declared.Core.{Core}
-use Rattle.library.specs.declared.arms.Stem.{Stem}
 
 -- what the code has of a library that is read
 pub held-read : (d : List ℕ) (l : Library) (r : LibraryRead) → libraryReply d ≡ read l → r ≡ saidLibrary (read l) → Held d l (take (r .count) (r .blocks)) (payloadAt d (r .at)) (r .sites) (r .n)
@@ -36,22 +38,35 @@ held-read d l r e f = rw f (record {
   rest = table-empty (l .sites);
 })
 
-pub spread-read : (d : List ℕ) (l : Library) (r : LibraryRead) → libraryReply d ≡ read l → r ≡ saidLibrary (read l) → (ys : List ℕ) (number : ℕ) (c : Core) (all : List (List ℕ)) → let bs = take (r .count) (r .blocks) in
-    ys ≡ payloadAt d (r .at) → number ≡ le16 ys 0 → c ≡ coreIn d bs number (r .sites) → ((i : ℕ) → i < allPlaces → rowArm (getD all i []) ≡ armFor d bs ys (r .sites) i)
+pub spread-read : (d : List ℕ) (l : Library) (r : LibraryRead) → libraryReply d ≡ read l → r ≡ saidLibrary (read l) → (ys : List ℕ) (c : Core) (all : List (List ℕ)) → let bs = take (r .count) (r .blocks) in
+    ys ≡ payloadAt d (r .at) → c ≡ coreAt d bs ys (r .sites) → ((i : ℕ) → i < allPlaces → rowArm (getD all i []) ≡ armFor d bs ys (r .sites) i)
     → Spread d l bs (payloadAt d (r .at)) (r .sites) (r .n) c all
-spread-read d l r e f ys number c all y n q all-are =
+spread-read d l r e f ys c all y q all-are =
     let bs = take (r .count) (r .blocks) in
     record {
       held = held-read d l r e f;
-      core = q ∙ ap (λ (k : ℕ). coreIn d bs k (r .sites)) n ∙ ap (λ (xs : List ℕ). coreIn d bs (le16 xs 0) (r .sites)) y;
+      core = q ∙ ap (λ (xs : List ℕ). coreAt d bs xs (r .sites)) y;
       arms = λ i h. all-are i h ∙ ap (λ (xs : List ℕ). armFor d bs xs (r .sites) i) y;
     }
 
--- the fields that are joined
-pub joined-said : (d : List ℕ) (bs : List BlockAt) (xs ys : List ℕ) (sites : List Site) (n number : ℕ) (digits : List ℕ) (s : Stem) (c : Core) (arms : List Arm)
-    → ys ≡ xs → number ≡ le16 ys 0 → c ≡ coreIn d bs number sites → arms ≡ armsAt d bs ys sites digits → s ≡ stemOf c arms n → s .six ≡ joinedAt d bs xs sites n digits
-unfolding joinedAt
-joined-said d bs xs ys sites n number digits s c arms e f g h i = rw (i, h, g, f, e)
+-- a candidate, and the core, by what is found
+module _ (d : List ℕ) (bs : List BlockAt) (xs : List ℕ) where
+  pub arm-said : (s : Site) (j number a : ℕ) (b : BlockAt) (bonds : List ℕ) (r : Arm) → number ≡ candidateNumber xs (candidateAt s j) → a ≡ candidateAtom xs (candidateAt s j)
+      → b ≡ find bs number → bonds ≡ bondBytes d b → r ≡ armOf (b .atoms) bonds a → r ≡ armAt d bs xs s j
+  unfolding armAt
+  arm-said s j number a b bonds r e f g h i = i ∙ rw (h, g, f, e) refl
+
+  pub core-said : (sites : List Site) (number : ℕ) (b : BlockAt) (bonds atoms : List ℕ) (r : Core) → number ≡ coreNumber xs → b ≡ find bs number → bonds ≡ bondBytes d b → atoms ≡ atomsOf sites
+      → r ≡ coreOf (b .atoms) bonds atoms → r ≡ coreAt d bs xs sites
+  unfolding coreAt
+  core-said sites number b bonds atoms r e g h f i = i ∙ rw (h, g, f, e) refl
+
+-- the last arm is joined to the core with the others
+pub made-said : (c : Core) (arms : List Arm) (n : ℕ) (s : Stem) (x : Indices) → 1 ≤ n → n ≤ mostSites → s ≡ stemOf c arms (min (n - 1) 3) → x ≡ joinedTo s (getD arms (n - 1) noArm) → x ≡ sixOf c arms n
+made-said c arms n s x one few e f =
+    let z : min (n - 1) 3 ≡ n - 1 = omega arith in
+    let w : suc (n - 1) ≡ n = omega arith in
+    f ∙ ap (λ (y : Stem). joinedTo y (getD arms (n - 1) noArm)) (e ∙ ap (stemOf c arms) z) ∙ stem-joined c arms arms (n - 1) (λ i h. refl) ∙ ap (sixOf c arms) w
 
 module _ (d : List ℕ) (position : ℕ) where
   pub product-refused : (q : Refusal) → libraryReply d ≡ refused q → product.Refused q ≡ saidProduct (productReply d position)

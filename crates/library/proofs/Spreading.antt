@@ -18,11 +18,12 @@ use Rattle.products.specs.Library.{mostCandidates, Library, libraryReply}
 use Rattle.products.specs.Products.{products, productAt}
 use Rattle.products.specs.declared.Site.{Site}
 use Rattle.catalogue.specs.Said.{noSite}
-use Rattle.library.specs.Kept.{noArm, armAt, armFor, rowArm}
+use Rattle.arms.specs.Arms.{noArm, rowArm}
+use Rattle.arms.specs.declared.Arm.{Arm}
+use Rattle.library.specs.Kept.{armAt, armFor}
 use Rattle.library.specs.Steps.{Ran, behind, stepsFrom}
 use Rattle.library.specs.Running.{run-next, run-done, run-full}
 use Rattle.library.specs.Turning.{Going}
-use Rattle.kept.specs.declared.Arm.{Arm}
 
 -- the arm for a place
 module _ (d : List ℕ) (bs : List BlockAt) (xs : List ℕ) (sites : List Site) (i : ℕ) where

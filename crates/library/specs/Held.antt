@@ -8,21 +8,25 @@ use native.Mathlib.Omega.{arith}
 use borrow.Author.Tests.{lt-ltb, le-ltb, ltb-true, ltb-false}
 use lib.Dec.{ltb, lit<}
 use lib.ListN.{length, getD}
-use Rattle.graph.specs.Graph.{Within}
 use Rattle.reply.specs.Read.{read}
-use Rattle.block.specs.Rows.{table}
 use Rattle.records.specs.Records.{payloadAt}
 use Rattle.assembly.specs.declared.BlockAt.{BlockAt}
-use Rattle.products.specs.Library.{mostSites, mostCandidates, coreNumber, Library, libraryReply}
+use Rattle.products.specs.Library.{mostSites, mostCandidates, Library, libraryReply}
 use Rattle.products.specs.Products.{products, choiceAt, productAt}
 use Rattle.products.specs.Sound.{whole}
 use Rattle.products.specs.declared.Site.{Site}
 use Rattle.catalogue.specs.Said.{noSite}
 use Rattle.catalogue.specs.Table.{sitesIn, sites-length}
-use Rattle.library.specs.Kept.{noArm, armAt, coreIn, armsAt, stemOf, joinedAt, allPlaces, armFor, rowArm, picked, choiceIn}
-use Rattle.kept.specs.declared.Arm.{Arm}
-use Rattle.kept.specs.declared.Core.{Core}
+use Rattle.arms.specs.Arms.{noArm, sixOf, rowArm}
+use Rattle.arms.specs.declared.Arm.{Arm}
+use Rattle.arms.specs.declared.Core.{Core}
+use Rattle.library.specs.Kept.{armAt, coreAt, allPlaces, armFor, Picked, choiceIn}
 use Rattle.library.specs.Ready.{few-sites, site-stands, digit-low, product-is}
+
+-- 1 to 8 candidates
+pub record Many (m : ℕ) : Type 0 where
+  pub low : 1 ≤ m
+  pub high : m ≤ mostCandidates
 
 -- the blocks, the payload of the record, and its first n sites in a table that has no others
 pub record Held (d : List ℕ) (l : Library) (bs : List BlockAt) (xs : List ℕ) (sites : List Site) (n : ℕ) : Type 0 where
@@ -35,7 +39,7 @@ pub record Held (d : List ℕ) (l : Library) (bs : List BlockAt) (xs : List ℕ)
 -- with what is kept of the core, and all arms
 pub record Spread (d : List ℕ) (l : Library) (bs : List BlockAt) (xs : List ℕ) (sites : List Site) (n : ℕ) (c : Core) (all : List (List ℕ)) : Type 0 where
   pub held : Held d l bs xs sites n
-  pub core : c ≡ coreIn d bs (coreNumber xs) sites
+  pub core : c ≡ coreAt d bs xs sites
   pub arms : (i : ℕ) → i < allPlaces → rowArm (getD all i []) ≡ armFor d bs xs sites i
 
 module _ {d : List ℕ} {l : Library} {bs : List BlockAt} {xs : List ℕ} {sites : List Site} {n : ℕ} (t : Held d l bs xs sites n) where
@@ -45,8 +49,8 @@ module _ {d : List ℕ} {l : Library} {bs : List BlockAt} {xs : List ℕ} {sites
   pub one : 1 ≤ n
   one = let w = whole d l (t .reads) .listed .few in omega (arith, sites-length sites n, ap length (t .same), w .low)
 
-  pub many : (k : ℕ) → k < n → Within mostCandidates (getD sites k noSite .many)
-  many k h = site-stands d l (t .reads) sites n (t .same) k h .many
+  pub many : (k : ℕ) → k < n → Many (getD sites k noSite .many)
+  many k h = let w = site-stands d l (t .reads) sites n (t .same) k h .many in record { low = w .low; high = w .high }
 
   pub first : (k : ℕ) → getD sites k noSite .first ≤ length xs
   first k = go (ltb k n) refl
@@ -61,15 +65,12 @@ module _ {d : List ℕ} {l : Library} {bs : List BlockAt} {xs : List ℕ} {sites
 
   -- THE FIELDS OF A PRODUCT: joined from what is kept, they are those of the molecule written out
   pub product-joined : (position : ℕ) → position < products (l .sites) → (digits : List ℕ) → choiceIn digits n ≡ choiceAt (sitesIn sites n) position
-      → joinedAt d bs xs sites n digits ≡ productAt d l position
-  product-joined position h digits c =
-      rw (t .blocks, t .payload) (product-is d l (t .reads) sites n (t .same) position h digits (c ∙ ap (λ (ss : List Site). choiceAt ss position) (t .same)))
-
--- two tables are the same where all their places are
-table-same : {A : Type 0} (n : ℕ) (f g : ℕ → A) → ((k : ℕ) → k < n → f k ≡ g k) → table n f ≡ table n g
-unfolding table
-table-same zero f g h = refl
-table-same (suc n) f g h = ap₂ _∷_ (h 0 (omega arith)) (table-same n (λ k. f (suc k)) (λ k. g (suc k)) (λ k l. h (suc k) (omega arith)))
+      → (core : Core) (arms : List Arm) → core ≡ coreAt d bs xs sites → ((k : ℕ) → k < n → getD arms k noArm ≡ armAt d bs xs (getD sites k noSite) (getD digits k 0))
+      → sixOf core arms n ≡ productAt d l position
+  product-joined position h digits c core arms q r =
+      product-is d l (t .reads) sites n (t .same) position h digits (c ∙ ap (λ (ss : List Site). choiceAt ss position) (t .same)) core arms
+      (q ∙ ap₂ (λ (cs : List BlockAt) (ys : List ℕ). coreAt d cs ys sites) (t .blocks) (t .payload))
+      (λ k i. r k i ∙ ap₂ (λ (cs : List BlockAt) (ys : List ℕ). armAt d cs ys (getD sites k noSite) (getD digits k 0)) (t .blocks) (t .payload))
 
 module _ {d : List ℕ} {l : Library} {bs : List BlockAt} {xs : List ℕ} {sites : List Site} {n : ℕ} {c : Core} {all : List (List ℕ)} (t : Spread d l bs xs sites n c all) where
   -- the arm at the place of a site and a digit
@@ -81,18 +82,12 @@ module _ {d : List ℕ} {l : Library} {bs : List BlockAt} {xs : List ℕ} {sites
       let b : (mostCandidates * k + j) % mostCandidates ≡ j = ap (λ (x : ℕ). x % mostCandidates) z ∙ mul-add-mod-self-right k mostCandidates j ∙ mod-eq-of-lt h in
       rw (a, b)
 
-  -- the arms of a choice, picked among all
-  pub picked-is : (digits : List ℕ) → ((k : ℕ) → getD digits k 0 < mostCandidates) → ((k : ℕ) → k < n → getD digits k 0 < getD sites k noSite .many)
-      → picked all digits ≡ armsAt d bs xs sites digits
-  unfolding picked armsAt armAt
-  picked-is digits small low = table-same mostSites _ _ (λ k h. t .arms _ (omega (arith, small k)) ∙ arm-there k (getD digits k 0) (small k) ∙ go k (ltb k n) refl)
-    where
-      go : (k : ℕ) (b : Bool) → ltb k n ≡ b → let j = getD digits k 0 in let s = getD sites k noSite in cond (ltb j (s .many)) (armAt d bs xs s j) noArm ≡ armAt d bs xs s j
-      go k true e = rw (lt-ltb (getD digits k 0) (getD sites k noSite .many) (low k (ltb-true k n e)))
-      go k false e = rw (t .held .rest k (ltb-false k n e), le-ltb (getD digits k 0) 0 (omega arith))
-
-  pub product-spread : (position : ℕ) → position < products (l .sites) → (digits : List ℕ) → ((k : ℕ) → getD digits k 0 < mostCandidates)
-      → choiceIn digits n ≡ choiceAt (sitesIn sites n) position → stemOf c (picked all digits) n .six ≡ productAt d l position
-  unfolding joinedAt
-  product-spread position h digits small e =
-      rw (t .core, picked-is digits small (digits-low (t .held) position h digits e)) (product-joined (t .held) position h digits e)
+  -- and picked among all arms
+  pub product-spread : (position : ℕ) → position < products (l .sites) → (digits : List ℕ) → choiceIn digits n ≡ choiceAt (sitesIn sites n) position
+      → (arms : List Arm) → Picked all digits n arms → sixOf c arms n ≡ productAt d l position
+  product-spread position h digits e arms p =
+      let low = digits-low (t .held) position h digits e in
+      product-joined (t .held) position h digits e c arms (t .core) (λ k i.
+          let small : getD digits k 0 < mostCandidates = omega (arith, low k i, many (t .held) k i .high) in
+          p .arm k i ∙ t .arms _ (omega (arith, small, few (t .held))) ∙ arm-there k (getD digits k 0) small
+          ∙ rw (lt-ltb (getD digits k 0) (getD sites k noSite .many) (low k i)))

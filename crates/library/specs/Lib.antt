@@ -5,7 +5,7 @@
 -- | `stepsFrom`, `runOf`      | steps one after the other, each into what the one before left        | `run-next`, `run-done`, `run-full`                       |
 -- | `valuesReply d f p n`     | 20, the library's refusals, 35, the values of a field from a position | `unique-values`; `filled-whole`: place by place          |
 -- | `saidProduct`, `saidStep` | how the code says it                                                 | `unique-product`, `unique-step`, `unique-run`            |
--- | `stemOf`, `joinedAt`      | a product joined arm by arm from what is kept of the library         | `stem-six`, `product-joined`: the fields of its molecule |
+-- | `coreAt`, `armAt`         | what is kept of the library's core and candidates                    | `product-is`, `product-joined`: joined, they are the product's fields |
 -- | `Held`, `Spread`          | what the code holds of a library that is read                        | `product-spread`                                         |
 -- | `Turns`                   | what the other sites are joined to, while the last one turns         | `turns`: the fields of each product until it is round    |
 -- | `Going`                   | how far a run has come                                               | `going-next`, `going-done`, `going-full`                 |
@@ -19,7 +19,6 @@ pub mod Held
 pub mod Turning
 pub mod Filled
 -- Laws
-pub mod Grows
 pub mod Ready
 pub mod Running
 pub mod Unique

@@ -1,28 +1,28 @@
 -- Work. The last site turns while the others stay: what they are joined to gives the fields of each product of the turn. And how far a run has come.
 use Prim.Native.Nat.{ℕ, zero, suc, _+_, _*_, _-_, _/_, _%_, _≤_, _<_}
 use mathlib.Core.List.{List, [], _∷_}
+use mathlib.Core.Logic.{⊎-elim}
 use mathlib.Core.Path.{_≡_, refl, sym, _∙_, ap, ap₂, subst}
-use native.Mathlib.Nat.{mul-add-div-right, mul-add-mod-self-right, div-add-mod', div-eq-of-lt, div-lt-iff-lt-mul, mod-eq-of-lt, mod-lt, mul-le-mul-right}
+use native.Mathlib.Nat.{eq-or-lt-of-le, mul-add-div-right, mul-add-mod-self-right, div-add-mod', div-eq-of-lt, div-lt-iff-lt-mul, mod-eq-of-lt, mod-lt, mul-le-mul-right}
 use native.Mathlib.Omega.{arith}
 use lib.ListN.{length, getD, set, take, drop}
 use lib.Seq.{getD-set-same, getD-set-other}
 use Rattle.reply.specs.Read.{read}
-use Rattle.block.specs.Tables.{getD-table}
 use Rattle.block.specs.declared.Indices.{Indices}
 use Rattle.records.specs.declared.Sheet.{Sheet}
 use Rattle.assembly.specs.declared.BlockAt.{BlockAt}
-use Rattle.joining.specs.Joining.{joinedOf}
 use Rattle.products.specs.Library.{mostSites, mostCandidates, Library, libraryReply}
 use Rattle.products.specs.Products.{products, choiceAt, productAt}
 use Rattle.products.specs.declared.Site.{Site}
 use Rattle.catalogue.specs.Said.{noSite}
 use Rattle.catalogue.specs.Table.{sitesIn}
-use Rattle.library.specs.Kept.{noVertex, noArm, stemOf, allPlaces, rowArm, picked, choiceIn}
+use Rattle.arms.specs.Arms.{noArm, stemOf, joinedTo, stem-joined, rowArm}
+use Rattle.arms.specs.declared.Arm.{Arm}
+use Rattle.arms.specs.declared.Core.{Core}
+use Rattle.arms.specs.declared.Stem.{Stem}
+use Rattle.library.specs.Kept.{allPlaces, Picked, choiceIn}
 use Rattle.library.specs.Held.{Spread, few, many, product-spread}
 use Rattle.library.specs.Steps.{Ran, behind, stepsFrom}
-use Rattle.kept.specs.declared.Arm.{Arm}
-use Rattle.kept.specs.declared.Core.{Core}
-use Rattle.library.specs.declared.arms.Stem.{Stem}
 use Rattle.library.specs.declared.last.Staying.{Staying}
 
 -- a buffer whose first bytes are written, and what the steps make of the rest
@@ -32,36 +32,19 @@ pub record Going (s : Sheet) (d : List ℕ) (whole : Ran) (out : List ℕ) (p at
   pub lasts : length out ≤ at + fuel
   pub same : whole ≡ behind (take at out) (stepsFrom fuel s d p (drop at out))
 
--- an arm joined to what stays
-abbrev pub joinedTo : Staying → Arm → Indices
-joinedTo s a = joinedOf (s .six) (a .six) (s .from) (a .end)
-
 -- what stays gives the products from a position on, one for each arm that is left
 pub record Turns (d : List ℕ) (l : Library) (all : List (List ℕ)) (position : ℕ) (s : Staying) : Type 0 where
   pub reads : libraryReply d ≡ read l
   pub some : 1 ≤ s .left
   pub stands : s .place + s .left ≤ allPlaces
   pub last : position + s .left ≤ products (l .sites)
-  pub same : (j : ℕ) → j < s .left → joinedTo s (rowArm (getD all (s .place + j) [])) ≡ productAt d l (position + j)
+  pub same : (j : ℕ) → j < s .left → joinedTo (s .stem) (rowArm (getD all (s .place + j) [])) ≡ productAt d l (position + j)
 
--- the first digits and the first arms do not see a later one
+-- the first digits do not see a later one
 choice-kept : (digits : List ℕ) (m x k : ℕ) → k ≤ m → choiceIn (set digits m x) k ≡ choiceIn digits k
 unfolding choiceIn
 choice-kept digits m x zero h = refl
 choice-kept digits m x (suc k) h = ap₂ _∷_ (getD-set-other digits m k x 0 (λ e. omega (arith, e))) (choice-kept digits m x k (omega arith))
-
-stem-kept : (c : Core) (as' bs : List Arm) (k : ℕ) → ((i : ℕ) → i < k → getD as' i noArm ≡ getD bs i noArm) → stemOf c as' k ≡ stemOf c bs k
-unfolding stemOf
-stem-kept c as' bs zero h = refl
-stem-kept c as' bs (suc k) h = rw (stem-kept c as' bs k (λ i l. h i (omega arith)), h k (omega arith))
-
--- a small digit put among small ones
-pub small-set : (t : List ℕ) (k x m : ℕ) → x < m → ((i : ℕ) → getD t i 0 < m) → (i : ℕ) → getD (set t k x) i 0 < m
-small-set [] k x m h s i = s i
-small-set (y ∷ t) zero x m h s zero = h
-small-set (y ∷ t) zero x m h s (suc i) = s (suc i)
-small-set (y ∷ t) (suc k) x m h s zero = s zero
-small-set (y ∷ t) (suc k) x m h s (suc i) = small-set t k x m h (λ j. s (suc j)) i
 
 -- a position some places on, before the last site's digit has run over
 module _ (p m : ℕ) (some : 0 < m) where
@@ -80,16 +63,13 @@ module _ (p m : ℕ) (some : 0 < m) where
       omega (arith, div-add-mod' p m, mod-lt p some, most)
 
 module _ {d : List ℕ} {l : Library} {bs : List BlockAt} {xs : List ℕ} {sites : List Site} {k : ℕ} {c : Core} {all : List (List ℕ)} (t : Spread d l bs xs sites (suc k) c all)
-    (position : ℕ) (low : position < products (l .sites)) (digits : List ℕ) (long : length digits ≡ mostSites) (small : (i : ℕ) → getD digits i 0 < mostCandidates)
-    (chosen : choiceIn digits (suc k) ≡ choiceAt (sitesIn sites (suc k)) position) where
+    (position : ℕ) (low : position < products (l .sites)) (digits : List ℕ) (long : length digits ≡ mostSites)
+    (chosen : choiceIn digits (suc k) ≡ choiceAt (sitesIn sites (suc k)) position) (arms : List Arm) (wide : length arms ≡ mostSites) (picked : Picked all digits k arms) where
   abbrev digit : ℕ
   digit = getD digits k 0
 
   abbrev lastMany : ℕ
   lastMany = getD sites k noSite .many
-
-  abbrev stem : Stem
-  stem = stemOf c (picked all digits) k
 
   some : 0 < lastMany
   some = many (t .held) k (omega arith) .low
@@ -125,27 +105,34 @@ module _ {d : List ℕ} {l : Library} {bs : List BlockAt} {xs : List ℕ} {sites
         ap₂ _∷_ (getD-set-same digits k (digit + j) 0 within ∙ omega (arith, digit-is, digit-on position lastMany some j under))
         (choice-kept digits k (digit + j) k (omega arith) ∙ rest-is ∙ ap (choiceAt (sitesIn sites k)) (sym (rest-on position lastMany some j under)))
 
-    arm-on : getD (picked all turned) k noArm ≡ rowArm (getD all (mostCandidates * k + digit + j) [])
-    unfolding picked
-    arm-on =
-        let e : mostCandidates * k + getD turned k 0 ≡ mostCandidates * k + digit + j = omega (arith, getD-set-same digits k (digit + j) 0 within) in
-        getD-table mostSites _ k noArm (omega (arith, few (t .held))) ∙ ap (λ (i : ℕ). rowArm (getD all i [])) e
+    abbrev arm : Arm
+    arm = rowArm (getD all (mostCandidates * k + digit + j) [])
 
-    arm-kept : (i : ℕ) → i < k → getD (picked all turned) i noArm ≡ getD (picked all digits) i noArm
-    unfolding picked
-    arm-kept i q =
-        getD-table mostSites _ i noArm (omega (arith, few (t .held)))
-        ∙ ap (λ (x : ℕ). rowArm (getD all (mostCandidates * i + x) [])) (getD-set-other digits k i (digit + j) 0 (λ e. omega (arith, e)))
-        ∙ sym (getD-table mostSites _ i noArm (omega (arith, few (t .held))))
+    here : getD (set arms k arm) k noArm ≡ arm
+    here = getD-set-same arms k arm noArm (omega (arith, wide, few (t .held)))
 
-    product-on : let arm = rowArm (getD all (mostCandidates * k + digit + j) []) in joinedOf (stem .six) (arm .six) (getD (stem .seen) k noVertex) (arm .end) ≡ productAt d l (position + j)
-    unfolding stemOf
+    before : (i : ℕ) → i < k → getD (set arms k arm) i noArm ≡ getD arms i noArm
+    before i q = getD-set-other arms k i arm noArm (λ e. omega (arith, e))
+
+    picked-on : Picked all turned (suc k) (set arms k arm)
+    picked-on = record { arm = λ i q. ⊎-elim (λ e. last i e) (λ h. first i h) (eq-or-lt-of-le {n = i} {m = k} (omega arith)) }
+      where
+        last : (i : ℕ) → i ≡ k → getD (set arms k arm) i noArm ≡ rowArm (getD all (mostCandidates * i + getD turned i 0) [])
+        last i e =
+            let z : mostCandidates * k + digit + j ≡ mostCandidates * k + getD turned k 0 = omega (arith, getD-set-same digits k (digit + j) 0 within) in
+            rw e (here ∙ ap (λ (p : ℕ). rowArm (getD all p [])) z)
+
+        first : (i : ℕ) → i < k → getD (set arms k arm) i noArm ≡ rowArm (getD all (mostCandidates * i + getD turned i 0) [])
+        first i q = before i q ∙ picked .arm i q ∙ ap (λ (x : ℕ). rowArm (getD all (mostCandidates * i + x) [])) (sym (getD-set-other digits k i (digit + j) 0 (λ e. omega (arith, e))))
+
+    product-on : joinedTo (stemOf c arms k) (rowArm (getD all (mostCandidates * k + digit + j) [])) ≡ productAt d l (position + j)
     product-on =
-        ap₂ (λ (s : Stem) (a : Arm). joinedOf (s .six) (a .six) (getD (s .seen) k noVertex) (a .end)) (sym (stem-kept c (picked all turned) (picked all digits) k arm-kept)) (sym arm-on)
-        ∙ product-spread t (position + j) (omega (arith, ends, h)) turned (small-set digits k (digit + j) mostCandidates (omega (arith, h, many (t .held) k (omega arith) .high)) small) chosen-on
+        ap (joinedTo (stemOf c arms k)) (sym here)
+        ∙ stem-joined c arms (set arms k arm) k (λ i q. sym (before i q))
+        ∙ product-spread t (position + j) (omega (arith, ends, h)) turned chosen-on (set arms k arm) picked-on
 
   -- THE LAST SITE TURNS: what the others are joined to gives all products until it is round
-  pub turns : Turns d l all position (record { six = stem .six; from = getD (stem .seen) k noVertex; place = mostCandidates * k + digit; left = lastMany - digit })
+  pub turns : Turns d l all position (record { stem = stemOf c arms k; place = mostCandidates * k + digit; left = lastMany - digit })
   turns = record {
     reads = t .held .reads;
     some = omega (arith, digit-is, mod-lt position some);
@@ -156,12 +143,10 @@ module _ {d : List ℕ} {l : Library} {bs : List BlockAt} {xs : List ℕ} {sites
 
 -- as the code has it
 pub staying : {d : List ℕ} {l : Library} {bs : List BlockAt} {xs : List ℕ} {sites : List Site} {n k : ℕ} {c : Core} {all : List (List ℕ)} → n ≡ suc k → Spread d l bs xs sites n c all
-    → (position : ℕ) → position < products (l .sites) → (digits : List ℕ) → length digits ≡ mostSites → ((i : ℕ) → getD digits i 0 < mostCandidates)
-    → choiceIn digits n ≡ choiceAt (sitesIn sites n) position → (s : Stem) → s ≡ stemOf c (picked all digits) k
-    → Turns d l all position (record { six = s .six; from = getD (s .seen) k noVertex; place = mostCandidates * k + getD digits k 0; left = getD sites k noSite .many - getD digits k 0 })
-staying {d} {l} {bs} {xs} {sites} {n} {k} {c} {all} e t position low digits long small chosen s q =
-    let place = mostCandidates * k + getD digits k 0 in
-    let left = getD sites k noSite .many - getD digits k 0 in
+    → (position : ℕ) → position < products (l .sites) → (digits : List ℕ) → length digits ≡ mostSites → choiceIn digits n ≡ choiceAt (sitesIn sites n) position
+    → (arms : List Arm) → length arms ≡ mostSites → Picked all digits k arms → (s : Stem) → s ≡ stemOf c arms k
+    → Turns d l all position (record { stem = s; place = mostCandidates * k + getD digits k 0; left = getD sites k noSite .many - getD digits k 0 })
+staying {d} {l} {bs} {xs} {sites} {n} {k} {c} {all} e t position low digits long chosen arms wide picked s q =
     let held : Spread d l bs xs sites (suc k) c all = subst (λ (m : ℕ). Spread d l bs xs sites m c all) e t in
     let chosen' : choiceIn digits (suc k) ≡ choiceAt (sitesIn sites (suc k)) position = subst (λ (m : ℕ). choiceIn digits m ≡ choiceAt (sitesIn sites m) position) e chosen in
-    subst (λ (x : Stem). Turns d l all position (record { six = x .six; from = getD (x .seen) k noVertex; place = place; left = left })) (sym q) (turns held position low digits long small chosen')
+    subst (λ (x : Stem). Turns d l all position (record { stem = x; place = mostCandidates * k + getD digits k 0; left = getD sites k noSite .many - getD digits k 0 })) (sym q) (turns held position low digits long chosen' arms wide picked)

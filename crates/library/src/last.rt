@@ -1,13 +1,12 @@
 // The last site turns while the others stay: what they are joined to is made once for all its candidates.
-use super::arms::choose;
-use super::arms::with_arms;
+use super::choice::choose;
 use super::spread::ArmRows;
 use super::spread::pick;
-use super::spread::row_arm;
+use arms::Core;
+use arms::Stem;
+use arms::row_arm;
+use arms::stem_of;
 use block::Indices;
-use block::Vertex;
-use joining::joined;
-use kept::Core;
 use products::CANDIDATES;
 use products::SITES;
 use products::Site;
@@ -18,7 +17,6 @@ ghost use mathlib.Core.Path.{_≡_};
 ghost use mathlib.Core.List.{List};
 ghost use Prim.Native.Nat.{ℕ, _+_, _-_, _≤_, _<_};
 ghost use lib.ListN.{length};
-ghost use Rattle.graph.specs.Graph.{Within};
 ghost use Rattle.assembly.specs.declared.BlockAt.{BlockAt};
 ghost use Rattle.sheets.specs.Sheets.{sheetBytes};
 ghost use Rattle.products.specs.Library.{Library};
@@ -29,11 +27,10 @@ ghost use Rattle.library.specs.Turning.{Going, Turns};
 ghost use Rattle.library.specs.Filled.{Filled};
 ghost use Rattle.library.specs.Values.{mostFields, fieldAt, valuesOf};
 
-// What stays while the last site turns: the fields of the core with the other sites' arms, and what is then counted from the last site's atom. The arms that
-// are joined to it stand at this place among all, and `left` of them are to come.
+// What stays while the last site turns: the core with the other sites' arms. The arms that are joined to it stand at this place among all, and `left` of them
+// are to come.
 pub(crate) struct Staying {
-    pub(crate) six: Indices,
-    pub(crate) from: Vertex,
+    pub(crate) stem: Stem,
     pub(crate) place: usize,
     pub(crate) left: usize,
 }
@@ -59,22 +56,14 @@ pub(crate) fn staying_at(
         → Turns d l (now (all .entry)) position r) ⌝ }
 {
     let digits = choose(sites, n, position);
-    let arms = pick(all, digits);
     let k = n - 1;
-    let stem = with_arms(core, arms, k);
-    let six = stem.six;
-    let seen = stem.seen;
-    let from = seen[k];
+    let arms = pick(all, digits, k);
+    let stem = stem_of(core, arms, k);
     let s = sites[k];
     let digit = digits[k];
     let place = CANDIDATES * k + digit;
     let left = (s.many as usize) - digit;
-    Staying {
-        six,
-        from,
-        place,
-        left,
-    }
+    Staying { stem, place, left }
 }
 
 // The sheets of the products from a position on, until the last site has turned or the buffer has no room.
@@ -95,8 +84,7 @@ pub(crate) fn turn(
         → Going sheet d whole (now (out .exit)) (r .next) (r .at)) ⌝ }
 {
     let bytes = bytes_of(sheet);
-    let six = stay.six;
-    let from = stay.from;
+    let stem = stay.stem;
     let place = stay.place;
     let left = stay.left;
     let mut k = 0;
@@ -107,7 +95,7 @@ pub(crate) fn turn(
             return Reached { next, at };
         }
         let arm = row_arm(all[place + k]);
-        let x = joined(six, arm.six, from, arm.end);
+        let x = stem.joined(arm);
         put_sheet(&mut out[at..], sheet, x);
         at += bytes;
         k += 1;
@@ -118,7 +106,7 @@ pub(crate) fn turn(
 
 // A field by its number on the sheet.
 fn field_of(x: Indices, field: usize) -> u64
-    requires { ⌜ Within mostFields field ⌝ }
+    requires { ⌜ (1 ≤ field) × (field ≤ mostFields) ⌝ }
     ensures { λ r. ⌜ r ≡ fieldAt field x ⌝ }
 {
     let all = [x.atoms, x.w, x.even, x.odd, x.polarity, x.largest];
@@ -136,14 +124,13 @@ pub(crate) fn turn_values(
     row: &mut [u64],
 ) -> usize
     requires { ⌜ ((d : List ℕ) × (l : Library) × (position : ℕ) × Turns d l (now all) position stay) ⌝ }
-    requires { ⌜ (start < end) × (end ≤ length (now row)) × Within mostFields field ⌝ }
+    requires { ⌜ (start < end) × (end ≤ length (now row)) × (1 ≤ field) × (field ≤ mostFields) ⌝ }
     ensures on { λ r. ⌜ (start < r) × (r ≤ end) ⌝ }
     ensures fills { λ r. ⌜ ((d : List ℕ) (l : Library) (position : ℕ) (old : List ℕ) → Turns d l (now (all .entry)) (position + start) stay
         → Filled (valuesOf d l field position) old (now (row .entry)) start
         → Filled (valuesOf d l field position) old (now (row .exit)) r) ⌝ }
 {
-    let six = stay.six;
-    let from = stay.from;
+    let stem = stay.stem;
     let place = stay.place;
     let left = stay.left;
     let mut i = 0;
@@ -153,7 +140,7 @@ pub(crate) fn turn_values(
             return end;
         }
         let arm = row_arm(all[place + i]);
-        let x = joined(six, arm.six, from, arm.end);
+        let x = stem.joined(arm);
         row[at] = field_of(x, field);
         i += 1;
     }

@@ -1,27 +1,26 @@
-// The products of a library: what is kept of its core and its candidates, and each product joined from that.
-mod arms;
-mod candidate;
+// The products of a library: what is kept of its core and its candidates, and each product joined from that by the composing crates.
+mod choice;
+mod kept;
 mod last;
 mod spread;
 
-use arms::arms_at;
-use arms::choose;
-use arms::with_arms;
+use arms::Core;
+use arms::stem_of;
 use assembly::BlockTable;
 use block::Indices;
 use catalogue::CountReply;
 use catalogue::LibraryRead;
 use catalogue::read_library;
+use choice::choose;
 use deck::LONGEST;
-use kept::Core;
-use kept::core_in;
+use kept::arms_at;
+use kept::core_at;
 use last::staying_at;
 use last::turn;
 use last::turn_values;
 use products::SITES;
 use products::Site;
 use records::Sheet;
-use records::le16_at;
 use records::payload_at;
 use reply::Refusal;
 use reply::Reply;
@@ -35,7 +34,6 @@ ghost use mathlib.Core.List.{List};
 ghost use Prim.Native.Nat.{ℕ, suc, _+_, _-_, _≤_, _<_, min};
 ghost use lib.ListN.{length, take};
 ghost use Rattle.reply.specs.Read.{read};
-ghost use Rattle.graph.specs.Graph.{Within};
 ghost use Rattle.assembly.specs.declared.BlockAt.{BlockAt};
 ghost use Rattle.records.specs.Records.{payloadAt};
 ghost use Rattle.products.specs.Library.{Library, libraryReply};
@@ -79,10 +77,12 @@ fn fields_at(
 {
     let xs = payload_at(d, at);
     let digits = choose(sites, n, position);
-    let arms = arms_at(d, blocks, count, xs, sites, digits);
-    let core = core_in(d, blocks, count, le16_at(xs, 0) as usize, sites);
-    let stem = with_arms(core, arms, n);
-    stem.six
+    let arms = arms_at(d, blocks, count, xs, sites, n, digits);
+    let core = core_at(d, blocks, count, xs, sites);
+    let k = n - 1;
+    let arm = arms[k];
+    let stem = stem_of(core, arms, k);
+    stem.joined(arm)
 }
 
 // The fields of the product at a position of a library deck, or its refusal.
@@ -181,7 +181,7 @@ fn run_read(d: &[u8], l: LibraryRead, position: usize, sheet: Sheet, out: &mut [
     let blocks = l.blocks;
     let sites = l.sites;
     let xs = payload_at(d, l.at);
-    let core = core_in(d, blocks, l.count, le16_at(xs, 0) as usize, sites);
+    let core = core_at(d, blocks, l.count, xs, sites);
     let all = all_arms(d, blocks, l.count, xs, sites);
     run_over(core, &all, sites, l.n, l.products, position, sheet, out)
 }
@@ -253,7 +253,7 @@ fn values_over(
         ((d : List ℕ) × (l : Library) × (bs : List BlockAt) × (xs : List ℕ) × Spread d l bs xs sites n core (now all)
         × (count ≤ products (l .sites) - position))
         ⌝ }
-    requires { ⌜ (count ≤ length (now row)) × Within mostFields field ⌝ }
+    requires { ⌜ (count ≤ length (now row)) × (1 ≤ field) × (field ≤ mostFields) ⌝ }
     ensures { λ _. ⌜
         ((d : List ℕ) (l : Library) (bs : List BlockAt) (xs : List ℕ) → Spread d l bs xs sites n core (now (all .entry))
         → count ≤ products (l .sites) - position
@@ -280,7 +280,7 @@ fn values_read(
     requires { ⌜
         ((k : Library) × (libraryReply (now d) ≡ read k) × (l ≡ saidLibrary (read k)) × (count ≤ products (k .sites) - position))
         ⌝ }
-    requires { ⌜ (count ≤ length (now row)) × Within mostFields field ⌝ }
+    requires { ⌜ (count ≤ length (now row)) × (1 ≤ field) × (field ≤ mostFields) ⌝ }
     ensures { λ _. ⌜
         ((k : Library) → libraryReply (now (d .entry)) ≡ read k → l ≡ saidLibrary (read k) → count ≤ products (k .sites) - position
         → Filled (valuesOf (now (d .entry)) k field position) (now (row .entry)) (now (row .exit)) count)
@@ -289,7 +289,7 @@ fn values_read(
     let blocks = l.blocks;
     let sites = l.sites;
     let xs = payload_at(d, l.at);
-    let core = core_in(d, blocks, l.count, le16_at(xs, 0) as usize, sites);
+    let core = core_at(d, blocks, l.count, xs, sites);
     let all = all_arms(d, blocks, l.count, xs, sites);
     values_over(core, &all, sites, l.n, position, field, count, row);
 }

@@ -1,10 +1,11 @@
 // All arms of a library at once, and those of a choice among them.
-use super::candidate::arm_at;
+use super::kept::arm_at;
+use arms::Arm;
+use arms::ArmRow;
+use arms::NO_ARM;
+use arms::arm_row;
+use arms::row_arm;
 use assembly::BlockTable;
-use block::Indices;
-use block::Vertex;
-use kept::Arm;
-use kept::NO_ARM;
 use products::CANDIDATES;
 use products::SITES;
 use products::Site;
@@ -12,63 +13,15 @@ ghost use mathlib.Core.Path.{_≡_};
 ghost use mathlib.Core.List.{[]};
 ghost use Prim.Native.Nat.{ℕ, _≤_, _<_};
 ghost use lib.ListN.{length, take, getD};
-ghost use Rattle.products.specs.Library.{mostCandidates};
+ghost use Rattle.products.specs.Library.{mostSites, mostCandidates};
 ghost use Rattle.catalogue.specs.Said.{noSite};
-ghost use Rattle.library.specs.Kept.{allPlaces, rowArm, armFor, picked};
+ghost use Rattle.library.specs.Kept.{allPlaces, armFor, Picked};
+ghost use Rattle.arms.specs.Arms.{rowArm};
 
-// An arm as a row of numbers, and the rows of all arms: those of each site one after the other.
+// The rows of all arms: those of each site one after the other.
 pub(crate) const PLACES: usize = SITES * CANDIDATES;
 
-type ArmRow = [u64; 14];
-
 pub(crate) type ArmRows = [ArmRow; PLACES];
-
-fn arm_row(arm: Arm) -> ArmRow
-    ensures { λ r. ⌜ rowArm r ≡ arm ⌝ }
-{
-    let x = arm.six;
-    let v = arm.end;
-    [
-        x.atoms,
-        x.w,
-        x.even,
-        x.odd,
-        x.polarity,
-        x.largest,
-        v.sum,
-        v.even,
-        v.odd,
-        v.evens,
-        v.odds,
-        v.ones,
-        v.twos,
-        v.farthest,
-    ]
-}
-
-pub(crate) fn row_arm(row: ArmRow) -> Arm
-    ensures { λ r. ⌜ r ≡ rowArm row ⌝ }
-{
-    let six = Indices {
-        atoms: row[0],
-        w: row[1],
-        even: row[2],
-        odd: row[3],
-        polarity: row[4],
-        largest: row[5],
-    };
-    let end = Vertex {
-        sum: row[6],
-        even: row[7],
-        odd: row[8],
-        evens: row[9],
-        odds: row[10],
-        ones: row[11],
-        twos: row[12],
-        farthest: row[13],
-    };
-    Arm { six, end }
-}
 
 // The arm for a place among all.
 fn arm_for(
@@ -112,14 +65,17 @@ pub(crate) fn all_arms(
     all
 }
 
-// The arms of a choice among all.
-pub(crate) fn pick(all: &ArmRows, digits: [usize; SITES]) -> [Arm; SITES]
-    requires { ⌜ ((k : ℕ) → getD digits k 0 < mostCandidates) ⌝ }
-    ensures { λ r. ⌜ r ≡ picked (now (all .entry)) digits ⌝ }
+// The arms of a choice for the first n sites, among all.
+pub(crate) fn pick(all: &ArmRows, digits: [usize; SITES], n: usize) -> [Arm; SITES]
+    requires { ⌜ (n ≤ mostSites) × ((k : ℕ) → k < n → getD digits k 0 < mostCandidates) ⌝ }
+    ensures { λ r. ⌜ Picked (now (all .entry)) digits n r ⌝ }
 {
-    let a0 = row_arm(all[digits[0]]);
-    let a1 = row_arm(all[CANDIDATES + digits[1]]);
-    let a2 = row_arm(all[2 * CANDIDATES + digits[2]]);
-    let a3 = row_arm(all[3 * CANDIDATES + digits[3]]);
-    [a0, a1, a2, a3]
+    let mut arms = [NO_ARM; SITES];
+    let mut k: usize = 0;
+    while k < n {
+        let arm = row_arm(all[CANDIDATES * k + digits[k]]);
+        arms[k] = arm;
+        k += 1;
+    }
+    arms
 }

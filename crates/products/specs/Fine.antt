@@ -82,7 +82,7 @@ length-placed xs (s ∷ ss) [] c = absurd c
 length-placed xs (s ∷ ss) (j ∷ js) c = length-append (placedBytes xs ss js) (joinBytes xs s j) ∙ omega (arith, length-placed xs ss js (c .1))
 
 -- the first placement is the core
-core-said : (xs : List ℕ) (ss : List Site) (js : List ℕ) → IsChoice ss js → placedIn (placedBytes xs ss js) 0 ≡ record { block = coreNumber xs; parent = 0; site = 0; own = 0 }
+pub core-said : (xs : List ℕ) (ss : List Site) (js : List ℕ) → IsChoice ss js → placedIn (placedBytes xs ss js) 0 ≡ record { block = coreNumber xs; parent = 0; site = 0; own = 0 }
 unfolding IsChoice placedBytes little
 core-said xs [] js c = refl
 core-said xs (s ∷ ss) [] c = absurd c

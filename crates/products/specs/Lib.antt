@@ -6,7 +6,7 @@
 -- | `choiceAt sites p`    | the candidates at a position, the last site turning fastest    | `each-choice-once`: positions and choices are one to one  |
 -- | `assemblyAt d l p`    | the assembly of a product, written out                         | `product-fine`: it is never refused                       |
 -- | `productAt d l p`     | the fields of its molecule                                     | `product-deck`: those of the deck with that assembly      |
--- | `moleculeOver book x` | the molecule of an assembly over a book of blocks              | `product-grows`: one candidate joined to the earlier ones |
+-- | `moleculeOver book x` | the molecule of an assembly over a book of blocks              | `product-deck`                                            |
 -- Definitions
 pub mod Library
 pub mod Products
@@ -16,5 +16,4 @@ pub mod Examples
 pub mod Choices
 pub mod Sound
 pub mod Fine
-pub mod Growth
 pub mod Written

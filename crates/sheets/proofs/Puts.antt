@@ -34,6 +34,19 @@ sets-more l i (x ∷ xs) ys =
     let e : suc i + length xs ≡ i + suc (length xs) = omega arith in
     sets-more (set l i x) (suc i) xs ys ∙ ap (λ (n : ℕ). sets (sets (set l i x) (suc i) xs) n ys) e
 
+-- two, four and eight bytes, one behind the other
+pub two : (l : List ℕ) {m r : List ℕ} (at x : ℕ) → m ≡ set l at (x % 256) → r ≡ set m (at + 1) (x / 256 % 256) → r ≡ sets l at (littleBytes 2 x)
+unfolding littleBytes
+two l at x e f = f ∙ rw (e, add-one at)
+
+pub four : (l : List ℕ) {m r : List ℕ} (at x : ℕ) → m ≡ sets l at (littleBytes 2 x) → r ≡ sets m (at + 2) (littleBytes 2 (x / 256 / 256)) → r ≡ sets l at (littleBytes 4 x)
+unfolding littleBytes
+four l at x e f = f ∙ ap (λ (m : List ℕ). sets m (at + 2) (littleBytes 2 (x / 256 / 256))) e ∙ sym (sets-more l at (littleBytes 2 x) (littleBytes 2 (x / 256 / 256)))
+
+pub eight : (l : List ℕ) {m r : List ℕ} (at x : ℕ) → m ≡ sets l at (littleBytes 4 x) → r ≡ sets m (at + 4) (littleBytes 4 (x / 256 / 256 / 256 / 256)) → r ≡ sets l at (littleBytes 8 x)
+unfolding littleBytes
+eight l at x e f = f ∙ ap (λ (m : List ℕ). sets m (at + 4) (littleBytes 4 (x / 256 / 256 / 256 / 256))) e ∙ sym (sets-more l at (littleBytes 4 x) (littleBytes 4 (x / 256 / 256 / 256 / 256)))
+
 pub length-fields : (ws d : List ℕ) (at : ℕ) → length (fieldsAt ws d at) ≡ length ws
 unfolding fieldsAt
 length-fields [] d at = refl

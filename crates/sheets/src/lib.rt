@@ -1,9 +1,10 @@
 // The sheet: a list of fields, each in so many bytes, of which a sheet of five has all but the last. It is read, written and compared by going along that list.
+mod store;
+
 ghost use mathlib.Core.Path.{_≡_};
 ghost use Prim.Native.Nat.{_+_, _^_, _≤_, _<_};
 ghost use lib.ListN.{length, take};
 ghost use lib.Seq.{sets};
-ghost use Rattle.records.specs.Bytes.{littleBytes};
 ghost use Rattle.records.specs.Records.{headBytes, sheetAt};
 ghost use Rattle.sheets.specs.Sheets.{fieldCount, allFields, allWidths, fieldsOf, fieldsAt, claimedAt, fieldBytes, sheetBytes, sheetPut, firstWrong};
 ghost use Rattle.sheets.specs.Along.{widthsTotal, Narrow};
@@ -13,6 +14,7 @@ use records::Sheet;
 use records::little_at;
 use records::sheet_at;
 use records::sheet_kind;
+use store::put;
 
 // How many fields there are.
 const FIELDS: usize = 6;
@@ -77,21 +79,6 @@ fn claimed(d: &[u8], sheet: usize) -> Fields
     let w = widths();
     read_fields(d, sheet + HEAD, &w, &mut fields);
     fields
-}
-
-// Puts a number into as many bytes as `width` says, from a place on, little-endian.
-fn put(out: &mut [u8], at: usize, width: usize, n: u64)
-    requires { ⌜ at + width ≤ length (now out) ⌝ }
-    ensures { λ _. ⌜ now (out .exit) ≡ sets (now (out .entry)) at (littleBytes width n) ⌝ }
-{
-    let end = at + width;
-    let mut k = at;
-    let mut rest = n;
-    while k < end {
-        out[k] = (rest % 256) as u8;
-        rest = rest / 256;
-        k += 1;
-    }
 }
 
 // Puts numbers into fields of some widths, one after the other from a place on.

@@ -47,14 +47,14 @@ module _ {s : List ℕ} (lent : LentBytes s) where
   far-byte : (i j : ℕ) → farAt s i j < 2 ^ 8
   far-byte i j = omega (arith, far-few s i j)
 
-  fields-bytes : SixBytes (storedFields s)
+  pub fields-bytes : SixBytes (storedFields s)
   unfolding storedFields
   fields-bytes = record { atoms = omega arith; w = omega (arith, four 4, four 8); even = four 4; odd = four 8; polarity = four 12; largest = lent .byte 3 }
 
   kept : SmallPart (keptOf s)
   kept = record { six = fields-bytes; sight = vertex-bytes s; far = far-byte }
 
-small-held : {n : ℕ} {v : Vertex} → n ≤ 32 → SmallSight n v → SmallCounts v
+pub small-held : {n : ℕ} {v : Vertex} → n ≤ 32 → SmallSight n v → SmallCounts v
 small-held h p = record {
   sum = omega (arith, p .sum);
   even = omega (arith, p .even);
@@ -66,7 +66,7 @@ small-held h p = record {
   farthest = omega (arith, p .farthest);
 }
 
-room-held : {n : ℕ} {x : Indices} → n ≤ 32 → SixHeld n x → SmallFields x
+pub room-held : {n : ℕ} {x : Indices} → n ≤ 32 → SixHeld n x → SmallFields x
 room-held h p = record {
   atoms = omega (arith, p .atoms);
   w = omega (arith, p .w);
@@ -76,7 +76,7 @@ room-held h p = record {
   largest = omega (arith, p .largest);
 }
 
-room-bytes : {x : Indices} → SixBytes x → SmallFields x
+pub room-bytes : {x : Indices} → SixBytes x → SmallFields x
 room-bytes p = record {
   atoms = omega (arith, p .atoms);
   w = omega (arith, p .w);

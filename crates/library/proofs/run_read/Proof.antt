@@ -3,55 +3,47 @@ use Prim.Native.Nat.{ℕ, _≤_}
 use mathlib.Core.List.{List}
 use mathlib.Core.Path.{_≡_, sym, ap, subst}
 use lib.ListN.{length, take, getD}
-use borrow.Author.Needs.{needs}
 use Rattle.records.specs.Records.{payloadAt}
 use Rattle.catalogue.specs.Said.{noSite}
 use Rattle.catalogue.specs.declared.LibraryRead.{LibraryRead}
 use Rattle.products.specs.Products.{products}
 use Rattle.library.specs.Held.{Spread, first}
 use Rattle.library.proofs.Making.{held-read, spread-read}
+use borrow.Author.Needs.{needs}
 use Rattle.library.proofs.run_read.Statement.{statement}
 use Rattle.library.proofs.run_read.Tie as tie
 
 -- what is kept of the library
-kept : (c : tie.After-all-arms) → let a = c .before .before .before .before .before .before .before .before .args in let l = c .before .before .before .before .before .before .before .before .pre .0 in
-    Spread (a .d .now) l (take (a .l .count) (a .l .blocks)) (payloadAt (a .d .now) (a .l .at)) (a .l .sites) (a .l .n) (c .before .core-in .result) (c .all-arms .result)
-kept c = let a = c .before .before .before .before .before .before .before .before .args in let p = c .before .before .before .before .before .before .before .before .pre in
-    spread-read (a .d .now) (p .0) (a .l) (p .1) (p .2) _ _ _ _ (c .before .before .before .payload-at .ensures .bytes) (c .before .before .le16-at .ensures) (c .before .core-in .ensures) (c .all-arms .ensures)
+kept : (c : tie.After-all-arms) → let a = c .before .before .before .before .before .before .before .args in let l = c .before .before .before .before .before .before .before .pre .0 in
+    Spread (a .d .now) l (take (a .l .count) (a .l .blocks)) (payloadAt (a .d .now) (a .l .at)) (a .l .sites) (a .l .n) (c .before .core-at .result) (c .all-arms .result)
+kept c = let a = c .before .before .before .before .before .before .before .args in let p = c .before .before .before .before .before .before .before .pre in
+    spread-read (a .d .now) (p .0) (a .l) (p .1) (p .2) _ _ _ (c .before .before .payload-at .ensures .bytes) (c .before .core-at .ensures) (c .all-arms .ensures)
 
 payload-at-requires : tie.Need-payload-at-requires
 payload-at-requires c κs = search needs
 
-le16-at-requires : tie.Need-le16-at-requires
-le16-at-requires c κs = search needs
-
-cast-core-in : tie.Need-cast-core-in
-cast-core-in c = search needs
-
-core-in-requires : tie.Need-core-in-requires
-core-in-requires c κs = search needs
+core-at-requires : tie.Need-core-at-requires
+core-at-requires c κs = search needs
 
 all-arms-requires : tie.Need-all-arms-requires
-all-arms-requires c κs = let a = c .before .before .before .before .before .before .before .args in let p = c .before .before .before .before .before .before .before .pre in
-    subst (λ (ys : List ℕ). (k : ℕ) → getD (a .l .sites) k noSite .first ≤ length ys) (sym (c .before .before .payload-at .ensures .bytes)) (first (held-read (a .d .now) (p .0) (a .l) (p .1) (p .2)))
+all-arms-requires c κs = let a = c .before .before .before .before .before .before .args in let p = c .before .before .before .before .before .before .pre in
+    subst (λ (ys : List ℕ). (k : ℕ) → getD (a .l .sites) k noSite .first ≤ length ys) (sym (c .before .payload-at .ensures .bytes)) (first (held-read (a .d .now) (p .0) (a .l) (p .1) (p .2)))
 
 run-over-requires : tie.Need-run-over-requires
-run-over-requires c κs = let p = c .before .before .before .before .before .before .before .before .before .before .pre in (_, p .0, _, _, kept (c .before .before), ap (λ (x : LibraryRead). x .products) (p .2))
+run-over-requires c κs = let p = c .before .before .before .before .before .before .before .before .before .pre in (_, p .0, _, _, kept (c .before .before), ap (λ (x : LibraryRead). x .products) (p .2))
 
 same-length : tie.Need-same-length
 same-length c = search needs
 
 returns : tie.Need-returns
-returns c = let p = c .before .before .before .before .before .before .before .before .before .before .before .before .before .pre in c .before .before .run-over .ensures _ (p .0) _ _ (kept (c .before .before .before .before .before)) (ap (λ (x : LibraryRead). x .products) (p .2))
+returns c = let p = c .before .before .before .before .before .before .before .before .before .before .before .before .pre in c .before .before .run-over .ensures _ (p .0) _ _ (kept (c .before .before .before .before .before)) (ap (λ (x : LibraryRead). x .products) (p .2))
 
 pub run-read-spec : {M : Type 1} → statement M
 run-read-spec =
     tie.close
     (tie.spec
     payload-at-requires
-    le16-at-requires
-    cast-core-in
-    core-in-requires
+    core-at-requires
     all-arms-requires
     run-over-requires
     same-length

@@ -44,7 +44,8 @@ count-from-requires c κs = search needs
 
 values-read-requires : tie.Need-values-read-requires
 values-read-requires c κs = let a = c .before .before .before .before .before .before .before .before .before .args in let (l, e, f) = library (c .before .before .before .before) in let n = counted (c .before) in
-    ((l, e, f, omega (arith, n)), (omega (arith, n), inside _ _ (sym (c .before .before .before .is-outside .ensures) ∙ c .before .before .if1 .left)))
+    let w = inside _ _ (sym (c .before .before .before .is-outside .ensures) ∙ c .before .before .if1 .left) in
+    ((l, e, f, omega (arith, n)), (omega (arith, n), w .low, w .high))
 
 returns-2 : tie.Need-returns-2
 returns-2 c = let a = c .before .before .before .before .before .before .args in let r = c .before .before .before .read-library in values-refused (a .d .now) (a .field) (a .position) (a .row .now) _ (library-stops _ (r .result) _ (r .ensures) (c .before .reply .given .1))

@@ -36,7 +36,7 @@ staying-at-requires c κs = let p = c .before .before .before .pre .0 in (p .0, 
 turn-values-requires : tie.Need-turn-values-requires Inv-loop μ-loop
 turn-values-requires c κs = let p = c .before .before .before .before .before .pre in let q = p .0 in
     let test = c .before .before .loop-test .taken in
-    ((q .0, q .1, _, c .before .staying-at .ensures (q .0) (q .1) (q .2) (q .3) (q .4) (omega (arith, q .5, test))), (test, omega (arith, p .1 .0, c .before .before .before .loop .inv .0), p .1 .1))
+    ((q .0, q .1, _, c .before .staying-at .ensures (q .0) (q .1) (q .2) (q .3) (q .4) (omega (arith, q .5, test))), (test, omega (arith, p .1 .0, c .before .before .before .loop .inv .0), p .1 .1, p .1 .2))
 
 loop-less : tie.Need-loop-less Inv-loop μ-loop
 loop-less c = omega (arith, c .before .before .turn-values .ensures .0, c .before .before .before .before .before .loop-test .taken)

@@ -3,54 +3,46 @@ use Prim.Native.Nat.{ℕ, _≤_}
 use mathlib.Core.List.{List}
 use mathlib.Core.Path.{_≡_, sym, subst}
 use lib.ListN.{length, take, getD}
-use borrow.Author.Needs.{needs}
 use Rattle.records.specs.Records.{payloadAt}
 use Rattle.catalogue.specs.Said.{noSite}
 use Rattle.library.specs.Held.{Spread, first}
 use Rattle.library.proofs.Making.{held-read, spread-read}
+use borrow.Author.Needs.{needs}
 use Rattle.library.proofs.values_read.Statement.{statement}
 use Rattle.library.proofs.values_read.Tie as tie
 
 -- what is kept of the library
-kept : (c : tie.After-all-arms) → let a = c .before .before .before .before .before .before .before .before .args in let l = c .before .before .before .before .before .before .before .before .pre .0 .0 in
-    Spread (a .d .now) l (take (a .l .count) (a .l .blocks)) (payloadAt (a .d .now) (a .l .at)) (a .l .sites) (a .l .n) (c .before .core-in .result) (c .all-arms .result)
-kept c = let a = c .before .before .before .before .before .before .before .before .args in let p = c .before .before .before .before .before .before .before .before .pre .0 in
-    spread-read (a .d .now) (p .0) (a .l) (p .1) (p .2) _ _ _ _ (c .before .before .before .payload-at .ensures .bytes) (c .before .before .le16-at .ensures) (c .before .core-in .ensures) (c .all-arms .ensures)
+kept : (c : tie.After-all-arms) → let a = c .before .before .before .before .before .before .before .args in let l = c .before .before .before .before .before .before .before .pre .0 .0 in
+    Spread (a .d .now) l (take (a .l .count) (a .l .blocks)) (payloadAt (a .d .now) (a .l .at)) (a .l .sites) (a .l .n) (c .before .core-at .result) (c .all-arms .result)
+kept c = let a = c .before .before .before .before .before .before .before .args in let p = c .before .before .before .before .before .before .before .pre .0 in
+    spread-read (a .d .now) (p .0) (a .l) (p .1) (p .2) _ _ _ (c .before .before .payload-at .ensures .bytes) (c .before .core-at .ensures) (c .all-arms .ensures)
 
 payload-at-requires : tie.Need-payload-at-requires
 payload-at-requires c κs = search needs
 
-le16-at-requires : tie.Need-le16-at-requires
-le16-at-requires c κs = search needs
-
-cast-core-in : tie.Need-cast-core-in
-cast-core-in c = search needs
-
-core-in-requires : tie.Need-core-in-requires
-core-in-requires c κs = search needs
+core-at-requires : tie.Need-core-at-requires
+core-at-requires c κs = search needs
 
 all-arms-requires : tie.Need-all-arms-requires
-all-arms-requires c κs = let a = c .before .before .before .before .before .before .before .args in let p = c .before .before .before .before .before .before .before .pre .0 in
-    subst (λ (ys : List ℕ). (k : ℕ) → getD (a .l .sites) k noSite .first ≤ length ys) (sym (c .before .before .payload-at .ensures .bytes)) (first (held-read (a .d .now) (p .0) (a .l) (p .1) (p .2)))
+all-arms-requires c κs = let a = c .before .before .before .before .before .before .args in let p = c .before .before .before .before .before .before .pre .0 in
+    subst (λ (ys : List ℕ). (k : ℕ) → getD (a .l .sites) k noSite .first ≤ length ys) (sym (c .before .payload-at .ensures .bytes)) (first (held-read (a .d .now) (p .0) (a .l) (p .1) (p .2)))
 
 values-over-requires : tie.Need-values-over-requires
-values-over-requires c κs = let p = c .before .before .before .before .before .before .before .before .before .before .pre in ((_, p .0 .0, _, _, kept (c .before .before), p .0 .3), p .1)
+values-over-requires c κs = let p = c .before .before .before .before .before .before .before .before .before .pre in ((_, p .0 .0, _, _, kept (c .before .before), p .0 .3), p .1)
 
 same-length : tie.Need-same-length
 same-length c = search needs
 
 returns : tie.Need-returns
-returns c k e f m = let a = c .before .before .before .before .before .before .before .before .before .before .before .before .before .args in
-    c .before .before .values-over .ensures (a .d .now) k _ _ (spread-read (a .d .now) k (a .l) e f _ _ _ _ (c .before .before .before .before .before .before .before .before .payload-at .ensures .bytes) (c .before .before .before .before .before .before .before .le16-at .ensures) (c .before .before .before .before .before .before .core-in .ensures) (c .before .before .before .before .before .all-arms .ensures)) m
+returns c k e f m = let a = c .before .before .before .before .before .before .before .before .before .before .before .before .args in
+    c .before .before .values-over .ensures (a .d .now) k _ _ (spread-read (a .d .now) k (a .l) e f _ _ _ (c .before .before .before .before .before .before .before .payload-at .ensures .bytes) (c .before .before .before .before .before .before .core-at .ensures) (c .before .before .before .before .before .all-arms .ensures)) m
 
 pub values-read-spec : {M : Type 1} → statement M
 values-read-spec =
     tie.close
     (tie.spec
     payload-at-requires
-    le16-at-requires
-    cast-core-in
-    core-in-requires
+    core-at-requires
     all-arms-requires
     values-over-requires
     same-length

@@ -1,11 +1,12 @@
 -- `library::spread::all_arms` meets its contract. Assumes nothing.
 use Prim.Native.Nat.{ℕ, _-_, _≤_, _<_}
 use mathlib.Core.List.{[]}
-use mathlib.Core.Path.{_≡_, refl, _∙_}
+use mathlib.Core.Path.{_≡_, refl, _∙_, ap}
 use native.Mathlib.Omega.{arith}
 use lib.ListN.{length, take, getD, length-set}
 use borrow.Author.Needs.{needs}
-use Rattle.library.specs.Kept.{allPlaces, armFor, rowArm}
+use Rattle.arms.specs.Arms.{rowArm}
+use Rattle.library.specs.Kept.{allPlaces, armFor}
 use Rattle.library.proofs.Spreading.{rows-next}
 use Rattle.library.proofs.spread.all_arms.Statement.{statement}
 use Rattle.library.proofs.spread.all_arms.Tie as tie
@@ -41,7 +42,7 @@ loop-again : tie.Need-loop-again Inv-loop μ-loop
 loop-again c = let a = c .before .before .before .before .before .before .args in let l = c .before .before .before .loop in (
   length-set (l .all) (l .i) _ ∙ l .inv .0,
   omega arith,
-  rows-next (l .all) (l .i) _ (armFor (a .d .now) (take (a .count) (a .blocks)) (a .xs .now) (a .sites)) (omega (arith, l .inv .0)) (c .arm-row .ensures ∙ c .before .arm-for .ensures) (l .inv .2),
+  rows-next (l .all) (l .i) _ (armFor (a .d .now) (take (a .count) (a .blocks)) (a .xs .now) (a .sites)) (omega (arith, l .inv .0)) (ap rowArm (c .arm-row .ensures) ∙ c .before .arm-for .ensures) (l .inv .2),
 )
 
 returns : tie.Need-returns Inv-loop μ-loop

@@ -1,109 +1,88 @@
--- `library::spread::pick` meets its contract. Assumes nothing.
-use Prim.Native.Nat.{ℕ, _+_, _*_}
+-- `library::spread::pick` meets its contract. The loop's invariant: the first k arms are picked. Assumes nothing.
+use Prim.Native.Nat.{ℕ, _+_, _*_, _-_, _≤_, _<_}
 use mathlib.Core.List.{[]}
-use mathlib.Core.Path.{_≡_, _∙_, ap}
+use mathlib.Core.Path.{_≡_, refl, _∙_}
 use native.Mathlib.Omega.{arith}
-use lib.ListN.{getD}
+use lib.ListN.{length, getD, length-set}
 use borrow.Author.Needs.{needs}
-use Rattle.block.specs.Rows.{table}
-use Rattle.products.specs.Library.{mostCandidates}
-use Rattle.library.specs.Kept.{rowArm, picked}
-use Rattle.library.proofs.Told.{four}
+use Rattle.arms.specs.Arms.{noArm, rowArm}
+use Rattle.arms.proofs.Keeping.{put-next}
+use Rattle.products.specs.Library.{mostSites, mostCandidates}
+use Rattle.library.specs.Kept.{Picked}
 use Rattle.library.proofs.spread.pick.Statement.{statement}
 use Rattle.library.proofs.spread.pick.Tie as tie
 
-array-read-row-arm : tie.Need-array-read-row-arm
+abbrev Inv-loop : tie.InvT-loop
+Inv-loop all n digits arms₀ k₀ arms k = (length arms ≡ mostSites) × (k ≤ n) × ((j : ℕ) → j < k → getD arms j noArm ≡ rowArm (getD all (mostCandidates * j + getD digits j 0) []))
+
+abbrev μ-loop : tie.MeasureT-loop
+μ-loop all n digits arms₀ k₀ arms k = n - k
+
+loop-holds : tie.Need-loop-holds Inv-loop μ-loop
+loop-holds c = (refl, omega arith, λ j h. absurd (omega arith))
+
+mul-row-arm : tie.Need-mul-row-arm Inv-loop μ-loop
+mul-row-arm c = search needs
+
+mul-row-arm-2 : tie.Need-mul-row-arm-2 Inv-loop μ-loop
+mul-row-arm-2 c = search needs
+
+array-read-row-arm : tie.Need-array-read-row-arm Inv-loop μ-loop
 array-read-row-arm c = search needs
 
-mul-row-arm : tie.Need-mul-row-arm
-mul-row-arm c = omega (arith, c .pre 0)
+add-row-arm : tie.Need-add-row-arm Inv-loop μ-loop
+add-row-arm c = let k = c .before .loop .k in let p = c .before .before .pre in omega (arith, p .0, p .1 k (c .loop-test .taken), c .loop-test .taken)
 
-element-copy-out-row-arm : tie.Need-element-copy-out-row-arm
-element-copy-out-row-arm c = omega (arith, c .pre 0)
+mul-row-arm-3 : tie.Need-mul-row-arm-3 Inv-loop μ-loop
+mul-row-arm-3 c = let k = c .before .loop .k in let p = c .before .before .pre in omega (arith, p .0, p .1 k (c .loop-test .taken), c .loop-test .taken)
 
-row-arm-requires : tie.Need-row-arm-requires
+element-copy-out-row-arm : tie.Need-element-copy-out-row-arm Inv-loop μ-loop
+element-copy-out-row-arm c = let k = c .before .loop .k in let p = c .before .before .pre in omega (arith, p .0, p .1 k (c .loop-test .taken), c .loop-test .taken)
+
+row-arm-requires : tie.Need-row-arm-requires Inv-loop μ-loop
 row-arm-requires c κs = search needs
 
-array-read-row-arm-2 : tie.Need-array-read-row-arm-2
-array-read-row-arm-2 c = search needs
+mul-arms : tie.Need-mul-arms Inv-loop μ-loop
+mul-arms c = search needs
 
-add-row-arm : tie.Need-add-row-arm
-add-row-arm c = omega (arith, c .before .before .pre 1)
+array-set-from-arms : tie.Need-array-set-from-arms Inv-loop μ-loop
+array-set-from-arms c = search needs
 
-mul-row-arm-2 : tie.Need-mul-row-arm-2
-mul-row-arm-2 c = omega (arith, c .before .before .pre 1)
+add-k : tie.Need-add-k Inv-loop μ-loop
+add-k c = search needs
 
-element-copy-out-row-arm-2 : tie.Need-element-copy-out-row-arm-2
-element-copy-out-row-arm-2 c = omega (arith, c .before .before .pre 1)
+loop-less : tie.Need-loop-less Inv-loop μ-loop
+loop-less c = search needs
 
-row-arm-requires-2 : tie.Need-row-arm-requires-2
-row-arm-requires-2 c κs = search needs
+loop-again : tie.Need-loop-again Inv-loop μ-loop
+loop-again c =
+    let l = c .before .before .before .loop in
+    let a = c .before .before .before .before .args in (
+      length-set (l .arms) (l .k) _ ∙ l .inv .0,
+      omega arith,
+      put-next noArm (λ (j : ℕ). rowArm (getD (a .all .now) (mostCandidates * j + getD (a .t2) j 0) [])) (l .arms) (l .k) _ (omega (arith, l .inv .0, c .before .before .loop-test .taken, c .before .before .before .before .pre .0)) (c .row-arm .ensures) (l .inv .2),
+    )
 
-mul-row-arm-3 : tie.Need-mul-row-arm-3
-mul-row-arm-3 c = search needs
-
-array-read-row-arm-3 : tie.Need-array-read-row-arm-3
-array-read-row-arm-3 c = search needs
-
-add-row-arm-2 : tie.Need-add-row-arm-2
-add-row-arm-2 c = omega (arith, c .before .before .before .before .pre 2)
-
-mul-row-arm-4 : tie.Need-mul-row-arm-4
-mul-row-arm-4 c = omega (arith, c .before .before .before .before .pre 2)
-
-element-copy-out-row-arm-3 : tie.Need-element-copy-out-row-arm-3
-element-copy-out-row-arm-3 c = omega (arith, c .before .before .before .before .pre 2)
-
-row-arm-requires-3 : tie.Need-row-arm-requires-3
-row-arm-requires-3 c κs = search needs
-
-mul-row-arm-5 : tie.Need-mul-row-arm-5
-mul-row-arm-5 c = search needs
-
-array-read-row-arm-4 : tie.Need-array-read-row-arm-4
-array-read-row-arm-4 c = search needs
-
-add-row-arm-3 : tie.Need-add-row-arm-3
-add-row-arm-3 c = omega (arith, c .before .before .before .before .before .before .pre 3)
-
-mul-row-arm-6 : tie.Need-mul-row-arm-6
-mul-row-arm-6 c = omega (arith, c .before .before .before .before .before .before .pre 3)
-
-element-copy-out-row-arm-4 : tie.Need-element-copy-out-row-arm-4
-element-copy-out-row-arm-4 c = omega (arith, c .before .before .before .before .before .before .pre 3)
-
-row-arm-requires-4 : tie.Need-row-arm-requires-4
-row-arm-requires-4 c κs = search needs
-
-returns : tie.Need-returns
-unfolding picked table
-returns c = let a = c .before .before .before .before .before .before .before .before .args in
-    let z : getD (a .t2) 0 0 ≡ mostCandidates * 0 + getD (a .t2) 0 0 = omega arith in
-    four (c .before .before .before .before .before .before .row-arm .ensures ∙ ap (λ (i : ℕ). rowArm (getD (a .all .now) i [])) z) (c .before .before .before .before .row-arm2 .ensures) (c .before .before .row-arm3 .ensures) (c .row-arm4 .ensures)
+returns : tie.Need-returns Inv-loop μ-loop
+returns c = record { arm = λ k h. c .before .loop .inv .2 k (omega (arith, h)) }
 
 pub pick-spec : {M : Type 1} → statement M
 pick-spec =
     tie.close
     (tie.spec
-    array-read-row-arm
+    Inv-loop
+    μ-loop
+    loop-holds
     mul-row-arm
+    mul-row-arm-2
+    array-read-row-arm
+    add-row-arm
+    mul-row-arm-3
     element-copy-out-row-arm
     row-arm-requires
-    array-read-row-arm-2
-    add-row-arm
-    mul-row-arm-2
-    element-copy-out-row-arm-2
-    row-arm-requires-2
-    mul-row-arm-3
-    array-read-row-arm-3
-    add-row-arm-2
-    mul-row-arm-4
-    element-copy-out-row-arm-3
-    row-arm-requires-3
-    mul-row-arm-5
-    array-read-row-arm-4
-    add-row-arm-3
-    mul-row-arm-6
-    element-copy-out-row-arm-4
-    row-arm-requires-4
+    mul-arms
+    array-set-from-arms
+    add-k
+    loop-less
+    loop-again
     returns)

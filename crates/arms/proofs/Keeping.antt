@@ -1,0 +1,63 @@
+-- A row that is filled place by place, and one arm more. Assumes nothing.
+use Prim.Native.Nat.{ℕ, suc, _+_, _<_}
+use mathlib.Core.Bool.{Bool, true, false}
+use mathlib.Core.List.{List}
+use mathlib.Core.Path.{_≡_, refl, sym, _∙_, ap}
+use native.Mathlib.Numerals.{add-one}
+use native.Mathlib.Omega.{arith}
+use borrow.Author.Tests.{eqb-true, eqb-false}
+use lib.Dec.{eqb}
+use lib.ListN.{length, getD, set}
+use lib.Seq.{ext-getD, getD-set-same, getD-set-other}
+use Rattle.block.specs.Rows.{table}
+use Rattle.block.specs.Tables.{length-table, getD-table}
+use Rattle.block.specs.declared.Indices.{Indices}
+use Rattle.block.specs.declared.Vertex.{Vertex}
+use Rattle.sighted.specs.Sighted.{stepsIn}
+use Rattle.sighted.specs.declared.Seen.{Seen}
+use Rattle.summary.specs.Layout.{storedFields, seenAt}
+use Rattle.joining.specs.Joining.{grownOf, joinedOf}
+use Rattle.arms.specs.Arms.{mostArms, noSeen, noArm, armIn, coreIn, sightFrom, sightOf, sixOf, stemOf}
+use Rattle.arms.specs.declared.Arm.{Arm}
+use Rattle.arms.specs.declared.Core.{Core}
+
+module _ {A : Type 0} (none : A) (f : ℕ → A) (l : List A) where
+  pub put-next : (k : ℕ) (x : A) → k < length l → x ≡ f k → ((j : ℕ) → j < k → getD l j none ≡ f j) → (j : ℕ) → j < k + 1 → getD (set l k x) j none ≡ f j
+  put-next k x h e old j i = go (eqb j k) refl
+    where
+      go : (t : Bool) → eqb j k ≡ t → getD (set l k x) j none ≡ f j
+      go true q = let z : j ≡ k = eqb-true j k q in rw z (getD-set-same l k x none h ∙ e)
+      go false q = let z = eqb-false j k q in getD-set-other l k j x none z ∙ old j (omega (arith, z))
+
+  pub put-all : (n : ℕ) → length l ≡ n → ((j : ℕ) → j < n → getD l j none ≡ f j) → l ≡ table n f
+  put-all n e h = ext-getD none l (table n f) (e ∙ sym (length-table n f)) (λ j i. h j (omega (arith, e)) ∙ sym (getD-table n f j none (omega (arith, e))))
+
+pub arm-kept : (s : List ℕ) (a : ℕ) (x : Indices) (y : Seen) → x ≡ storedFields s → y ≡ seenAt s a → record { six = x; end = y .counts } ≡ armIn s a
+arm-kept s a x y e q = rw (e, q)
+
+pub core-kept : (s atoms : List ℕ) (x : Indices) (ends : List Seen) → x ≡ storedFields s → length ends ≡ mostArms → ((j : ℕ) → j < mostArms → getD ends j noSeen ≡ seenAt s (getD atoms j 0))
+    → record { six = x; atoms = atoms; ends = ends } ≡ coreIn s atoms
+unfolding coreIn
+core-kept s atoms x ends e n h = rw (e, put-all noSeen (λ k. seenAt s (getD atoms k 0)) ends mostArms n h)
+
+-- one arm more
+module _ (ends : List Seen) (arms : List Arm) (b : ℕ) (v₀ : Vertex) where
+  pub sight-start : v₀ ≡ sightFrom ends arms b v₀ 0
+  unfolding sightFrom
+  sight-start = refl
+
+  pub sight-next : (m : ℕ) (v w : Vertex) (d : ℕ) → v ≡ sightFrom ends arms b v₀ m → d ≡ stepsIn (getD ends m noSeen .row) b → w ≡ grownOf v d (getD arms m noArm .end) → w ≡ sightFrom ends arms b v₀ (m + 1)
+  unfolding sightFrom
+  sight-next m v w d e q h = rw (add-one m) (h ∙ rw (e, q) refl)
+
+module _ (core : Core) (arms : List Arm) where
+  pub six-start : core .six ≡ sixOf core arms 0
+  unfolding sixOf
+  six-start = refl
+
+  pub six-next : (k : ℕ) (x y : Indices) (v : Vertex) → x ≡ sixOf core arms k → v ≡ sightOf core arms k k → y ≡ joinedOf x (getD arms k noArm .six) v (getD arms k noArm .end) → y ≡ sixOf core arms (k + 1)
+  unfolding sixOf
+  six-next k x y v e q h = rw (add-one k) (h ∙ rw (e, q) refl)
+
+  pub stem-end : (k n m : ℕ) (x : Indices) (v : Vertex) → k ≡ n → n ≡ m → x ≡ sixOf core arms k → v ≡ sightOf core arms n n → record { six = x; from = v } ≡ stemOf core arms m
+  stem-end k n m x v e q h i = rw (h, i, e, q)

@@ -1,0 +1,76 @@
+-- `arms::core_in` meets its contract. The loop's invariant: the first k ends are seen. Assumes nothing.
+use Prim.Native.Nat.{ℕ, _-_, _≤_, _<_}
+use mathlib.Core.Path.{_≡_, refl, _∙_, ap}
+use native.Mathlib.Omega.{arith}
+use lib.ListN.{length, getD, length-set}
+use borrow.Author.Needs.{needs}
+use Rattle.summary.specs.Layout.{storedFields, seenAt}
+use Rattle.arms.specs.Arms.{mostArms, noSeen}
+use Rattle.arms.proofs.Keeping.{put-next, core-kept}
+use Rattle.arms.proofs.core_in.Statement.{statement}
+use Rattle.arms.proofs.core_in.Tie as tie
+
+abbrev Inv-loop : tie.InvT-loop
+Inv-loop s atoms six ends₀ k₀ ends k = (length ends ≡ mostArms) × (k ≤ mostArms) × ((j : ℕ) → j < k → getD ends j noSeen ≡ seenAt s (getD atoms j 0))
+
+abbrev μ-loop : tie.MeasureT-loop
+μ-loop s atoms six ends₀ k₀ ends k = mostArms - k
+
+fields-requires : tie.Need-fields-requires Inv-loop μ-loop
+fields-requires c κs = search needs
+
+loop-holds : tie.Need-loop-holds Inv-loop μ-loop
+loop-holds c = (refl, omega arith, λ j h. absurd (omega arith))
+
+array-read-seen : tie.Need-array-read-seen Inv-loop μ-loop
+array-read-seen c = search needs
+
+cast-seen : tie.Need-cast-seen Inv-loop μ-loop
+cast-seen c = search needs
+
+seen-requires : tie.Need-seen-requires Inv-loop μ-loop
+seen-requires c κs = search needs
+
+mul-ends : tie.Need-mul-ends Inv-loop μ-loop
+mul-ends c = search needs
+
+array-set-from-ends : tie.Need-array-set-from-ends Inv-loop μ-loop
+array-set-from-ends c = search needs
+
+add-k : tie.Need-add-k Inv-loop μ-loop
+add-k c = search needs
+
+loop-less : tie.Need-loop-less Inv-loop μ-loop
+loop-less c = search needs
+
+loop-again : tie.Need-loop-again Inv-loop μ-loop
+loop-again c =
+    let l = c .before .before .loop in
+    let a = c .before .before .before .before .before .args in (
+      length-set (l .ends) (l .k) _ ∙ l .inv .0,
+      omega arith,
+      put-next noSeen (λ (j : ℕ). seenAt (a .s .now) (getD (a .t2) j 0)) (l .ends) (l .k) _ (omega (arith, l .inv .0)) (c .seen .ensures) (l .inv .2),
+    )
+
+returns : tie.Need-returns Inv-loop μ-loop
+returns c =
+    let a = c .before .before .before .before .args in
+    core-kept (a .s .now) (a .t2) _ _ (c .before .before .fields .ensures) (c .before .loop .inv .0) (λ j h. c .before .loop .inv .2 j (omega arith))
+
+pub core-in-spec : {M : Type 1} → statement M
+core-in-spec =
+    tie.close
+    (tie.spec
+    Inv-loop
+    μ-loop
+    fields-requires
+    loop-holds
+    array-read-seen
+    cast-seen
+    seen-requires
+    mul-ends
+    array-set-from-ends
+    add-k
+    loop-less
+    loop-again
+    returns)

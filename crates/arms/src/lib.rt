@@ -1,0 +1,226 @@
+// A core and arms, each joined by a bond to an atom of the core: composed arm by arm, so that the first arms can stay while the last one turns.
+use block::ATOMS;
+use block::Indices;
+use block::Vertex;
+use filling::fill;
+use joining::grown;
+use sighted::Seen;
+use sighted::steps;
+use summary::SUMMARY;
+use summary::fields;
+use summary::seen;
+ghost use mathlib.Core.Path.{_≡_};
+ghost use Prim.Native.Nat.{_<_, _≤_, min};
+ghost use Rattle.filling.specs.Reply.{fillBytes};
+ghost use Rattle.arms.specs.Arms.{mostArms, armRow, rowArm, armIn, armOf, coreIn, coreOf, sightOf, sixOf, stemOf, joinedTo};
+
+// The most arms of a core.
+pub const ARMS: usize = 4;
+
+const NO_FIELDS: Indices = Indices {
+    atoms: 0,
+    w: 0,
+    even: 0,
+    odd: 0,
+    polarity: 0,
+    largest: 0,
+};
+
+const NO_VERTEX: Vertex = Vertex {
+    sum: 0,
+    even: 0,
+    odd: 0,
+    evens: 0,
+    odds: 0,
+    ones: 0,
+    twos: 0,
+    farthest: 0,
+};
+
+const NO_SEEN: Seen = Seen {
+    counts: NO_VERTEX,
+    row: [0u8; ATOMS],
+};
+
+// What is kept of a block as an arm: its fields, and what is counted from the atom where it joins.
+pub struct Arm {
+    pub six: Indices,
+    pub end: Vertex,
+}
+
+pub const NO_ARM: Arm = Arm {
+    six: NO_FIELDS,
+    end: NO_VERTEX,
+};
+
+// An arm as a row of numbers, since an array of structs is not lent; and back.
+pub type ArmRow = [u64; 14];
+
+pub fn arm_row(arm: Arm) -> ArmRow
+    ensures { λ r. ⌜ r ≡ armRow arm ⌝ }
+{
+    let x = arm.six;
+    let v = arm.end;
+    [
+        x.atoms,
+        x.w,
+        x.even,
+        x.odd,
+        x.polarity,
+        x.largest,
+        v.sum,
+        v.even,
+        v.odd,
+        v.evens,
+        v.odds,
+        v.ones,
+        v.twos,
+        v.farthest,
+    ]
+}
+
+pub fn row_arm(row: ArmRow) -> Arm
+    ensures { λ r. ⌜ r ≡ rowArm row ⌝ }
+{
+    let six = Indices {
+        atoms: row[0],
+        w: row[1],
+        even: row[2],
+        odd: row[3],
+        polarity: row[4],
+        largest: row[5],
+    };
+    let end = Vertex {
+        sum: row[6],
+        even: row[7],
+        odd: row[8],
+        evens: row[9],
+        odds: row[10],
+        ones: row[11],
+        twos: row[12],
+        farthest: row[13],
+    };
+    Arm { six, end }
+}
+
+// What is kept of a block as the core: its fields, the atoms where arms join, and what is seen from each of them.
+pub struct Core {
+    pub six: Indices,
+    pub atoms: [u8; ARMS],
+    pub ends: [Seen; ARMS],
+}
+
+// The running summary of a core with its first arms: the fields, and what is counted from the atom where the next arm joins.
+pub struct Stem {
+    pub six: Indices,
+    pub from: Vertex,
+}
+
+impl Stem {
+    // The fields with one arm more.
+    pub fn joined(self, arm: Arm) -> Indices
+        ensures { λ r. ⌜ r ≡ joinedTo self arm ⌝ }
+    {
+        joining::joined(self.six, arm.six, self.from, arm.end)
+    }
+}
+
+fn arm_in(s: &[u8], a: usize) -> Arm
+    ensures { λ r. ⌜ r ≡ armIn (now (s .entry)) a ⌝ }
+{
+    let six = fields(s);
+    let all = seen(s, a);
+    let end = all.counts;
+    Arm { six, end }
+}
+
+fn opened_arm(n: usize, bonds: &[u8], a: usize, place: &mut [u8]) -> Arm
+    ensures { λ r. ⌜ r ≡ armIn (fillBytes 0 n (now (bonds .entry)) (now (place .entry))) a ⌝ }
+{
+    fill(0, n, bonds, place);
+    arm_in(place, a)
+}
+
+// What is kept of a block that joins at atom a: 0 in all where the block is refused.
+pub fn arm_of(n: usize, bonds: &[u8], a: usize) -> Arm
+    ensures { λ r. ⌜ r ≡ armOf n (now (bonds .entry)) a ⌝ }
+{
+    opened_arm(n, bonds, a, &mut [0u8; SUMMARY])
+}
+
+fn core_in(s: &[u8], atoms: [u8; ARMS]) -> Core
+    ensures { λ r. ⌜ r ≡ coreIn (now (s .entry)) atoms ⌝ }
+{
+    let six = fields(s);
+    let mut ends = [NO_SEEN; ARMS];
+    let mut k: usize = 0;
+    while k < ARMS {
+        ends[k] = seen(s, atoms[k] as usize);
+        k += 1;
+    }
+    Core { six, atoms, ends }
+}
+
+fn opened_core(n: usize, bonds: &[u8], atoms: [u8; ARMS], place: &mut [u8]) -> Core
+    ensures { λ r. ⌜ r ≡ coreIn (fillBytes 0 n (now (bonds .entry)) (now (place .entry))) atoms ⌝ }
+{
+    fill(0, n, bonds, place);
+    core_in(place, atoms)
+}
+
+// What is kept of a block to whose atoms arms join: one search from each; 0 in all where the block is refused.
+pub fn core_of(n: usize, bonds: &[u8], atoms: [u8; ARMS]) -> Core
+    ensures { λ r. ⌜ r ≡ coreOf n (now (bonds .entry)) atoms ⌝ }
+{
+    opened_core(n, bonds, atoms, &mut [0u8; SUMMARY])
+}
+
+// What is counted from the atom of arm k once the arms before it are joined.
+fn sight(core: Core, arms: [Arm; ARMS], k: usize) -> Vertex
+    requires { ⌜ k < mostArms ⌝ }
+    ensures { λ r. ⌜ r ≡ sightOf core arms k k ⌝ }
+{
+    let ends = core.ends;
+    let atoms = core.atoms;
+    let b = atoms[k] as usize;
+    let own = ends[k];
+    let mut v = own.counts;
+    let mut m: usize = 0;
+    while m < k {
+        let end = ends[m];
+        let arm = arms[m];
+        let row = end.row;
+        let d = steps(&row, b);
+        let next = grown(v, d, arm.end);
+        v = next;
+        m += 1;
+    }
+    v
+}
+
+fn within(m: usize) -> usize
+    ensures { λ r. ⌜ r ≡ min m 3 ⌝ }
+{
+    if m < ARMS {
+        return m;
+    }
+    ARMS - 1
+}
+
+// The core with its first m arms, at most 3.
+pub fn stem_of(core: Core, arms: [Arm; ARMS], m: usize) -> Stem
+    ensures { λ r. ⌜ r ≡ stemOf core arms (min m 3) ⌝ }
+{
+    let n = within(m);
+    let mut six = core.six;
+    let mut k: usize = 0;
+    while k < n {
+        let arm = arms[k];
+        let from = sight(core, arms, k);
+        let next = joining::joined(six, arm.six, from, arm.end);
+        six = next;
+        k += 1;
+    }
+    let from = sight(core, arms, n);
+    Stem { six, from }
+}

@@ -1,2 +1,0 @@
--- The laws behind the proofs of what is kept.
-pub mod Told

@@ -1,0 +1,85 @@
+-- `library::kept::arms_at` meets its contract. The loop's invariant: the first k arms are kept. Assumes nothing.
+use Prim.Native.Nat.{ℕ, _-_, _≤_, _<_}
+use mathlib.Core.Path.{_≡_, refl, _∙_}
+use native.Mathlib.Omega.{arith}
+use lib.ListN.{length, take, getD, length-set}
+use borrow.Author.Needs.{needs}
+use Rattle.arms.specs.Arms.{noArm}
+use Rattle.arms.proofs.Keeping.{put-next}
+use Rattle.products.specs.Library.{mostSites}
+use Rattle.catalogue.specs.Said.{noSite}
+use Rattle.library.specs.Kept.{armAt}
+use Rattle.library.proofs.kept.arms_at.Statement.{statement}
+use Rattle.library.proofs.kept.arms_at.Tie as tie
+
+abbrev Inv-loop : tie.InvT-loop
+Inv-loop d blocks count xs n sites digits arms₀ k₀ arms k =
+    (length arms ≡ mostSites) × (k ≤ n) × ((j : ℕ) → j < k → getD arms j noArm ≡ armAt d (take count blocks) xs (getD sites j noSite) (getD digits j 0))
+
+abbrev μ-loop : tie.MeasureT-loop
+μ-loop d blocks count xs n sites digits arms₀ k₀ arms k = n - k
+
+loop-holds : tie.Need-loop-holds Inv-loop μ-loop
+loop-holds c = (refl, omega arith, λ j h. absurd (omega arith))
+
+mul-s : tie.Need-mul-s Inv-loop μ-loop
+mul-s c = search needs
+
+array-copy-out-s : tie.Need-array-copy-out-s Inv-loop μ-loop
+array-copy-out-s c = search needs
+
+mul-arm-at : tie.Need-mul-arm-at Inv-loop μ-loop
+mul-arm-at c = search needs
+
+array-read-arm-at : tie.Need-array-read-arm-at Inv-loop μ-loop
+array-read-arm-at c = search needs
+
+arm-at-requires : tie.Need-arm-at-requires Inv-loop μ-loop
+arm-at-requires c κs =
+    let k = c .before .before .loop .k in
+    let p = c .before .before .before .before .before .pre in
+    (p .1 k, omega (arith, p .2 k (c .before .loop-test .taken)))
+
+mul-arms : tie.Need-mul-arms Inv-loop μ-loop
+mul-arms c = search needs
+
+array-set-from-arms : tie.Need-array-set-from-arms Inv-loop μ-loop
+array-set-from-arms c = search needs
+
+add-k : tie.Need-add-k Inv-loop μ-loop
+add-k c = search needs
+
+loop-less : tie.Need-loop-less Inv-loop μ-loop
+loop-less c = search needs
+
+loop-again : tie.Need-loop-again Inv-loop μ-loop
+loop-again c =
+    let l = c .before .before .before .loop in
+    let p = c .before .before .before .before .before .before in
+    let a = p .args in (
+      length-set (l .arms) (l .k) _ ∙ l .inv .0,
+      omega arith,
+      put-next noArm (λ (j : ℕ). armAt (a .d .now) (take (a .count) (a .blocks)) (a .xs .now) (getD (a .t5) j noSite) (getD (a .t7) j 0)) (l .arms) (l .k) _ (omega (arith, l .inv .0, c .before .before .loop-test .taken, p .pre .0)) (c .arm-at .ensures) (l .inv .2),
+    )
+
+returns : tie.Need-returns Inv-loop μ-loop
+returns c k h = c .before .loop .inv .2 k (omega (arith, h))
+
+pub arms-at-spec : {M : Type 1} → statement M
+arms-at-spec =
+    tie.close
+    (tie.spec
+    Inv-loop
+    μ-loop
+    loop-holds
+    mul-s
+    array-copy-out-s
+    mul-arm-at
+    array-read-arm-at
+    arm-at-requires
+    mul-arms
+    array-set-from-arms
+    add-k
+    loop-less
+    loop-again
+    returns)
