@@ -34,6 +34,10 @@ bytes-few dropped f (suc k) =
     two true a b = omega arith
     two false a b = omega arith
 
+-- so all of them fit where there is room for the bonds that three digits say
+pub bytes-room : (d : List ℕ) → linesReply d ≡ read tt → length (bytesOf d) ≤ 2 * most
+bytes-room d e = omega (arith, counts-few d (lines-parts d e .0), bytes-few (droppedIn d) (bondOfLine d) (bondLineCount d))
+
 -- the numbers of the kept bonds stand at the front
 pub record Front (d pairs : List ℕ) (k : Kept) : Type 0 where
   pub fine : linesReply d ≡ read tt
@@ -47,8 +51,7 @@ pub front : (d pairs zs : List ℕ) (k : Kept) → length zs ≡ 2 * most → sa
 front d pairs zs k e r p =
     let t = kept-of d (keptReply d (length zs)) r in
     let f = kept-lines d (length zs) (t .0) in
-    let c = counts-few d (lines-parts d f .0) in
-    let b = bytes-few (droppedIn d) (bondOfLine d) (bondLineCount d) in
+    let b = bytes-room d f in
     let xs = bytesOf d in
     let q = p ∙ fills xs zs (t .0) in
     record {
