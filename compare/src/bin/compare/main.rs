@@ -24,6 +24,7 @@ mod random_libraries;
 mod rankings;
 mod relisted;
 mod sdf;
+mod whole;
 
 use checker::Checker;
 use std::path::PathBuf;
@@ -86,6 +87,7 @@ fn main() -> ExitCode {
     let printed = options.printed.unwrap_or(options.cases);
     claims::run(checker, options.seed, options.first, printed);
     sdf::run(checker, options.seed, options.first, printed);
+    whole::run(checker, options.seed, options.first, options.cases);
     if let Some(folder) = &options.programs {
         programs::run(checker, folder, options.seed);
     }
@@ -110,6 +112,11 @@ fn report(checker: &mut Checker, options: &Options) {
         ("claims accepted", checker.claims_accepted),
         ("claims differ", checker.claims_differed),
         ("done", checker.done),
+        ("matched", checker.matched),
+        ("not matched, another number of atoms", checker.unmatched[0]),
+        ("not matched at an atom", checker.unmatched[1]),
+        ("not matched at a bond of the list", checker.unmatched[2]),
+        ("not matched at a bond of the deck", checker.unmatched[3]),
     ];
     for (what, times) in met {
         println!("{what}: {times} times");
