@@ -62,7 +62,8 @@ fn ends(random: &mut Random, molecule: &Graph, names: Option<&[usize]>) -> Vec<u
 /// One damage, which need not make it wrong: a bond may be listed twice, two atoms may be alike, and more may follow than is read.
 pub fn damage_matching(random: &mut Random, one: &mut Matching) {
     let (atom, count) = (random.below(one.atoms), one.bonds.len() / 2);
-    let any = |random: &mut Random| random.below(one_more(one.atoms)) as u16;
+    let ends = one.atoms + 2;
+    let any = |random: &mut Random| random.below(ends) as u16;
     match random.below(16) {
         0 => one.atoms = *random.pick(&[0, one.atoms - 1, one.atoms + 1, one.pairs.len() / 2 + 1, usize::MAX, 1 << 63]),
         1 => one.pairs.truncate(random.below(2 * one.atoms)),
@@ -99,10 +100,6 @@ pub fn damage_matching(random: &mut Random, one: &mut Matching) {
         14 => one.pairs.extend([9, 9, 9]),
         _ => one.bonds.push(any(random)),
     }
-}
-
-fn one_more(atoms: usize) -> usize {
-    atoms + 2
 }
 
 #[cfg(test)]
