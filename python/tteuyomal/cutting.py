@@ -10,7 +10,7 @@ from typing import NamedTuple
 
 from . import matching, native
 from .matching import MATCHED
-from .native import Molecule
+from .native import Molecule, Refused
 
 MOST_ATOMS, MOST_BLOCKS, MOST_PLACEMENTS = 64, 16, 32
 _SHOWN = 12  # atoms that are named
@@ -33,18 +33,21 @@ class Cut(NamedTuple):
     blocks: int
     matching: tuple[tuple[int, int], ...]
 
-    @property
-    def words(self) -> str:
-        """What was done."""
-        return f"cut into {_many(self.placements, 'placement')}, matched"
+
+def words(placements: int) -> str:
+    """What is said of a molecule that was cut, and that the library found to be the deck's."""
+    return f"cut into {placements} placement{'' if placements == 1 else 's'}, matched"
 
 
 def matched(molecule: Molecule) -> Cut:
     """The molecule as a deck that the library says is the same molecule; raises `Uncut` or `NotMatched`."""
     made = cut(molecule)
-    said = native.matched(made.deck, molecule.atoms, molecule.bonds, made.matching)
+    try:
+        said = native.matched(made.deck, molecule.atoms, molecule.bonds, made.matching)
+    except Refused as refusal:
+        raise NotMatched(f"the deck that was cut is {refusal}") from None
     if not said:
-        raise NotMatched(f"the deck that was cut is not the molecule, by the library, at {said.place}")
+        raise NotMatched(f"the deck that was cut is another molecule, by the library, at {said.place}")
     return made
 
 
@@ -224,7 +227,3 @@ def _bridges(near: list[list[int]]) -> set[tuple[int, int]]:
         elif end != above:
             least[atom] = min(least[atom], seen[end])
     return found
-
-
-def _many(count: int, what: str) -> str:
-    return f"{count} {what}{'' if count == 1 else 's'}"
