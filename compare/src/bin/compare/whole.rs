@@ -6,6 +6,7 @@ use crate::checker::{code, hex, written, Checker};
 use crate::lent::{Lent, Shown};
 use opinion::answers::Verdict;
 use opinion::documents::{ten_graphs, FORTY};
+use opinion::graph::Graph;
 use opinion::make::damage_bytes::damage_bytes;
 use opinion::make::decks::random_deck;
 use opinion::make::matchings::{damage_matching, random_matching, Matching};
@@ -13,6 +14,8 @@ use opinion::make::molfiles::{damage_molfile, random_large_molfile, random_molfi
 use opinion::make::random::Random;
 use opinion::make::shapes::{chained, path};
 use opinion::{matched as opinions, molfile};
+use std::path::{Path, PathBuf};
+use std::{fs, io};
 
 /// The ends of the bonds of the largest file, and of the largest deck: 32 blocks of 192 bonds and 31 joins.
 const ENDS: usize = 2 * 999;
@@ -31,6 +34,47 @@ pub fn run(checker: &mut Checker, seed: u64, first: u64, cases: u64) {
             deck(checker, random);
         });
     }
+}
+
+/// Real molecules, each as NAME.mol, NAME.deck and NAME.pairs (the matching, two bytes a number) in a folder: read, written out and matched,
+/// with the file's own fields by plain search, a line each; and the matching damaged so many times.
+pub fn real(checker: &mut Checker, folder: &Path, seed: u64, damages: usize) -> io::Result<()> {
+    let mut names: Vec<PathBuf> =
+        fs::read_dir(folder)?.map(|one| one.map(|one| one.path())).collect::<Result<_, _>>()?;
+    names.retain(|name| name.extension().is_some_and(|end| end == "deck"));
+    names.sort();
+    let (mut damaged, mut wrong) = (0, 0);
+    for (case, name) in names.iter().enumerate() {
+        let (file, deck) = (fs::read(name.with_extension("mol"))?, fs::read(name)?);
+        let pairs = fs::read(name.with_extension("pairs"))?;
+        let pairs: Vec<u16> = pairs.chunks_exact(2).map(|two| u16::from_le_bytes([two[0], two[1]])).collect();
+        let random = &mut Random::for_case(seed, case as u64);
+        checker.case(name.display(), |checker| {
+            read_whole(checker, &file, ENDS, 2);
+            written_out(checker, &deck, DECK_ENDS, 2);
+            let Ok((atoms, bonds)) = molfile::read_whole(&file, ENDS, 2) else {
+                return checker.holds(false, "a real file is refused");
+            };
+            let one = Matching { deck, atoms, bonds, pairs };
+            let before = checker.matched;
+            matched(checker, &one);
+            checker.holds(checker.matched == before + 1, "a real file is not matched with its deck");
+            for _ in 0..damages {
+                let (mut other, before) = (one.clone(), checker.matched);
+                damage_matching(random, &mut other);
+                matched(checker, &other);
+                damaged += 1;
+                wrong += (checker.matched == before) as usize;
+            }
+            let ends: Vec<(usize, usize)> =
+                one.bonds.chunks_exact(2).map(|two| (two[0] as usize, two[1] as usize)).collect();
+            let six = Graph { atoms, bonds: ends }.indices().six();
+            println!("{}: {}", name.display(), six.map(|field| field.to_string()).join(","));
+        });
+    }
+    println!("{} real molecules; {damaged} damaged matchings, {wrong} of them wrong", names.len());
+    println!("{} passed, {} failed", checker.passed, checker.failed);
+    Ok(())
 }
 
 pub fn read_whole(checker: &mut Checker, file: &[u8], room: usize, entries: usize) {
