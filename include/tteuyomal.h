@@ -41,9 +41,9 @@ extern "C" {
 /* ---- The reply of every function: one number ----
  *
  * reply % 256 says what: 0 fine (judging: accepted); 1 to 253 a refusal, by the number of the list below; 254 all
- * products of a library, or all records of an SDF, are done; 255 the sheet or a claim differs (judging only). reply / 256
- * says where: the place of a refusal, or the first wrong field, 1 to 5 or, of a sheet of kind 4, 1 to 6, or the number of
- * the first wrong claim, from 1.
+ * products of a library, or all records of an SDF, are done; 255 the sheet or a claim differs, or a deck is not matched
+ * (judging and matching only). reply / 256 says where: the place of a refusal, or the first wrong field, 1 to 5 or, of a sheet
+ * of kind 4, 1 to 6, or the number of the first wrong claim, from 1, or the place at which a matching fails.
  *
  * A refusal changes no byte of any output. A success writes what the function's comment says, from the front of the
  * output; whatever follows in it stays as it was.
@@ -123,7 +123,7 @@ enum tteuyomal_refusal {
 /* 0, a refusal's number, TTEUYOMAL_DONE or TTEUYOMAL_DIFFERS. */
 static inline unsigned tteuyomal_what(tteuyomal_reply reply) { return (unsigned)(reply % 256); }
 
-/* The place of a refusal; for TTEUYOMAL_DIFFERS the first wrong field, 1 to 6, or claim, from 1. */
+/* The place of a refusal; for TTEUYOMAL_DIFFERS the first wrong field, 1 to 6, or claim, from 1, or where a matching fails. */
 static inline uint64_t tteuyomal_where(tteuyomal_reply reply) { return reply / 256; }
 
 /* What the number of a refusal says, in the words of the list above: a table, no proved function. "" for a number that no
@@ -403,6 +403,38 @@ tteuyomal_reply tteuyomal_sdf_record(const uint8_t *text, size_t text_len, size_
  * (span_len below 2). */
 tteuyomal_reply tteuyomal_sdf_item(const uint8_t *record, size_t record_len, const uint8_t *name, size_t name_len,
                                    uint64_t *span, size_t span_len);
+
+/* ---- Molecules of every size ---- */
+
+/* The bonds of a molecule that need not be a block are two numbers each, those of its two atoms. In numbers of 16 bits, for who
+ * lends: the ends of the bonds of any molfile, and of any deck's molecule. */
+#define TTEUYOMAL_FILE_ENDS 1998
+#define TTEUYOMAL_DECK_ENDS 12350
+
+/* Reads a V2000 molfile as tteuyomal_read_molfile does, and hands over its molecule whatever its size: up to 999 atoms, in one
+ * part or in several. Writes its bonds and two numbers, the atom count and the number of bonds.
+ * Refusals: 25, 26 and 27 in file order; 1 (no atom is kept); bond by bond 3 to 6, the place being the number of the kept bond;
+ * then 9 (bonds_len below two numbers a kept bond, or counts_len below 2). */
+tteuyomal_reply tteuyomal_read_whole(const uint8_t *text, size_t text_len, uint16_t *bonds, size_t bonds_len,
+                                     uint64_t *counts, size_t counts_len);
+
+/* Writes the bonds of the molecule of a deck without a sheet, and two numbers, its atom count and its number of bonds. Atoms are
+ * counted placement by placement; so are the bonds listed, and behind those of a later placement stands the bond that joins it,
+ * the parent's atom first.
+ * Refusals: the deck's, then 9 (bonds_len below two numbers a bond, or counts_len below 2). */
+tteuyomal_reply tteuyomal_written_out(const uint8_t *deck, size_t deck_len, uint16_t *bonds, size_t bonds_len,
+                                      uint64_t *counts, size_t counts_len);
+
+/* Whether the molecule of a deck without a sheet is the one of n = `atoms` atoms and these bonds but for the numbering of its
+ * atoms, by a matching: for each atom of the molecule two numbers, its placement and its atom in that placement's block, both
+ * from 1. Fine when it takes each atom to another one, and bonds to bonds both ways; then the deck's fields are the molecule's.
+ * Else TTEUYOMAL_DIFFERS with the first place that fails: 0 where the deck's molecule has another number of atoms; 1 to n for an
+ * atom whose partner is no placed atom, or is an earlier atom's; n + e for bond e of the list, from 1, whose ends are no atoms or
+ * whose partners the deck does not bond; with m bonds in the list n + m + e for bond e of the deck's molecule as it is written
+ * out, which no bond of the list is taken to. A last number of `bonds` without a second one is read over.
+ * Refusals: the deck's, then 9 (matching_len below two numbers an atom). */
+tteuyomal_reply tteuyomal_matched(const uint8_t *deck, size_t deck_len, size_t atoms, const uint16_t *bonds,
+                                  size_t bonds_len, const uint16_t *matching, size_t matching_len);
 
 #ifdef __cplusplus
 }
