@@ -192,25 +192,19 @@ class Judge:
         data, claims = item.data, item.claims
         size = len(data)
         sha256 = hashlib.sha256(data).hexdigest() if self.hashed else ""
-        base = Checked(item, item.label, REFUSED, self.asked, sha256, size)
         reply = native._read_molfile(data, size, self._bonds, _ROOM, self._counts, 2)
-        large: Large | None = None
+        large, why = None, ""
         if reply == _TOO_LARGE and native.has("read_whole"):
-            try:
-                large, reply = Large(data), 0
-            except Refused as refusal:
-                reply = refusal.number + 256 * refusal.place
-            except (cutting.Uncut, cutting.NotMatched) as why:
-                return self._refused(base, reply, f" ({why})")
+            large, reply, why = cut_or_not(data)
         if claims is None and not reply:
             reply, claims = self._item_claims(data)
         if reply:
-            return self._refused(base, reply)
+            return self._refused(Checked(item, item.label, REFUSED, self.asked, sha256, size), reply, why)
         graph = large or Small(self._counts[0], ctypes.string_at(self._bonds, 2 * self._counts[1]))
         reply = graph.judged(claims or b"")
-        base = base._replace(atoms=graph.atoms, placements=graph.placements)
         if reply == 0 and not self.fields and self._complete(claims or b""):
-            return base._replace(word=ACCEPTED)
+            return Checked(item, item.label, ACCEPTED, self.asked, sha256, size, atoms=graph.atoms, placements=graph.placements)
+        base = Checked(item, item.label, REFUSED, self.asked, sha256, size, atoms=graph.atoms, placements=graph.placements)
         return self._told(base, reply, graph, claims or b"")
 
     def _complete(self, claims: bytes) -> bool:
@@ -348,6 +342,16 @@ class Large:
         """What the library works out for some fields; for those of a lone block nothing."""
         six = native.compose_six(self._deck) if any(field <= LARGEST for field in fields) else ()
         return tuple(six[field - 1] if field in fields and field <= LARGEST else None for field in range(1, _NUMBERS + 1))
+
+
+def cut_or_not(data: bytes) -> tuple[Large | None, int, str]:
+    """A molecule that is no block, as a deck that is matched with it; else the reply that refuses it, and why it is not cut."""
+    try:
+        return Large(data), 0, ""
+    except Refused as refusal:
+        return None, refusal.number + 256 * refusal.place, ""
+    except (cutting.Uncut, cutting.NotMatched) as why:
+        return None, _TOO_LARGE, f" ({why})"
 
 
 def fine(answer: int, atoms: int, bonds: int) -> str:
