@@ -13,8 +13,9 @@ from common import FORTY, RIGHT, RING
 from test_check import molfile, record
 from test_command import Room
 
+import tteuyomal
 from tteuyomal import cutting, matching, native
-from tteuyomal.decks import Block, Deck
+from tteuyomal.decks import Block, Deck, Placement
 from tteuyomal.matching import ANOTHER, MATCHED, UNDECIDED
 from tteuyomal.native import Matched, Molecule, Refused
 
@@ -239,6 +240,29 @@ class Matching(unittest.TestCase):
         self.assertGreater(refused, 250)
 
 
+class Decks(unittest.TestCase):
+    """The same from Python."""
+
+    def test_deck(self):
+        deck = Deck.from_molfile(drawn(path(200)))
+        self.assertEqual((len(deck.placements), len(deck.blocks), deck.compose().w), (4, 2, 1333300))
+        self.assertEqual(Deck.from_molfile(drawn(path(3)).decode()).placements, (Placement(1),))
+        answer = deck.with_sheet().is_molecule(drawn(renumbered(path(200), 1)))
+        self.assertTrue(answer)
+        self.assertEqual((answer.word, len(answer.matching)), (MATCHED, 200))
+        self.assertFalse(deck.is_molecule(drawn(path(199))))
+        self.assertEqual(Deck.from_molfile(drawn(K33)).is_molecule(drawn(PRISM)).word, UNDECIDED)
+        self.assertFalse(Deck.from_molfile(drawn(K33)).is_molecule(drawn(PRISM)))
+
+    def test_what_is_raised(self):
+        self.assertRaises(tteuyomal.Uncut, Deck.from_molfile, drawn(Molecule(65, ring(65))))
+        self.assertRaises(Refused, Deck.from_molfile, b"")
+        self.assertRaises(ValueError, Deck.from_molfile, "large.mol")
+        self.assertRaises(ValueError, Deck.from_molfile(drawn(path(3))).is_molecule, "large.mol")
+        self.assertRaises(Refused, Deck.from_molfile(drawn(path(3))).is_molecule, b"")
+        self.assertRaises(Refused, Deck({1: Block(65)}, [Placement(1)]).is_molecule, drawn(path(3)))
+
+
 class Command(Room):
     def mol(self, molecule, name="big.mol"):
         return self.put(name, drawn(molecule), self.room)
@@ -272,7 +296,11 @@ class Command(Room):
         self.assertEqual(native.compose(self.read(out)).atoms, 70)
 
     def test_deck_not_cut(self):
+        """In words, with the numbers that the atoms have in the file."""
         out = os.path.join(self.room, "big.deck")
+        hydrogens = molfile("", "CH" * 66, [*((2 * a - 1, 2 * b - 1) for a, b in ring(66)), *((2 * k + 1, 2 * k + 2) for k in range(66))])
+        self.assertEqual(self.run_command("deck", self.put("h.mol", hydrogens.encode(), self.room), "-o", out)[0], 2)
+        self.assertIn("a ring system of 66 atoms is more than a block's 64: atoms 1 3 5 7 9 11 13 15 17 19 21 23 .. of the file", self.fault)
         for data, words in (
             (drawn(Molecule(65, ring(65))), "it can't be cut: a ring system of 65 atoms"), (drawn(Molecule(70, [])), "it can't be cut: it is in 70 parts"),
             (drawn(Molecule(70, [(1, 1)])), "refused 4 at 1"), (b"", "refused 25 at 0"), (drawn(path(70)).replace(b" 70 69", b" 70 6x"), "(line 4)"),

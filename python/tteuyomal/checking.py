@@ -317,11 +317,10 @@ class Small:
 
 
 class Large:
-    """A molecule of more atoms than a block has: it is judged as a deck that the library says is the same molecule. Raises `Refused`, or
-    why there is none."""
+    """A molecule of more atoms than a block has: it is judged as a deck that the library says is the same molecule. Raises why there is
+    none."""
 
-    def __init__(self, data: bytes) -> None:
-        molecule = native.read_whole(data)
+    def __init__(self, molecule: native.Molecule) -> None:
         made = cutting.matched(molecule)
         self.atoms, self.placements, self._deck = molecule.atoms, made.placements, made.deck
 
@@ -347,10 +346,14 @@ class Large:
 def cut_or_not(data: bytes) -> tuple[Large | None, int, str]:
     """A molecule that is no block, as a deck that is matched with it; else the reply that refuses it, and why it is not cut."""
     try:
-        return Large(data), 0, ""
+        molecule = native.read_whole(data)
     except Refused as refusal:
         return None, refusal.number + 256 * refusal.place, ""
-    except (cutting.Uncut, cutting.NotMatched) as why:
+    try:
+        return Large(molecule), 0, ""
+    except cutting.Uncut as why:
+        return None, _TOO_LARGE, f" ({why.told(data, molecule)})"
+    except cutting.NotMatched as why:
         return None, _TOO_LARGE, f" ({why})"
 
 

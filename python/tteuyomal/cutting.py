@@ -8,7 +8,7 @@ from __future__ import annotations
 from collections.abc import Iterator
 from typing import NamedTuple
 
-from . import matching, native
+from . import matching, native, sdf
 from .matching import MATCHED
 from .native import Molecule, Refused
 
@@ -18,7 +18,20 @@ _WORK = 40_000  # atoms that are looked at to tell whether two pieces are alike
 
 
 class Uncut(Exception):
-    """Why a molecule is not cut, in words."""
+    """Why a molecule is not cut, in words, and the first of the atoms that it is about."""
+
+    def __init__(self, words: str, atoms: tuple[int, ...] = ()) -> None:
+        super().__init__(words, atoms)
+        self.words = words
+        self.atoms = atoms
+
+    def __str__(self) -> str:
+        return self.words + (f": atoms {' '.join(map(str, self.atoms))} .., hydrogens left out" if self.atoms else "")
+
+    def told(self, data: bytes, molecule: Molecule) -> str:
+        """The same with the numbers that the atoms have in their molfile."""
+        listed = sdf.kept(data, *molecule) if self.atoms else None
+        return f"{self.words}: atoms {' '.join(str(listed[atom - 1]) for atom in self.atoms)} .. of the file" if listed else str(self)
 
 
 class NotMatched(Exception):
@@ -91,8 +104,7 @@ class _Graph:
         rings = max(self.parts, key=len)
         self.largest = len(rings)
         if self.largest > MOST_ATOMS:
-            some = " ".join(str(atom + 1) for atom in rings[:_SHOWN])
-            raise Uncut(f"a ring system of {self.largest} atoms is more than a block's {MOST_ATOMS}: atoms {some} .., hydrogens left out")
+            raise Uncut(f"a ring system of {self.largest} atoms is more than a block's {MOST_ATOMS}", tuple(atom + 1 for atom in rings[:_SHOWN]))
         self.part_of = [0] * molecule.atoms
         for number, part in enumerate(self.parts):
             for atom in part:

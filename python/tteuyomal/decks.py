@@ -6,10 +6,13 @@ import os
 import struct
 from collections.abc import Iterable, Iterator, Mapping
 from dataclasses import dataclass
-from typing import Any, NamedTuple, TypeVar
+from typing import TYPE_CHECKING, Any, NamedTuple, TypeVar
 
 from . import files, native
 from .native import Contributions, Fields, Refused, Sets, Szeged, Values, Vertex
+
+if TYPE_CHECKING:
+    from .matching import Answer
 
 Kind = TypeVar("Kind")
 BLOCK, ASSEMBLY, SHEET, SIX, LIBRARY = 1, 2, 3, 4, 5  # kinds of records
@@ -35,9 +38,7 @@ class Block:
     @classmethod
     def from_molfile(cls, text: bytes | str) -> Block:
         """The block of a V2000 molfile's text, without its hydrogens (those with one bond, to an atom that is no H)."""
-        if isinstance(text, str) and text and "\n" not in text:
-            raise ValueError(f"the text of a molfile is meant, and it has several lines; to read the file of this name, open it: {text[:200]!r}")
-        return cls(*native.read_molfile(_encoded(text)))
+        return cls(*native.read_molfile(_molfile(text)))
 
     @classmethod
     def from_neighbours(cls, text: bytes | str) -> Block:
@@ -189,6 +190,21 @@ class Deck:
     def from_bytes(cls, data: native.Bytes) -> Deck:
         """The deck that some bytes spell; ValueError where they are not blocks, an assembly and perhaps a sheet."""
         return _parse(native._bytes(data))
+
+    @classmethod
+    def from_molfile(cls, text: bytes | str) -> Deck:
+        """The deck of a V2000 molfile's text, of up to 999 atoms without its hydrogens: cut at bonds that no ring holds, and held against the
+        molecule by the library. Raises `Refused`, or `Uncut` with the reason."""
+        from . import cutting  # it needs this module
+
+        return cls.from_bytes(cutting.matched(native.read_whole(_molfile(text))).deck)
+
+    def is_molecule(self, text: bytes | str) -> Answer:
+        """Whether the deck's molecule is that of a molfile's text but for the numbering of its atoms: true only where the library took a
+        matching, whose word is `matched`; else `another molecule` or `not decided`, and why. Raises `Refused`."""
+        from . import matching  # it needs this module
+
+        return matching.held(bytes(self.without_sheet()), native.read_whole(_molfile(text)))
 
     def __bytes__(self) -> bytes:
         records = [block.record(number) for number, block in self.blocks]
@@ -356,6 +372,13 @@ def _encoded(text: bytes | str) -> bytes:
     if isinstance(text, os.PathLike):
         raise TypeError(f"a text is meant, not the name of a file: open {os.fspath(text)!r} and read it")
     return text.encode("utf-8", "surrogateescape") if isinstance(text, str) else text
+
+
+def _molfile(text: bytes | str) -> bytes:
+    """The text of a molfile, and not its name."""
+    if isinstance(text, str) and text and "\n" not in text:
+        raise ValueError(f"the text of a molfile is meant, and it has several lines; to read the file of this name, open it: {text[:200]!r}")
+    return _encoded(text)
 
 
 def _left_out(atom: Any) -> bool:

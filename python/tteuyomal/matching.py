@@ -19,11 +19,14 @@ MOST_WORK = 3_000_000  # atoms whose neighbours are looked at
 
 
 class Answer(NamedTuple):
-    """What came out: one of the three words, why, and the matching that the library took."""
+    """What came out: one of the three words, why, and the matching that the library took. It is true only where it is matched."""
 
     word: str
     why: str = ""
     matching: tuple[tuple[int, int], ...] = ()
+
+    def __bool__(self) -> bool:
+        return self.word == MATCHED
 
 
 class Spent(Exception):

@@ -1,6 +1,7 @@
 """What `from tteuyomal import ..` gives."""
 
 from . import notebook  # noqa: F401
+from .cutting import Uncut
 from .decks import (
     Block,
     Deck,
@@ -34,6 +35,7 @@ __all__ = [
     "Sheet",
     "Site",
     "Table",
+    "Uncut",
     "Verdict",
     "compose",
     "contributions",

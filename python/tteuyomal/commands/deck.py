@@ -62,7 +62,7 @@ def write_cut(options: argparse.Namespace) -> int:
     try:
         made = cutting.matched(molecule)
     except cutting.Uncut as why:
-        raise Stop(f"{shown}: it can't be cut: {why}") from None
+        raise Stop(f"{shown}: it can't be cut: {why.told(data, molecule)}") from None
     except cutting.NotMatched as why:
         raise Stop(f"{shown}: {why}; it is not written") from None
     with files.written(options.output) as file:
