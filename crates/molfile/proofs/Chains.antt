@@ -1,5 +1,5 @@
 -- Laws. The lines of a file part by part. Assumes nothing.
-use Prim.Native.Nat.{ℕ, _+_, _<_, _≤_}
+use Prim.Native.Nat.{ℕ, _+_, _*_, _<_, _≤_}
 use mathlib.Core.Bool.{Bool, true, false, _||_, not}
 use mathlib.Core.List.{List, _++_}
 use mathlib.Core.Path.{_≡_, refl, sym, _∙_, ap}
@@ -8,12 +8,12 @@ use borrow.Author.Tests.{not-false, ne-eqb, lt-ltb, le-ltb, ltb-true, ltb-false}
 use lib.Dec.{ltb}
 use lib.ListN.{length, drop}
 use Rattle.reply.specs.Read.{Read, refused, read, _then_, refusal, refuseIf}
-use Rattle.reply.specs.Chain.{then-read, if-read, neither}
+use Rattle.reply.specs.Chain.{not-read, then-read, if-read, neither}
 use Rattle.block.specs.Block.{mostAtoms, blockReply}
 use Rattle.reply.specs.declared.Refusal.{Refusal}
 use Rattle.text.specs.Text.{characterAt, isNumber, threeAt, lineStarts}
 use Rattle.text.specs.Laws.{three-below}
-use Rattle.molfile.specs.Molfile.{countsPlace, restPlace, atomLineCount, bondLineCount, endWord, inTurn, lineReply, headerReply, numbersReply, atomReply, bondReplyOf, endLineReply, linesReply, keptAtoms, bytesOf, molfileReply}
+use Rattle.molfile.specs.Molfile.{countsPlace, restPlace, atomLineCount, bondLineCount, endWord, inTurn, lineReply, headerReply, numbersReply, atomReply, bondReplyOf, endLineReply, linesReply, keptAtoms, bytesOf, keptReply, molfileReply}
 use Rattle.molfile.specs.Said.{saidAnswer, filledBonds}
 use Rattle.molfile.specs.Work.{most, Marks, Ends, countsReply, listsReply, restReply, answerReply}
 
@@ -81,6 +81,37 @@ module _ (d : List ℕ) where
       let x = three-below (characterAt d p) (characterAt d (p + 1)) (characterAt d (p + 2)) (not-false (isNumber (threeAt d p)) (n .0)) in
       let y = three-below (characterAt d (p + 3)) (characterAt d (p + 3 + 1)) (characterAt d (p + 3 + 2)) (not-false (isNumber (threeAt d (p + 3))) (n .1)) in
       (omega arith, omega arith)
+
+  -- what is kept after the lines
+  module _ (room : ℕ) where
+    pub kept-no-line : (r : Refusal) → linesReply d ≡ refused r → keptReply d room ≡ refused r
+    unfolding keptReply
+    kept-no-line r e = rw e
+
+    module _ (e : linesReply d ≡ read tt) where
+      pub kept-short : room < 2 * bondLineCount d → keptReply d room ≡ refused (refusal 9 0)
+      unfolding keptReply
+      kept-short l = rw (e, lt-ltb room (2 * bondLineCount d) l)
+
+      pub kept-fine : 2 * bondLineCount d ≤ room → keptReply d room ≡ read tt
+      unfolding keptReply
+      kept-fine l = rw (e, le-ltb room (2 * bondLineCount d) l)
+
+    pub kept-lines : keptReply d room ≡ read tt → linesReply d ≡ read tt
+    unfolding keptReply
+    kept-lines e = let (u, a, b) = then-read (linesReply d) (λ _. refuseIf (ltb room (2 * bondLineCount d)) 9 0) e in a
+
+  -- where the lines are read, so are the counts and the lists
+  pub lines-parts : linesReply d ≡ read tt → (countsReply d ≡ read tt) × (listsReply d ≡ read tt)
+  lines-parts e = let (u, a, b) = then-read (countsReply d) (λ _. listsReply d) (sym lines-are ∙ e) in (a, b)
+
+  -- room for all the bonds that three digits say: then only the lines are refused
+  pub kept-refused-lines : (r : Refusal) → keptReply d (2 * most) ≡ refused r → linesReply d ≡ refused r
+  kept-refused-lines r e = go (linesReply d) refl
+    where
+      go : (m : Read (Unit {0})) → linesReply d ≡ m → linesReply d ≡ refused r
+      go (refused s) p = p ∙ sym (kept-no-line (2 * most) s p) ∙ e
+      go (read u) p = absurd (not-read (sym e ∙ kept-fine (2 * most) p (omega (arith, counts-few (lines-parts p .0)))))
 
   -- the block after the lines
   module _ (room : ℕ) where

@@ -13,18 +13,19 @@ use Rattle.molfile.proofs.Turns.{turn-at}
 use Rattle.molfile.proofs.Lines.{bond-within, bond-is}
 use Rattle.molfile.proofs.Chains.{lists-there}
 
-module _ (d marks ones twos : List ℕ) (e : listsReply d ≡ read tt) (M : Marks d (atomLineCount d) marks) (E : Ends d (bondLineCount d) ones twos) where
-  ends-within : (k : ℕ) → k < bondLineCount d → Within (atomLineCount d) (bondOfLine d k .one) × Within (atomLineCount d) (bondOfLine d k .two)
-  ends-within k h = rw (bond-is d k) (bond-within (atomLineCount d) d (bondLinePlace d k) (turn-at (bondReplyOf d) (bondLineCount d) k (lists-there d e .1) h))
+-- each bond line ends at atoms of the list
+pub ends-within : (d : List ℕ) → listsReply d ≡ read tt → (k : ℕ) → k < bondLineCount d → Within (atomLineCount d) (bondOfLine d k .one) × Within (atomLineCount d) (bondOfLine d k .two)
+ends-within d e k h = rw (bond-is d k) (bond-within (atomLineCount d) d (bondLinePlace d k) (turn-at (bondReplyOf d) (bondLineCount d) k (lists-there d e .1) h))
 
+module _ (d marks ones twos : List ℕ) (e : listsReply d ≡ read tt) (M : Marks d (atomLineCount d) marks) (E : Ends d (bondLineCount d) ones twos) where
   pub given-is : MarksGiven (hydrogenIn d) (bondOfLine d) (atomLineCount d) (bondLineCount d) marks ones twos
   unfolding hydrogenIn
-  given-is = record { mark = M .at; one = E .one; two = E .two; within = ends-within }
+  given-is = record { mark = M .at; one = E .one; two = E .two; within = ends-within d e }
 
   pub inside-is : {n m : ℕ} → n ≡ atomLineCount d → m ≡ bondLineCount d → EndsInside n m ones twos
-  inside-is p q = rw (p, q) (record { one = λ k h. rw (E .one k h) (ends-within k h .0); two = λ k h. rw (E .two k h) (ends-within k h .1) })
+  inside-is p q = rw (p, q) (record { one = λ k h. rw (E .one k h) (ends-within d e k h .0); two = λ k h. rw (E .two k h) (ends-within d e k h .1) })
 
-pub keeps-at : (h : ℕ → Bool) (f : ℕ → Bond) {marks ones twos buffer : List ℕ} {r : Kept} {n m n′ m′ : ℕ} → n ≡ n′ → m ≡ m′
-    → ((h : ℕ → Bool) (f : ℕ → Bond) → MarksGiven h f n m marks ones twos → KeepsBonds (isDropped h f m) f n m buffer r)
-    → MarksGiven h f n′ m′ marks ones twos → KeepsBonds (isDropped h f m′) f n′ m′ buffer r
+pub keeps-at : (h : ℕ → Bool) (f : ℕ → Bond) {marks ones twos out after : List ℕ} {r : Kept} {n m n′ m′ : ℕ} → n ≡ n′ → m ≡ m′
+    → ((h : ℕ → Bool) (f : ℕ → Bond) → MarksGiven h f n m marks ones twos → KeepsBonds (isDropped h f m) f n m out after r)
+    → MarksGiven h f n′ m′ marks ones twos → KeepsBonds (isDropped h f m′) f n′ m′ out after r
 keeps-at h f p q k = rw (← p, ← q) (k h f)

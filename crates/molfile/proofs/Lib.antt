@@ -7,6 +7,8 @@ pub mod Numbering
 pub mod Files
 pub mod Same
 pub mod Filling
+pub mod Lows
 pub mod Chains
 pub mod Symbols
 pub mod Replies
+pub mod Fronts

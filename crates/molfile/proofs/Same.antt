@@ -9,9 +9,8 @@ use borrow.Author.Tests.{eq-eqb, ne-eqb}
 use lib.Dec.{eqb}
 use lib.ListN.{length, getD}
 use Rattle.graph.specs.Graph.{Bond, bond, Within}
-use Rattle.block.specs.Block.{mostAtoms}
 use Rattle.molfile.specs.Molfile.{passingBelow, names, other, namesToH, bondLinesOn, hydrogensOn, isDropped, isKept, newNumber, keptBytes}
-use Rattle.molfile.specs.Work.{most, markOf, entryOf, heft, share, sum, weight, bondBy, droppedBy, numberBy, keptBy, EndsInside, Weighed, Numbered, SmallEnds, MarksGiven, KeepsBonds}
+use Rattle.molfile.specs.Work.{most, markOf, entryOf, heft, share, sum, weight, bondBy, droppedBy, keptBy, EndsInside, Weighed, Numbered, MarksGiven}
 use Rattle.molfile.proofs.Numbering.{number-suc, number-few}
 
 -- counting
@@ -20,7 +19,7 @@ unfolding passingBelow
 count-same zero s t e = refl
 count-same (suc n) s t e = rw (count-same n s t (λ j h. e j (omega arith)), e n (omega arith))
 
-count-up : (n i : ℕ) (t : ℕ → Bool) → i ≤ n → passingBelow i t ≤ passingBelow n t
+pub count-up : (n i : ℕ) (t : ℕ → Bool) → i ≤ n → passingBelow i t ≤ passingBelow n t
 unfolding passingBelow
 count-up zero i t h = let e : i ≡ 0 = omega arith in rw e (omega arith)
 count-up (suc n) i t h = go (ℕ-discrete i (suc n)) (count-up n i t)
@@ -121,23 +120,6 @@ module _ (h : ℕ → Bool) (f : ℕ → Bond) (n m : ℕ) (marks ones twos : Li
           go true t x y = refl
           go false true x y = refl
           go false false x y = refl
-
--- numbers are at most as many as are kept
-number-small : (dropped : ℕ → Bool) (n i : ℕ) → i < n → numberBy dropped i ≤ newNumber dropped n
-number-small dropped n i l = go (dropped (suc i)) (count-up n (suc i) (isKept dropped) (omega arith))
-  where
-    go : (t : Bool) → newNumber dropped (suc i) ≤ newNumber dropped n → cond t 0 (newNumber dropped (suc i)) ≤ newNumber dropped n
-    go true h = omega arith
-    go false h = h
-
-pub small : (dropped : ℕ → Bool) (n m : ℕ) (ones twos numbers : List ℕ) (r : ℕ) → Numbered dropped n numbers r → r ≤ mostAtoms → EndsInside n m ones twos → SmallEnds m ones twos numbers
-small dropped n m ones twos numbers r e l w = record {
-  one = λ k h. at (getD ones k 0) (w .one k h);
-  two = λ k h. at (getD twos k 0) (w .two k h);
-}
-  where
-    at : (v : ℕ) → Within n v → getD numbers (v - 1) 0 < 256
-    at v b = omega (arith, e .at (v - 1) (omega arith), number-small dropped n (v - 1) (omega arith), e .count)
 
 pub inside-up : (n m : ℕ) (ones twos : List ℕ) → n ≤ most → EndsInside n m ones twos → EndsInside most m ones twos
 inside-up n m ones twos l w = record { one = λ k h. up (getD ones k 0) (w .one k h); two = λ k h. up (getD twos k 0) (w .two k h) }

@@ -143,7 +143,7 @@ isKept dropped j = not (dropped (suc j))
 abbrev pub newNumber : (ℕ → Bool) → ℕ → ℕ
 newNumber dropped i = passingBelow i (isKept dropped)
 
--- the bonds between atoms that are kept, two bytes each
+-- the bonds between atoms that are kept, two numbers each: the bytes of a block's bonds where a block may have so many atoms
 unfoldable pub keptBytes : (ℕ → Bool) → (ℕ → Bond) → ℕ → List ℕ
 keptBytes dropped f zero = []
 keptBytes dropped f (suc k) =
@@ -163,6 +163,12 @@ keptAtoms d = newNumber (droppedIn d) (atomLineCount d)
 
 abbrev pub bytesOf : List ℕ → List ℕ
 bytesOf d = keptBytes (droppedIn d) (bondOfLine d) (bondLineCount d)
+
+-- what is kept: the file's refusals, then 9 where fewer numbers are lent than two a bond line
+unfoldable pub keptReply : List ℕ → ℕ → Read (Unit {0})
+keptReply d room =
+    linesReply d then λ _.
+    refuseIf (ltb room (2 * bondLineCount d)) 9 0
 
 -- the file's refusals, the block's over the kept bonds, then 9 where fewer bytes are lent than they take
 unfoldable pub molfileReply : List ℕ → ℕ → Read (Unit {0})

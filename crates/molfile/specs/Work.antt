@@ -1,13 +1,13 @@
 -- Work. What the functions over the lists of a file do: the marks of its hydrogens, the ends of its bonds, the weights and new numbers of its atoms.
-use Prim.Native.Nat.{ℕ, zero, suc, _+_, _*_, _-_, _≤_, _<_}
+use Prim.Native.Nat.{ℕ, zero, suc, _+_, _*_, _-_, _%_, _≤_, _<_}
 use mathlib.Core.Bool.{Bool, true, false, _&&_, _||_, not, cond}
 use mathlib.Core.List.{List, [], _∷_, _++_}
 use mathlib.Core.Path.{_≡_}
 use lib.Dec.{eqb, ltb}
-use lib.ListN.{length, getD, take, drop}
+use lib.ListN.{length, getD, drop}
 use Rattle.graph.specs.Graph.{Bond, bond, Within}
 use Rattle.reply.specs.Read.{Read, refused, read, _then_, refuseIf}
-use Rattle.block.specs.Block.{mostAtoms, blockReply}
+use Rattle.block.specs.Block.{blockReply}
 use Rattle.text.specs.Text.{nextLine}
 use Rattle.text.specs.Said.{lineAt}
 use Rattle.molfile.specs.Molfile.{countsPlace, atomLinePlace, bondLinePlace, restPlace, atomLineCount, bondLineCount, endsOfLine, bondOfLine, hydrogenAt, inTurn, lineReply, headerReply, numbersReply, atomReply, bondReplyOf, endLineReply, newNumber, keptBytes}
@@ -145,23 +145,13 @@ pub record Numbered (dropped : ℕ → Bool) (n : ℕ) (numbers : List ℕ) (r :
   pub count : r ≡ newNumber dropped n
   pub at : (i : ℕ) → i < n → getD numbers i 0 ≡ numberBy dropped i
 
--- the bytes of the bonds both of whose ends have a number
+-- the bonds both of whose ends have a number, two numbers each
 unfoldable pub keptBy : List ℕ → (ℕ → Bond) → ℕ → List ℕ
 keptBy numbers f zero = []
 keptBy numbers f (suc k) =
     let a = entryOf numbers (f k .one) in
     let b = entryOf numbers (f k .two) in
     keptBy numbers f k ++ cond (eqb a 0 || eqb b 0) [] (a ∷ b ∷ [])
-
--- the numbers of their ends are bytes
-pub record SmallEnds (m : ℕ) (ones twos numbers : List ℕ) : Type 0 where
-  pub one : (k : ℕ) → k < m → getD numbers (getD ones k 0 - 1) 0 < 256
-  pub two : (k : ℕ) → k < m → getD numbers (getD twos k 0 - 1) 0 < 256
-
--- the first bytes of a buffer
-pub record Begins (buffer xs : List ℕ) (r : ℕ) : Type 0 where
-  pub fits : r ≤ length buffer
-  pub bytes : take r buffer ≡ xs
 
 -- what the lists say of hydrogens and bonds
 pub record MarksGiven (h : ℕ → Bool) (f : ℕ → Bond) (n m : ℕ) (marks ones twos : List ℕ) : Type 0 where
@@ -170,11 +160,16 @@ pub record MarksGiven (h : ℕ → Bool) (f : ℕ → Bond) (n m : ℕ) (marks o
   pub two : (k : ℕ) → k < m → getD twos k 0 ≡ f k .two
   pub within : (k : ℕ) → k < m → Within n (f k .one) × Within n (f k .two)
 
--- what is kept: so many atoms and, where a block may have so many, these bytes
-pub record KeepsBonds (dropped : ℕ → Bool) (f : ℕ → Bond) (n m : ℕ) (buffer : List ℕ) (r : Kept) : Type 0 where
+-- what is kept: so many atoms, and the numbers of these bonds at the front of what is lent
+pub record KeepsBonds (dropped : ℕ → Bool) (f : ℕ → Bond) (n m : ℕ) (out after : List ℕ) (r : Kept) : Type 0 where
   pub atoms : r .atoms ≡ newNumber dropped n
-  pub fits : r .bytes ≤ length buffer
-  pub bytes : r .atoms ≤ mostAtoms → take (r .bytes) buffer ≡ keptBytes dropped f m
+  pub count : r .numbers ≡ length (keptBytes dropped f m)
+  pub numbers-are : after ≡ keptBytes dropped f m ++ drop (length (keptBytes dropped f m)) out
+
+-- the last byte of each number
+unfoldable pub lows : List ℕ → List ℕ
+lows [] = []
+lows (x ∷ xs) = x % 256 ∷ lows xs
 
 -- the block's refusals over the kept bonds, then 9
 unfoldable pub answerReply : ℕ → List ℕ → ℕ → Read (Unit {0})

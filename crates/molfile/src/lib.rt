@@ -1,13 +1,14 @@
 // V2000 molfiles: read as a block, hydrogens with one bond dropped.
 ghost use mathlib.Core.Path.{_≡_};
-ghost use Prim.Native.Nat.{_+_, _≤_};
+ghost use Prim.Native.Nat.{_+_, _%_, _≤_};
 ghost use lib.ListN.{length};
+ghost use lib.Seq.{sets};
 ghost use Rattle.reply.specs.Read.{read};
 ghost use Rattle.text.specs.Text.{threeAt, lineChars};
 ghost use Rattle.text.specs.Said.{saidNumber};
-ghost use Rattle.molfile.specs.Molfile.{countsPlace, atomLinePlace, bondLinePlace, atomLineCount, bondLineCount, symbolAt, isH, oneH, hydrogenAt, inTurn, lineReply, headerReply, numbersReply, bondReply, molfileReply};
-ghost use Rattle.molfile.specs.Said.{saidAnswer, saidMolfile, filledBonds, molfileBytes};
-ghost use Rattle.molfile.specs.Work.{most, markOf, saidLine, saidWalk, numbersAt, saidNumbers, countsReply, answerReply, AtomsRead, BondsRead, RestRead, ListsRead};
+ghost use Rattle.molfile.specs.Molfile.{countsPlace, atomLinePlace, bondLinePlace, atomLineCount, bondLineCount, symbolAt, isH, oneH, hydrogenAt, inTurn, lineReply, headerReply, numbersReply, bondReply, keptReply, molfileReply};
+ghost use Rattle.molfile.specs.Said.{saidAnswer, saidMolfile, filledBonds, molfileBytes, saidKept, keptNumbers};
+ghost use Rattle.molfile.specs.Work.{most, markOf, saidLine, saidWalk, numbersAt, saidNumbers, countsReply, answerReply, lows, AtomsRead, BondsRead, RestRead, ListsRead};
 use reply::Refusal;
 use reply::Reply;
 use text::BLANK;
@@ -30,11 +31,22 @@ pub enum MolRead {
     Block(Counts),
 }
 
-// The most atoms or bonds that three digits say.
-const MOST: usize = 999;
+// How many atoms of a molfile are kept, and how many numbers their bonds take, two each.
+pub struct Kept {
+    pub atoms: usize,
+    pub numbers: usize,
+}
 
-// The bytes of so many bonds.
-const PAIRS: usize = 2 * MOST;
+pub enum KeptRead {
+    Refused(Refusal),
+    Of(Kept),
+}
+
+// The most atoms or bonds that three digits say.
+pub const MOST: usize = 999;
+
+// The numbers of so many bonds.
+pub const PAIRS: usize = 2 * MOST;
 
 // The fewest characters of a line that begins with two numbers, and of an atom line, whose last is the first of its symbol.
 const TWO_NUMBERS: usize = 6;
@@ -65,11 +77,6 @@ enum NumbersRead {
     Read(Numbers),
 }
 
-// What is kept: the atoms, and the bytes of the bonds.
-struct Kept {
-    pub atoms: usize,
-    pub bytes: usize,
-}
 
 // The line due at a place: 25 where it is missing or has fewer characters than it needs.
 fn line(d: &[u8], at: usize, least: usize) -> LineRead
@@ -352,24 +359,59 @@ fn answer(n: usize, xs: &[u8], out: &mut [u8]) -> MolRead
     }
 }
 
-// The block of a file whose counts line is read.
-fn listed(text: &[u8], x: Numbers, out: &mut [u8]) -> MolRead
+// What is kept of a file whose counts line is read.
+fn listed(text: &[u8], x: Numbers, out: &mut [u16]) -> KeptRead
     requires { ⌜ (x ≡ numbersAt (now text) (countsPlace (now text))) × (countsReply (now text) ≡ read tt) ⌝ }
-    ensures reply { λ r. ⌜ r ≡ saidMolfile (now (text .entry)) (molfileReply (now (text .entry)) (length (now (out .entry)))) ⌝ }
-    ensures bytes { λ _. ⌜ now (out .exit) ≡ molfileBytes (now (text .entry)) (now (out .entry)) ⌝ }
+    ensures reply { λ r. ⌜ r ≡ saidKept (now (text .entry)) (keptReply (now (text .entry)) (length (now (out .entry)))) ⌝ }
+    ensures numbers { λ _. ⌜ now (out .exit) ≡ keptNumbers (now (text .entry)) (now (out .entry)) ⌝ }
 {
     let mut marks = [0u8; MOST];
     let mut ones = [0u16; MOST];
     let mut twos = [0u16; MOST];
     let reply = lists(text, x, &mut marks, &mut ones, &mut twos);
     match reply {
-        Walk::Refused(r) => MolRead::Refused(r),
+        Walk::Refused(r) => KeptRead::Refused(r),
         Walk::At(_) => {
-            let mut buffer = [0u8; PAIRS];
-            let k = dropping::kept(x.one, x.two, &marks, &ones, &twos, &mut buffer);
-            let bytes = k.bytes;
-            answer(k.atoms, &buffer[..bytes], out)
+            if out.len() < 2 * x.two {
+                return KeptRead::Refused(Refusal {
+                    number: 9,
+                    place: 0,
+                });
+            }
+            let k = dropping::kept(x.one, x.two, &marks, &ones, &twos, out);
+            KeptRead::Of(k)
         }
+    }
+}
+
+// What is kept of a molfile once hydrogens are dropped: how many atoms, and its bonds at the front of what is lent, two numbers each; later numbers stay. Or
+// it is a refusal, and no number changes: 25 to 27 of its lines in file order, then 9 where fewer numbers are lent than two a bond line.
+pub fn kept_bonds(text: &[u8], out: &mut [u16]) -> KeptRead
+    ensures reply { λ r. ⌜ r ≡ saidKept (now (text .entry)) (keptReply (now (text .entry)) (length (now (out .entry)))) ⌝ }
+    ensures numbers { λ _. ⌜ now (out .exit) ≡ keptNumbers (now (text .entry)) (now (out .entry)) ⌝ }
+{
+    let seen = counts_line(text);
+    match seen {
+        NumbersRead::Refused(r) => KeptRead::Refused(r),
+        NumbersRead::Read(x) => listed(text, x, out),
+    }
+}
+
+fn low(x: u16) -> u8
+    ensures { λ r. ⌜ r ≡ x % 256 ⌝ }
+{
+    (x % 256) as u8
+}
+
+// The last byte of each number, at the front of what is lent.
+fn narrow(xs: &[u16], out: &mut [u8])
+    requires { ⌜ length (now xs) ≤ length (now out) ⌝ }
+    ensures { λ _. ⌜ now (out .exit) ≡ sets (now (out .entry)) 0 (lows (now (xs .entry))) ⌝ }
+{
+    let mut i: usize = 0;
+    while i < xs.len() {
+        out[i] = low(xs[i]);
+        i += 1;
     }
 }
 
@@ -379,9 +421,15 @@ pub fn read(text: &[u8], out: &mut [u8]) -> MolRead
     ensures reply { λ r. ⌜ r ≡ saidMolfile (now (text .entry)) (molfileReply (now (text .entry)) (length (now (out .entry)))) ⌝ }
     ensures bytes { λ _. ⌜ now (out .exit) ≡ molfileBytes (now (text .entry)) (now (out .entry)) ⌝ }
 {
-    let seen = counts_line(text);
+    let mut pairs = [0u16; PAIRS];
+    let seen = kept_bonds(text, &mut pairs);
     match seen {
-        NumbersRead::Refused(r) => MolRead::Refused(r),
-        NumbersRead::Read(x) => listed(text, x, out),
+        KeptRead::Refused(r) => MolRead::Refused(r),
+        KeptRead::Of(k) => {
+            let numbers = k.numbers;
+            let mut bytes = [0u8; PAIRS];
+            narrow(&pairs[..numbers], &mut bytes);
+            answer(k.atoms, &bytes[..numbers], out)
+        }
     }
 }

@@ -1,23 +1,25 @@
 -- Laws. Molfiles with the numbers beside them: each case of the reply. Assumes nothing.
 use Prim.Native.Nat.{ℕ, _/_, _≤_, _<_}
 use mathlib.Core.Bool.{Bool, true, false}
-use mathlib.Core.List.{List}
+use mathlib.Core.List.{List, [], _∷_}
 use mathlib.Core.Path.{_≡_, refl, sym, _∙_, ap, ap₂}
 use native.Mathlib.Omega.{arith}
-use lib.Dec.{ltb}
+use lib.Dec.{eqb, ltb}
 use lib.ListN.{length, set}
 use Rattle.reply.specs.Read.{Read, refused, read, _then_, refuseIf}
 use Rattle.reply.specs.declared.Refusal.{Refusal}
-use Rattle.block.specs.Block.{bondsOf, blockReply}
+use Rattle.block.specs.Block.{bondsOf, bondsReply, blockReply}
 use Rattle.molfile.specs.Molfile.{keptAtoms, bytesOf, linesReply, molfileReply}
 use Rattle.molfile.specs.Said.{filledBonds}
 use Rattle.molfile.specs.declared.Counts.{Counts}
+use Rattle.wholefile.specs.Whole.{moleculeReply, wholeFileReply}
 use Rattle.molwriter.specs.Written.{molfileText, molfileWriteReply, filledText, saidMolfileWritten}
 use Rattle.molwriter.specs.declared.MolWritten.the-variants as text
 use Rattle.calls.specs.Convention.{code, coded, over, thenNine}
+use Rattle.calls.specs.Beside.{withRoom, Beside}
 use Rattle.calls.specs.Blocks.{unlentReply}
 use Rattle.calls.proofs.Laws.{first-put, both-put, nine-behind, beside-lacking, beside-refused, beside-fine}
-use Rattle.text_calls.specs.Molfiles.{unlentMolfile, MolfileRead, MolfileWritten}
+use Rattle.text_calls.specs.Molfiles.{unlentMolfile, unlentWhole, MolfileRead, WholeFileRead, MolfileWritten}
 
 -- what a reply of the code says of the definition
 pub text-refused : (R : Read ℕ) {r : Refusal} → saidMolfileWritten R ≡ text.Refused r → R ≡ refused r
@@ -41,20 +43,36 @@ any-room : (d : List ℕ) (room : ℕ) → unlentMolfile d ≡ thenNine (molfile
 unfolding molfileReply
 any-room d room = nine-either (linesReply d) (blockReply (keptAtoms d) (bytesOf d)) (ltb 1 (length (bytesOf d))) (ltb room (length (bytesOf d)))
 
-module _ (d bonds counts : List ℕ) where
-  pub read-lacking : (x : ℕ) → length counts < 2 → x ≡ coded (unlentMolfile d) → MolfileRead d bonds counts x bonds counts
-  read-lacking x h q = beside-lacking (molfileReply d (length bonds)) 2 _ _ bonds counts x h (q ∙ ap coded (any-room d (length bonds)))
+any-room-whole : (d : List ℕ) (room : ℕ) → unlentWhole d ≡ thenNine (wholeFileReply d room)
+unfolding wholeFileReply moleculeReply
+any-room-whole d room = go (linesReply d)
+  where
+    go : (L : Read (Unit {0})) → let xs = bytesOf d in let A = refuseIf (eqb (keptAtoms d) 0) 1 0 in let B = bondsReply (keptAtoms d) [] (bondsOf xs) in
+        thenNine (L then λ _. A then λ _. B then λ _. refuseIf (ltb 1 (length xs)) 9 0) ≡ thenNine (L then λ _. A then λ _. B then λ _. refuseIf (ltb room (length xs)) 9 0)
+    go (refused r) = refl
+    go (read u) = nine-either (refuseIf (eqb (keptAtoms d) 0) 1 0) (bondsReply (keptAtoms d) [] (bondsOf (bytesOf d))) (ltb 1 (length (bytesOf d))) (ltb room (length (bytesOf d)))
 
-  pub read-refused : (bonds′ : List ℕ) (r : Refusal) (x : ℕ) → 2 ≤ length counts → molfileReply d (length bonds) ≡ refused r
-      → bonds′ ≡ filledBonds (molfileReply d (length bonds)) (bytesOf d) bonds → x ≡ code r → MolfileRead d bonds counts x bonds′ counts
-  unfolding filledBonds
-  read-refused bonds′ r x h e b q = beside-refused (molfileReply d (length bonds)) 2 _ _ bonds counts r x h e (b ∙ rw e refl) q
+-- as a block or whole: R is the library's reply, n and xs the atoms and the numbers of the bonds
+module _ (n : ℕ) (xs : List ℕ) (R : Read (Unit {0})) (bonds counts : List ℕ) where
+  abbrev ReadsTo : ℕ → List ℕ → List ℕ → Type 0
+  ReadsTo = Beside (withRoom (length counts) 2 R) (λ _. xs) (λ _. n ∷ length xs / 2 ∷ []) bonds counts
 
-  pub read-fine : (bonds′ : List ℕ) (c : Counts) → 2 ≤ length counts → molfileReply d (length bonds) ≡ read tt → keptAtoms d ≡ c .atoms → length (bytesOf d) / 2 ≡ c .bonds
-      → bonds′ ≡ filledBonds (molfileReply d (length bonds)) (bytesOf d) bonds → MolfileRead d bonds counts 0 bonds′ (set (set counts 0 (c .atoms)) 1 (c .bonds))
+  pub read-refused : (bonds′ : List ℕ) (r : Refusal) (x : ℕ) → 2 ≤ length counts → R ≡ refused r → bonds′ ≡ filledBonds R xs bonds → x ≡ code r → ReadsTo x bonds′ counts
   unfolding filledBonds
-  read-fine bonds′ c h e n m b =
-      beside-fine (molfileReply d (length bonds)) 2 _ _ bonds counts tt h e (b ∙ rw e refl) (both-put (c .atoms) (c .bonds) counts h ∙ rw (n, m) refl)
+  read-refused bonds′ r x h e b q = beside-refused R 2 _ _ bonds counts r x h e (b ∙ rw e refl) q
+
+  pub read-fine : (bonds′ : List ℕ) (c : Counts) → 2 ≤ length counts → (R ≡ read tt) × (n ≡ c .atoms) × (length xs / 2 ≡ c .bonds)
+      → bonds′ ≡ filledBonds R xs bonds → ReadsTo 0 bonds′ (set (set counts 0 (c .atoms)) 1 (c .bonds))
+  unfolding filledBonds
+  read-fine bonds′ c h e b =
+      beside-fine R 2 _ _ bonds counts tt h (e .0) (b ∙ rw (e .0) refl) (both-put (c .atoms) (c .bonds) counts h ∙ rw (e .1, e .2) refl)
+
+module _ (d bonds counts : List ℕ) (x : ℕ) (lacking : length counts < 2) where
+  pub read-lacking : x ≡ coded (unlentMolfile d) → MolfileRead d bonds counts x bonds counts
+  read-lacking q = beside-lacking (molfileReply d (length bonds)) 2 _ _ bonds counts x lacking (q ∙ ap coded (any-room d (length bonds)))
+
+  pub whole-lacking : x ≡ coded (unlentWhole d) → WholeFileRead d bonds counts x bonds counts
+  whole-lacking q = beside-lacking (wholeFileReply d (length bonds)) 2 _ _ bonds counts x lacking (q ∙ ap coded (any-room-whole d (length bonds)))
 
 -- WRITING.
 module _ (n : ℕ) (xs out told : List ℕ) where

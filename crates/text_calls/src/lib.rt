@@ -1,7 +1,7 @@
 // Molfiles and neighbour texts as C asks for them: each is the library's function under the convention of `calls`.
 ghost use mathlib.Core.Path.{_≡_};
 ghost use Rattle.calls.specs.Convention.{coded};
-ghost use Rattle.text_calls.specs.Molfiles.{unlentMolfile, MolfileRead, MolfileWritten};
+ghost use Rattle.text_calls.specs.Molfiles.{unlentMolfile, unlentWhole, MolfileRead, WholeFileRead, MolfileWritten};
 ghost use Rattle.text_calls.specs.Texts.{unlentText, TextRead, TextWritten};
 use calls::code_of;
 use calls::unlent;
@@ -9,6 +9,7 @@ use molfile::MolRead;
 use molwriter::MolWritten;
 use neighbours::NeighboursRead;
 use neighbours::NeighboursWritten;
+use wholefile::WholeRead;
 
 // The refusal of a file, and 9 where it has none.
 fn unlent_molfile(text: &[u8]) -> u64
@@ -34,6 +35,37 @@ pub fn read_molfile(text: &[u8], bonds: &mut [u8], counts: &mut [u64]) -> u64
     match answer {
         MolRead::Refused(r) => code_of(r),
         MolRead::Block(x) => {
+            counts[0] = x.atoms as u64;
+            counts[1] = x.bonds as u64;
+            0
+        }
+    }
+}
+
+// The refusal of a file that is read whole, and 9 where it has none.
+fn unlent_whole(text: &[u8]) -> u64
+    ensures { λ r. ⌜ r ≡ coded (unlentWhole (now (text .entry))) ⌝ }
+{
+    let mut none = [0u16; 1];
+    let answer = wholefile::read_whole(text, &mut none);
+    match answer {
+        WholeRead::Refused(r) => code_of(r),
+        WholeRead::Molecule(_) => 9,
+    }
+}
+
+pub fn read_whole(text: &[u8], bonds: &mut [u16], counts: &mut [u64]) -> u64
+    ensures { λ r. ⌜
+        WholeFileRead (now (text .entry)) (now (bonds .entry)) (now (counts .entry)) r (now (bonds .exit)) (now (counts .exit))
+        ⌝ }
+{
+    if counts.len() < 2 {
+        return unlent_whole(text);
+    }
+    let answer = wholefile::read_whole(text, bonds);
+    match answer {
+        WholeRead::Refused(r) => code_of(r),
+        WholeRead::Molecule(x) => {
             counts[0] = x.atoms as u64;
             counts[1] = x.bonds as u64;
             0

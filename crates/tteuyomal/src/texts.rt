@@ -1,6 +1,6 @@
 // Molfiles and neighbour texts.
 ghost use lib.ListN.{length};
-ghost use Rattle.text_calls.specs.Molfiles.{MolfileRead, MolfileWritten};
+ghost use Rattle.text_calls.specs.Molfiles.{MolfileRead, WholeFileRead, MolfileWritten};
 ghost use Rattle.text_calls.specs.Texts.{TextRead, TextWritten};
 
 #[no_mangle]
@@ -10,6 +10,15 @@ pub extern "C" fn tteuyomal_read_molfile(text: &[u8], bonds: &mut [u8], counts: 
         ⌝ }
 {
     text_calls::read_molfile(text, bonds, counts)
+}
+
+#[no_mangle]
+pub extern "C" fn tteuyomal_read_whole(text: &[u8], bonds: &mut [u16], counts: &mut [u64]) -> u64
+    ensures { λ r. ⌜
+        WholeFileRead (now (text .entry)) (now (bonds .entry)) (now (counts .entry)) r (now (bonds .exit)) (now (counts .exit))
+        ⌝ }
+{
+    text_calls::read_whole(text, bonds, counts)
 }
 
 #[no_mangle]

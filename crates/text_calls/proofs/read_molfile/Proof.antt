@@ -45,7 +45,7 @@ returns-2 c =
     let s = m .before .before .before .before .before .before in
     let d = now (s .args .text) in
     let out = now (s .args .bonds) in
-    read-refused d out (now (s .args .counts)) _ _ (c .code-of .result) (omega arith)
+    read-refused (keptAtoms d) (bytesOf d) (molfileReply d (length out)) out (now (s .args .counts)) _ _ (c .code-of .result) (omega arith)
     (mol-refused (keptAtoms d) (bytesOf d) (molfileReply d (length out)) (sym (m .read .ensures .0) ∙ c .before .before .answer .given .1)) (m .read .ensures .1) (c .code-of .ensures)
 
 same-length-2 : tie.Need-same-length-2
@@ -62,7 +62,7 @@ returns-3 c =
     let out = now (s .args .bonds) in
     let g = c .before .answer2 .given in
     let r = mol-block (keptAtoms d) (bytesOf d) (molfileReply d (length out)) (sym (m .read .ensures .0) ∙ g .1) in
-    read-fine d out (now (s .args .counts)) _ (g .0 .0) (omega arith) (r .0) (r .1) (r .2) (m .read .ensures .1)
+    read-fine (keptAtoms d) (bytesOf d) (molfileReply d (length out)) out (now (s .args .counts)) _ (g .0 .0) (omega arith) r (m .read .ensures .1)
 
 pub read-molfile-spec : {M : Type 1} → statement M
 read-molfile-spec =

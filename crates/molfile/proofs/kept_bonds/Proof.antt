@@ -1,0 +1,57 @@
+-- `molfile::kept_bonds` meets its contract: the counts, then the rest.
+use mathlib.Core.Path.{_≡_, refl, sym, ap, _∙_}
+use lib.ListN.{length}
+use Rattle.molfile.specs.Molfile.{countsPlace, bytesOf}
+use Rattle.molfile.specs.Said.{saidKept}
+use Rattle.molfile.specs.Work.{countsReply}
+use Rattle.molfile.proofs.Turns.{numbers-refused, numbers-read}
+use Rattle.molfile.proofs.Chains.{lines-no-counts, kept-no-line, stays}
+use borrow.Author.Needs.{needs}
+use Rattle.molfile.proofs.kept_bonds.Statement.{statement}
+use Rattle.molfile.proofs.kept_bonds.Tie as tie
+
+abbrev start : tie.After-counts-line → tie.Start
+start c = c .before .before .before
+
+counts-line-requires : tie.Need-counts-line-requires
+counts-line-requires c κs = search needs
+
+enum-known-seen : tie.Need-enum-known-seen
+enum-known-seen c = search needs
+
+enum-known-seen-2 : tie.Need-enum-known-seen-2
+enum-known-seen-2 c = search needs
+
+listed-requires : tie.Need-listed-requires
+listed-requires c κs =
+    let b = c .before .before .before .before in
+    let d = start b .args .text .now in
+    let e = numbers-read d (countsPlace d) (countsReply d) (sym (b .counts-line .ensures) ∙ c .before .before .seen2 .given .1) in
+    (sym (e .1), e .0)
+
+returns : tie.Need-returns
+returns c =
+    let b = c .before .before .before in
+    let a = start b .args in
+    let d = a .text .now in
+    let g = c .before .seen .given in
+    let e = kept-no-line d (length (a .out .now)) (g .0 .0) (lines-no-counts d (g .0 .0) (numbers-refused d (countsPlace d) (countsReply d) (sym (b .counts-line .ensures) ∙ g .1))) in
+    (sym (ap (saidKept d) e), sym (stays (bytesOf d) (a .out .now) e))
+
+same-length : tie.Need-same-length
+same-length c = search needs
+
+returns-2 : tie.Need-returns-2
+returns-2 c = search needs
+
+pub kept-bonds-spec : {M : Type 1} → statement M
+kept-bonds-spec =
+    tie.close
+    (tie.spec
+    counts-line-requires
+    enum-known-seen
+    enum-known-seen-2
+    listed-requires
+    returns
+    same-length
+    returns-2)

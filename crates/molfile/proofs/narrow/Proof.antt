@@ -1,0 +1,73 @@
+-- `molfile::narrow` meets its contract. The loop's invariant: the last bytes of the first i numbers are put.
+use Prim.Native.Nat.{ℕ, _+_, _-_, _≤_, _<_}
+use mathlib.Core.Path.{_≡_, refl, sym, ap, _∙_}
+use lib.ListN.{length, getD, set, take, length-set}
+use lib.Seq.{sets}
+use native.Mathlib.Omega.{arith}
+use borrow.Author.Needs.{needs}
+use Rattle.molfile.specs.Work.{lows}
+use Rattle.molfile.proofs.Lows.{narrow-more, narrow-all}
+use Rattle.molfile.proofs.narrow.Statement.{statement}
+use Rattle.molfile.proofs.narrow.Tie as tie
+
+abbrev Inv-loop : tie.InvT-loop
+Inv-loop xs out₀ i₀ out i = (i ≤ length xs) × (length out ≡ length out₀) × (out ≡ sets out₀ 0 (take i (lows xs)))
+
+abbrev μ-loop : tie.MeasureT-loop
+μ-loop xs out₀ i₀ out i = length xs - i
+
+loop-holds : tie.Need-loop-holds Inv-loop μ-loop
+loop-holds c = (omega arith, refl, refl)
+
+mul-low : tie.Need-mul-low Inv-loop μ-loop
+mul-low c = search needs
+
+shared-slice-read-low : tie.Need-shared-slice-read-low Inv-loop μ-loop
+shared-slice-read-low c = search needs
+
+low-requires : tie.Need-low-requires Inv-loop μ-loop
+low-requires c κs = search needs
+
+slice-write-out : tie.Need-slice-write-out Inv-loop μ-loop
+slice-write-out c = search needs
+
+add-i : tie.Need-add-i Inv-loop μ-loop
+add-i c = search needs
+
+loop-less : tie.Need-loop-less Inv-loop μ-loop
+loop-less c = search needs
+
+loop-again : tie.Need-loop-again Inv-loop μ-loop
+loop-again c =
+    let l = c .before .before .before .loop in
+    let a = c .before .before .before .before .before .before .args in (
+      omega arith,
+      length-set (l .out) (l .i) (c .low .result) ∙ l .inv .1,
+      narrow-more (a .xs .now) (a .out .now) (l .out) (l .i) (c .low .result) (omega arith) (c .low .ensures) (l .inv .2),
+    )
+
+same-length : tie.Need-same-length Inv-loop μ-loop
+same-length c = search needs
+
+returns : tie.Need-returns Inv-loop μ-loop
+returns c =
+    let l = c .before .loop in
+    let a = c .before .before .before .before .args in
+    narrow-all (a .xs .now) (a .out .now) (l .out) (l .i) (omega arith) (l .inv .2)
+
+pub narrow-spec : {M : Type 1} → statement M
+narrow-spec =
+    tie.close
+    (tie.spec
+    Inv-loop
+    μ-loop
+    loop-holds
+    mul-low
+    shared-slice-read-low
+    low-requires
+    slice-write-out
+    add-i
+    loop-less
+    loop-again
+    same-length
+    returns)

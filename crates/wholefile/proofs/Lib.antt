@@ -1,0 +1,5 @@
+-- Laws that the proofs cite.
+pub mod Looking
+pub mod Listing
+pub mod Chains
+pub mod Replies

@@ -1,0 +1,58 @@
+-- `wholefile::bonds` meets its contract. The loop's invariant: the first k bonds have no fault.
+use Prim.Native.Nat.{_-_, _≤_, _<_}
+use mathlib.Core.Path.{_≡_, sym, ap, _∙_}
+use native.Mathlib.Omega.{arith}
+use Rattle.reply.specs.Read.{saidReply}
+use borrow.Author.Needs.{needs}
+use Rattle.wholefile.proofs.Listing.{Passes, passes-none, passes-more, passes-all, stops}
+use Rattle.wholefile.proofs.bonds.Statement.{statement}
+use Rattle.wholefile.proofs.bonds.Tie as tie
+
+abbrev Inv-loop : tie.InvT-loop
+Inv-loop n xs m k₀ k = (k ≤ m) × Passes n xs k
+
+abbrev μ-loop : tie.MeasureT-loop
+μ-loop n xs m k₀ k = m - k
+
+loop-holds : tie.Need-loop-holds Inv-loop μ-loop
+loop-holds c = (omega arith, passes-none _ _)
+
+fault-requires : tie.Need-fault-requires Inv-loop μ-loop
+fault-requires c κs = omega arith
+
+add-t8 : tie.Need-add-t8 Inv-loop μ-loop
+add-t8 c = omega arith
+
+returns : tie.Need-returns Inv-loop μ-loop
+returns c =
+    let l = c .before .before .before .loop in
+    sym (ap saidReply (stops _ _ _ (l .inv .1) (omega arith) (c .before .fault .result) (c .if1 .taken) (c .before .fault .ensures)))
+
+add-k : tie.Need-add-k Inv-loop μ-loop
+add-k c = omega arith
+
+loop-less : tie.Need-loop-less Inv-loop μ-loop
+loop-less c = omega arith
+
+loop-again : tie.Need-loop-again Inv-loop μ-loop
+loop-again c =
+    let l = c .before .before .before .loop in
+    (omega arith, passes-more _ _ _ (l .inv .1) (omega arith) (sym (c .before .fault .ensures) ∙ c .if1 .left))
+
+returns-2 : tie.Need-returns-2 Inv-loop μ-loop
+returns-2 c = sym (ap saidReply (passes-all _ _ _ (c .before .loop .inv .1) (omega arith)))
+
+pub bonds-spec : {M : Type 1} → statement M
+bonds-spec =
+    tie.close
+    (tie.spec
+    Inv-loop
+    μ-loop
+    loop-holds
+    fault-requires
+    add-t8
+    returns
+    add-k
+    loop-less
+    loop-again
+    returns-2)
