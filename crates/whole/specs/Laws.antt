@@ -58,6 +58,12 @@ unfolding pairNumbers
 pairs-append [] cs = refl
 pairs-append (b ∷ bs) cs = ap (λ (l : List ℕ). b .one ∷ b .two ∷ l) (pairs-append bs cs)
 
+-- bonds written as numbers are read back
+pub pairs-back : (bs : List Bond) → bondsOf (pairNumbers bs) ≡ bs
+unfolding pairNumbers bondsOf
+pairs-back [] = refl
+pairs-back (b ∷ bs) = ap (λ (l : List Bond). b ∷ l) (pairs-back bs)
+
 -- numbers put behind numbers
 pub sets-append : (out : List ℕ) (at : ℕ) (xs ys : List ℕ) → sets (sets out at xs) (at + length xs) ys ≡ sets out at (xs ++ ys)
 sets-append out at [] ys = let e : at + 0 ≡ at = omega arith in rw e

@@ -10,7 +10,7 @@ use lib.Seq.{sets, length-sets}
 use Rattle.deck.specs.Molecule.{graphAt, joinAt}
 use Rattle.climb.specs.Pairs.{deckOf}
 use Rattle.whole.specs.Whole.{pairNumbers}
-use Rattle.whole.specs.Work.{brought, bondsBefore}
+use Rattle.whole.specs.Work.{mostBrought, brought, bondsBefore}
 use Rattle.whole.specs.Joins.{before-none, before-length, before-numbers}
 use Rattle.whole.proofs.put_all.Statement.{statement}
 use Rattle.whole.proofs.put_all.Tie as tie
@@ -19,7 +19,7 @@ abbrev Inv-loop : tie.InvT-loop
 Inv-loop d deck out₀ at₀ k₀ out at k =
     (k ≤ deck .placements)
     × (at ≡ 2 * length (bondsBefore (graphAt d (deckOf deck)) (joinAt d (deckOf deck)) k))
-    × (at ≤ 400 * k)
+    × (at ≤ mostBrought * k)
     × (length out ≡ length out₀)
     × (out ≡ sets out₀ 0 (pairNumbers (bondsBefore (graphAt d (deckOf deck)) (joinAt d (deckOf deck)) k)))
 

@@ -27,9 +27,6 @@ returns c =
 placement-requires : tie.Need-placement-requires
 placement-requires c κs = search needs
 
-cast-start-of : tie.Need-cast-start-of
-cast-start-of c = search needs
-
 -- its parent is an earlier placement
 earlier : (c : tie.After-placement) → let a = c .before .before .before .before .args in Within (a .k) (c .placement .result .parent)
 earlier c =
@@ -37,10 +34,13 @@ earlier c =
     parent-earlier (s .pre .0) (s .args .k) (omega (arith, c .before .if1 .left)) (s .pre .1) (c .placement .result) (c .placement .ensures)
 
 sub-start-of : tie.Need-sub-start-of
-sub-start-of c = omega (arith, earlier (c .before) .low)
+sub-start-of c = omega (arith, earlier c .low)
 
 start-of-requires : tie.Need-start-of-requires
 start-of-requires c κs = search needs
+
+cast-start-of : tie.Need-cast-start-of
+cast-start-of c = let s = c .before .before .before .before .before in omega (arith, s .pre .1, s .pre .0 .count .high)
 
 start-of-requires-2 : tie.Need-start-of-requires-2
 start-of-requires-2 c κs = search needs
@@ -60,7 +60,7 @@ add-put-bond-2 c = search needs
 put-bond-requires : tie.Need-put-bond-requires
 put-bond-requires c κs =
     let t = c .before .before .before in
-    let p = t .before .before .before in
+    let p = t .before .before in
     let s = p .before .before .before .before in
     let e = earlier p in
     let x = start-few (s .pre .0) (p .placement .result .parent - 1) (omega (arith, e .high, s .pre .1)) in
@@ -78,7 +78,7 @@ returns-2 : tie.Need-returns-2
 unfolding pairNumbers
 returns-2 c =
     let t = c .before .before .before .before .before .before in
-    let p = t .before .before .before in
+    let p = t .before .before in
     let s = p .before .before .before .before in
     let a = s .args in
     let j = joining-is (s .pre .0) (a .k) (omega (arith, p .before .if1 .left)) (s .pre .1) (p .placement .result) (p .placement .ensures) in
@@ -92,9 +92,9 @@ put-join-spec =
     (tie.spec
     returns
     placement-requires
-    cast-start-of
     sub-start-of
     start-of-requires
+    cast-start-of
     start-of-requires-2
     wide-requires
     add-put-bond

@@ -23,6 +23,9 @@ block-at-requires c κs = search needs
 bonds-part-requires : tie.Need-bonds-part-requires
 bonds-part-requires c κs = search needs
 
+cast-start-of : tie.Need-cast-start-of
+cast-start-of c = let s = c .before .before .before .before in omega (arith, s .pre .1, s .pre .0 .count .high)
+
 start-of-requires : tie.Need-start-of-requires
 start-of-requires c κs = search needs
 
@@ -78,6 +81,7 @@ put-placed-spec =
     (tie.spec
     block-at-requires
     bonds-part-requires
+    cast-start-of
     start-of-requires
     put-block-requires
     mul-next
