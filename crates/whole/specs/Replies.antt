@@ -1,11 +1,11 @@
 -- Laws. What a deck's molecule is told: the deck's refusal, 9, or the bonds placement by placement. Assumes nothing.
 use Prim.Native.Nat.{ℕ, zero, suc, _*_, _-_, _≤_, _<_}
 use mathlib.Core.List.{List}
-use mathlib.Core.Path.{_≡_, refl, sym, _∙_, ap}
+use mathlib.Core.Path.{_≡_, ap}
 use native.Mathlib.Omega.{arith}
 use borrow.Author.Tests.{lt-ltb, le-ltb}
 use lib.ListN.{length}
-use Rattle.graph.specs.Graph.{Graph, Bond}
+use Rattle.graph.specs.Graph.{Graph}
 use Rattle.graph.specs.Assembly.{Join, startAt, written}
 use Rattle.reply.specs.Read.{refused, read, refusal}
 use Rattle.reply.specs.declared.Refusal.{Refusal}

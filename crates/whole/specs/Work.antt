@@ -1,8 +1,8 @@
 -- Work. What is put for each placement, and for those before one.
-use Prim.Native.Nat.{ℕ, zero, suc, _+_, _*_, _≤_}
+use Prim.Native.Nat.{ℕ, zero, suc, _+_, _*_}
 use mathlib.Core.List.{List, [], _∷_, _++_}
 use Rattle.graph.specs.Graph.{Bond, bond, Graph}
-use Rattle.graph.specs.Assembly.{Join, shifted, atomOf, startAt, written}
+use Rattle.graph.specs.Assembly.{Join, shifted, atomOf, startAt}
 use Rattle.block.specs.Block.{mostAtoms, mostBytes, bondsOf}
 use Rattle.assembly.specs.Placements.{mostPlacements}
 use Rattle.whole.specs.Whole.{pairNumbers}

@@ -1,6 +1,6 @@
 -- `whole::bond_count` meets its contract. The loop's invariant: the bonds of the placements before k are counted, at most half of `mostBrought` each.
-use Prim.Native.Nat.{ℕ, _+_, _*_, _-_, _/_, _≤_, _<_}
-use mathlib.Core.Path.{_≡_, refl, sym, _∙_, ap, ap₂}
+use Prim.Native.Nat.{ℕ, _*_, _-_, _≤_, _<_}
+use mathlib.Core.Path.{_≡_, sym, _∙_, ap}
 use native.Mathlib.Omega.{arith}
 use borrow.Author.Needs.{needs}
 use denote.Ref.{now}
@@ -8,7 +8,7 @@ use lib.ListN.{length}
 use Rattle.block.specs.Block.{mostBytes, bondsOf}
 use Rattle.deck.specs.Molecule.{graphAt, joinAt}
 use Rattle.climb.specs.Pairs.{deckOf}
-use Rattle.whole.specs.Work.{mostBrought, joinsOf, brought, bondsBefore}
+use Rattle.whole.specs.Work.{mostBrought, bondsBefore}
 use Rattle.whole.specs.Joins.{bonds-few, bonds-are, brought-length, joining-length, before-none, before-length}
 use Rattle.whole.proofs.bond_count.Statement.{statement}
 use Rattle.whole.proofs.bond_count.Tie as tie

@@ -1,6 +1,6 @@
 -- `whole::bonds` meets its contract: the deck's refusals, then 9, else the bonds placement by placement.
-use Prim.Native.Nat.{ℕ, _*_, _≤_, _<_}
-use mathlib.Core.Path.{_≡_, refl, sym, _∙_, ap, ap₂}
+use Prim.Native.Nat.{ℕ}
+use mathlib.Core.Path.{_≡_, sym, _∙_, ap, ap₂}
 use native.Mathlib.Omega.{arith}
 use borrow.Author.Needs.{needs}
 use denote.Ref.{now}
@@ -8,17 +8,15 @@ use mathlib.Core.List.{List}
 use lib.ListN.{length}
 use lib.Seq.{sets}
 use Rattle.graph.specs.Graph.{Bond, Graph}
-use Rattle.reply.specs.Read.{Read, refused, read, refusal}
+use Rattle.reply.specs.Read.{Read, read}
 use Rattle.deck.specs.Deck.{deckReply}
-use Rattle.deck.specs.Molecule.{moleculeOf}
 use Rattle.deck.specs.Sound.{whole}
 use Rattle.deck.specs.declared.Form.the-variants.{Composed}
 use Rattle.deck.proofs.Parts.{deck-stopped}
 use Rattle.climb.specs.Pairs.{deckOf}
 use Rattle.climb.proofs.Reading.{deck-read}
-use Rattle.whole.specs.Whole.{pairNumbers, wholeReply, numbersAfter}
+use Rattle.whole.specs.Whole.{pairNumbers, numbersAfter}
 use Rattle.whole.specs.Said.{saidMolecule}
-use Rattle.whole.specs.declared.Counts.{Counts}
 use Rattle.whole.specs.declared.MoleculeReply.the-variants as told
 use Rattle.whole.specs.Replies.{whole-refused, molecule-bonds, molecule-atoms, whole-short, whole-read}
 use Rattle.whole.proofs.bonds.Statement.{statement}

@@ -1,18 +1,14 @@
 -- `whole::put_join` meets its contract: the first placement brings no bond, a later one the bond to its parent.
-use Prim.Native.Nat.{ℕ, _+_, _*_, _-_, _≤_, _<_}
-use mathlib.Core.Path.{_≡_, refl, sym, _∙_, ap, ap₂}
-use mathlib.Core.List.{List, [], _∷_}
+use Prim.Native.Nat.{ℕ, _+_, _-_}
+use mathlib.Core.Path.{_≡_, refl, _∙_, ap₂}
+use mathlib.Core.List.{[], _∷_}
 use native.Mathlib.Omega.{arith}
 use borrow.Author.Needs.{needs}
 use denote.Ref.{now}
-use lib.ListN.{length}
 use lib.Seq.{sets}
-use Rattle.graph.specs.Graph.{Bond, Within}
-use Rattle.graph.specs.Assembly.{startAt}
-use Rattle.deck.specs.Molecule.{graphAt, joinAt}
+use Rattle.graph.specs.Graph.{Within}
 use Rattle.climb.specs.Pairs.{deckOf}
 use Rattle.whole.specs.Whole.{pairNumbers}
-use Rattle.whole.specs.Work.{joining}
 use Rattle.whole.specs.Joins.{start-few, parent-earlier, joining-is, joining-none}
 use Rattle.whole.proofs.put_join.Statement.{statement}
 use Rattle.whole.proofs.put_join.Tie as tie
