@@ -41,9 +41,9 @@ extern "C" {
 /* ---- The reply of every function: one number ----
  *
  * reply % 256 says what: 0 fine (judging: accepted); 1 to 253 a refusal, by the number of the list below; 254 all
- * products of a library, or all records of an SDF, are done; 255 the sheet or a claim differs (judging only). reply / 256
- * says where: the place of a refusal, or the first wrong field, 1 to 5 or, of a sheet of kind 4, 1 to 6, or the number of
- * the first wrong claim, from 1.
+ * products of a library, or all records of an SDF, are done; 255 the sheet, a claim or a matching differs. reply / 256 says
+ * where: the place of a refusal, or the first wrong field, 1 to 5 or, of a sheet of kind 4, 1 to 6, or the number of the first
+ * wrong claim, from 1, or the first place where a matching fails.
  *
  * A refusal changes no byte of any output. A success writes what the function's comment says, from the front of the
  * output; whatever follows in it stays as it was.
@@ -209,6 +209,32 @@ tteuyomal_reply tteuyomal_compose_six(const uint8_t *deck, size_t deck_len, uint
  * atom j of placement l. Refusals: 20, the deck's, then 18 at 0 (no such placement or atom), then 9 (no room). */
 tteuyomal_reply tteuyomal_placed_distance(const uint8_t *deck, size_t deck_len, size_t k, size_t i, size_t l, size_t j,
                                           uint64_t *distance, size_t distance_len);
+
+/* ---- Large molecules ----
+ *
+ * A molecule of more than 64 atoms is a deck, and these two hold it against a list of all its atoms and bonds. Atoms of the
+ * whole molecule count from 1: the first placement's in their block's order, then the second's, and so on. */
+
+/* The most atoms of a deck's molecule, and the most numbers that its bonds take. */
+#define TTEUYOMAL_WHOLE_ATOMS 2048
+#define TTEUYOMAL_WHOLE_NUMBERS 12352
+
+/* Writes out the molecule of a deck without a sheet: its bonds, two numbers each, and two counts, atoms and bonds. The bonds
+ * come placement by placement, each block's in its order, and behind those of a later placement the bond that joins it, the
+ * parent's atom first. Refuses as judging does, but for the sheet; then 9 where bonds_len or counts_len is too small. */
+tteuyomal_reply tteuyomal_written_out(const uint8_t *deck, size_t deck_len, uint16_t *bonds, size_t bonds_len,
+                                      uint64_t *counts, size_t counts_len);
+
+/* Whether a deck without a sheet is a molecule of so many atoms and these bonds, two numbers each, by a matching: two numbers
+ * for each atom, its placement, from 1, and its atom there, from 1. Fine where every atom has a partner of its own, none of the
+ * deck's is left, and bonds are carried to bonds both ways: then the deck's sheet has the fields of that molecule. Else
+ * TTEUYOMAL_DIFFERS, and the first place that fails: 0 the number of atoms; 1 to n an atom without a partner, or with that of
+ * an earlier atom; n + e bond e of the m bonds, whose ends are no atoms or are not bonded in the deck; n + m + e bond e of the
+ * deck, as tteuyomal_written_out writes it, that is not among the bonds. An odd last number of the bonds is read over; numbers
+ * of the matching beyond two for each atom are too. Refuses as judging does, but for the sheet; then 9 where the matching has
+ * fewer than 2 * atoms numbers. The work grows with the product of the two numbers of bonds. */
+tteuyomal_reply tteuyomal_matched(const uint8_t *deck, size_t deck_len, size_t atoms, const uint16_t *bonds, size_t bonds_len,
+                                  const uint16_t *matching, size_t matching_len);
 
 /* ---- Libraries ---- */
 
