@@ -41,9 +41,9 @@ extern "C" {
 /* ---- The reply of every function: one number ----
  *
  * reply % 256 says what: 0 fine (judging: accepted); 1 to 253 a refusal, by the number of the list below; 254 all
- * products of a library, or all records of an SDF, are done; 255 the sheet or a claim differs, or a deck is not matched
- * (judging and matching only). reply / 256 says where: the place of a refusal, or the first wrong field, 1 to 5 or, of a sheet
- * of kind 4, 1 to 6, or the number of the first wrong claim, from 1, or the place at which a matching fails.
+ * products of a library, or all records of an SDF, are done; 255 the sheet, a claim or a matching differs. reply / 256 says
+ * where: the place of a refusal, or the first wrong field, 1 to 5 or, of a sheet of kind 4, 1 to 6, or the number of the first
+ * wrong claim, from 1, or the first place where a matching fails.
  *
  * A refusal changes no byte of any output. A success writes what the function's comment says, from the front of the
  * output; whatever follows in it stays as it was.
@@ -210,6 +210,32 @@ tteuyomal_reply tteuyomal_compose_six(const uint8_t *deck, size_t deck_len, uint
 tteuyomal_reply tteuyomal_placed_distance(const uint8_t *deck, size_t deck_len, size_t k, size_t i, size_t l, size_t j,
                                           uint64_t *distance, size_t distance_len);
 
+/* ---- Large molecules ----
+ *
+ * A molecule of more than 64 atoms is a deck, and these two hold it against a list of all its atoms and bonds. Atoms of the
+ * whole molecule count from 1: the first placement's in their block's order, then the second's, and so on. */
+
+/* The most atoms of a deck's molecule, and the most numbers that its bonds take. */
+#define TTEUYOMAL_WHOLE_ATOMS 2048
+#define TTEUYOMAL_WHOLE_NUMBERS 12352
+
+/* Writes out the molecule of a deck without a sheet: its bonds, two numbers each, and two counts, atoms and bonds. The bonds
+ * come placement by placement, each block's in its order, and behind those of a later placement the bond that joins it, the
+ * parent's atom first. Refuses as judging does, but for the sheet; then 9 where bonds_len or counts_len is too small. */
+tteuyomal_reply tteuyomal_written_out(const uint8_t *deck, size_t deck_len, uint16_t *bonds, size_t bonds_len,
+                                      uint64_t *counts, size_t counts_len);
+
+/* Whether a deck without a sheet is a molecule of so many atoms and these bonds, two numbers each, by a matching: two numbers
+ * for each atom, its placement, from 1, and its atom there, from 1. Fine where every atom has a partner of its own, none of the
+ * deck's is left, and bonds are carried to bonds both ways: then the deck's sheet has the fields of that molecule. Else
+ * TTEUYOMAL_DIFFERS, and the first place that fails: 0 the number of atoms; 1 to n an atom without a partner, or with that of
+ * an earlier atom; n + e bond e of the m bonds, whose ends are no atoms or are not bonded in the deck; n + m + e bond e of the
+ * deck, as tteuyomal_written_out writes it, that is not among the bonds. An odd last number of the bonds is read over; numbers
+ * of the matching beyond two for each atom are too. Refuses as judging does, but for the sheet; then 9 where the matching has
+ * fewer than 2 * atoms numbers. The work grows with the product of the two numbers of bonds. */
+tteuyomal_reply tteuyomal_matched(const uint8_t *deck, size_t deck_len, size_t atoms, const uint16_t *bonds, size_t bonds_len,
+                                  const uint16_t *matching, size_t matching_len);
+
 /* ---- Libraries ---- */
 
 /* Writes one number: how many products a library deck has. Refusals: 20, the blocks', 11 to 13, 31, 16, then site by site 13,
@@ -291,6 +317,16 @@ tteuyomal_reply tteuyomal_polynomial(size_t atoms, const uint8_t *bonds, size_t 
  * bond, or counts_len below 2). TTEUYOMAL_BONDS_BYTES are room for the bonds of every block. */
 tteuyomal_reply tteuyomal_read_molfile(const uint8_t *text, size_t text_len, uint8_t *bonds, size_t bonds_len,
                                        uint64_t *counts, size_t counts_len);
+
+/* The most numbers that the bonds of a molfile's molecule take. */
+#define TTEUYOMAL_FILE_NUMBERS 1998
+
+/* Reads a V2000 molfile as tteuyomal_read_molfile does, and hands over its molecule whatever its size: up to 999 atoms, in one
+ * part or in several. Writes its bonds, two numbers each, and two counts, atoms and bonds.
+ * Refusals: 25, 26 and 27 in file order; 1 (no atom is kept); bond by bond 3 to 6, the place being the number of the kept bond;
+ * then 9 (bonds_len below two numbers a kept bond, or counts_len below 2). */
+tteuyomal_reply tteuyomal_read_whole(const uint8_t *text, size_t text_len, uint16_t *bonds, size_t bonds_len,
+                                     uint64_t *counts, size_t counts_len);
 
 /* Writes a block as a V2000 molfile of carbons at zero coordinates and single bonds, and one number, its length:
  * 50 bytes, 70 for each atom and 22 for each bond. Reading it gives the same block.
@@ -403,38 +439,6 @@ tteuyomal_reply tteuyomal_sdf_record(const uint8_t *text, size_t text_len, size_
  * (span_len below 2). */
 tteuyomal_reply tteuyomal_sdf_item(const uint8_t *record, size_t record_len, const uint8_t *name, size_t name_len,
                                    uint64_t *span, size_t span_len);
-
-/* ---- Molecules of every size ---- */
-
-/* The bonds of a molecule that need not be a block are two numbers each, those of its two atoms. In numbers of 16 bits, for who
- * lends: the ends of the bonds of any molfile, and of any deck's molecule. */
-#define TTEUYOMAL_FILE_ENDS 1998
-#define TTEUYOMAL_DECK_ENDS 12350
-
-/* Reads a V2000 molfile as tteuyomal_read_molfile does, and hands over its molecule whatever its size: up to 999 atoms, in one
- * part or in several. Writes its bonds and two numbers, the atom count and the number of bonds.
- * Refusals: 25, 26 and 27 in file order; 1 (no atom is kept); bond by bond 3 to 6, the place being the number of the kept bond;
- * then 9 (bonds_len below two numbers a kept bond, or counts_len below 2). */
-tteuyomal_reply tteuyomal_read_whole(const uint8_t *text, size_t text_len, uint16_t *bonds, size_t bonds_len,
-                                     uint64_t *counts, size_t counts_len);
-
-/* Writes the bonds of the molecule of a deck without a sheet, and two numbers, its atom count and its number of bonds. Atoms are
- * counted placement by placement; so are the bonds listed, and behind those of a later placement stands the bond that joins it,
- * the parent's atom first.
- * Refusals: the deck's, then 9 (bonds_len below two numbers a bond, or counts_len below 2). */
-tteuyomal_reply tteuyomal_written_out(const uint8_t *deck, size_t deck_len, uint16_t *bonds, size_t bonds_len,
-                                      uint64_t *counts, size_t counts_len);
-
-/* Whether the molecule of a deck without a sheet is the one of n = `atoms` atoms and these bonds but for the numbering of its
- * atoms, by a matching: for each atom of the molecule two numbers, its placement and its atom in that placement's block, both
- * from 1. Fine when it takes each atom to another one, and bonds to bonds both ways; then the deck's fields are the molecule's.
- * Else TTEUYOMAL_DIFFERS with the first place that fails: 0 where the deck's molecule has another number of atoms; 1 to n for an
- * atom whose partner is no placed atom, or is an earlier atom's; n + e for bond e of the list, from 1, whose ends are no atoms or
- * whose partners the deck does not bond; with m bonds in the list n + m + e for bond e of the deck's molecule as it is written
- * out, which no bond of the list is taken to. A last number of `bonds` without a second one is read over.
- * Refusals: the deck's, then 9 (matching_len below two numbers an atom). */
-tteuyomal_reply tteuyomal_matched(const uint8_t *deck, size_t deck_len, size_t atoms, const uint16_t *bonds,
-                                  size_t bonds_len, const uint16_t *matching, size_t matching_len);
 
 #ifdef __cplusplus
 }
