@@ -13,8 +13,7 @@ from common import FORTY, RIGHT, RING
 from test_check import molfile, record
 from test_command import Room
 
-import tteuyomal
-from tteuyomal import cutting, matching, native
+from tteuyomal import Uncut, cut_molfile, cutting, hold, matching, native
 from tteuyomal.decks import Block, Deck, Placement
 from tteuyomal.matching import ANOTHER, MATCHED, UNDECIDED
 from tteuyomal.native import Matched, Molecule, Refused
@@ -244,23 +243,25 @@ class Decks(unittest.TestCase):
     """The same from Python."""
 
     def test_deck(self):
-        deck = Deck.from_molfile(drawn(path(200)))
+        deck = cut_molfile(drawn(path(200)))
         self.assertEqual((len(deck.placements), len(deck.blocks), deck.compose().w), (4, 2, 1333300))
-        self.assertEqual(Deck.from_molfile(drawn(path(3)).decode()).placements, (Placement(1),))
-        answer = deck.with_sheet().is_molecule(drawn(renumbered(path(200), 1)))
+        self.assertEqual(cut_molfile(drawn(path(3)).decode()).placements, (Placement(1),))
+        answer = hold(deck.with_sheet(), drawn(renumbered(path(200), 1)))
         self.assertTrue(answer)
         self.assertEqual((answer.word, len(answer.matching)), (MATCHED, 200))
-        self.assertFalse(deck.is_molecule(drawn(path(199))))
-        self.assertEqual(Deck.from_molfile(drawn(K33)).is_molecule(drawn(PRISM)).word, UNDECIDED)
-        self.assertFalse(Deck.from_molfile(drawn(K33)).is_molecule(drawn(PRISM)))
+        self.assertFalse(hold(bytes(deck), drawn(path(199))))
+        self.assertEqual(hold(cut_molfile(drawn(K33)), drawn(PRISM)).word, UNDECIDED)
+        self.assertFalse(hold(cut_molfile(drawn(K33)), drawn(PRISM)))
 
     def test_what_is_raised(self):
-        self.assertRaises(tteuyomal.Uncut, Deck.from_molfile, drawn(Molecule(65, ring(65))))
-        self.assertRaises(Refused, Deck.from_molfile, b"")
-        self.assertRaises(ValueError, Deck.from_molfile, "large.mol")
-        self.assertRaises(ValueError, Deck.from_molfile(drawn(path(3))).is_molecule, "large.mol")
-        self.assertRaises(Refused, Deck.from_molfile(drawn(path(3))).is_molecule, b"")
-        self.assertRaises(Refused, Deck({1: Block(65)}, [Placement(1)]).is_molecule, drawn(path(3)))
+        deck = cut_molfile(drawn(path(3)))
+        self.assertRaises(Uncut, cut_molfile, drawn(Molecule(65, ring(65))))
+        self.assertRaises(Refused, cut_molfile, b"")
+        self.assertRaises(ValueError, cut_molfile, "large.mol")
+        self.assertRaises(ValueError, hold, deck, "large.mol")
+        self.assertRaises(Refused, hold, deck, b"")
+        self.assertRaises(Refused, hold, bytes(deck)[:-1], drawn(path(3)))
+        self.assertRaises(Refused, hold, Deck({1: Block(65)}, [Placement(1)]), drawn(path(3)))
 
 
 class Command(Room):

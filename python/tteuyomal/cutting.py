@@ -8,8 +8,9 @@ from __future__ import annotations
 from collections.abc import Iterator
 from typing import NamedTuple
 
-from . import matching, native, sdf
-from .matching import MATCHED
+from . import decks, matching, native, sdf
+from .decks import Deck
+from .matching import MATCHED, Answer
 from .native import Molecule, Refused
 
 MOST_ATOMS, MOST_BLOCKS, MOST_PLACEMENTS = 64, 16, 32
@@ -17,7 +18,7 @@ _SHOWN = 12  # atoms that are named
 _WORK = 40_000  # atoms that are looked at to tell whether two pieces are alike
 
 
-class Uncut(Exception):
+class Uncut(ValueError):
     """Why a molecule is not cut, in words, and the first of the atoms that it is about."""
 
     def __init__(self, words: str, atoms: tuple[int, ...] = ()) -> None:
@@ -50,6 +51,24 @@ class Cut(NamedTuple):
 def words(placements: int) -> str:
     """What is said of a molecule that was cut, and that the library found to be the deck's."""
     return f"cut into {placements} placement{'' if placements == 1 else 's'}, matched"
+
+
+def cut_molfile(text: bytes | str) -> Deck:
+    """The deck of a V2000 molfile's text, of up to 999 atoms without its hydrogens: cut at bonds that no ring holds, and held against the
+    molecule by the library. Raises `Refused`, or `Uncut` with the reason."""
+    return Deck.from_bytes(matched(native.read_whole(decks._molfile(text))).deck)
+
+
+def hold(deck: Deck | native.Bytes, text: bytes | str) -> Answer:
+    """Whether the molecule of a deck, with a sheet or without one, is that of a molfile's text but for the numbering of its atoms: true only
+    where the library took a matching, and its word is then `matched`; else `another molecule` or `not decided`, and why. Raises `Refused`."""
+    molecule = native.read_whole(decks._molfile(text))
+    data = native._bytes(decks._deck_bytes(deck))
+    try:
+        bare = matching.without_sheet(data)
+    except ValueError:
+        bare = data  # the library says what is wrong
+    return matching.held(bare, molecule)
 
 
 def matched(molecule: Molecule) -> Cut:

@@ -6,13 +6,10 @@ import os
 import struct
 from collections.abc import Iterable, Iterator, Mapping
 from dataclasses import dataclass
-from typing import TYPE_CHECKING, Any, NamedTuple, TypeVar
+from typing import Any, NamedTuple, TypeVar
 
 from . import files, native
 from .native import Contributions, Fields, Refused, Sets, Szeged, Values, Vertex
-
-if TYPE_CHECKING:
-    from .matching import Answer
 
 Kind = TypeVar("Kind")
 BLOCK, ASSEMBLY, SHEET, SIX, LIBRARY = 1, 2, 3, 4, 5  # kinds of records
@@ -190,21 +187,6 @@ class Deck:
     def from_bytes(cls, data: native.Bytes) -> Deck:
         """The deck that some bytes spell; ValueError where they are not blocks, an assembly and perhaps a sheet."""
         return _parse(native._bytes(data))
-
-    @classmethod
-    def from_molfile(cls, text: bytes | str) -> Deck:
-        """The deck of a V2000 molfile's text, of up to 999 atoms without its hydrogens: cut at bonds that no ring holds, and held against the
-        molecule by the library. Raises `Refused`, or `Uncut` with the reason."""
-        from . import cutting  # it needs this module
-
-        return cls.from_bytes(cutting.matched(native.read_whole(_molfile(text))).deck)
-
-    def is_molecule(self, text: bytes | str) -> Answer:
-        """Whether the deck's molecule is that of a molfile's text but for the numbering of its atoms: true only where the library took a
-        matching, whose word is `matched`; else `another molecule` or `not decided`, and why. Raises `Refused`."""
-        from . import matching  # it needs this module
-
-        return matching.held(bytes(self.without_sheet()), native.read_whole(_molfile(text)))
 
     def __bytes__(self) -> bytes:
         records = [block.record(number) for number, block in self.blocks]

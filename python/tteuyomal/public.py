@@ -1,7 +1,7 @@
 """What `from tteuyomal import ..` gives."""
 
 from . import notebook  # noqa: F401
-from .cutting import Uncut
+from .cutting import Uncut, cut_molfile, hold
 from .decks import (
     Block,
     Deck,
@@ -39,6 +39,8 @@ __all__ = [
     "Verdict",
     "compose",
     "contributions",
+    "cut_molfile",
+    "hold",
     "judge",
     "judge_file",
     "judge_many",
