@@ -63,6 +63,9 @@ typedef uint64_t tteuyomal_reply;
 #define TTEUYOMAL_NEIGHBOURS_BYTES 1024
 #define TTEUYOMAL_DECK_BYTES 32768
 
+/* 16-bit numbers: the bonds of the largest molecule that a molfile holds, two each. */
+#define TTEUYOMAL_FILE_NUMBERS 1998
+
 /* More stack than any function takes, on any input. */
 #define TTEUYOMAL_STACK_BYTES 65536
 
@@ -318,13 +321,13 @@ tteuyomal_reply tteuyomal_polynomial(size_t atoms, const uint8_t *bonds, size_t 
 tteuyomal_reply tteuyomal_read_molfile(const uint8_t *text, size_t text_len, uint8_t *bonds, size_t bonds_len,
                                        uint64_t *counts, size_t counts_len);
 
-/* The most numbers that the bonds of a molfile's molecule take. */
-#define TTEUYOMAL_FILE_NUMBERS 1998
-
-/* Reads a V2000 molfile as tteuyomal_read_molfile does, and hands over its molecule whatever its size: up to 999 atoms, in one
- * part or in several. Writes its bonds, two numbers each, and two counts, atoms and bonds.
- * Refusals: 25, 26 and 27 in file order; 1 (no atom is kept); bond by bond 3 to 6, the place being the number of the kept bond;
- * then 9 (bonds_len below two numbers a kept bond, or counts_len below 2). */
+/* Reads a V2000 molfile, or the first record of an SDF, as one molecule of up to 999 atoms: writes its bonds, two 16-bit
+ * numbers each, and two numbers, the atom count and the number of bonds. Lines, hydrogens and numbering are those of
+ * tteuyomal_read_molfile, and where that gives a block, this gives the same atoms and bonds. bonds_len counts 16-bit
+ * numbers, not bytes: TTEUYOMAL_FILE_NUMBERS are room for the bonds of every file.
+ * Refusals: 25, 26 and 27 in file order, 1 where no atom is kept, 3 to 6 at the number of the kept bond, from 1, bond
+ * by bond as for a block, then 9 (bonds_len below two numbers a kept bond, or counts_len below 2). How many bonds there
+ * are and whether a path joins all atoms is not asked. */
 tteuyomal_reply tteuyomal_read_whole(const uint8_t *text, size_t text_len, uint16_t *bonds, size_t bonds_len,
                                      uint64_t *counts, size_t counts_len);
 

@@ -77,7 +77,6 @@ enum NumbersRead {
     Read(Numbers),
 }
 
-
 // The line due at a place: 25 where it is missing or has fewer characters than it needs.
 fn line(d: &[u8], at: usize, least: usize) -> LineRead
     ensures { λ r. ⌜ r ≡ saidLine (now (d .entry)) at (lineReply least (now (d .entry)) at) ⌝ }

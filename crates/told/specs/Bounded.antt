@@ -71,7 +71,7 @@ bond-number n before b =
     fault-chain (isOutside n (b .one) || isOutside n (b .two)) (eqb (b .one) (b .two)) (anyJoins before (b .one) (b .two))
     (leb limit (degree before (b .one)) || leb limit (degree before (b .two)))
 
-bonds-bounded : (n c : ℕ) (before bs : List Bond) → length before + length bs < c → Bounded c (bondsReply n before bs)
+pub bonds-bounded : (n c : ℕ) (before bs : List Bond) → length before + length bs < c → Bounded c (bondsReply n before bs)
 unfolding bondsReply
 bonds-bounded n c before [] h = tt
 bonds-bounded n c before (b ∷ bs) h =
@@ -79,7 +79,7 @@ bonds-bounded n c before (b ∷ bs) h =
     (for-bounded c (bondFault n before b) (suc (length before)) (bond-number n before b) (omega arith))
     (λ u e. bonds-bounded n c (b ∷ before) bs (omega arith))
 
-fewer-bonds : (xs : List ℕ) → length (bondsOf xs) ≤ length xs
+pub fewer-bonds : (xs : List ℕ) → length (bondsOf xs) ≤ length xs
 unfolding bondsOf
 fewer-bonds [] = omega arith
 fewer-bonds (a ∷ []) = omega arith

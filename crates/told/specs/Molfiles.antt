@@ -1,20 +1,23 @@
 -- Laws. What the one number of a C reply about a molfile tells, with nothing assumed; of a text shorter than 2^56 bytes it tells the place itself.
-use Prim.Native.Nat.{ℕ, zero, suc, _+_, _<_}
+use Prim.Native.Nat.{ℕ, zero, suc, _+_, _*_, _<_}
 use mathlib.Core.Bool.{true, not, _||_}
-use mathlib.Core.List.{List}
+use mathlib.Core.List.{List, []}
 use mathlib.Core.Path.{_≡_}
 use native.Mathlib.Omega.{arith}
 use borrow.Author.Tests.{leb-false}
-use lib.Dec.{leb, ltb}
+use lib.Dec.{eqb, leb, ltb}
 use lib.ListN.{length, drop}
 use Rattle.reply.specs.Read.{Read, read, _then_, refuseIf, isOutside}
 use Rattle.reply.specs.Chain.{then-read, if-read}
-use Rattle.block.specs.Block.{mostBytes, blockReply}
+use Rattle.block.specs.Block.{mostBytes, bondsOf, bondsReply, blockReply}
 use Rattle.text.specs.Text.{isNumber, threeAt, lineChars, laterLine, lineStarts}
 use Rattle.molfile.specs.Molfile.{countsPlace, atomLinePlace, atomLineCount, bondLineCount, bondLinePlace, restPlace, endsOfLine, inTurn, lineReply, numbersReply, endsReply, bondReply, endWord, endLineReply, headerReply, atomReply, bondReplyOf, linesReply, keptAtoms, bytesOf, molfileReply}
+use Rattle.molfile.specs.Work.{most}
+use Rattle.molfile.proofs.Fronts.{bytes-room}
+use Rattle.wholefile.specs.Whole.{moleculeReply, wholeFileReply}
 use Rattle.calls.specs.Convention.{mostPlace}
-use Rattle.told.specs.Bounded.{Bounded, then-bounded, if-bounded, wider, block-bounded}
-use Rattle.text_calls.specs.Molfiles.{readReply}
+use Rattle.told.specs.Bounded.{Bounded, then-bounded, if-bounded, wider, block-bounded, bonds-bounded, fewer-bonds}
+use Rattle.text_calls.specs.Molfiles.{readReply, wholeReadReply}
 use Rattle.told.specs.Recovered.{Tells, roomed, TellsText, roomed-text}
 
 turn-bounded : (c k : ℕ) (f : ℕ → Read (Unit {0})) → ((i : ℕ) → Bounded c (f i)) → Bounded c (inTurn k f)
@@ -69,6 +72,17 @@ module _ (d : List ℕ) (c : ℕ) (big : mostBytes < c) (l : length d < c) where
       then-bounded c b _ (wider (suc mostBytes) c b (omega arith) (block-bounded (keptAtoms d) (bytesOf d))) (λ v f.
       if-bounded c (ltb room (length (bytesOf d))) 9 0 (omega arith)))
 
+  -- as one molecule: the place of a bond is at most how many there are
+  whole-bounded : 2 * most < c → (room : ℕ) → Bounded c (wholeFileReply d room)
+  unfolding wholeFileReply moleculeReply
+  whole-bounded wide room =
+      let n = keptAtoms d in
+      let xs = bytesOf d in
+      then-bounded c (linesReply d) _ lines-bounded (λ u e.
+      then-bounded c (refuseIf (eqb n 0) 1 0) _ (if-bounded c (eqb n 0) 1 0 (omega arith)) (λ v f.
+      then-bounded c (bondsReply n [] (bondsOf xs)) _ (bonds-bounded n c [] (bondsOf xs) (omega (arith, fewer-bonds xs, bytes-room d e))) (λ w g.
+      if-bounded c (ltb room (length xs)) 9 0 (omega arith))))
+
 -- WHATEVER THE TEXT: 0 exactly where nothing is refused; else the refusal's number, and its place as far as 56 bits go
 pub molfile-read-tells : (d : List ℕ) (room entries : ℕ) → TellsText (readReply d room entries)
 molfile-read-tells d room entries = roomed-text (suc (length d + mostBytes)) entries 2 (molfileReply d room) (omega arith) (molfile-bounded d (suc (length d + mostBytes)) (omega arith) (omega arith) room)
@@ -76,3 +90,12 @@ molfile-read-tells d room entries = roomed-text (suc (length d + mostBytes)) ent
 -- the place of a refused text is a place in it
 pub molfile-read-place : (d : List ℕ) → length d < mostPlace → (room entries : ℕ) → Tells (readReply d room entries)
 molfile-read-place d l room entries = roomed entries 2 (molfileReply d room) (molfile-bounded d mostPlace (omega arith) l room)
+
+-- the same of a file that is read whole
+pub whole-read-tells : (d : List ℕ) (room entries : ℕ) → TellsText (wholeReadReply d room entries)
+whole-read-tells d room entries =
+    let c = suc (length d + 2 * most) in
+    roomed-text c entries 2 (wholeFileReply d room) (omega arith) (whole-bounded d c (omega arith) (omega arith) (omega arith) room)
+
+pub whole-read-place : (d : List ℕ) → length d < mostPlace → (room entries : ℕ) → Tells (wholeReadReply d room entries)
+whole-read-place d l room entries = roomed entries 2 (wholeFileReply d room) (whole-bounded d mostPlace (omega arith) l (omega arith) room)

@@ -11,7 +11,7 @@ use Rattle.block.specs.Block.{bondsOf, bondsReply}
 use Rattle.molfile.specs.Molfile.{linesReply, keptAtoms, bytesOf}
 use Rattle.molfile.specs.Said.{filledBonds}
 use Rattle.wholefile.specs.Whole.{moleculeReply, wholeFileReply}
-use Rattle.wholefile.specs.Said.{saidMolecule}
+use Rattle.wholefile.specs.Said.{saidAsMolecule}
 
 module _ (n : ℕ) (xs : List ℕ) (room : ℕ) where
   pub no-atom : n ≡ 0 → moleculeReply n xs room ≡ refused (refusal 1 0)
@@ -44,7 +44,7 @@ module _ (d : List ℕ) (room : ℕ) where
 
 -- the same atoms and bonds
 pub record Alike (n n′ : ℕ) (xs ys out : List ℕ) : Type 0 where
-  pub reply : saidMolecule n xs (moleculeReply n xs (length out)) ≡ saidMolecule n′ ys (moleculeReply n′ ys (length out))
+  pub reply : saidAsMolecule n xs (moleculeReply n xs (length out)) ≡ saidAsMolecule n′ ys (moleculeReply n′ ys (length out))
   pub numbers : filledBonds (moleculeReply n xs (length out)) xs out ≡ filledBonds (moleculeReply n′ ys (length out)) ys out
 
 pub alike : (n n′ : ℕ) (xs ys out : List ℕ) → n ≡ n′ → xs ≡ ys → Alike n n′ xs ys out

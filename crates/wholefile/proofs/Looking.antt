@@ -35,7 +35,6 @@ degree-more : (xs : List ℕ) (v k : ℕ) → degree (before xs (k + 1)) v ≡ c
 unfolding before degree
 degree-more xs v k = rw (add-one k)
 
-
 module _ (xs : List ℕ) (a b k : ℕ) (joined : Bool) (one two : ℕ) (L : LookedBack xs a b k joined one two) where
   pub looked-more : (joined′ s : Bool) (u v w z : ℕ) → joined′ ≡ (s || joined) → s ≡ joins (bondAt xs k) a b
       → (u ≡ cond (eqb (getD xs (2 * k) 0) a) 1 0) × (u ≤ 1) → (v ≡ cond (eqb (getD xs (2 * k + 1) 0) a) 1 0) × (v ≤ 1)

@@ -12,12 +12,12 @@ use Rattle.wholefile.specs.declared.WholeRead.the-variants.{Refused, Mol
 use Rattle.wholefile.specs.declared.Seen.{Seen}
 
 -- a molecule of n atoms whose bonds are these numbers
-abbrev pub saidMolecule : ℕ → List ℕ → Read (Unit {0}) → WholeRead
-saidMolecule n xs (refused r) = Refused r
-saidMolecule n xs (read u) = Molecule (record { atoms = n; bonds = length xs / 2 })
+abbrev pub saidAsMolecule : ℕ → List ℕ → Read (Unit {0}) → WholeRead
+saidAsMolecule n xs (refused r) = Refused r
+saidAsMolecule n xs (read u) = Molecule (record { atoms = n; bonds = length xs / 2 })
 
 abbrev pub saidWhole : List ℕ → Read (Unit {0}) → WholeRead
-saidWhole d = saidMolecule (keptAtoms d) (bytesOf d)
+saidWhole d = saidAsMolecule (keptAtoms d) (bytesOf d)
 
 -- the lent numbers afterwards: those of the kept bonds, and later ones as they were; a refusal changes none
 abbrev pub wholeNumbers : List ℕ → List ℕ → List ℕ

@@ -13,7 +13,7 @@ ghost use Rattle.block.specs.Numbered.{bondAt};
 ghost use Rattle.block.proofs.Reading.{before};
 ghost use Rattle.molfile.specs.Said.{filledBonds};
 ghost use Rattle.wholefile.specs.Whole.{moleculeReply, wholeFileReply};
-ghost use Rattle.wholefile.specs.Said.{saidMolecule, saidWhole, wholeNumbers, seenBy};
+ghost use Rattle.wholefile.specs.Said.{saidAsMolecule, saidWhole, wholeNumbers, seenBy};
 use block::LIMIT;
 use molfile::Counts;
 use molfile::KeptRead;
@@ -148,7 +148,7 @@ fn put(out: &mut [u16], xs: &[u16])
 
 // The answer for n atoms and the bonds between them: 1 for no atom, 3 to 6, 9 for a lent output too short, or the numbers of the bonds.
 fn answer(n: usize, xs: &[u16], out: &mut [u16]) -> WholeRead
-    ensures reply { λ r. ⌜ r ≡ saidMolecule n (now (xs .entry)) (moleculeReply n (now (xs .entry)) (length (now (out .entry)))) ⌝ }
+    ensures reply { λ r. ⌜ r ≡ saidAsMolecule n (now (xs .entry)) (moleculeReply n (now (xs .entry)) (length (now (out .entry)))) ⌝ }
     ensures numbers { λ _. ⌜
         now (out .exit) ≡ filledBonds (moleculeReply n (now (xs .entry)) (length (now (out .entry)))) (now (xs .entry)) (now (out .entry))
         ⌝ }

@@ -2,11 +2,12 @@
 use mathlib.Core.List.{[]}
 use mathlib.Core.Path.{_≡_, refl, sym, ap, _∙_}
 use lib.ListN.{length}
+use native.Mathlib.Omega.{arith}
 use Rattle.reply.specs.Read.{read}
 use Rattle.reply.specs.Chain.{fine-read, refused-read}
 use Rattle.block.specs.Block.{bondsOf, bondsReply}
 use Rattle.molfile.proofs.Chains.{stays, fills}
-use Rattle.wholefile.specs.Said.{saidMolecule}
+use Rattle.wholefile.specs.Said.{saidAsMolecule}
 use Rattle.wholefile.proofs.Looking.{put-front}
 use Rattle.wholefile.proofs.Chains.{no-atom, bond-refused, too-short, all-fine}
 use borrow.Author.Needs.{needs}
@@ -22,8 +23,8 @@ fine c = fine-read _ (sym (c .before .before .bonds .ensures) ∙ c .enum-told .
 returns : tie.Need-returns
 returns c =
     let a = c .before .before .before .args in
-    let e = no-atom (a .n) (a .xs .now) (length (a .out .now)) (c .if1 .taken) in
-    (sym (ap (saidMolecule (a .n) (a .xs .now)) e), sym (stays (a .xs .now) (a .out .now) e))
+    let e = no-atom (a .n) (a .xs .now) (length (a .out .now)) (omega (arith, c .if1 .taken)) in
+    (sym (ap (saidAsMolecule (a .n) (a .xs .now)) e), sym (stays (a .xs .now) (a .out .now) e))
 
 bonds-requires : tie.Need-bonds-requires
 bonds-requires c κs = search needs
@@ -38,8 +39,8 @@ returns-2 : tie.Need-returns-2
 returns-2 c =
     let b = c .before .before .before in
     let a = start b .args in
-    let e = too-short (a .n) (a .xs .now) (length (a .out .now)) (b .before .if1 .left) (fine (c .before)) (c .if2 .taken) in
-    (sym (ap (saidMolecule (a .n) (a .xs .now)) e), sym (stays (a .xs .now) (a .out .now) e))
+    let e = too-short (a .n) (a .xs .now) (length (a .out .now)) (λ z. omega (arith, b .before .if1 .left)) (fine (c .before)) (omega (arith, c .if2 .taken)) in
+    (sym (ap (saidAsMolecule (a .n) (a .xs .now)) e), sym (stays (a .xs .now) (a .out .now) e))
 
 put-requires : tie.Need-put-requires
 put-requires c κs = search needs
@@ -49,8 +50,8 @@ returns-3 c =
     let b = c .before .before .before in
     let a = start b .args in
     let g = c .before .reply .given in
-    let e = bond-refused (a .n) (a .xs .now) (length (a .out .now)) (b .before .if1 .left) (g .0 .0) (refused-read _ _ (sym (b .bonds .ensures) ∙ g .1)) in
-    (sym (ap (saidMolecule (a .n) (a .xs .now)) e), sym (stays (a .xs .now) (a .out .now) e))
+    let e = bond-refused (a .n) (a .xs .now) (length (a .out .now)) (λ z. omega (arith, b .before .if1 .left)) (g .0 .0) (refused-read _ _ (sym (b .bonds .ensures) ∙ g .1)) in
+    (sym (ap (saidAsMolecule (a .n) (a .xs .now)) e), sym (stays (a .xs .now) (a .out .now) e))
 
 same-length : tie.Need-same-length
 same-length c = search needs
@@ -60,8 +61,8 @@ returns-4 c =
     let f = c .before .before .before .before in
     let b = f .before .before .before in
     let a = start b .args in
-    let e = all-fine (a .n) (a .xs .now) (length (a .out .now)) (b .before .if1 .left) (fine (f .before)) (f .if2 .left) in
-    (sym (ap (saidMolecule (a .n) (a .xs .now)) e), put-front (a .xs .now) (a .out .now) _ (c .before .before .put .ensures) (f .if2 .left) ∙ sym (fills (a .xs .now) (a .out .now) e))
+    let e = all-fine (a .n) (a .xs .now) (length (a .out .now)) (λ z. omega (arith, b .before .if1 .left)) (fine (f .before)) (omega (arith, f .if2 .left)) in
+    (sym (ap (saidAsMolecule (a .n) (a .xs .now)) e), put-front (a .xs .now) (a .out .now) _ (c .before .before .put .ensures) (omega (arith, f .if2 .left)) ∙ sym (fills (a .xs .now) (a .out .now) e))
 
 pub answer-spec : {M : Type 1} → statement M
 answer-spec =
