@@ -41,9 +41,9 @@ extern "C" {
 /* ---- The reply of every function: one number ----
  *
  * reply % 256 says what: 0 fine (judging: accepted); 1 to 253 a refusal, by the number of the list below; 254 all
- * products of a library, or all records of an SDF, are done; 255 the sheet or a claim differs (judging only). reply / 256
- * says where: the place of a refusal, or the first wrong field, 1 to 5 or, of a sheet of kind 4, 1 to 6, or the number of
- * the first wrong claim, from 1.
+ * products of a library, or all records of an SDF, are done; 255 the sheet, a claim or a matching differs. reply / 256 says
+ * where: the place of a refusal, or the first wrong field, 1 to 5 or, of a sheet of kind 4, 1 to 6, or the number of the first
+ * wrong claim, from 1, or the first place where a matching fails.
  *
  * A refusal changes no byte of any output. A success writes what the function's comment says, from the front of the
  * output; whatever follows in it stays as it was.
@@ -64,7 +64,7 @@ typedef uint64_t tteuyomal_reply;
 #define TTEUYOMAL_DECK_BYTES 32768
 
 /* 16-bit numbers: the bonds of the largest molecule that a molfile holds, two each. */
-#define TTEUYOMAL_WHOLE_NUMBERS 1998
+#define TTEUYOMAL_FILE_NUMBERS 1998
 
 /* More stack than any function takes, on any input. */
 #define TTEUYOMAL_STACK_BYTES 65536
@@ -126,7 +126,7 @@ enum tteuyomal_refusal {
 /* 0, a refusal's number, TTEUYOMAL_DONE or TTEUYOMAL_DIFFERS. */
 static inline unsigned tteuyomal_what(tteuyomal_reply reply) { return (unsigned)(reply % 256); }
 
-/* The place of a refusal; for TTEUYOMAL_DIFFERS the first wrong field, 1 to 6, or claim, from 1. */
+/* The place of a refusal; for TTEUYOMAL_DIFFERS the first wrong field, 1 to 6, or claim, from 1, or where a matching fails. */
 static inline uint64_t tteuyomal_where(tteuyomal_reply reply) { return reply / 256; }
 
 /* What the number of a refusal says, in the words of the list above: a table, no proved function. "" for a number that no
@@ -213,6 +213,32 @@ tteuyomal_reply tteuyomal_compose_six(const uint8_t *deck, size_t deck_len, uint
 tteuyomal_reply tteuyomal_placed_distance(const uint8_t *deck, size_t deck_len, size_t k, size_t i, size_t l, size_t j,
                                           uint64_t *distance, size_t distance_len);
 
+/* ---- Large molecules ----
+ *
+ * A molecule of more than 64 atoms is a deck, and these two hold it against a list of all its atoms and bonds. Atoms of the
+ * whole molecule count from 1: the first placement's in their block's order, then the second's, and so on. */
+
+/* The most atoms of a deck's molecule, and the most numbers that its bonds take. */
+#define TTEUYOMAL_WHOLE_ATOMS 2048
+#define TTEUYOMAL_WHOLE_NUMBERS 12352
+
+/* Writes out the molecule of a deck without a sheet: its bonds, two numbers each, and two counts, atoms and bonds. The bonds
+ * come placement by placement, each block's in its order, and behind those of a later placement the bond that joins it, the
+ * parent's atom first. Refuses as judging does, but for the sheet; then 9 where bonds_len or counts_len is too small. */
+tteuyomal_reply tteuyomal_written_out(const uint8_t *deck, size_t deck_len, uint16_t *bonds, size_t bonds_len,
+                                      uint64_t *counts, size_t counts_len);
+
+/* Whether a deck without a sheet is a molecule of so many atoms and these bonds, two numbers each, by a matching: two numbers
+ * for each atom, its placement, from 1, and its atom there, from 1. Fine where every atom has a partner of its own, none of the
+ * deck's is left, and bonds are carried to bonds both ways: then the deck's sheet has the fields of that molecule. Else
+ * TTEUYOMAL_DIFFERS, and the first place that fails: 0 the number of atoms; 1 to n an atom without a partner, or with that of
+ * an earlier atom; n + e bond e of the m bonds, whose ends are no atoms or are not bonded in the deck; n + m + e bond e of the
+ * deck, as tteuyomal_written_out writes it, that is not among the bonds. An odd last number of the bonds is read over; numbers
+ * of the matching beyond two for each atom are too. Refuses as judging does, but for the sheet; then 9 where the matching has
+ * fewer than 2 * atoms numbers. The work grows with the product of the two numbers of bonds. */
+tteuyomal_reply tteuyomal_matched(const uint8_t *deck, size_t deck_len, size_t atoms, const uint16_t *bonds, size_t bonds_len,
+                                  const uint16_t *matching, size_t matching_len);
+
 /* ---- Libraries ---- */
 
 /* Writes one number: how many products a library deck has. Refusals: 20, the blocks', 11 to 13, 31, 16, then site by site 13,
@@ -298,7 +324,7 @@ tteuyomal_reply tteuyomal_read_molfile(const uint8_t *text, size_t text_len, uin
 /* Reads a V2000 molfile, or the first record of an SDF, as one molecule of up to 999 atoms: writes its bonds, two 16-bit
  * numbers each, and two numbers, the atom count and the number of bonds. Lines, hydrogens and numbering are those of
  * tteuyomal_read_molfile, and where that gives a block, this gives the same atoms and bonds. bonds_len counts 16-bit
- * numbers, not bytes: TTEUYOMAL_WHOLE_NUMBERS are room for the bonds of every file.
+ * numbers, not bytes: TTEUYOMAL_FILE_NUMBERS are room for the bonds of every file.
  * Refusals: 25, 26 and 27 in file order, 1 where no atom is kept, 3 to 6 at the number of the kept bond, from 1, bond
  * by bond as for a block, then 9 (bonds_len below two numbers a kept bond, or counts_len below 2). How many bonds there
  * are and whether a path joins all atoms is not asked. */

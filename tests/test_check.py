@@ -121,12 +121,12 @@ class Checking(Room):
         self.assertEqual((status, line[:35]), (2, "benzene (record 1): refused 34 at 0"))
 
     def test_refused_in_words(self):
-        large = record("large", "C" * 65, [(k, k + 1) for k in range(1, 65)])
+        large = record("large", "C" * 65, [(k, k % 65 + 1) for k in range(1, 66)])
         v3000 = "new\n\n\n  0  0  0     0  0            999 V3000\nM  V30 BEGIN CTAB\nM  END\n$$$$\n"
         broken = BENZENE.replace("  6  6  0", "  6  x  0")
         status, lines = self.check(large + v3000 + broken, "W=W")
         self.assertEqual(status, 2)
-        self.assertEqual(lines[0], "large (record 1): refused 1 at 0: the atom count is 0 or above 64")
+        self.assertTrue(lines[0].startswith("large (record 1): refused 1 at 0: the atom count is 0 or above 64 (a ring system of 65 atoms "), lines[0])
         self.assertEqual(lines[1], f"new (record 2): refused 1 at 0: {native.WORDS[1]} (the file says V3000, and V2000 is read)")
         self.assertTrue(lines[2].startswith("benzene (record 3): refused 26 at ") and lines[2].endswith("(line 4)"), lines[2])
 

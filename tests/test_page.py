@@ -7,12 +7,14 @@ import unittest
 from unittest import mock
 
 from common import FORTY, RIGHT, text
+from test_check import molfile
 from test_command import GOOD, REFUSED, WRONG, Room
 
 from tteuyomal import Block, command, commands, files
 
 PAGE = text("docs", "COMMAND.md")
 SQUARES = [pair for k in range(20) for pair in ((3 * k + 1, 3 * k + 2), (3 * k + 1, 3 * k + 3), (3 * k + 2, 3 * k + 4), (3 * k + 3, 3 * k + 4))]
+LARGE = molfile("large", "C" * 65, [(k, k + 1) for k in range(1, 65)]).encode()
 
 
 def listed():
@@ -28,13 +30,13 @@ class Objects(Room):
             self.put(name, data)
         os.symlink("nowhere", os.path.join(self.decks, "g"))
         tree, ring = Block(4, [(1, 2), (2, 3), (3, 4)]).molfile(), Block(3, [(1, 2), (2, 3), (3, 1)]).molfile()
-        for name, data in (("a.mol", tree), ("b.sdf", ring + b"$$$$\n" + tree), ("c.mol", b""), ("d", ring), ("e.mol", Block(61, SQUARES).molfile())):
+        for name, data in (("a.mol", tree), ("b.sdf", ring + b"$$$$\n" + tree), ("c.mol", b""), ("d", ring), ("e.mol", Block(61, SQUARES).molfile()), ("f.mol", LARGE)):
             self.put(name, data, self.folder("molecules"))
         claimed = self.put("claimed\n.sdf", ring + b">  <W>\n6\n\n$$$$\n" + b"$$$$\n".join((tree, b"", tree)), self.room)
         found = {}
         for replaced in ("", "other.so"):
             with mock.patch("tteuyomal.native.REPLACED", replaced):
-                for words in (["judge", self.decks], ["sheet", self.decks], ["measure", os.path.join(self.room, "molecules"), os.path.join(self.decks, "e\n")],
+                for words in (["judge", self.decks], ["judge", self.put("h", FORTY + RIGHT), "--against", os.path.join(self.room, "molecules", "f.mol")], ["sheet", self.decks], ["measure", os.path.join(self.room, "molecules"), os.path.join(self.decks, "e\n")],
                               ["check", claimed, os.path.join(self.room, "molecules"), "W=W"]):  # fmt: skip
                     for line in self.run_command(words[0], "--json", *words[1:])[1].splitlines():
                         for name in json.loads(line):

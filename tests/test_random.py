@@ -131,7 +131,7 @@ MADE = {
     "six": lambda chance: chance.choice([True, False]), "kind": lambda chance: chance.choice([3, 4, 3, 4, 5, 2**64 + 4]), "sheets": lambda chance: chance.choice([0, 1, 3, 300]),
     "sites": lambda chance: library(chance).sites, "blocks": lambda chance: {1: block(chance)}, "path": lambda chance: chance.choice(["nowhere", "\0", pathlib.Path("/"), __file__]),
     **dict.fromkeys("kilj", lambda chance: chance.choice([1, 1, 2, number(chance)])), "kept": lambda chance: chance.choice([bytes(native.TABLE_BYTES), bytes(3)]), "mol": anything, "name": lambda chance: chance.choice(["judge", "no such", "", "W"]), "queue": lambda chance: chance.choice([0, 1, number(chance)]), "number": lambda chance: chance.choice([1, number(chance)]),
-    "atom": lambda chance: chance.choice([1, number(chance)]),
+    "atom": lambda chance: chance.choice([1, number(chance)]), "matching": lambda chance: [(chance.randrange(1, 3), chance.randrange(1, 7)) for _ in range(chance.choice((12, 12, 2)))],
 }  # fmt: skip
 
 

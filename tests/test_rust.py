@@ -9,7 +9,7 @@ from common import ROOT, text
 from test_words import header_words
 
 TYPES = {"const uint8_t *": "*const u8", "uint8_t *": "*mut u8", "uint64_t *": "*mut u64", "double *": "*mut c_double", "double ": "c_double"}
-TYPES |= {"size_t ": "usize", "uint16_t ": "u16", "uint64_t ": "u64"}
+TYPES |= {"const uint16_t *": "*const u16", "uint16_t *": "*mut u16", "size_t ": "usize", "uint16_t ": "u16", "uint64_t ": "u64"}
 
 
 def declared():

@@ -185,6 +185,31 @@ mod c {
             claims: *const u8,
             claims_len: usize,
         ) -> u64;
+        pub fn tteuyomal_read_whole(
+            text: *const u8,
+            text_len: usize,
+            bonds: *mut u16,
+            bonds_len: usize,
+            counts: *mut u64,
+            counts_len: usize,
+        ) -> u64;
+        pub fn tteuyomal_written_out(
+            deck: *const u8,
+            deck_len: usize,
+            bonds: *mut u16,
+            bonds_len: usize,
+            counts: *mut u64,
+            counts_len: usize,
+        ) -> u64;
+        pub fn tteuyomal_matched(
+            deck: *const u8,
+            deck_len: usize,
+            atoms: usize,
+            bonds: *const u16,
+            bonds_len: usize,
+            matching: *const u16,
+            matching_len: usize,
+        ) -> u64;
         pub fn tteuyomal_sdf_record(
             text: *const u8,
             text_len: usize,
@@ -352,4 +377,19 @@ pub fn sdf_record(text: &[u8], from: usize, span: &mut [u64]) -> u64 {
 pub fn sdf_item(record: &[u8], name: &[u8], span: &mut [u64]) -> u64 {
     let (out, room) = (span.as_mut_ptr(), span.len());
     unsafe { c::tteuyomal_sdf_item(record.as_ptr(), record.len(), name.as_ptr(), name.len(), out, room) }
+}
+
+pub fn read_whole(text: &[u8], bonds: &mut [u16], counts: &mut [u64]) -> u64 {
+    let (out, room) = (bonds.as_mut_ptr(), bonds.len());
+    unsafe { c::tteuyomal_read_whole(text.as_ptr(), text.len(), out, room, counts.as_mut_ptr(), counts.len()) }
+}
+
+pub fn written_out(deck: &[u8], bonds: &mut [u16], counts: &mut [u64]) -> u64 {
+    let (out, room) = (bonds.as_mut_ptr(), bonds.len());
+    unsafe { c::tteuyomal_written_out(deck.as_ptr(), deck.len(), out, room, counts.as_mut_ptr(), counts.len()) }
+}
+
+pub fn matched(deck: &[u8], atoms: usize, bonds: &[u16], matching: &[u16]) -> u64 {
+    let (list, pairs) = (bonds.as_ptr(), matching.as_ptr());
+    unsafe { c::tteuyomal_matched(deck.as_ptr(), deck.len(), atoms, list, bonds.len(), pairs, matching.len()) }
 }

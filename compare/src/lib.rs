@@ -15,6 +15,7 @@ pub mod graph;
 pub mod library;
 pub mod line;
 pub mod make;
+pub mod matched;
 pub mod molecule;
 pub mod molfile;
 pub mod neighbours;

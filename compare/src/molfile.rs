@@ -1,7 +1,7 @@
-//! V2000 molfiles: refusals 25, 26 and 27, the hydrogens that are dropped, and the block that is left. Also the text
-//! that is written for a block. Written from document 02's request E6.
+//! V2000 molfiles: refusals 25, 26 and 27, the hydrogens that are dropped, and the block or the whole molecule that is left.
+//! Also the text that is written for a block. Written from document 02's request E6.
 
-use crate::block::{read_block, MOST_ATOMS};
+use crate::block::{read_block, MOST_ATOMS, MOST_DEGREE};
 use crate::refusal::{refuse, Refusal};
 
 /// A line: its first byte, and its characters without the CR before its line feed.
@@ -107,10 +107,8 @@ impl File {
     }
 }
 
-/// The block of a file: its atom count and the bytes of its bonds. `room` and `entries` are the lengths of the lent
-/// outputs for these bytes and for the two counts.
-pub fn read(file: &[u8], room: usize, entries: usize) -> Result<(usize, Vec<u8>), Refusal> {
-    let file = read_lines(file)?;
+/// How many atoms are kept, and the bonds between them by their new numbers, in the order of the lines.
+fn kept(file: &File) -> (usize, Vec<[usize; 2]>) {
     let mut numbers = vec![None];
     let mut atoms = 0;
     for atom in 1..file.is_h.len() {
@@ -118,20 +116,51 @@ pub fn read(file: &[u8], room: usize, entries: usize) -> Result<(usize, Vec<u8>)
         atoms += kept as usize;
         numbers.push(kept.then_some(atoms));
     }
+    let between = |&[one, two]: &[usize; 2]| Some([numbers[one]?, numbers[two]?]);
+    (atoms, file.bonds.iter().filter_map(between).collect())
+}
+
+/// The block of a file: its atom count and the bytes of its bonds. `room` and `entries` are the lengths of the lent
+/// outputs for these bytes and for the two counts.
+pub fn read(file: &[u8], room: usize, entries: usize) -> Result<(usize, Vec<u8>), Refusal> {
+    let (atoms, bonds) = kept(&read_lines(file)?);
     if atoms > MOST_ATOMS {
         return refuse(1, 0);
     }
-    let mut bytes = Vec::new();
-    for &[one, two] in &file.bonds {
-        if let (Some(one), Some(two)) = (numbers[one], numbers[two]) {
-            bytes.extend([one as u8, two as u8]);
-        }
-    }
+    let bytes: Vec<u8> = bonds.iter().flatten().map(|&end| end as u8).collect();
     read_block(atoms, &bytes)?;
     if room < bytes.len() || entries < 2 {
         return refuse(9, 0);
     }
     Ok((atoms, bytes))
+}
+
+/// The molecule of a file, of any number of atoms: its atom count and the ends of its bonds. 1 for no atom; bond by bond 4, 5 and 6, at
+/// the bond's number among those that are kept; 9 for the lent outputs. A molecule in parts is read.
+pub fn read_whole(file: &[u8], room: usize, entries: usize) -> Result<(usize, Vec<u16>), Refusal> {
+    let (atoms, bonds) = kept(&read_lines(file)?);
+    if atoms == 0 {
+        return refuse(1, 0);
+    }
+    let mut beside = vec![Vec::new(); atoms + 1];
+    for (at, &[one, two]) in bonds.iter().enumerate() {
+        let number = if one == two {
+            4
+        } else if beside[one].contains(&two) {
+            5
+        } else if beside[one].len() == MOST_DEGREE || beside[two].len() == MOST_DEGREE {
+            6
+        } else {
+            beside[one].push(two);
+            beside[two].push(one);
+            continue;
+        };
+        return refuse(number, at + 1);
+    }
+    if room < 2 * bonds.len() || entries < 2 {
+        return refuse(9, 0);
+    }
+    Ok((atoms, bonds.iter().flatten().map(|&end| end as u16).collect()))
 }
 
 /// Where the data items of an SDF's record begin, behind the molfile's own M  END; there are none where its lines are refused.
@@ -162,7 +191,7 @@ pub fn write(atoms: usize, bonds: &[u8], room: usize, entries: usize) -> Result<
 
 #[cfg(test)]
 mod tests {
-    use super::{read, write};
+    use super::{read, read_whole, write};
     use crate::refusal::Refusal;
 
     fn carbon() -> String {
@@ -189,6 +218,23 @@ mod tests {
         }
         let file = format!("\n\n\n001 00\n{}\nM  END", carbon());
         assert_eq!(read(file.as_bytes(), 0, 2), Ok((1, vec![])));
+    }
+
+    #[test]
+    fn whole() {
+        let file = |atoms: usize, bonds: &[(usize, usize)]| {
+            let lines: String = bonds.iter().map(|(u, v)| format!("{u:3}{v:3}\n")).collect();
+            format!("\n\n\n{atoms:3}{:3}\n{}{lines}M  END", bonds.len(), format!("{}\n", carbon()).repeat(atoms))
+        };
+        let ask = |atoms, bonds: &[(usize, usize)]| read_whole(file(atoms, bonds).as_bytes(), 9, 2);
+        assert_eq!(ask(999, &[(999, 1), (300, 2)]), Ok((999, vec![999, 1, 300, 2])));
+        assert_eq!(ask(0, &[]), Err(Refusal { number: 1, place: 0 }));
+        assert_eq!(ask(70, &[(1, 2), (70, 70)]), Err(Refusal { number: 4, place: 2 }));
+        assert_eq!(ask(70, &[(1, 70), (70, 1)]), Err(Refusal { number: 5, place: 2 }));
+        let star: Vec<(usize, usize)> = (2..9).map(|end| (end, 1)).collect();
+        assert_eq!(ask(70, &star), Err(Refusal { number: 6, place: 7 }));
+        assert_eq!(ask(70, &star[..5]), Err(Refusal { number: 9, place: 0 }));
+        assert_eq!(read_whole(b"", 9, 2), Err(Refusal { number: 25, place: 0 }));
     }
 
     #[test]

@@ -213,9 +213,10 @@ def _words(judged: Judged) -> str:
 
 
 def _guesses(judged: Judged) -> str:
-    """What may be the cause, said to be a guess."""
+    """What was done to a large molecule, and what may be the cause of what differs, said to be a guess."""
     found = sorted({words for _, words in getattr(judged, "guessed", ())})
-    return f"<p>A guess at the cause, no part of the verdict: {text('; '.join(found))}.</p>" if found else ""
+    cut = f"<p>{text(words.capitalize())}.</p>" if (words := getattr(judged, "cut", "")) else ""
+    return cut + (f"<p>A guess at the cause, no part of the verdict: {text('; '.join(found))}.</p>" if found else "")
 
 
 def card(judged: Judged, picture: str, words: str) -> str:

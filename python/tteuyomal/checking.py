@@ -10,13 +10,14 @@ import struct
 from collections.abc import Iterable
 from typing import Any, NamedTuple
 
-from . import claims as claimed_texts, files, guesses, judging, native, sdf
+from . import claims as claimed_texts, cutting, files, guesses, judging, native, sdf
 from .claims import SHORT, Asked
 from .judging import ACCEPTED, DIFFERS, NO_CLAIM, NO_MOLECULE, NOT_READ, REFUSED, UNREAD
 from .native import Refused
 
 _NO_CLAIM, _NOT_READ, _DIFFERS = 36, 37, 255  # replies that have a word of their own
 _NO_ITEM = 38
+_TOO_LARGE, _NO_FIELD = 1, 35
 _LONGEST = 60  # characters of a printed text that are shown
 _NUMBERS = len(SHORT)
 _ROOM = 512  # more than any block's bonds have
@@ -58,11 +59,17 @@ class Checked(NamedTuple):
     refusal: str = ""  # what a refusal says of this record
     atoms: int = 0
     guessed: tuple[tuple[int, str], ...] = ()  # a field and what may be the cause
+    placements: int = 0  # of a molecule that is judged as a deck: how many pieces it was cut into
 
     @property
     def words(self) -> str:
         """What the refusal's number says."""
         return self.refusal
+
+    @property
+    def cut(self) -> str:
+        """What was done to a molecule that is no block."""
+        return cutting.words(self.placements) if self.placements else ""
 
     @property
     def note(self) -> str:
@@ -98,7 +105,8 @@ class Checked(NamedTuple):
     def line(self) -> str:
         """The line of this molecule or row."""
         why = f": {self.fault}" if self.fault else ""
-        return f"{files.shown(self.name)}: {self.verdict()}{why}"
+        cut = f"; {self.cut}" if self.placements else ""
+        return f"{files.shown(self.name)}: {self.verdict()}{why}{cut}"
 
     def reason(self) -> str:
         """Nothing more than the verdict says, but why a file can't be read."""
@@ -116,6 +124,8 @@ class Checked(NamedTuple):
         said["fields"] = {SHORT[field - 1]: word for field, word in fields}
         if self.word == REFUSED:
             said["refusal"] = judging.told(Refused(self.number, self.place)) | {"words": self.refusal}
+        if self.placements:
+            said["cut"] = self.cut
         if self.fault:
             said["fault"] = self.fault
         if self.guessed:
@@ -129,7 +139,7 @@ class Checked(NamedTuple):
     def row(self) -> str:
         """One row of a table."""
         item, each = self.item, dict(self.each)
-        words = f"{self.verdict()}: {self.fault}" if self.fault else self.verdict()
+        words = f"{self.verdict()}: {self.fault}" if self.fault else f"{self.verdict()}; {self.cut}" if self.placements else self.verdict()
         cells: list[Any] = [item.file, item.record or "", item.name, item.line or "", self.word, words]
         for one in self.asked:
             k = one.field - 1
@@ -183,16 +193,19 @@ class Judge:
         size = len(data)
         sha256 = hashlib.sha256(data).hexdigest() if self.hashed else ""
         reply = native._read_molfile(data, size, self._bonds, _ROOM, self._counts, 2)
+        large, why = None, ""
+        if reply == _TOO_LARGE and native.has("read_whole"):
+            large, reply, why = cut_or_not(data)
         if claims is None and not reply:
             reply, claims = self._item_claims(data)
         if reply:
-            return self._refused(Checked(item, item.label, REFUSED, self.asked, sha256, size), reply)
-        atoms, count = self._counts
-        bonds = ctypes.string_at(self._bonds, 2 * count)
-        reply = native._judge_block(atoms, bonds, 2 * count, claims, len(claims or b""))
+            return self._refused(Checked(item, item.label, REFUSED, self.asked, sha256, size), reply, why)
+        graph = large or Small(self._counts[0], ctypes.string_at(self._bonds, 2 * self._counts[1]))
+        reply = graph.judged(claims or b"")
         if reply == 0 and not self.fields and self._complete(claims or b""):
-            return Checked(item, item.label, ACCEPTED, self.asked, sha256, size, atoms=atoms)
-        return self._told(Checked(item, item.label, REFUSED, self.asked, sha256, size), reply, atoms, bonds, claims or b"")
+            return Checked(item, item.label, ACCEPTED, self.asked, sha256, size, atoms=graph.atoms, placements=graph.placements)
+        base = Checked(item, item.label, REFUSED, self.asked, sha256, size, atoms=graph.atoms, placements=graph.placements)
+        return self._told(base, reply, graph, claims or b"")
 
     def _complete(self, claims: bytes) -> bool:
         """Whether each field that was asked for is claimed."""
@@ -214,53 +227,83 @@ class Judge:
                 return reply, b""
         return 0, b"".join(found)
 
-    def _refused(self, base: Checked, reply: int) -> Checked:
+    def _refused(self, base: Checked, reply: int, why: str = "") -> Checked:
         """A record that is refused, whatever is claimed of it."""
         refusal, data = Refused(reply % 256, reply // 256), base.item.data
         each = tuple((one.field, REFUSED) for one in self.asked)
-        words = refusal.words + sdf.line_of(data, refusal)
+        words = refusal.words + (why or sdf.line_of(data, refusal))
         guessed = guesses.of_refusal(data, refusal) if self._may_look() else ()
         return base._replace(word=REFUSED, number=refusal.number, place=refusal.place, refusal=words, each=each, guessed=guessed)
 
-    def _told(self, base: Checked, reply: int, atoms: int, bonds: bytes, claims: bytes) -> Checked:
+    def _told(self, base: Checked, reply: int, graph: Small | Large, claims: bytes) -> Checked:
         """A molecule whose claims are not simply accepted, or of which all numbers are wanted."""
         what = reply % 256
         texts = claimed_texts.texts(claims)
         all_right = reply == 0 and len(texts) == len(self.asked)
-        each = tuple((one.field, ACCEPTED if all_right else self._one(atoms, bonds, one.field, texts)) for one in self.asked)
+        each = tuple((one.field, ACCEPTED if all_right else self._one(graph, one.field, texts)) for one in self.asked)
         words = [word for _, word in each]
         word = {0: ACCEPTED, _DIFFERS: DIFFERS, _NOT_READ: NOT_READ, _NO_CLAIM: NO_CLAIM}.get(what, REFUSED)
         if word in (ACCEPTED, DIFFERS) and NO_CLAIM in words:
             word = NO_CLAIM  # something was asked for and not printed: that is not green, whatever was
-        numbers = self._numbers(atoms, bonds, [field for field, one in each if one == DIFFERS or (self.fields and field in texts)])
+        numbers = graph.numbers([field for field, one in each if one == DIFFERS or (self.fields and field in texts)])
         base = base._replace(
-            word=word, atoms=atoms, each=() if word == ACCEPTED else each, claimed=tuple(texts.get(k) for k in range(1, _NUMBERS + 1)) if texts else (),
-            worked=numbers if texts else (), data=one_block(atoms, bonds) if self.fields else b"",
+            word=word, each=() if word == ACCEPTED else each, claimed=tuple(texts.get(k) for k in range(1, _NUMBERS + 1)) if texts else (),
+            worked=numbers if texts else (), data=graph.deck() if self.fields else b"",
         )  # fmt: skip
         if word == REFUSED:
             refusal = Refused(what, reply // 256)
-            base = base._replace(number=what, place=refusal.place, refusal=refusal.words)
+            base = base._replace(number=what, place=refusal.place, refusal=refusal.words + self._of_blocks(graph, what, texts))
         if DIFFERS in words and self._may_look():
             wrong = {field: texts[field] for field, one in each if one == DIFFERS}
-            base = base._replace(guessed=guesses.of_claims(base.item.data, wrong, texts, native.indices(atoms, bonds), numbers))
+            base = base._replace(guessed=guesses.of_claims(base.item.data, wrong, texts, graph.fields(), numbers))
         return base
+
+    @staticmethod
+    def _of_blocks(graph: Small | Large, number: int, texts: dict[int, str]) -> str:
+        """What is said where a field is claimed that only a block has."""
+        names = " ".join(SHORT[field - 1] for field in sorted(texts) if field > LARGEST)
+        return f" ({names}: judged of up to {cutting.MOST_ATOMS} atoms alone)" if isinstance(graph, Large) and number == _NO_FIELD and names else ""
 
     def _may_look(self) -> bool:
         self.looks -= 1
         return self.looks >= 0
 
-    def _one(self, atoms: int, bonds: bytes, field: int, texts: dict[int, str]) -> str:
+    @staticmethod
+    def _one(graph: Small | Large, field: int, texts: dict[int, str]) -> str:
         """The verdict on one field alone."""
         if field not in texts:
             return NO_CLAIM
-        claim = claimed_texts.claim(field, texts[field].encode("utf-8", "surrogateescape"))
-        reply = native._judge_block(atoms, bonds, len(bonds), claim, len(claim))
+        reply = graph.judged(claimed_texts.claim(field, texts[field].encode("utf-8", "surrogateescape")))
         return {0: ACCEPTED, _DIFFERS: DIFFERS, _NOT_READ: NOT_READ}.get(reply % 256, REFUSED)
 
-    def _numbers(self, atoms: int, bonds: bytes, fields: list[int]) -> tuple[Any, ...]:
+
+class Small:
+    """A molecule that is a block."""
+
+    placements = 0
+
+    def __init__(self, atoms: int, bonds: bytes) -> None:
+        self.atoms = atoms
+        self.bonds = bonds
+
+    def judged(self, claims: bytes) -> int:
+        """The reply to claims."""
+        reply: int = native._judge_block(self.atoms, self.bonds, len(self.bonds), claims, len(claims))
+        return reply
+
+    def fields(self) -> native.Fields:
+        """The five fields."""
+        return native.indices(self.atoms, self.bonds)
+
+    def deck(self) -> bytes:
+        """The deck of the one block."""
+        return one_block(self.atoms, self.bonds)
+
+    def numbers(self, fields: list[int]) -> tuple[Any, ...]:
         """What the library works out for some fields."""
+        atoms, bonds = self.atoms, self.bonds
         found: list[Any] = [None] * _NUMBERS
-        six = native.compose_six(one_block(atoms, bonds)) if LARGEST in fields else native.indices(atoms, bonds) if fields else ()
+        six = native.compose_six(self.deck()) if LARGEST in fields else self.fields() if fields else ()
         for field in fields:
             if field <= LARGEST:
                 found[field - 1] = six[field - 1]
@@ -271,6 +314,47 @@ class Judge:
             elif 2 * (atoms - 1) == len(bonds):
                 found[field - 1] = native.count_sets(atoms, bonds)[field - HOSOYA]
         return tuple(found)
+
+
+class Large:
+    """A molecule of more atoms than a block has: it is judged as a deck that the library says is the same molecule. Raises why there is
+    none."""
+
+    def __init__(self, molecule: native.Molecule) -> None:
+        made = cutting.matched(molecule)
+        self.atoms, self.placements, self._deck = molecule.atoms, made.placements, made.deck
+
+    def judged(self, claims: bytes) -> int:
+        """The reply to claims."""
+        reply: int = native._judge_claims(self._deck, len(self._deck), claims, len(claims))
+        return reply
+
+    def fields(self) -> native.Fields:
+        """The five fields."""
+        return native.compose(self._deck)
+
+    def deck(self) -> bytes:
+        """The deck."""
+        return self._deck
+
+    def numbers(self, fields: list[int]) -> tuple[Any, ...]:
+        """What the library works out for some fields; for those of a lone block nothing."""
+        six = native.compose_six(self._deck) if any(field <= LARGEST for field in fields) else ()
+        return tuple(six[field - 1] if field in fields and field <= LARGEST else None for field in range(1, _NUMBERS + 1))
+
+
+def cut_or_not(data: bytes) -> tuple[Large | None, int, str]:
+    """A molecule that is no block, as a deck that is matched with it; else the reply that refuses it, and why it is not cut."""
+    try:
+        molecule = native.read_whole(data)
+    except Refused as refusal:
+        return None, refusal.number + 256 * refusal.place, ""
+    try:
+        return Large(molecule), 0, ""
+    except cutting.Uncut as why:
+        return None, _TOO_LARGE, f" ({why.told(data, molecule)})"
+    except cutting.NotMatched as why:
+        return None, _TOO_LARGE, f" ({why})"
 
 
 def fine(answer: int, atoms: int, bonds: int) -> str:

@@ -35,9 +35,7 @@ class Block:
     @classmethod
     def from_molfile(cls, text: bytes | str) -> Block:
         """The block of a V2000 molfile's text, without its hydrogens (those with one bond, to an atom that is no H)."""
-        if isinstance(text, str) and text and "\n" not in text:
-            raise ValueError(f"the text of a molfile is meant, and it has several lines; to read the file of this name, open it: {text[:200]!r}")
-        return cls(*native.read_molfile(_encoded(text)))
+        return cls(*native.read_molfile(_molfile(text)))
 
     @classmethod
     def from_neighbours(cls, text: bytes | str) -> Block:
@@ -356,6 +354,13 @@ def _encoded(text: bytes | str) -> bytes:
     if isinstance(text, os.PathLike):
         raise TypeError(f"a text is meant, not the name of a file: open {os.fspath(text)!r} and read it")
     return text.encode("utf-8", "surrogateescape") if isinstance(text, str) else text
+
+
+def _molfile(text: bytes | str) -> bytes:
+    """The text of a molfile, and not its name."""
+    if isinstance(text, str) and text and "\n" not in text:
+        raise ValueError(f"the text of a molfile is meant, and it has several lines; to read the file of this name, open it: {text[:200]!r}")
+    return _encoded(text)
 
 
 def _left_out(atom: Any) -> bool:

@@ -6,8 +6,10 @@ import struct
 from collections.abc import Iterator
 
 from . import files, judging, libraries, native
+from .against import File
 from .decks import ASSEMBLY, BLOCK, FIELD_NAMES, LIBRARY, SHEET, SIX, Placement
 from .judging import ACCEPTED, REFUSED, Judged
+from .matching import ANOTHER, MATCHED, Answer
 from .native import Refused
 
 KIND_NAMES = {BLOCK: "a block", ASSEMBLY: "the assembly", SHEET: "a sheet", SIX: "a sheet of six fields", LIBRARY: "a library"}
@@ -37,6 +39,27 @@ def _verdict(judged: Judged) -> str:
     others = [FIELD_NAMES[k] for k in judged.wrong() if k + 1 != judged.field]
     also = f"; wrong too: {', '.join(others)}" if others else ""
     return f"differs {judged.field}: the first wrong field is {FIELD_NAMES[judged.field - 1]}{also}."
+
+
+def held(data: bytes, file: File) -> Answer | None:
+    """A deck held against a molfile, whether or not it has a sheet; None where the library refuses it."""
+    try:
+        return file.holds(data)
+    except (Refused, ValueError):
+        return None
+
+
+def against(answer: Answer | None, file: File) -> Iterator[str]:
+    """What came out where a deck was held against a molfile."""
+    name, atoms = files.shown(file.name), file.molecule.atoms
+    if answer is None:
+        yield f"The deck is refused, so it is not held against {name}."
+    elif answer.word == MATCHED:
+        yield f"matched: the deck's molecule is that of {name}. The library took a matching of all {atoms} atoms that carries bonds to bonds both ways."
+    elif answer.word == ANOTHER:
+        yield f"another molecule than that of {name}: {answer.why}."
+    else:
+        yield f"not decided whether the deck's molecule is that of {name}: {answer.why}."
 
 
 def _fields(claimed: tuple[int, ...], worked: tuple[int, ...]) -> Iterator[str]:

@@ -10,15 +10,18 @@ from collections.abc import Sequence
 from typing import Any, NamedTuple
 
 from . import decks, files, native
+from .against import File
 from .decks import FIELD_NAMES, Sheet, Verdict
 from .files import Found, Unread
+from .matching import ANOTHER, MATCHED, UNDECIDED
 from .native import Refused
 
 ACCEPTED, DIFFERS, REFUSED, UNREAD = "accepted", "differs", "refused", "cannot be read"
 WORDS = (ACCEPTED, DIFFERS, REFUSED, UNREAD)
 NOT_READ, NO_CLAIM, NO_MOLECULE = "not read", "no claim", "no molecule"  # of molecules and rows of a table alone
 CLAIM_WORDS = (*WORDS, NOT_READ, NO_CLAIM, NO_MOLECULE)
-STATUS = dict.fromkeys(CLAIM_WORDS, 2) | {ACCEPTED: 0, DIFFERS: 1}
+HELD_WORDS = (*WORDS, ANOTHER, UNDECIDED)  # of decks that are held against a molfile
+STATUS = dict.fromkeys(CLAIM_WORDS, 2) | {ACCEPTED: 0, DIFFERS: 1, ANOTHER: 1, UNDECIDED: 2}
 NONE_JUDGED = 2  # the exit status where there was no deck
 
 
@@ -36,6 +39,9 @@ class Judged(NamedTuple):
     claimed: tuple[int, ...] = ()
     worked: tuple[int, ...] = ()
     data: bytes = b""
+    against: str = ""  # the molfile that the deck was held against, and what came out
+    answer: str = ""
+    why: str = ""
 
     @property
     def status(self) -> int:
@@ -63,8 +69,14 @@ class Judged(NamedTuple):
         return self.word
 
     def line(self) -> str:
-        """The line of this file, with the reason where it can't be read."""
-        return f"{files.shown(self.name)}: {self.verdict()}{f': {self.fault}' if self.fault else ''}"
+        """The line of this file, with the reason where it can't be read, and what came out where it was held against a molfile."""
+        return f"{files.shown(self.name)}: {self.verdict()}{f': {self.fault}' if self.fault else ''}{self._held()}"
+
+    def _held(self) -> str:
+        if self.answer == MATCHED:
+            return f"; matched {files.shown(self.against)}"
+        wrong = f"; differs {self.field}" if self.field else ""
+        return f": {self.why}{wrong}" if self.answer else ""
 
     def wrong(self) -> list[int]:
         """The places, from 0, of the fields that are claimed wrongly."""
@@ -79,7 +91,7 @@ class Judged(NamedTuple):
     def json(self) -> str:
         """One object on one line."""
         said = about(self.name) | {"sha256": self.sha256 or None, "verdict": self.word}
-        if self.word == DIFFERS:
+        if self.field:
             said["field"] = self.field
         if self.claimed:
             said["claimed"] = named(self.claimed)
@@ -88,8 +100,9 @@ class Judged(NamedTuple):
             said["refusal"] = told(Refused(self.number, self.place))
         if self.fault:
             said["fault"] = self.fault
+        if self.answer:
+            said["against"] = {"file": files.shown(self.against), "answer": self.answer, "words": self.why}
         return json.dumps(said)
-
 
     def columns(self) -> str:
         """The names above the rows of a table."""
@@ -138,6 +151,15 @@ def judge_file(found: Found, fields: bool = True) -> Judged:
     except Unread as fault:
         return Judged(found.name, UNREAD, fault=str(fault))
     return judge_bytes(found.name, data, sha256, fields)
+
+
+def held(judged: Judged, file: File) -> Judged:
+    """A deck that was judged, held against a molfile: one that is not found to be its molecule is not accepted, whatever its sheet says."""
+    if judged.word not in (ACCEPTED, DIFFERS):
+        return judged
+    answer = file.holds(judged.data)
+    word = judged.word if answer.word == MATCHED else answer.word
+    return judged._replace(word=word, against=file.name, answer=answer.word, why=answer.why)
 
 
 def judge_bytes(name: str, data: bytes, sha256: str, fields: bool = True) -> Judged:

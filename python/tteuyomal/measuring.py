@@ -75,26 +75,6 @@ def details(block: Block) -> dict[str, Any]:
     return found
 
 
-def kept(data: bytes, block: Block) -> list[int] | None:
-    """The numbers that a block's atoms have in its molfile, to be shown to who joins there. None where what is read here is not the block
-    that the library read."""
-    lines = data.split(b"\n")
-    try:
-        atoms, count = int(lines[3][:3]), int(lines[3][3:6])
-        light = [line[31:34].strip() == b"H" for line in lines[4 : 4 + atoms]]
-        pairs = [(int(line[:3]) - 1, int(line[3:6]) - 1) for line in lines[4 + atoms : 4 + atoms + count]]
-        near: list[list[int]] = [[] for _ in light]
-        for first, second in pairs:
-            near[first].append(second)
-            near[second].append(first)
-    except (ValueError, IndexError):
-        return None
-    left = [atom for atom, ends in enumerate(near) if not (light[atom] and len(ends) == 1 and not light[ends[0]])]
-    numbers = {atom: number for number, atom in enumerate(left, 1)}
-    same = Block(len(left), [(numbers[first], numbers[second]) for first, second in pairs if first in numbers and second in numbers])
-    return [atom + 1 for atom in left] if same == block else None
-
-
 class Record(NamedTuple):
     """A record of an SDF on its way to be measured."""
 
@@ -157,6 +137,6 @@ def _told(said: dict[str, Any], number: int, data: bytes, kind: str, as_json: bo
     except NotThere as fault:
         return (json.dumps(said | {"fault": str(fault)}) if as_json else f"{name}: {fault}"), False
     if as_json:
-        listed = kept(data, block) if kind == MOLFILE else None
+        listed = sdf.kept(data, block.atoms, block.bonds) if kind == MOLFILE else None
         return json.dumps(said | {"indices": indices} | ({"atoms_listed": listed} if listed else {}) | details(block)), True
     return f"{name}: {' '.join(f'{key} {value}' for key, value in indices.items())}", True

@@ -26,6 +26,8 @@ from typing import Any
 
 from .replies import Contributions as Contributions
 from .replies import Fields as Fields
+from .replies import Matched as Matched
+from .replies import Molecule as Molecule
 from .replies import Ranked as Ranked
 from .replies import ReadBlock as ReadBlock
 from .replies import Record as Record
@@ -129,6 +131,7 @@ def _load() -> tuple[ctypes.CDLL | None, str, str]:
 _library, SHA256, _fault = _load()
 _NUMBERS = [ctypes.POINTER(c_uint64), c_size_t]
 _BYTES = [ctypes.POINTER(c_uint8), c_size_t]
+_ENDS = [ctypes.POINTER(c_uint16), c_size_t]
 _DECK = [c_char_p, c_size_t]
 _BLOCK = [c_size_t, c_char_p, c_size_t]
 _TEXT = [c_char_p, c_size_t]
@@ -227,13 +230,13 @@ def _lent(data: Bytes, what: str = "a deck") -> list[Any]:
     return [data, len(data)]
 
 
-def _pairs(bonds: Iterable[tuple[int, int]]) -> Iterable[tuple[int, int, int]]:
+def _pairs(bonds: Iterable[tuple[int, int]], what: str = "bond") -> Iterable[tuple[int, int, int]]:
     """The ends of each bond, with what is said of a bond that is no pair."""
     for place, bond in enumerate(bonds, 1):
         try:
             first, second = bond
         except (TypeError, ValueError):
-            raise ValueError(f"bond {place} is no pair of atom numbers: {bond!r}") from None
+            raise ValueError(f"{what} {place} is no pair of atom numbers: {bond!r}") from None
         yield place, first, second
 
 
@@ -646,3 +649,49 @@ def sdf_item(record: Bytes, name: str | Bytes) -> Span:
     """Where the value of the data item of a name stands in a record."""
     asked = name.encode("utf-8", "surrogateescape") if isinstance(name, str) else name
     return Span(*_numbers(_sdf_item, _lent(record, "a record") + _lent(asked, "a name"), 2))
+
+
+# ---- molecules of every size ----
+
+_read_whole = _function("read_whole", _TEXT + _ENDS + _NUMBERS)
+_written_out = _function("written_out", _DECK + _ENDS + _NUMBERS)
+_matched = _function("matched", _DECK + [c_size_t] + _ENDS + _ENDS)
+
+_FILE_ENDS = 2 * 999  # the ends of the bonds of any molfile
+_DECK_ENDS = 2 * (32 * 192 + 31)  # and of any deck's molecule
+_LARGEST_END = 65535
+
+Pairs = Iterable[tuple[int, int]]
+
+
+def _molecule(function: Any, data: list[Any], room: int) -> Molecule:
+    ends, counts = (c_uint16 * room)(), (c_uint64 * 2)()
+    _told(function(*data, ends, room, counts, 2))
+    flat = ends[: 2 * counts[1]]
+    return Molecule(counts[0], list(zip(flat[::2], flat[1::2])))
+
+
+def read_whole(text: Bytes) -> Molecule:
+    """The molecule of a V2000 molfile, hydrogens left out as in `read_molfile`, of up to 999 atoms, in one part or more."""
+    return _molecule(_read_whole, _lent(text, "a text"), _FILE_ENDS)
+
+
+def written_out(deck: Bytes) -> Molecule:
+    """The molecule of a deck without a sheet, atom by atom and bond by bond in the order of its placements."""
+    return _molecule(_written_out, _lent(deck), _DECK_ENDS)
+
+
+def _ends(pairs: Pairs, what: str) -> list[Any]:
+    """Pairs as numbers of 16 bits. One above them becomes the largest: no molecule of a deck has either."""
+    numbers = [_whole(end, f"a number of {what} {place}", _LARGEST_END) for place, *both in _pairs(pairs, what) for end in both]
+    return [(c_uint16 * len(numbers))(*numbers), len(numbers)]
+
+
+def matched(deck: Bytes, atoms: int, bonds: Pairs, matching: Pairs) -> Matched:
+    """Whether the molecule of a deck without a sheet is the one of so many atoms and these bonds; `matching` has for each of its atoms
+    the placement and the atom there that it is, both from 1."""
+    reply = _matched(*_lent(deck), _size(atoms, "the atom count"), *_ends(bonds, "bond"), *_ends(matching, "partner"))
+    if reply % 256 == 255:
+        return Matched(reply // 256)
+    _told(reply)
+    return Matched()

@@ -1,6 +1,7 @@
 """What `from tteuyomal import ..` gives."""
 
 from . import notebook  # noqa: F401
+from .cutting import Uncut, cut_molfile, hold
 from .decks import (
     Block,
     Deck,
@@ -34,9 +35,12 @@ __all__ = [
     "Sheet",
     "Site",
     "Table",
+    "Uncut",
     "Verdict",
     "compose",
     "contributions",
+    "cut_molfile",
+    "hold",
     "judge",
     "judge_file",
     "judge_many",

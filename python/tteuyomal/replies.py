@@ -88,6 +88,23 @@ class ReadBlock(NamedTuple):
     bonds: list[tuple[int, int]]
 
 
+class Molecule(NamedTuple):
+    """A molecule of any size: the atom count, and pairs of atom numbers."""
+
+    atoms: int
+    bonds: list[tuple[int, int]]
+
+
+class Matched(NamedTuple):
+    """Whether a matching of atoms makes a deck's molecule and another one the same. It is true only then; else `place` says what fails
+    first: 0 for another number of atoms, 1 to n for an atom, then the bonds of the molecule, then those of the deck's, written out."""
+
+    place: int | None = None
+
+    def __bool__(self) -> bool:
+        return self.place is None
+
+
 class Ranked(NamedTuple):
     """A product among the best: its value, the tag of its deck, and its position there."""
 

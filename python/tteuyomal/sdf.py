@@ -13,7 +13,7 @@ import io
 import os
 import sys
 import zlib
-from collections.abc import Callable, Iterator
+from collections.abc import Callable, Iterator, Sequence
 from typing import NamedTuple
 
 from . import files, native
@@ -146,3 +146,23 @@ def line_of(text: bytes, refusal: Refused) -> str:
         return " (the file says V3000, and V2000 is read)"
     line = text[: refusal.place].count(b"\n") + 1
     return f" (line {line})" if refusal.number in (21, 22, 25, 26, 27) else ""
+
+
+def kept(data: bytes, atoms: int, bonds: Sequence[tuple[int, int]]) -> list[int] | None:
+    """The numbers that the atoms of a molecule have in its molfile, to be shown to who looks for them there. None where what is read here is
+    not the molecule that the library read."""
+    lines = data.split(b"\n")
+    try:
+        every, count = int(lines[3][:3]), int(lines[3][3:6])
+        light = [line[31:34].strip() == b"H" for line in lines[4 : 4 + every]]
+        pairs = [(int(line[:3]) - 1, int(line[3:6]) - 1) for line in lines[4 + every : 4 + every + count]]
+        near: list[list[int]] = [[] for _ in light]
+        for first, second in pairs:
+            near[first].append(second)
+            near[second].append(first)
+    except (ValueError, IndexError):
+        return None
+    left = [atom for atom, ends in enumerate(near) if not (light[atom] and len(ends) == 1 and not light[ends[0]])]
+    numbers = {atom: number for number, atom in enumerate(left, 1)}
+    same = [(numbers[first], numbers[second]) for first, second in pairs if first in numbers and second in numbers]
+    return [atom + 1 for atom in left] if (len(left), same) == (atoms, list(bonds)) else None

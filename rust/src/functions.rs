@@ -211,4 +211,32 @@ extern "C" {
         span: *mut u64,
         span_len: usize,
     ) -> u64;
+    #[rustfmt::skip]
+    pub fn tteuyomal_read_whole(
+        text: *const u8,
+        text_len: usize,
+        bonds: *mut u16,
+        bonds_len: usize,
+        counts: *mut u64,
+        counts_len: usize,
+    ) -> u64;
+    #[rustfmt::skip]
+    pub fn tteuyomal_written_out(
+        deck: *const u8,
+        deck_len: usize,
+        bonds: *mut u16,
+        bonds_len: usize,
+        counts: *mut u64,
+        counts_len: usize,
+    ) -> u64;
+    #[rustfmt::skip]
+    pub fn tteuyomal_matched(
+        deck: *const u8,
+        deck_len: usize,
+        atoms: usize,
+        bonds: *const u16,
+        bonds_len: usize,
+        matching: *const u16,
+        matching_len: usize,
+    ) -> u64;
 }

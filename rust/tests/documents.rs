@@ -95,3 +95,20 @@ fn sdf() {
     assert_eq!(sdf_item(records[0], b"w"), Err(Refusal { number: 38, place: 0 }));
     assert_eq!(sdf_record(&again, again.len() - 2), None);
 }
+
+#[test]
+fn molecules() {
+    let molecule = written_out(&deck()).unwrap();
+    assert_eq!((molecule.atoms, molecule.bonds.len(), molecule.bonds[12]), (12, 13, [1, 7]));
+    let mut matching: Vec<[u16; 2]> = (0..12).map(|at| [1 + at / 6, 1 + at % 6]).collect();
+    assert_eq!(matched(&deck(), &molecule, &matching), Verdict::Accepted);
+    matching.swap(0, 6);
+    assert_eq!(matched(&deck(), &molecule, &matching), Verdict::Differs(12 + 1));
+    matching[3] = [3, 1];
+    assert_eq!(matched(&deck(), &molecule, &matching), Verdict::Differs(4));
+    assert_eq!(matched(&deck(), &molecule, &matching[1..]), Verdict::Refused(Refusal { number: 9, place: 0 }));
+    let block = read_molfile(&write_molfile(6, &RING).unwrap()).unwrap();
+    let whole = read_whole(&write_molfile(6, &RING).unwrap()).unwrap();
+    assert_eq!(whole.bonds.as_flattened().iter().map(|&end| end as u8).collect::<Vec<u8>>(), block.bonds);
+    assert_eq!(read_whole(b""), Err(Refusal { number: 25, place: 0 }));
+}

@@ -8,6 +8,7 @@ pub mod damage_library;
 pub mod decks;
 pub mod libraries;
 pub mod library_specimens;
+pub mod matchings;
 pub mod molfiles;
 pub mod neighbours;
 pub mod plan;

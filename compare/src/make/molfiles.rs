@@ -2,6 +2,8 @@
 
 use super::blocks::random_block;
 use super::random::Random;
+use crate::block::MOST_DEGREE;
+use std::ops::Range;
 
 const HEAVY: [&str; 12] = ["C  ", "N  ", "O  ", "Cl ", "  C", " S ", "D  ", "He ", "h  ", "H1 ", "C", "HH "];
 const LIGHT: [&str; 5] = ["H  ", " H ", "  H", "H", "H "];
@@ -54,6 +56,55 @@ pub fn random_molfile(random: &mut Random) -> MolfilePlan {
     }
     for _ in 0..random.below(8).saturating_sub(5) {
         odd_hydrogen(random, &mut symbols, &mut bonds);
+    }
+    let mut names: Vec<usize> = (1..=symbols.len()).collect();
+    if random.once_in(2) {
+        random.shuffle(&mut names);
+        random.shuffle(&mut bonds);
+    }
+    lines_of(random, &symbols, &bonds, &names)
+}
+
+/// A file of up to 999 atoms and bonds: blocks joined to each other, in some not all of them, with hydrogens on them. In a few a bond is
+/// drawn twice, or from an atom to itself, or is one too many.
+pub fn random_large_molfile(random: &mut Random) -> MolfilePlan {
+    let (mut symbols, mut bonds): (Vec<&str>, Vec<(usize, usize)>) = (Vec::new(), Vec::new());
+    let mut degrees: Vec<usize> = Vec::new();
+    let (most, in_parts) = (random.between(65, 999), random.once_in(5));
+    loop {
+        let block = random_block(random, 64);
+        let before = symbols.len();
+        if before + block.atoms as usize > most || bonds.len() + block.bonds.len() + 1 > 990 {
+            break;
+        }
+        symbols.extend((0..block.atoms).map(|_| *random.pick(&HEAVY)));
+        degrees.resize(symbols.len(), 0);
+        let mut added: Vec<(usize, usize)> =
+            block.bonds.iter().map(|&(u, v)| (before + u as usize - 1, before + v as usize - 1)).collect();
+        let open = |atoms: Range<usize>, degrees: &[usize]| -> Vec<usize> {
+            atoms.filter(|&atom| degrees[atom] < MOST_DEGREE).collect()
+        };
+        added.iter().for_each(|&(u, v)| [u, v].iter().for_each(|&end| degrees[end] += 1));
+        let (there, own) = (open(0..before, &degrees), open(before..symbols.len(), &degrees));
+        if !there.is_empty() && !own.is_empty() && !(in_parts && random.once_in(4)) {
+            let join = (*random.pick(&there), *random.pick(&own));
+            degrees[join.0] += 1;
+            degrees[join.1] += 1;
+            added.push(join);
+        }
+        bonds.extend(added);
+    }
+    let heavy = symbols.len();
+    for _ in 0..random.below(1 + (999 - heavy).min(999 - bonds.len())) {
+        bonds.push((random.below(heavy), symbols.len()));
+        symbols.push(*random.pick(&["H  ", "H  ", "H  ", "  H", "D  "]));
+    }
+    if random.once_in(6) {
+        odd_hydrogen(random, &mut symbols, &mut bonds);
+    }
+    if random.once_in(8) && bonds.len() < 999 {
+        let ((u, v), other) = (*random.pick(&bonds), random.below(heavy));
+        bonds.push(*random.pick(&[(u, v), (v, u), (u, u), (0, other)]));
     }
     let mut names: Vec<usize> = (1..=symbols.len()).collect();
     if random.once_in(2) {

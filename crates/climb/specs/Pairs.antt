@@ -49,7 +49,8 @@ pub record PlacedPair (d : List ℕ) (deck : Deck) (k i l j : ℕ) : Type 0 wher
   pub one : Has d deck k i
   pub two : Has d deck l j
 
-present : (d : List ℕ) (deck : Deck) (k i : ℕ) → isMissing d deck k i ≡ false → Has d deck k i
+-- an atom that does not miss is placed
+pub present : (d : List ℕ) (deck : Deck) (k i : ℕ) → isMissing d deck k i ≡ false → Has d deck k i
 unfolding isMissing
 present d deck k i e =
     let (a, b) = neither (isOutside (deck .placements) k) (isOutside (graphAt d deck (k - 1) .atoms) i) e in

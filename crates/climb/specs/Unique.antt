@@ -1,10 +1,21 @@
 -- Laws. The promise determines the reply: two that satisfy it are equal. Assumes nothing.
 use Prim.Native.Nat.{ℕ}
+use mathlib.Core.Bool.{Bool}
 use mathlib.Core.List.{List}
 use mathlib.Core.Path.{_≡_, sym, _∙_}
 use Rattle.block.specs.Index.{saidDistance}
 use Rattle.block.specs.declared.DistanceReply.{DistanceReply}
-use Rattle.climb.specs.Placed.{placedDistanceReply}
+use Rattle.assembly.specs.Book.{find}
+use Rattle.assembly.specs.declared.BlockAt.{BlockAt}
+use Rattle.deck.specs.Deck.{Deck}
+use Rattle.deck.specs.Molecule.{placedIn}
+use Rattle.climb.specs.Placed.{isMissing, placedDistanceReply}
 
 pub unique-placed-distance : (d : List ℕ) (k i l j : ℕ) (r s : DistanceReply) → r ≡ saidDistance (placedDistanceReply d k i l j) → s ≡ saidDistance (placedDistanceReply d k i l j) → r ≡ s
 unique-placed-distance d k i l j r s p q = p ∙ sym q
+
+pub unique-block-at : (d : List ℕ) (k : Deck) (i : ℕ) (r s : BlockAt) → r ≡ find (k .blocks) (placedIn d k i .block) → s ≡ find (k .blocks) (placedIn d k i .block) → r ≡ s
+unique-block-at d k i r s p q = p ∙ sym q
+
+pub unique-is-missing : (d : List ℕ) (k : Deck) (p a : ℕ) (r s : Bool) → r ≡ isMissing d k p a → s ≡ isMissing d k p a → r ≡ s
+unique-is-missing d k p a r s e f = e ∙ sym f

@@ -1,6 +1,6 @@
 // The distance of two placed atoms of a deck: it climbs from the later placement to its parent.
 ghost use mathlib.Core.Path.{_≡_};
-ghost use Prim.Native.Nat.{_-_, _≤_};
+ghost use Prim.Native.Nat.{_-_};
 ghost use Rattle.graph.specs.Graph.{distance};
 ghost use Rattle.block.specs.Index.{saidDistance};
 ghost use Rattle.assembly.specs.Book.{find};
@@ -15,24 +15,23 @@ use reply::Refusal;
 use reply::Reply;
 use reply::is_outside;
 
-// The block of placement number k.
-fn block_of(d: &[u8], deck: Layout, k: usize) -> BlockAt
-    requires { ⌜ 1 ≤ k ⌝ }
-    ensures { λ r. ⌜ r ≡ find (deckOf deck .blocks) (placedIn (now (d .entry)) (deckOf deck) (k - 1) .block) ⌝ }
+// The block of the placement at an index from 0.
+pub fn block_at(d: &[u8], deck: Layout, k: usize) -> BlockAt
+    ensures { λ r. ⌜ r ≡ find (deckOf deck .blocks) (placedIn (now (d .entry)) (deckOf deck) k .block) ⌝ }
 {
-    let p = deck::placement(d, deck.assembly, k - 1);
+    let p = deck::placement(d, deck.assembly, k);
     let blocks = deck.blocks;
     assembly::find_block(blocks, deck.count, p.block as usize)
 }
 
 // Whether placement number k does not exist, or has no atom i.
-fn is_missing(d: &[u8], deck: Layout, k: usize, i: usize) -> bool
+pub fn is_missing(d: &[u8], deck: Layout, k: usize, i: usize) -> bool
     ensures { λ r. ⌜ r ≡ isMissing (now (d .entry)) (deckOf deck) k i ⌝ }
 {
     if is_outside(deck.placements, k) {
         return true;
     }
-    let b = block_of(d, deck, k);
+    let b = block_at(d, deck, k - 1);
     is_outside(b.atoms as usize, i)
 }
 
@@ -41,7 +40,7 @@ fn inside(d: &[u8], deck: Layout, k: usize, i: usize, j: usize) -> u64
     requires { ⌜ PlacedPair (now d) (deckOf deck) k i k j ⌝ }
     ensures { λ r. ⌜ r ≡ distance (graphAt (now (d .entry)) (deckOf deck) (k - 1)) i j ⌝ }
 {
-    let b = block_of(d, deck, k);
+    let b = block_at(d, deck, k - 1);
     let bonds = assembly::bonds_part(d, b);
     let reply = block::distance(b.atoms as usize, bonds, i, j);
     match reply {

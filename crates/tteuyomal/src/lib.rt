@@ -3,6 +3,7 @@
 mod blocks;
 mod claims_printed;
 mod decks;
+mod large;
 mod libraries;
 mod texts;
 mod two_queues;

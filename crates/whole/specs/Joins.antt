@@ -12,7 +12,7 @@ use lib.Seq.{sets}
 use Rattle.graph.specs.Graph.{Bond, bond, Within, Graph}
 use Rattle.graph.specs.Assembly.{Join, shifted, startAt}
 use Rattle.reply.specs.Chain.{neither}
-use Rattle.block.specs.Block.{bondsOf, mostBytes}
+use Rattle.block.specs.Block.{bondsOf, mostAtoms, mostBytes}
 use Rattle.block.specs.Numbered.{bonds-length}
 use Rattle.block.specs.Told as told
 use Rattle.records.specs.Records.{payloadAt}
@@ -24,12 +24,11 @@ use Rattle.deck.specs.Deck.{Deck}
 use Rattle.deck.specs.Molecule.{placedIn, graphAt, joinAt}
 use Rattle.deck.specs.Sound.{WholeDeck}
 use Rattle.whole.specs.Whole.{pairNumbers}
-use Rattle.whole.specs.Work.{blockNumbers, joinsOf, joining, brought, bondsBefore}
+use Rattle.whole.specs.Work.{mostBrought, blockNumbers, joinsOf, joining, brought, bondsBefore}
 use Rattle.whole.specs.Laws.{shifted-length, pairs-length, pairs-append, sets-append}
 
 module _ {d : List ℕ} {deck : Deck} (w : WholeDeck d deck) where
-  -- at most 64 atoms each
-  pub start-few : (k : ℕ) → k ≤ deck .placements → startAt (graphAt d deck) k ≤ 64 * k
+  pub start-few : (k : ℕ) → k ≤ deck .placements → startAt (graphAt d deck) k ≤ mostAtoms * k
   unfolding startAt
   start-few zero h = omega arith
   start-few (suc k) h = let a = w .atoms k (omega arith) in let b = start-few k (omega arith) in omega (arith, a .high)
@@ -50,9 +49,9 @@ pub joining-none : (d : List ℕ) (deck : Deck) → joining (graphAt d deck) (jo
 unfolding joining
 joining-none d deck = refl
 
--- the block of a placement: its bonds, and that they take at most 384 bytes
+-- the block of a placement: its bonds, and that they take few enough bytes
 module _ {d : List ℕ} {deck : Deck} (w : WholeDeck d deck) (k : ℕ) (high : k < deck .placements) (b : BlockAt) (e : b ≡ find (deck .blocks) (placedIn d deck k .block)) where
-  pub bonds-few : length (bondBytes d b) ≤ 384
+  pub bonds-few : length (bondBytes d b) ≤ mostBytes
   bonds-few =
       let p = neither (not (eqb (length (bondBytes d b) % 2) 0)) (ltb mostBytes (length (bondBytes d b))) (rw e (told.passed _ _ (w .stands k high .fine) .bytes)) in
       ltb-false mostBytes (length (bondBytes d b)) (p .1)
@@ -112,3 +111,20 @@ module _ (blocks : ℕ → Graph) (joins : ℕ → Join) where
       ∙ ap₂ (λ (l : List ℕ) (n : ℕ). sets l n (pairNumbers (brought blocks joins k))) e m
       ∙ sets-append out 0 (pairNumbers (bondsBefore blocks joins k)) (pairNumbers (brought blocks joins k))
       ∙ ap (sets out 0) (sym (pairs-append (bondsBefore blocks joins k) (brought blocks joins k)) ∙ ap pairNumbers (sym (before-more k)))
+
+-- the bonds of the placements before an index take few enough numbers
+pub before-few : {d : List ℕ} {deck : Deck} → WholeDeck d deck → (k : ℕ) → k ≤ deck .placements → 2 * length (bondsBefore (graphAt d deck) (joinAt d deck) k) ≤ mostBrought * k
+unfolding bondsBefore
+before-few w zero h = omega arith
+before-few {d} {deck} w (suc k) h =
+    let b = find (deck .blocks) (placedIn d deck k .block) in
+    let blocks = graphAt d deck in
+    let joins = joinAt d deck in
+    omega (
+      arith,
+      before-few w k (omega arith),
+      length-append (bondsBefore blocks joins k) (brought blocks joins k),
+      brought-length blocks joins k (bondBytes d b) (bonds-are w k (omega arith) b refl),
+      bonds-few w k (omega arith) b refl,
+      joining-few blocks joins k,
+    )

@@ -1,15 +1,16 @@
 -- Laws. The bonds placement by placement are those of the molecule written out; numbers put one after the other. Assumes nothing.
-use Prim.Native.Nat.{ℕ, zero, suc, _+_, _*_, _-_, _≤_, _<_}
-use mathlib.Core.List.{List, [], _∷_, _++_, append-nil, append-assoc}
+use Prim.Native.Nat.{ℕ, zero, suc, _+_, _*_, _-_, _≤_}
+use mathlib.Core.List.{List, [], _∷_, _++_, append-nil}
 use mathlib.Core.Path.{_≡_, refl, sym, _∙_, ap, ap₂}
 use native.Mathlib.Numerals.{add-one}
 use native.Mathlib.Omega.{arith}
 use lib.ListN.{length, set, drop, getD, length-drop}
 use lib.Seq.{sets, drop-cons}
 use Rattle.graph.specs.Graph.{Bond, bond, Graph}
-use Rattle.graph.specs.Assembly.{Join, shifted, joined, atomOf, startAt, written}
+use Rattle.graph.specs.Assembly.{Join, shifted, joined, startAt, written}
 use Rattle.whole.specs.Whole.{pairNumbers}
 use Rattle.block.specs.Block.{bondsOf}
+use Rattle.block.specs.Numbered.{bonds-short}
 use Rattle.whole.specs.Work.{blockNumbers, joining, brought, bondsBefore}
 
 -- atoms that are counted from 1 on
@@ -58,6 +59,12 @@ unfolding pairNumbers
 pairs-append [] cs = refl
 pairs-append (b ∷ bs) cs = ap (λ (l : List ℕ). b .one ∷ b .two ∷ l) (pairs-append bs cs)
 
+-- bonds written as numbers are read back
+pub pairs-back : (bs : List Bond) → bondsOf (pairNumbers bs) ≡ bs
+unfolding pairNumbers bondsOf
+pairs-back [] = refl
+pairs-back (b ∷ bs) = ap (λ (l : List Bond). b ∷ l) (pairs-back bs)
+
 -- numbers put behind numbers
 pub sets-append : (out : List ℕ) (at : ℕ) (xs ys : List ℕ) → sets (sets out at xs) (at + length xs) ys ≡ sets out at (xs ++ ys)
 sets-append out at [] ys = let e : at + 0 ≡ at = omega arith in rw e
@@ -72,15 +79,9 @@ numbers-next start xs i h =
     let two : i + 2 ≡ suc (suc i) = omega arith in
     rw (drop-cons xs i 0 (omega arith), drop-cons xs (suc i) 0 (omega arith), one, two)
 
-bonds-none : (xs : List ℕ) → length xs ≤ 1 → bondsOf xs ≡ []
-unfolding bondsOf
-bonds-none [] h = refl
-bonds-none (x ∷ []) h = refl
-bonds-none (x ∷ (y ∷ xs)) h = absurd (omega arith)
-
 pub numbers-none : (out : List ℕ) (at start : ℕ) (xs : List ℕ) (i : ℕ) → length xs - i ≤ 1 → sets out at (blockNumbers start (drop i xs)) ≡ out
 unfolding blockNumbers pairNumbers shifted
-numbers-none out at start xs i h = rw (bonds-none (drop i xs) (omega (arith, length-drop i xs)))
+numbers-none out at start xs i h = rw (bonds-short (drop i xs) (omega (arith, length-drop i xs)))
 
 pub numbers-step : (out next : List ℕ) (at start : ℕ) (xs : List ℕ) (i one two : ℕ) → 2 ≤ length xs - i → one ≡ start + getD xs i 0 → two ≡ start + getD xs (i + 1) 0
     → next ≡ sets out (at + i) (one ∷ (two ∷ [])) → sets next (at + (i + 2)) (blockNumbers start (drop (i + 2) xs)) ≡ sets out (at + i) (blockNumbers start (drop i xs))

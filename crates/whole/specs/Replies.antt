@@ -1,11 +1,11 @@
 -- Laws. What a deck's molecule is told: the deck's refusal, 9, or the bonds placement by placement. Assumes nothing.
 use Prim.Native.Nat.{ℕ, zero, suc, _*_, _-_, _≤_, _<_}
 use mathlib.Core.List.{List}
-use mathlib.Core.Path.{_≡_, refl, sym, _∙_, ap}
+use mathlib.Core.Path.{_≡_, ap}
 use native.Mathlib.Omega.{arith}
 use borrow.Author.Tests.{lt-ltb, le-ltb}
 use lib.ListN.{length}
-use Rattle.graph.specs.Graph.{Graph, Bond}
+use Rattle.graph.specs.Graph.{Graph}
 use Rattle.graph.specs.Assembly.{Join, startAt, written}
 use Rattle.reply.specs.Read.{refused, read, refusal}
 use Rattle.reply.specs.declared.Refusal.{Refusal}
@@ -14,8 +14,9 @@ use Rattle.deck.specs.Molecule.{graphAt, joinAt, moleculeOf}
 use Rattle.deck.specs.declared.Form.the-variants.{Composed}
 use Rattle.deck.specs.Sound.{whole}
 use Rattle.whole.specs.Whole.{wholeReply}
-use Rattle.whole.specs.Work.{bondsBefore}
+use Rattle.whole.specs.Work.{mostNumbers, bondsBefore}
 use Rattle.whole.specs.Laws.{written-atoms, written-bonds}
+use Rattle.whole.specs.Joins.{before-few}
 
 pub whole-refused : (d : List ℕ) (n : ℕ) {r : Refusal} → deckReply Composed d ≡ refused r → wholeReply d n ≡ refused r
 unfolding wholeReply
@@ -45,3 +46,7 @@ module _ (d : List ℕ) (n : ℕ) (k : Deck) (e : deckReply Composed d ≡ read 
   pub whole-read : 2 * length (bondsBefore (graphAt d k) (joinAt d k) (k .placements)) ≤ n → wholeReply d n ≡ read (moleculeOf d k)
   unfolding wholeReply
   whole-read h = rw (e, le-ltb n (2 * length (moleculeOf d k .bonds)) (omega (arith, ap length molecule-bonds)))
+
+  -- no molecule takes more numbers than that
+  pub molecule-few : 2 * length (moleculeOf d k .bonds) ≤ mostNumbers
+  molecule-few = let w = whole Composed d k e in omega (arith, ap length molecule-bonds, before-few w (k .placements) (omega arith), w .count .high)

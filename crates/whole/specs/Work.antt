@@ -1,17 +1,32 @@
 -- Work. What is put for each placement, and for those before one.
-use Prim.Native.Nat.{ℕ, zero, suc, _+_, _*_, _≤_}
+use Prim.Native.Nat.{ℕ, zero, suc, _+_, _*_}
 use mathlib.Core.List.{List, [], _∷_, _++_}
 use Rattle.graph.specs.Graph.{Bond, bond, Graph}
-use Rattle.graph.specs.Assembly.{Join, shifted, atomOf, startAt, written}
-use Rattle.block.specs.Block.{bondsOf}
+use Rattle.graph.specs.Assembly.{Join, shifted, atomOf, startAt}
+use Rattle.block.specs.Block.{mostAtoms, mostBytes, bondsOf}
+use Rattle.assembly.specs.Placements.{mostPlacements}
 use Rattle.whole.specs.Whole.{pairNumbers}
 
--- no atom of a deck has such a number, and no deck's bonds take so many
+-- the most atoms of a deck's molecule; the most that a block's record can say
+abbrev pub mostStart : ℕ
+mostStart = mostAtoms * mostPlacements
+
+abbrev pub mostCounted : ℕ
+mostCounted = 65535
+
+-- the most numbers that a placement's bonds take, with the one that joins it, and those of all
+abbrev pub mostBrought : ℕ
+mostBrought = mostBytes + 2
+
+abbrev pub mostNumbers : ℕ
+mostNumbers = mostBrought * mostPlacements
+
+-- past any atom's number, and past any bond's place, before they are known to be less
 abbrev pub overAtoms : ℕ
-overAtoms = 4096
+overAtoms = mostStart + 255
 
 abbrev pub overNumbers : ℕ
-overNumbers = 131072
+overNumbers = mostNumbers + mostBytes
 
 -- a block's bonds, its atoms counted from a start on
 unfoldable pub blockNumbers : ℕ → List ℕ → List ℕ

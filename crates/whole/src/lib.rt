@@ -6,19 +6,18 @@ ghost use Prim.Native.Nat.{_+_, _*_, _≤_, _<_};
 ghost use lib.ListN.{length, set};
 ghost use lib.Seq.{sets};
 ghost use Rattle.graph.specs.Assembly.{startAt};
-ghost use Rattle.assembly.specs.Book.{find};
-ghost use Rattle.deck.specs.Molecule.{placedIn, graphAt, joinAt};
+ghost use Rattle.block.specs.Block.{mostBytes};
+ghost use Rattle.deck.specs.Molecule.{graphAt, joinAt};
 ghost use Rattle.deck.specs.Sound.{WholeDeck};
 ghost use Rattle.climb.specs.Pairs.{deckOf};
 ghost use Rattle.whole.specs.Whole.{pairNumbers, wholeReply, numbersAfter};
 ghost use Rattle.whole.specs.Said.{saidMolecule};
-ghost use Rattle.whole.specs.Work.{overAtoms, overNumbers, blockNumbers, joinsOf, joining, brought, bondsBefore};
-use assembly::BlockAt;
-use assembly::PLACEMENTS;
+ghost use Rattle.whole.specs.Work.{mostStart, mostCounted, mostBrought, mostNumbers, overAtoms, overNumbers, blockNumbers, joinsOf, joining, brought, bondsBefore};
 use deck::Form;
 use deck::Layout;
 use reply::Refusal;
 use reply::Reply;
+use reply::wide;
 
 // How many atoms and bonds a molecule has.
 pub struct Counts {
@@ -50,44 +49,29 @@ fn put_bond(out: &mut [u16], at: usize, one: usize, two: usize)
     put(out, at + 1, two as u16);
 }
 
-fn wide(x: u8) -> usize
-    ensures { λ r. ⌜ (r ≡ x) × (r ≤ 255) ⌝ }
-{
-    x as usize
-}
-
 // Puts a block's bonds, its atoms counted from a start on.
 fn put_block(bonds: &[u8], start: usize, out: &mut [u16], at: usize)
-    requires { ⌜ (start ≤ 2048) × (at ≤ 65536) × (length (now bonds) ≤ 65536) ⌝ }
+    requires { ⌜ (start ≤ mostStart) × (at ≤ mostNumbers) × (length (now bonds) ≤ mostBytes) ⌝ }
     ensures { λ _. ⌜ now (out .exit) ≡ sets (now (out .entry)) at (blockNumbers start (now (bonds .entry))) ⌝ }
 {
     let mut i = 0;
     while 2 <= bonds.len() - i {
-        let one = start + wide(bonds[i]);
-        let two = start + wide(bonds[i + 1]);
+        let one = start + wide(bonds[i]) as usize;
+        let two = start + wide(bonds[i + 1]) as usize;
         put_bond(out, at + i, one, two);
         i += 2;
     }
 }
 
-// The block of the placement at an index from 0.
-fn block_at(d: &[u8], deck: Layout, k: usize) -> BlockAt
-    ensures { λ r. ⌜ r ≡ find (deckOf deck .blocks) (placedIn (now (d .entry)) (deckOf deck) k .block) ⌝ }
-{
-    let p = deck::placement(d, deck.assembly, k);
-    let blocks = deck.blocks;
-    assembly::find_block(blocks, deck.count, p.block as usize)
-}
-
 // How many atoms stand before the placement at an index.
-fn start_of(d: &[u8], deck: Layout, k: usize) -> usize
-    requires { ⌜ k ≤ 65536 ⌝ }
-    ensures { λ r. ⌜ (r ≡ startAt (graphAt (now (d .entry)) (deckOf deck)) k) × (r ≤ 65535 * k) ⌝ }
+pub fn start_of(d: &[u8], deck: Layout, k: u16) -> usize
+    ensures { λ r. ⌜ (r ≡ startAt (graphAt (now (d .entry)) (deckOf deck)) k) × (r ≤ mostCounted * k) ⌝ }
 {
+    let end = k as usize;
     let mut start = 0;
     let mut i: usize = 0;
-    while i < k {
-        let b = block_at(d, deck, i);
+    while i < end {
+        let b = climb::block_at(d, deck, i);
         start += b.atoms as usize;
         i += 1;
     }
@@ -106,25 +90,30 @@ fn put_join(d: &[u8], deck: Layout, k: usize, out: &mut [u16], at: usize) -> usi
         return at;
     }
     let p = deck::placement(d, deck.assembly, k);
-    let there = start_of(d, deck, (p.parent as usize) - 1);
-    let here = start_of(d, deck, k);
-    put_bond(out, at, there + wide(p.site), here + wide(p.own));
+    let there = start_of(d, deck, (p.parent as u16) - 1);
+    let here = start_of(d, deck, k as u16);
+    put_bond(
+        out,
+        at,
+        there + wide(p.site) as usize,
+        here + wide(p.own) as usize,
+    );
     at + 2
 }
 
 // Puts what the placement at an index brings, its block's bonds and its join, and gives the place past them.
 fn put_placed(d: &[u8], deck: Layout, k: usize, out: &mut [u16], at: usize) -> usize
-    requires { ⌜ WholeDeck (now d) (deckOf deck) × (k < deck .placements) × (at ≤ 65536) ⌝ }
+    requires { ⌜ WholeDeck (now d) (deckOf deck) × (k < deck .placements) × (at ≤ mostNumbers) ⌝ }
     ensures numbers { λ _. ⌜
         now (out .exit) ≡ sets (now (out .entry)) at (pairNumbers (brought (graphAt (now (d .entry)) (deckOf deck)) (joinAt (now (d .entry)) (deckOf deck)) k))
         ⌝ }
     ensures end { λ r. ⌜
-        (r ≡ at + 2 * length (brought (graphAt (now (d .entry)) (deckOf deck)) (joinAt (now (d .entry)) (deckOf deck)) k)) × (r ≤ at + 400)
+        (r ≡ at + 2 * length (brought (graphAt (now (d .entry)) (deckOf deck)) (joinAt (now (d .entry)) (deckOf deck)) k)) × (r ≤ at + mostBrought)
         ⌝ }
 {
-    let b = block_at(d, deck, k);
+    let b = climb::block_at(d, deck, k);
     let bonds = assembly::bonds_part(d, b);
-    let start = start_of(d, deck, k);
+    let start = start_of(d, deck, k as u16);
     put_block(bonds, start, out, at);
     let next = at + 2 * (bonds.len() / 2);
     put_join(d, deck, k, out, next)
@@ -144,13 +133,13 @@ fn joins_of(k: usize) -> usize
 fn bond_count(d: &[u8], deck: Layout) -> usize
     requires { ⌜ WholeDeck (now d) (deckOf deck) ⌝ }
     ensures { λ r. ⌜
-        (r ≡ length (bondsBefore (graphAt (now (d .entry)) (deckOf deck)) (joinAt (now (d .entry)) (deckOf deck)) (deck .placements))) × (r ≤ 65536)
+        (r ≡ length (bondsBefore (graphAt (now (d .entry)) (deckOf deck)) (joinAt (now (d .entry)) (deckOf deck)) (deck .placements))) × (2 * r ≤ mostNumbers)
         ⌝ }
 {
     let mut m = 0;
     let mut k: usize = 0;
     while k < deck.placements {
-        let b = block_at(d, deck, k);
+        let b = climb::block_at(d, deck, k);
         let bonds = assembly::bonds_part(d, b);
         m += bonds.len() / 2 + joins_of(k);
         k += 1;
@@ -193,7 +182,7 @@ pub fn bonds(d: &[u8], out: &mut [u16]) -> MoleculeReply
                     place: 0,
                 });
             }
-            let atoms = start_of(d, deck, deck.placements);
+            let atoms = start_of(d, deck, deck.placements as u16);
             put_all(d, deck, out);
             MoleculeReply::Of(Counts { atoms, bonds: m })
         }

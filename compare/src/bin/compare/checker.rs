@@ -41,6 +41,9 @@ pub struct Checker {
     /// How often claims were accepted, and how often one was wrong.
     pub claims_accepted: usize,
     pub claims_differed: usize,
+    /// How often a matching was right, and how often each kind of place was told: 0, an atom, a bond of the list, a bond of the deck.
+    pub matched: usize,
+    pub unmatched: [usize; 4],
     /// How often the products of a library, or the records of an SDF, were done.
     pub done: usize,
     pub measurer: Measurer,
@@ -146,6 +149,20 @@ impl Checker {
 
     pub fn agree_claims(&mut self, call: impl Fn() -> String, right: u64, reply: u64) {
         self.count_claims(right);
+        self.same(call, right, reply, None);
+    }
+
+    /// The same of a matching of so many atoms and bonds, by the kind of its place.
+    pub fn agree_matched(&mut self, call: impl Fn() -> String, (n, m): (u64, u64), right: u64, reply: u64) {
+        match (right % 256, right / 256) {
+            (0, _) => self.matched += 1,
+            (255, place) => {
+                let kind = (place > 0) as usize + (place > n) as usize + (place > n + m) as usize;
+                self.unmatched[kind] += 1;
+            }
+            _ => self.refused.0[(right % 256) as usize] += 1,
+        }
+        self.calls += 1;
         self.same(call, right, reply, None);
     }
 

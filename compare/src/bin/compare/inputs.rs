@@ -6,8 +6,9 @@
 
 use crate::checker::Checker;
 use crate::queues::{self, Call};
-use crate::{claims, sdf};
+use crate::{claims, sdf, whole};
 use opinion::block::MOST_BONDS;
+use opinion::make::matchings::Matching;
 use opinion::queues::{sheet_bytes, FIVE, SIX};
 use opinion::ranking::Ask;
 use opinion::walk::Walk;
@@ -75,8 +76,24 @@ pub fn call(checker: &mut Checker, input: &[u8]) {
             let (name, text) = data.split_at((b % 32).min(data.len()));
             sdf::item(checker, text, name, about(room, 2));
         }
+        29 => whole::read_whole(checker, data, about(room, 1998), about(other, 2)),
+        30 => whole::written_out(checker, data, about(room, 400), about(other, 2)),
+        31 => whole::matched(checker, &matching(data, a, [b, c, d])),
         _ => best(checker, data, [a, b, c], (room, other)),
     }
+}
+
+/// The first bytes are the numbers of a list of bonds, the next those of a matching, a byte each; the rest is the deck. The last number
+/// is taken 256 times, so that a number above a byte comes too.
+fn matching(data: &[u8], atoms: usize, [bonds, pairs, far]: [usize; 3]) -> Matching {
+    let (list, rest) = data.split_at(bonds.min(data.len()));
+    let (pairs, deck) = rest.split_at(pairs.min(rest.len()));
+    let numbers = |bytes: &[u8]| bytes.iter().map(|&byte| byte as u16).collect::<Vec<u16>>();
+    let (bonds, mut pairs) = (numbers(list), numbers(pairs));
+    if let (Some(last), 0xF0..) = (pairs.last_mut(), far) {
+        *last <<= 8;
+    }
+    Matching { deck: deck.to_vec(), atoms: if far == 0xE0 { usize::MAX } else { atoms }, bonds, pairs }
 }
 
 /// What is needed, or near it, or any number up to it.

@@ -4,34 +4,37 @@
 /// Entries in front of and behind the lent part, which must never change.
 const MARGIN: usize = 8;
 
-/// Bytes that the library may read: they stand at an odd address, and what is read behind them is no deck.
-pub struct Shown {
-    whole: Vec<u8>,
+/// Bytes or numbers that the library may read: they stand at an odd entry, and what is read behind them is no deck.
+pub struct Shown<T> {
+    whole: Vec<T>,
 }
 
-impl Shown {
-    pub fn new(bytes: &[u8]) -> Shown {
-        let margin = [u8::MAX; MARGIN + 1];
-        Shown { whole: [&margin, bytes, &margin].concat() }
+impl<T: Entry> Shown<T> {
+    pub fn new(entries: &[T]) -> Shown<T> {
+        let margin = [T::LARGEST; MARGIN + 1];
+        Shown { whole: [&margin, entries, &margin].concat() }
     }
 
-    pub fn part(&self) -> &[u8] {
+    pub fn part(&self) -> &[T] {
         &self.whole[MARGIN + 1..self.whole.len() - MARGIN - 1]
     }
 
     /// Whether it is still what it was made of.
-    pub fn is_still(&self, bytes: &[u8]) -> bool {
-        self.whole == Shown::new(bytes).whole
+    pub fn is_still(&self, entries: &[T]) -> bool {
+        self.whole == Shown::new(entries).whole
     }
 }
 
 /// An entry, by its bits.
-pub trait Entry: Copy {
+pub trait Entry: Copy + PartialEq {
+    const LARGEST: Self;
     fn pattern(at: usize) -> Self;
     fn bits(self) -> u64;
 }
 
 impl Entry for u8 {
+    const LARGEST: u8 = u8::MAX;
+
     fn pattern(at: usize) -> u8 {
         (at * 37 + 171) as u8
     }
@@ -41,7 +44,21 @@ impl Entry for u8 {
     }
 }
 
+impl Entry for u16 {
+    const LARGEST: u16 = u16::MAX;
+
+    fn pattern(at: usize) -> u16 {
+        (at * 40_503 + 43_690) as u16
+    }
+
+    fn bits(self) -> u64 {
+        self as u64
+    }
+}
+
 impl Entry for u64 {
+    const LARGEST: u64 = u64::MAX;
+
     fn pattern(at: usize) -> u64 {
         0xA5C3_9617_0000_0000 + at as u64 * 0x0101_0101
     }
@@ -52,6 +69,8 @@ impl Entry for u64 {
 }
 
 impl Entry for f64 {
+    const LARGEST: f64 = f64::MAX;
+
     fn pattern(at: usize) -> f64 {
         -1234.5 - at as f64
     }

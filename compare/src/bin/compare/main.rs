@@ -2,8 +2,10 @@
 //! nothing failed.
 //!
 //!     compare [--seed N] [--cases N] [--printed N] [--first N] [--programs FOLDER] [--until failure]
+//!     compare --real FOLDER [--seed N] [--cases N]
 //!
 //! With --printed, so many random cases of claims and of SDFs, and not as many as of all else.
+//! With --real, the molecules that compare/real_large.py puts into a folder and nothing else, each matching damaged so many times.
 //! With a folder, the programs `sheet`, `judge` and `measure` in it are run and their lines compared too.
 
 #[path = "../../archive.rs"]
@@ -24,6 +26,7 @@ mod random_libraries;
 mod rankings;
 mod relisted;
 mod sdf;
+mod whole;
 
 use checker::Checker;
 use std::path::PathBuf;
@@ -35,13 +38,21 @@ struct Options {
     printed: Option<u64>,
     first: u64,
     programs: Option<PathBuf>,
+    real: Option<PathBuf>,
     until_failure: bool,
 }
 
 /// The options of the command line, or what is wrong with it.
 fn options(mut words: impl Iterator<Item = String>) -> Result<Options, String> {
-    let mut options =
-        Options { seed: 20_011, cases: 4_000, printed: None, first: 0, programs: None, until_failure: false };
+    let mut options = Options {
+        seed: 20_011,
+        cases: 4_000,
+        printed: None,
+        first: 0,
+        programs: None,
+        real: None,
+        until_failure: false,
+    };
     while let Some(word) = words.next() {
         let value = words.next().ok_or(format!("{word} wants a value"))?;
         let number = || value.parse::<u64>().map_err(|_| format!("{value} is no number"));
@@ -52,6 +63,7 @@ fn options(mut words: impl Iterator<Item = String>) -> Result<Options, String> {
             "--first" => options.first = number()?,
             "--until" if value == "failure" => options.until_failure = true,
             "--programs" => options.programs = Some(PathBuf::from(&value)),
+            "--real" => options.real = Some(PathBuf::from(&value)),
             _ => return Err(format!("{word} is no option")),
         }
     }
@@ -73,6 +85,13 @@ fn main() -> ExitCode {
     if checker.ends {
         checker::limit_time();
     }
+    if let Some(folder) = &options.real {
+        if let Err(fault) = whole::real(checker, folder, options.seed, options.cases as usize) {
+            eprintln!("compare: {fault}");
+            return ExitCode::from(2);
+        }
+        return if checker.failed == 0 { ExitCode::SUCCESS } else { ExitCode::FAILURE };
+    }
     fixed::run(checker);
     random::run(checker, options.seed, options.first, options.cases);
     molfiles::run(checker, options.seed, options.first, options.cases);
@@ -86,6 +105,7 @@ fn main() -> ExitCode {
     let printed = options.printed.unwrap_or(options.cases);
     claims::run(checker, options.seed, options.first, printed);
     sdf::run(checker, options.seed, options.first, printed);
+    whole::run(checker, options.seed, options.first, options.cases);
     if let Some(folder) = &options.programs {
         programs::run(checker, folder, options.seed);
     }
@@ -110,6 +130,11 @@ fn report(checker: &mut Checker, options: &Options) {
         ("claims accepted", checker.claims_accepted),
         ("claims differ", checker.claims_differed),
         ("done", checker.done),
+        ("matched", checker.matched),
+        ("not matched, another number of atoms", checker.unmatched[0]),
+        ("not matched at an atom", checker.unmatched[1]),
+        ("not matched at a bond of the list", checker.unmatched[2]),
+        ("not matched at a bond of the deck", checker.unmatched[3]),
     ];
     for (what, times) in met {
         println!("{what}: {times} times");

@@ -55,26 +55,27 @@ fn mapped() -> usize {
     }
 }
 
-/// Bytes that the library may read.
-pub struct Shown {
+/// Bytes or numbers that the library may read.
+pub struct Shown<T> {
     pages: Pages,
     size: usize,
+    entries: PhantomData<T>,
 }
 
-impl Shown {
-    pub fn new(bytes: &[u8]) -> Shown {
-        let pages = Pages::of(bytes.len());
-        unsafe { ptr::copy_nonoverlapping(bytes.as_ptr(), pages.at as *mut u8, bytes.len()) };
-        Shown { pages, size: bytes.len() }
+impl<T: Entry> Shown<T> {
+    pub fn new(entries: &[T]) -> Shown<T> {
+        let pages = Pages::of(mem::size_of_val(entries));
+        unsafe { ptr::copy_nonoverlapping(entries.as_ptr(), pages.at as *mut T, entries.len()) };
+        Shown { pages, size: entries.len(), entries: PhantomData }
     }
 
-    pub fn part(&self) -> &[u8] {
-        unsafe { slice::from_raw_parts(self.pages.at as *const u8, self.size) }
+    pub fn part(&self) -> &[T] {
+        unsafe { slice::from_raw_parts(self.pages.at as *const T, self.size) }
     }
 
     /// Whether it is still what it was made of.
-    pub fn is_still(&self, bytes: &[u8]) -> bool {
-        self.part() == bytes
+    pub fn is_still(&self, entries: &[T]) -> bool {
+        self.part() == entries
     }
 }
 

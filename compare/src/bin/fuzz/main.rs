@@ -20,6 +20,8 @@ mod queues;
 #[path = "../compare/sdf.rs"]
 mod sdf;
 mod seeds;
+#[path = "../compare/whole.rs"]
+mod whole;
 
 use checker::Checker;
 use std::sync::Mutex;

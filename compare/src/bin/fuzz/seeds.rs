@@ -62,7 +62,9 @@ fn all() -> Vec<Vec<u8>> {
         seeds.extend([9, 10, 11, 12, 13, 14, 15, 17, 19, 21].map(|which| input(which, [*atoms as u8, 1, 0, 0], bonds)));
         seeds.push(input(16, [*atoms as u8, 0, 0, 0], &[&0.5f64.to_le_bytes(), &bonds[..]].concat()));
         let texts = (molfile::write(*atoms, bonds, 9_000, 1), neighbours::write(*atoms, bonds, 1_024, 1));
-        seeds.extend(texts.0.map(|text| input(18, [0; 4], text.as_bytes())));
+        for which in [18, 29] {
+            seeds.extend(texts.0.iter().map(|text| input(which, [0; 4], text.as_bytes())));
+        }
         seeds.extend(texts.1.map(|text| input(20, [0; 4], text.as_bytes())));
         seeds.extend((bonds.len() < 256).then(|| queued(*atoms as u8, bonds)));
     }
@@ -76,8 +78,18 @@ fn all() -> Vec<Vec<u8>> {
     let sdf = b"W\n\n\n  0  0\nM  END\n> <W>\n12\n\n> <B>\n> <C>\nx\n> <C>\n$$$$\n\n";
     seeds.extend([input(26, [0; 4], &sdf[1..]), input(26, [0, 40, 0, 0], &sdf[1..]), input(27, [0, 1, 0, 0], sdf)]);
     seeds.extend((0..7).map(|field| input(28, [field, field % 2, 3, 0], &TWO_PRODUCTS)));
+    let rings: Vec<u8> = (0..12).flat_map(|at| [at + 1, at / 6 * 6 + (at + 1) % 6 + 1]).chain([1, 7]).collect();
+    let own: Vec<u8> = (0..12).flat_map(|at| [1 + at / 6, 1 + at % 6]).collect();
+    let other: Vec<u8> = (0..12).flat_map(|at| [1 + at / 6, 1 + (at + 1) % 6]).collect();
+    for pairs in [&own, &other] {
+        let data = [&rings[..], pairs, &FORTY].concat();
+        seeds.extend([0, 0xE0, 0xF0].map(|far| input(31, [12, 26, 24, far], &data)));
+        seeds.push(input(31, [12, 24, 24, 0], &[&rings[..24], pairs, &FORTY].concat()));
+        seeds.push(input(31, [12, 24, 24, 0], &[&rings[2..], pairs, &FORTY].concat()));
+    }
+    seeds.extend(decks.iter().map(|deck| input(30, [0; 4], deck)));
     let hydrogen = format!("\n\n\n  3  2\n{0:31}H\n{0:31}C\n{0:31}C\n  1  2\n  3  2\nM  END\n", "");
-    seeds.push(input(18, [0; 4], hydrogen.as_bytes()));
+    seeds.extend([18, 29].map(|which| input(which, [0; 4], hydrogen.as_bytes())));
     seeds
 }
 

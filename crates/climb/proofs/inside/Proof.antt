@@ -14,8 +14,11 @@ use Rattle.climb.proofs.Reading.{told-inside}
 use Rattle.climb.proofs.inside.Statement.{statement}
 use Rattle.climb.proofs.inside.Tie as tie
 
-block-of-requires : tie.Need-block-of-requires
-block-of-requires c κs = search needs
+sub-block-at : tie.Need-sub-block-at
+sub-block-at c = search needs
+
+block-at-requires : tie.Need-block-at-requires
+block-at-requires c κs = search needs
 
 bonds-part-requires : tie.Need-bonds-part-requires
 bonds-part-requires c κs = search needs
@@ -37,7 +40,7 @@ told : (c : tie.After-distance)
     → let a = c .before .before .before .before .before .args in c .distance .result ≡ apart.Of (distance (graphAt (now (a .d)) (deckOf (a .deck)) (a .k - 1)) (a .i) (a .j))
 told c =
     let s = c .before .before .before .before .before in
-    let b = c .before .before .before .block-of in
+    let b = c .before .before .before .block-at in
     told-inside (s .pre) (b .result) (b .ensures) (c .distance .result)
     (c .distance .ensures ∙ ap (λ (xs : List ℕ). saidDistance (distanceReply (b .result .atoms) xs (s .args .i) (s .args .j))) (c .before .before .bonds-part .ensures .bytes))
 
@@ -55,7 +58,8 @@ pub inside-spec : {M : Type 1} → statement M
 inside-spec =
     tie.close
     (tie.spec
-    block-of-requires
+    sub-block-at
+    block-at-requires
     bonds-part-requires
     cast-distance
     distance-requires

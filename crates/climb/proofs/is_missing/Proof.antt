@@ -18,8 +18,11 @@ returns : tie.Need-returns
 unfolding isMissing
 returns c = rw (sym (c .before .is-outside .ensures) ∙ c .if1 .taken)
 
-block-of-requires : tie.Need-block-of-requires
-block-of-requires c κs = let a = c .before .before .before .args in omega (arith, inside (a .deck .placements) (a .k) (sym (c .before .is-outside .ensures) ∙ c .if1 .left))
+sub-block-at : tie.Need-sub-block-at
+sub-block-at c = let a = c .before .before .before .args in omega (arith, inside (a .deck .placements) (a .k) (sym (c .before .is-outside .ensures) ∙ c .if1 .left))
+
+block-at-requires : tie.Need-block-at-requires
+block-at-requires c κs = search needs
 
 cast-is-outside : tie.Need-cast-is-outside
 cast-is-outside c = search needs
@@ -31,7 +34,7 @@ returns-2 : tie.Need-returns-2
 unfolding isMissing
 returns-2 c =
     let a = c .before .before .before .before .before .before .args in
-    let b = c .before .before .block-of in
+    let b = c .before .before .block-at in
     rw (sym (c .before .before .before .before .is-outside .ensures) ∙ c .before .before .before .if1 .left, block-atoms (now (a .d)) (deckOf (a .deck)) (a .k - 1) (b .result) (b .ensures)) (c .is-outside2 .ensures)
 
 pub is-missing-spec : {M : Type 1} → statement M
@@ -40,7 +43,8 @@ is-missing-spec =
     (tie.spec
     is-outside-requires
     returns
-    block-of-requires
+    sub-block-at
+    block-at-requires
     cast-is-outside
     is-outside-requires-2
     returns-2)

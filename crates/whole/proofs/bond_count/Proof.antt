@@ -1,20 +1,20 @@
--- `whole::bond_count` meets its contract. The loop's invariant: the bonds of the placements before k are counted, at most 193 each.
-use Prim.Native.Nat.{ℕ, _+_, _*_, _-_, _/_, _≤_, _<_}
-use mathlib.Core.Path.{_≡_, refl, sym, _∙_, ap, ap₂}
+-- `whole::bond_count` meets its contract. The loop's invariant: the bonds of the placements before k are counted, at most half of `mostBrought` each.
+use Prim.Native.Nat.{ℕ, _*_, _-_, _≤_, _<_}
+use mathlib.Core.Path.{_≡_, sym, _∙_, ap}
 use native.Mathlib.Omega.{arith}
 use borrow.Author.Needs.{needs}
 use denote.Ref.{now}
 use lib.ListN.{length}
-use Rattle.block.specs.Block.{bondsOf}
+use Rattle.block.specs.Block.{mostBytes, bondsOf}
 use Rattle.deck.specs.Molecule.{graphAt, joinAt}
 use Rattle.climb.specs.Pairs.{deckOf}
-use Rattle.whole.specs.Work.{joinsOf, brought, bondsBefore}
+use Rattle.whole.specs.Work.{mostBrought, bondsBefore}
 use Rattle.whole.specs.Joins.{bonds-few, bonds-are, brought-length, joining-length, before-none, before-length}
 use Rattle.whole.proofs.bond_count.Statement.{statement}
 use Rattle.whole.proofs.bond_count.Tie as tie
 
 abbrev Inv-loop : tie.InvT-loop
-Inv-loop d deck m₀ k₀ m k = (k ≤ deck .placements) × (m ≡ length (bondsBefore (graphAt d (deckOf deck)) (joinAt d (deckOf deck)) k)) × (m ≤ 193 * k)
+Inv-loop d deck m₀ k₀ m k = (k ≤ deck .placements) × (m ≡ length (bondsBefore (graphAt d (deckOf deck)) (joinAt d (deckOf deck)) k)) × (2 * m ≤ mostBrought * k)
 
 abbrev μ-loop : tie.MeasureT-loop
 μ-loop d deck m₀ k₀ m k = deck .placements - k
@@ -31,8 +31,8 @@ bonds-part-requires c κs = search needs
 joins-of-requires : tie.Need-joins-of-requires Inv-loop μ-loop
 joins-of-requires c κs = search needs
 
--- a block has at most 192 bonds
-few : (c : tie.After-bonds-part Inv-loop μ-loop) → length (now (c .bonds-part .result)) ≤ 384
+-- a block has few bonds
+few : (c : tie.After-bonds-part Inv-loop μ-loop) → length (now (c .bonds-part .result)) ≤ mostBytes
 few c =
     let l = c .before .before .before .before .loop in
     let s = c .before .before .before .before .before .before in

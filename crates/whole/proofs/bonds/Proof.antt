@@ -1,6 +1,6 @@
 -- `whole::bonds` meets its contract: the deck's refusals, then 9, else the bonds placement by placement.
-use Prim.Native.Nat.{ℕ, _*_, _≤_, _<_}
-use mathlib.Core.Path.{_≡_, refl, sym, _∙_, ap, ap₂}
+use Prim.Native.Nat.{ℕ}
+use mathlib.Core.Path.{_≡_, sym, _∙_, ap, ap₂}
 use native.Mathlib.Omega.{arith}
 use borrow.Author.Needs.{needs}
 use denote.Ref.{now}
@@ -8,17 +8,15 @@ use mathlib.Core.List.{List}
 use lib.ListN.{length}
 use lib.Seq.{sets}
 use Rattle.graph.specs.Graph.{Bond, Graph}
-use Rattle.reply.specs.Read.{Read, refused, read, refusal}
+use Rattle.reply.specs.Read.{Read, read}
 use Rattle.deck.specs.Deck.{deckReply}
-use Rattle.deck.specs.Molecule.{moleculeOf}
 use Rattle.deck.specs.Sound.{whole}
 use Rattle.deck.specs.declared.Form.the-variants.{Composed}
 use Rattle.deck.proofs.Parts.{deck-stopped}
 use Rattle.climb.specs.Pairs.{deckOf}
 use Rattle.climb.proofs.Reading.{deck-read}
-use Rattle.whole.specs.Whole.{pairNumbers, wholeReply, numbersAfter}
+use Rattle.whole.specs.Whole.{pairNumbers, numbersAfter}
 use Rattle.whole.specs.Said.{saidMolecule}
-use Rattle.whole.specs.declared.Counts.{Counts}
 use Rattle.whole.specs.declared.MoleculeReply.the-variants as told
 use Rattle.whole.specs.Replies.{whole-refused, molecule-bonds, molecule-atoms, whole-short, whole-read}
 use Rattle.whole.proofs.bonds.Statement.{statement}
@@ -50,11 +48,14 @@ returns c =
     let h = whole-short (now (a .d)) (length (a .out .now)) _ (fine (c .before .before .before)) (omega (arith, c .if1 .taken, c .before .bond-count .ensures .0)) in
     (sym (ap saidMolecule h), sym (ap (λ (x : Read Graph). numbersAfter x (a .out .now)) h))
 
+cast-start-of : tie.Need-cast-start-of
+cast-start-of c = omega (arith, whole Composed _ _ (fine (c .before .before .before .before)) .count .high)
+
 start-of-requires : tie.Need-start-of-requires
-start-of-requires c κs = omega (arith, whole Composed _ _ (fine (c .before .before .before)) .count .high)
+start-of-requires c κs = search needs
 
 put-all-requires : tie.Need-put-all-requires
-put-all-requires c κs = whole Composed _ _ (fine (c .before .before .before .before .before))
+put-all-requires c κs = whole Composed _ _ (fine (c .before .before .before .before .before .before))
 
 returns-2 : tie.Need-returns-2
 unfolding numbersAfter
@@ -70,11 +71,11 @@ same-length c = search needs
 returns-3 : tie.Need-returns-3
 unfolding numbersAfter
 returns-3 c =
-    let f = c .before .before .before .before .before .before .before .before in
+    let f = c .before .before .before .before .before .before .before .before .before in
     let a = f .before .before .before .before .before .args in
-    let b = c .before .before .before .before .before .before .bond-count in
+    let b = c .before .before .before .before .before .before .before .bond-count in
     let e = fine f in
-    let h = whole-read (now (a .d)) (length (a .out .now)) _ e (omega (arith, c .before .before .before .before .before .if1 .left, b .ensures .0)) in
+    let h = whole-read (now (a .d)) (length (a .out .now)) _ e (omega (arith, c .before .before .before .before .before .before .if1 .left, b .ensures .0)) in
     let x = molecule-bonds (now (a .d)) (length (a .out .now)) _ e in
     let y = molecule-atoms (now (a .d)) (length (a .out .now)) _ e in (
       ap₂ (λ (n m : ℕ). told.Of (record { atoms = n; bonds = m })) (c .before .before .before .before .start-of .ensures .0 ∙ sym y) (b .ensures .0 ∙ sym (ap length x)) ∙ sym (ap saidMolecule h),
@@ -91,6 +92,7 @@ bonds-spec =
     bond-count-requires
     mul-if1
     returns
+    cast-start-of
     start-of-requires
     put-all-requires
     returns-2

@@ -1,7 +1,6 @@
 -- `whole::put_all` meets its contract. The loop's invariant: what the placements before k bring is put, and `at` is the place past it.
-use Prim.Native.Nat.{ℕ, _+_, _*_, _-_, _≤_, _<_}
-use mathlib.Core.Path.{_≡_, refl, sym, _∙_, ap}
-use mathlib.Core.List.{List}
+use Prim.Native.Nat.{ℕ, _*_, _-_, _≤_}
+use mathlib.Core.Path.{_≡_, refl, _∙_, ap}
 use native.Mathlib.Omega.{arith}
 use borrow.Author.Needs.{needs}
 use denote.Ref.{now}
@@ -10,7 +9,7 @@ use lib.Seq.{sets, length-sets}
 use Rattle.deck.specs.Molecule.{graphAt, joinAt}
 use Rattle.climb.specs.Pairs.{deckOf}
 use Rattle.whole.specs.Whole.{pairNumbers}
-use Rattle.whole.specs.Work.{brought, bondsBefore}
+use Rattle.whole.specs.Work.{mostBrought, brought, bondsBefore}
 use Rattle.whole.specs.Joins.{before-none, before-length, before-numbers}
 use Rattle.whole.proofs.put_all.Statement.{statement}
 use Rattle.whole.proofs.put_all.Tie as tie
@@ -19,7 +18,7 @@ abbrev Inv-loop : tie.InvT-loop
 Inv-loop d deck out₀ at₀ k₀ out at k =
     (k ≤ deck .placements)
     × (at ≡ 2 * length (bondsBefore (graphAt d (deckOf deck)) (joinAt d (deckOf deck)) k))
-    × (at ≤ 400 * k)
+    × (at ≤ mostBrought * k)
     × (length out ≡ length out₀)
     × (out ≡ sets out₀ 0 (pairNumbers (bondsBefore (graphAt d (deckOf deck)) (joinAt d (deckOf deck)) k)))
 

@@ -1,7 +1,7 @@
 -- `whole::put_bond` meets its contract.
 use Prim.Native.Nat.{ℕ, _+_}
 use native.Mathlib.Numerals.{add-one}
-use mathlib.Core.Path.{_≡_, sym, _∙_, ap}
+use mathlib.Core.Path.{_∙_, ap}
 use mathlib.Core.List.{List}
 use lib.ListN.{set}
 use borrow.Author.Needs.{needs}

@@ -1,18 +1,14 @@
 -- `whole::put_join` meets its contract: the first placement brings no bond, a later one the bond to its parent.
-use Prim.Native.Nat.{ℕ, _+_, _*_, _-_, _≤_, _<_}
-use mathlib.Core.Path.{_≡_, refl, sym, _∙_, ap, ap₂}
-use mathlib.Core.List.{List, [], _∷_}
+use Prim.Native.Nat.{ℕ, _+_, _-_}
+use mathlib.Core.Path.{_≡_, refl, _∙_, ap₂}
+use mathlib.Core.List.{[], _∷_}
 use native.Mathlib.Omega.{arith}
 use borrow.Author.Needs.{needs}
 use denote.Ref.{now}
-use lib.ListN.{length}
 use lib.Seq.{sets}
-use Rattle.graph.specs.Graph.{Bond, Within}
-use Rattle.graph.specs.Assembly.{startAt}
-use Rattle.deck.specs.Molecule.{graphAt, joinAt}
+use Rattle.graph.specs.Graph.{Within}
 use Rattle.climb.specs.Pairs.{deckOf}
 use Rattle.whole.specs.Whole.{pairNumbers}
-use Rattle.whole.specs.Work.{joining}
 use Rattle.whole.specs.Joins.{start-few, parent-earlier, joining-is, joining-none}
 use Rattle.whole.proofs.put_join.Statement.{statement}
 use Rattle.whole.proofs.put_join.Tie as tie
@@ -27,9 +23,6 @@ returns c =
 placement-requires : tie.Need-placement-requires
 placement-requires c κs = search needs
 
-cast-start-of : tie.Need-cast-start-of
-cast-start-of c = search needs
-
 -- its parent is an earlier placement
 earlier : (c : tie.After-placement) → let a = c .before .before .before .before .args in Within (a .k) (c .placement .result .parent)
 earlier c =
@@ -37,10 +30,13 @@ earlier c =
     parent-earlier (s .pre .0) (s .args .k) (omega (arith, c .before .if1 .left)) (s .pre .1) (c .placement .result) (c .placement .ensures)
 
 sub-start-of : tie.Need-sub-start-of
-sub-start-of c = omega (arith, earlier (c .before) .low)
+sub-start-of c = omega (arith, earlier c .low)
 
 start-of-requires : tie.Need-start-of-requires
 start-of-requires c κs = search needs
+
+cast-start-of : tie.Need-cast-start-of
+cast-start-of c = let s = c .before .before .before .before .before in omega (arith, s .pre .1, s .pre .0 .count .high)
 
 start-of-requires-2 : tie.Need-start-of-requires-2
 start-of-requires-2 c κs = search needs
@@ -60,7 +56,7 @@ add-put-bond-2 c = search needs
 put-bond-requires : tie.Need-put-bond-requires
 put-bond-requires c κs =
     let t = c .before .before .before in
-    let p = t .before .before .before in
+    let p = t .before .before in
     let s = p .before .before .before .before in
     let e = earlier p in
     let x = start-few (s .pre .0) (p .placement .result .parent - 1) (omega (arith, e .high, s .pre .1)) in
@@ -78,7 +74,7 @@ returns-2 : tie.Need-returns-2
 unfolding pairNumbers
 returns-2 c =
     let t = c .before .before .before .before .before .before in
-    let p = t .before .before .before in
+    let p = t .before .before in
     let s = p .before .before .before .before in
     let a = s .args in
     let j = joining-is (s .pre .0) (a .k) (omega (arith, p .before .if1 .left)) (s .pre .1) (p .placement .result) (p .placement .ensures) in
@@ -92,9 +88,9 @@ put-join-spec =
     (tie.spec
     returns
     placement-requires
-    cast-start-of
     sub-start-of
     start-of-requires
+    cast-start-of
     start-of-requires-2
     wide-requires
     add-put-bond

@@ -1,18 +1,15 @@
 -- `whole::put_placed` meets its contract: the block's bonds, and behind them its join.
-use Prim.Native.Nat.{ℕ, _+_, _*_, _/_, _≤_, _<_}
-use mathlib.Core.Path.{_≡_, refl, sym, _∙_, ap, ap₂}
-use mathlib.Core.List.{List}
+use Prim.Native.Nat.{ℕ}
+use mathlib.Core.Path.{sym, _∙_, ap}
 use native.Mathlib.Omega.{arith}
 use borrow.Author.Needs.{needs}
 use denote.Ref.{now}
 use lib.ListN.{length}
 use lib.Seq.{sets}
-use Rattle.graph.specs.Assembly.{startAt}
 use Rattle.block.specs.Block.{bondsOf}
-use Rattle.assembly.specs.Book.{bondBytes}
 use Rattle.deck.specs.Molecule.{graphAt, joinAt}
 use Rattle.climb.specs.Pairs.{deckOf}
-use Rattle.whole.specs.Work.{blockNumbers, joining, brought}
+use Rattle.whole.specs.Work.{blockNumbers}
 use Rattle.whole.specs.Joins.{start-few, bonds-few, bonds-are, brought-numbers, brought-length, joining-few}
 use Rattle.whole.proofs.put_placed.Statement.{statement}
 use Rattle.whole.proofs.put_placed.Tie as tie
@@ -22,6 +19,9 @@ block-at-requires c κs = search needs
 
 bonds-part-requires : tie.Need-bonds-part-requires
 bonds-part-requires c κs = search needs
+
+cast-start-of : tie.Need-cast-start-of
+cast-start-of c = let s = c .before .before .before .before in omega (arith, s .pre .1, s .pre .0 .count .high)
 
 start-of-requires : tie.Need-start-of-requires
 start-of-requires c κs = search needs
@@ -78,6 +78,7 @@ put-placed-spec =
     (tie.spec
     block-at-requires
     bonds-part-requires
+    cast-start-of
     start-of-requires
     put-block-requires
     mul-next

@@ -1,6 +1,6 @@
 -- `whole::start_of` meets its contract. The loop's invariant: the atoms of the placements before i are added up.
-use Prim.Native.Nat.{ℕ, _+_, _*_, _-_, _≤_}
-use mathlib.Core.Path.{_≡_, refl, sym, _∙_, ap, ap₂}
+use Prim.Native.Nat.{_+_, _*_, _-_, _≤_}
+use mathlib.Core.Path.{_≡_, sym, _∙_, ap, ap₂}
 use native.Mathlib.Omega.{arith}
 use borrow.Author.Needs.{needs}
 use denote.Ref.{now}
@@ -13,10 +13,10 @@ use Rattle.whole.proofs.start_of.Statement.{statement}
 use Rattle.whole.proofs.start_of.Tie as tie
 
 abbrev Inv-loop : tie.InvT-loop
-Inv-loop d deck k start₀ i₀ start i = (i ≤ k) × (start ≡ startAt (graphAt d (deckOf deck)) i) × (start ≤ 65535 * i)
+Inv-loop d deck k end start₀ i₀ start i = (i ≤ k) × (start ≡ startAt (graphAt d (deckOf deck)) i) × (start ≤ 65535 * i)
 
 abbrev μ-loop : tie.MeasureT-loop
-μ-loop d deck k start₀ i₀ start i = k - i
+μ-loop d deck k end start₀ i₀ start i = k - i
 
 loop-holds : tie.Need-loop-holds Inv-loop μ-loop
 loop-holds c = let a = c .before .args in (omega arith, sym (start-none (graphAt (now (a .d)) (deckOf (a .deck)))), omega arith)

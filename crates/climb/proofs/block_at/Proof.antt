@@ -1,15 +1,12 @@
--- `climb::block_of` meets its contract: the block whose number the placement has.
+-- `climb::block_at` meets its contract: the block whose number the placement has.
 use mathlib.Core.Path.{_∙_, ap}
 use borrow.Author.Needs.{needs}
 use Rattle.assembly.specs.Book.{find}
 use Rattle.assembly.specs.declared.Placement.{Placement}
 use Rattle.deck.specs.Molecule.{placedIn}
 use Rattle.climb.specs.Pairs.{deckOf}
-use Rattle.climb.proofs.block_of.Statement.{statement}
-use Rattle.climb.proofs.block_of.Tie as tie
-
-sub-placement : tie.Need-sub-placement
-sub-placement c = search needs
+use Rattle.climb.proofs.block_at.Statement.{statement}
+use Rattle.climb.proofs.block_at.Tie as tie
 
 placement-requires : tie.Need-placement-requires
 placement-requires c κs = search needs
@@ -26,7 +23,5 @@ returns c =
     let a = c .before .before .before .before .before .args in
     c .find-block .ensures ∙ ap (λ (q : Placement). find (deckOf (a .deck) .blocks) (q .block)) (c .before .before .before .placement .ensures)
 
-pub block-of-spec : {M : Type 1} → statement M
-block-of-spec =
-    tie.close
-    (tie.spec sub-placement placement-requires cast-find-block find-block-requires returns)
+pub block-at-spec : {M : Type 1} → statement M
+block-at-spec = tie.close (tie.spec placement-requires cast-find-block find-block-requires returns)

@@ -1,0 +1,46 @@
+-- `matched::partner` meets its contract. Assumes nothing.
+use mathlib.Core.Path.{sym, _∙_}
+use native.Mathlib.Omega.{arith}
+use borrow.Author.Needs.{needs}
+use denote.Ref.{now}
+use lib.ListN.{length}
+use Rattle.block.specs.Faults.{inside}
+use Rattle.matched.specs.Laws.{partner-none, partner-some}
+use Rattle.matched.proofs.partner.Statement.{statement}
+use Rattle.matched.proofs.partner.Tie as tie
+
+is-outside-requires : tie.Need-is-outside-requires
+is-outside-requires c κs = search needs
+
+returns : tie.Need-returns
+returns c = let a = c .before .before .before .args in partner-none (now (a .to)) (a .v) (sym (c .before .is-outside .ensures) ∙ c .if1 .taken)
+
+sub-wide : tie.Need-sub-wide
+sub-wide c = let a = c .before .before .before .args in omega (arith, inside (length (now (a .to))) (a .v) (sym (c .before .is-outside .ensures) ∙ c .if1 .left))
+
+mul-wide : tie.Need-mul-wide
+mul-wide c = let a = c .before .before .before .args in omega (arith, inside (length (now (a .to))) (a .v) (sym (c .before .is-outside .ensures) ∙ c .if1 .left))
+
+shared-slice-read-wide : tie.Need-shared-slice-read-wide
+shared-slice-read-wide c = let a = c .before .before .before .before .args in omega (arith, inside (length (now (a .to))) (a .v) (sym (c .before .before .is-outside .ensures) ∙ c .before .if1 .left))
+
+wide-requires : tie.Need-wide-requires
+wide-requires c κs = search needs
+
+returns-2 : tie.Need-returns-2
+returns-2 c =
+    let a = c .before .before .before .before .before .args in
+    let w = inside (length (now (a .to))) (a .v) (sym (c .before .before .before .is-outside .ensures) ∙ c .before .before .if1 .left) in
+    partner-some (now (a .to)) (a .v) (c .wide .result) (w .low) (c .wide .ensures .0)
+
+pub partner-spec : {M : Type 1} → statement M
+partner-spec =
+    tie.close
+    (tie.spec
+    is-outside-requires
+    returns
+    sub-wide
+    mul-wide
+    shared-slice-read-wide
+    wide-requires
+    returns-2)

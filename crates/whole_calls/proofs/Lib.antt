@@ -1,0 +1,2 @@
+-- Each case of the replies about a molecule written out.
+pub mod Replies
