@@ -117,7 +117,7 @@ class Readme(unittest.TestCase):
         """Every page and file that a page leads to is there."""
         for page in PAGES:
             for path in re.findall(r"\]\(([^)#:]+)\)|(?<![\w/.])((?:docs|tests|compare|packages|examples|crates|include|made|rust|python)/[\w./-]*\w)", page):
-                path = (path[0] or path[1]).rstrip("/")
+                path = (path[0] or path[1]).rstrip("/").replace("NAME", "szeged")
                 if not path.startswith(("python/lib", "target")):
                     self.assertTrue(os.path.exists(os.path.join(ROOT, path)), path)
 
