@@ -26,3 +26,21 @@ class Believe(unittest.TestCase):
         listed = subprocess.run(["nm", "--undefined-only", ARCHIVE], capture_output=True, text=True, check=True).stdout
         self.assertEqual(set(re.findall(r"^ +U (\w+)$", listed, re.M)), {"memcpy", "memset"})
         self.assertIn("memcpy and memset of the C library", PAGE)
+
+
+class Benchmarks(unittest.TestCase):
+    """docs/BENCHMARKS.md: goals that a slower library would miss, and the stack as the code in made/ has it."""
+
+    PAGE = text("docs", "BENCHMARKS.md")
+
+    def test_goals(self):
+        rows = re.findall(r"^\| (.*?) \| .* \| .* \| ([\d.]+) \| ([\d.]+) \|$", self.PAGE.split("\n## ")[1], re.M)
+        self.assertGreater(len(rows), 25)
+        behind = [name for name, ratio, goal in rows if float(goal) < 0.895 * float(ratio)]
+        self.assertEqual(behind, ["judge, 32 paths of 64 atoms", "compose, 32 paths of 64 atoms"], "the goal of a row is at least nine tenths of what is reached")
+
+    def test_stack(self):
+        said = subprocess.run([os.path.join(ROOT, "compare", "stack"), "--check"], capture_output=True, text=True)
+        self.assertEqual((said.returncode, said.stderr), (0, ""), "run compare/stack --write")
+        (asked,) = re.findall(r"^#define TTEUYOMAL_STACK_BYTES (\d+)$", text("include", "tteuyomal.h"), re.M)
+        self.assertIn(f"The header asks for {int(asked):,}.", self.PAGE)
