@@ -37,7 +37,8 @@ class Benchmarks(unittest.TestCase):
         rows = re.findall(r"^\| (.*?) \| .* \| .* \| ([\d.]+) \| ([\d.]+) \|$", self.PAGE.split("\n## ")[1], re.M)
         self.assertGreater(len(rows), 25)
         behind = [name for name, ratio, goal in rows if float(goal) < 0.895 * float(ratio)]
-        self.assertEqual(behind, ["judge, 32 paths of 64 atoms", "compose, 32 paths of 64 atoms"], "the goal of a row is at least nine tenths of what is reached")
+        older = {"judge, 32 paths of 64 atoms", "compose, 32 paths of 64 atoms"} if "are of version 3.0.0" in self.PAGE else set()
+        self.assertLessEqual(set(behind), older, "the goal of a row is at least nine tenths of what is reached")
 
     def test_stack(self):
         said = subprocess.run([os.path.join(ROOT, "compare", "stack"), "--check"], capture_output=True, text=True)
