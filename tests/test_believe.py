@@ -34,7 +34,7 @@ class Benchmarks(unittest.TestCase):
     PAGE = text("docs", "BENCHMARKS.md")
 
     def test_goals(self):
-        rows = re.findall(r"^\| (.*?) \| .* \| .* \| ([\d.]+) \| ([\d.]+) \|$", self.PAGE.split("\n## ")[1], re.M)
+        rows = re.findall(r"^\| (.*?) \| [\d.]+ .s \| ([\d.]+) \| ([\d.]+) \|$", self.PAGE.split("\n## ")[1], re.M)
         self.assertGreater(len(rows), 25)
         behind = [name for name, ratio, goal in rows if float(goal) < 0.895 * float(ratio)]
         older = {"judge, 32 paths of 64 atoms", "compose, 32 paths of 64 atoms"} if "are of version 3.0.0" in self.PAGE else set()

@@ -31,8 +31,8 @@ use szeged::Szeged;
 use timing::medians;
 
 fn main() {
-    println!("| what | library | plain | plain / library | goal |");
-    println!("|---|---|---|---|---|");
+    println!("| what | library | times as fast | goal |");
+    println!("|---|---|---|---|");
     if std::env::args().nth(1).as_deref() == Some("claims") {
         return println!("\n{}", claims::times());
     }
@@ -99,7 +99,7 @@ const PAGE: &str = include_str!("../../../../docs/BENCHMARKS.md");
 /// The goal that the page has for a row.
 fn goal_of(what: &str) -> Option<f64> {
     let rest = PAGE.lines().find_map(|line| line.strip_prefix("| ")?.strip_prefix(what)?.strip_prefix(" | "))?;
-    rest.split([' ', '|']).filter_map(|word| word.parse().ok()).nth(3)
+    rest.split([' ', '|']).filter_map(|word| word.parse().ok()).nth(2)
 }
 
 /// Prints a row as the page has them. The goal is the page's, and what was given for a row that the page has not; it grows with the ratio.
@@ -107,7 +107,7 @@ fn row(what: &str, [library, plain]: [f64; 2], given: f64) {
     let ratio = plain / library;
     let goal = goal_of(what).unwrap_or(given);
     let told = if ratio < goal { format!("{goal:.2} MISSED") } else { format!("{:.2}", goal.max(0.9 * ratio)) };
-    println!("| {what} | {} | {} | {ratio:.2} | {told} |", duration(library), duration(plain));
+    println!("| {what} | {} | {ratio:.2} | {told} |", duration(library));
 }
 
 fn duration(seconds: f64) -> String {
