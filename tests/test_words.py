@@ -67,7 +67,7 @@ class Words(unittest.TestCase):
 
     def test_order(self):
         """Each number has its turn in some function's order."""
-        table = RULES[RULES.index("| function | order |") :].split("\n\n")[0]
+        table = RULES[RULES.index("- a block: 1, 2;") :].split("\n\n")[0]
         turns = {int(n) for n in re.findall(r"\b\d+\b", re.sub(r"\(.*?\)", "", table))}
         self.assertEqual(set(rules_words()) - turns, set())
         self.assertLessEqual(turns, set(rules_words()))
