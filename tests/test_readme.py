@@ -6,12 +6,13 @@ import os
 import re
 import shlex
 import shutil
+import struct
 import subprocess
 import tempfile
 import unittest
 import warnings
 
-from common import FORTY, LIBRARY, RIGHT, RIGHT_SIX, ROOT, text
+from common import FORTY, LIBRARY, RIGHT, RIGHT_SIX, RING, ROOT, text
 
 from tteuyomal import Block, Refused, command, commands, decktext
 
@@ -133,8 +134,10 @@ class Pages(Readme):
 
     def test_bytes(self):
         spelled = re.findall(SPELLED, RULES, re.M)
-        self.assertEqual(bytes.fromhex("".join(spelled)), FORTY + RIGHT + RIGHT_SIX[:4] + RIGHT_SIX[40:])
-        self.assertEqual(bytes.fromhex("".join(re.findall(SPELLED, LIBRARIES, re.M))), LIBRARY)
+        self.assertEqual(bytes.fromhex("".join(spelled)), FORTY + RIGHT[:4] + RIGHT_SIX[:4])
+        self.assertEqual(struct.unpack("<IQQQQ", RIGHT[4:]), tuple(map(int, re.search(r"kind 3: then (.*)", RULES)[1].split(", "))))
+        record = bytes.fromhex("".join(re.findall(SPELLED, LIBRARIES, re.M)))
+        self.assertEqual(LIBRARY, Block(6, RING).record(1) + Block(1, []).record(2) + record)
 
     def test_examples(self):
         """The files of examples/desk are what the pages say of them."""
