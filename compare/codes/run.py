@@ -86,21 +86,26 @@ def counted(found):
     return counts
 
 
+def all_right(said):
+    """The questions of which no field differs or is not read."""
+    return {(code, asked) for code, asked, (found, _, _) in said if not any(counts["differs"] or counts["not read"] for counts in counted(found).values())}
+
+
 def table_of(said):
-    """A row for each question: the verdicts of its fields, those with the same ones together, and the smallest molecule that is not accepted."""
+    """The questions of which all is accepted; and a row for each other: the verdicts of its fields, those with the same ones together, and the smallest
+    molecule that is not accepted."""
+    right = all_right(said)
+    yield "Accepted throughout: " + "; ".join(f"{code} {asked} ({', '.join(counted(found))})" for code, asked, (found, _, _) in said if (code, asked) in right) + ".\n\n"
     yield "| code | asked | accepted / differs / not read | the smallest that is not accepted |\n|---|---|---|---|\n"
     for code, asked, (found, told, _) in said:
+        if (code, asked) in right:
+            continue
         alike = {}
         for field, counts in counted(found).items():
             alike.setdefault((counts["accepted"], counts["differs"], counts["not read"], counts["no claim"]), []).append(field)
         cells = [f"{', '.join(fields)} {yes} / {no} / {unread}" + f", {none} not printed" * (none > 0) for (yes, no, unread, none), fields in alike.items()]
         shown = [words.strip() for words in told if (" differs: " in words or " not read: " in words) and words.startswith("  ")]
-        yield f"| {code} | {asked} | {'; '.join(cells)} | {shown[0] if shown else ''} |\n"
-
-
-def all_right(said):
-    """The questions of which no field differs or is not read."""
-    return {(code, asked) for code, asked, (found, _, _) in said if not any(counts["differs"] or counts["not read"] for counts in counted(found).values())}
+        yield f"| {code} | {asked} | {'; '.join(cells)} | {shown[0]} |\n"
 
 
 def of_made(said, titles, right):
