@@ -8,7 +8,7 @@ import unittest
 from common import ROOT, text
 
 PAGE = text("docs", "ARCHITECTURE.md")
-SKIPPED = ("crates/szeged/", "made/", "wip/")  # the index's own crate; what is made; what is no part of the project yet
+SKIPPED = ("made/", "wip/")  # what is made; what is no part of the project yet
 
 
 def files():
@@ -23,16 +23,17 @@ class Architecture(unittest.TestCase):
     def test_recipe_of_an_index(self):
         recipe = PAGE[PAGE.index("**An index of a block.**") : PAGE.index("**A refusal.**")]
         said = [path for row in re.findall(r"^\| .* \|$", recipe, re.M) for path in re.findall(r"`([\w./-]+)`", row)]
-        named = [path.replace("NAME", "szeged") for path in said if "/" in path or "." in path or path == "Makefile"]
-        self.assertGreater(len(named), 40)
-        for path in named:
-            self.assertTrue(os.path.exists(os.path.join(ROOT, path)), path)
-        for name in files():
-            if name.startswith(SKIPPED) or not os.path.isfile(os.path.join(ROOT, name)):
-                continue
-            with open(os.path.join(ROOT, name), encoding="utf-8", errors="replace") as file:
-                if "szeged" in file.read().lower():
-                    self.assertTrue(any(name == path or path.endswith("/") and name.startswith(path) for path in named), f"the recipe does not name {name}")
+        for index in ("szeged", "balaban"):
+            named = [path.replace("NAME", index) for path in said if "/" in path or "." in path or path == "Makefile"]
+            self.assertGreater(len(named), 40)
+            for path in named:
+                self.assertTrue(os.path.exists(os.path.join(ROOT, path)), path)
+            for name in files():
+                if name.startswith(SKIPPED) or not os.path.isfile(os.path.join(ROOT, name)):
+                    continue
+                with open(os.path.join(ROOT, name), encoding="utf-8", errors="replace") as file:
+                    if index in file.read().lower():
+                        self.assertTrue(any(name == path or path.endswith("/") and name.startswith(path) for path in named), f"the recipe does not name {name}")
 
     def test_files_and_names(self):
         """A file that is named as CRATE/specs/NAME is there; so is a theorem or a function that is named."""
