@@ -35,11 +35,12 @@ def indented(first, page=README):
     return "\n".join(line[4:] for line in lines[:end]) + "\n"
 
 
-class Readme(unittest.TestCase):
+class Shown(unittest.TestCase):
+    """In a folder that has the files of examples/desk."""
+
     maxDiff = None
 
     def setUp(self):
-        """A folder that has the files of examples/desk."""
         self.addCleanup(os.chdir, os.getcwd())
         room = tempfile.TemporaryDirectory()
         self.addCleanup(room.cleanup)
@@ -72,6 +73,8 @@ class Readme(unittest.TestCase):
         self.assertEqual(wanted, printed)
         return ran
 
+
+class Readme(Shown):
     def test_demonstration(self):
         self.assertEqual(self.shown(README), [("deck", 0), ("judge", 0), ("deck", 0), ("judge", 1), ("check", 1)])
 
@@ -80,8 +83,9 @@ class Readme(unittest.TestCase):
         demonstration, python = indented("$ cd").splitlines(), indented("from tteuyomal import").splitlines()
         lines = [line.partition("#")[0].strip() for line in re.findall(r"^    (.*)$", README, re.M) if line not in (*demonstration, *python)]
         self.assertEqual(lines, [line for line in ELSEWHERE if not line.startswith("gcc")])
-        self.assertEqual([line.strip() for line in python if line.startswith("gcc")], [line for line in ELSEWHERE if line.startswith("gcc")])
-        self.assertIn(python[-1], text("examples", "c", "judge.c"))
+        (built,) = [line for line in python if line.startswith("gcc")]
+        self.assertIn(built, ELSEWHERE)
+        self.assertIn(f" *     {built}\n", text("examples", "c", "judge.c"))
         for target in re.findall(r"`make (\w+)`", README):
             self.assertRegex(text("Makefile"), rf"(?m)^{target}\b.*:|^(\w+ )*{target}( \w+)*:")
 
@@ -126,11 +130,8 @@ class Readme(unittest.TestCase):
         self.assertLessEqual(README.count("\n"), 90)
 
 
-class Pages(Readme):
+class Pages(Shown):
     """The other pages."""
-
-    for name in [name for name in dir(Readme) if name.startswith("test_")]:
-        locals()[name] = None
 
     def test_bytes(self):
         spelled = re.findall(SPELLED, RULES, re.M)
