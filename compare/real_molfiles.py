@@ -8,7 +8,7 @@ A file that the library reads must have the atoms, the bonds and W that RDKit's 
 bond, to an atom that isn't H, is left out. RDKit calls a D and a T of a file an H with an isotope; by docs/RULES.md the
 symbol in the file decides, so it is looked up there. A refusal is held against the rules by what RDKit sees: 1 is a
 molecule of 0 or more than 64 atoms, or a V3000 file, whose V2000 part says 0; 6 an atom of too many bonds, 7 one in parts.
-The last lines are the table of docs/BENCHMARKS.md.
+The last lines are the figures of docs/BENCHMARKS.md.
 """
 
 import collections

@@ -316,12 +316,12 @@ class Checking(Room):
 
 class Readme(Room):
     def test_line(self):
-        """README's line, in examples/desk."""
-        line = next(line for line in text("README.md").splitlines() if line.startswith("    tteuyomal check molecules.sdf printed.csv"))
+        """The line of docs/COMMAND.md, in examples/desk."""
+        line = next(line for line in text("docs", "COMMAND.md").splitlines() if line.startswith("    tteuyomal check molecules.sdf printed.csv"))
         here, notice = os.getcwd(), os.path.join(self.room, "notice.txt")
         self.addCleanup(os.chdir, here)
         os.chdir(os.path.join(ROOT, "examples", "desk"))
-        status, said = self.run_command(*shlex.split(line)[1:-1], notice)
+        status, said = self.run_command(*shlex.split(line.replace("--board board.html ", ""))[1:-1], notice)
         self.assertEqual((status, said.count("accepted W polarity\n"), said.count("\n")), (0, 4, 4))
         self.assertIn("Program: CDK 2.8\n", self.read(notice).decode())
 

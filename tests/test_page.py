@@ -77,7 +77,7 @@ class Options(unittest.TestCase):
         there = {option for one in names.values() for action in one._actions for option in action.option_strings}
         for option in re.findall(r"(?<![\w-])--?[a-z]+\b(?![^`\n]*ssh)", re.sub(r".*(ssh-keygen|sha256sum).*", "", PAGE)):
             self.assertIn(option, there)
-        called = set(re.findall(r"`?tteuyomal ([a-z]+)", PAGE))
+        called = set(re.findall(r"(?<!from )tteuyomal ([a-z]+)", PAGE))
         self.assertLessEqual(called - {"notice"}, set(names))
         self.assertEqual(set(names), {one.NAME for one in commands.ALL})
 

@@ -86,36 +86,39 @@ def counted(found):
     return counts
 
 
+def all_right(said):
+    """The questions of which no field differs or is not read."""
+    return {(code, asked) for code, asked, (found, _, _) in said if not any(counts["differs"] or counts["not read"] for counts in counted(found).values())}
+
+
 def table_of(said):
-    """Codes by fields."""
-    columns = (*printing.FIELDS, "J")
-    yield "| code | asked | " + " | ".join(columns) + " |\n|" + "---|" * (len(columns) + 2) + "\n"
-    for code, asked, (found, _, _) in said:
-        counts = counted(found)
-        cells = [" / ".join(str(counts[field][verdict]) for verdict in VERDICTS) if field in counts else "" for field in columns]
-        yield f"| {code} | {asked} | {' | '.join(cells)} |\n"
-
-
-def smallest(said):
-    """For each code the line, the smallest that differs or is not read, and the likeliest guesses."""
-    for code, asked, (_, told, line) in said:
-        yield f"\n**{code}: {asked}**\n\n    {line}\n\n"
+    """The questions of which all is accepted; and a row for each other: the verdicts of its fields, those with the same ones together, and the smallest
+    molecule that is not accepted."""
+    right = all_right(said)
+    yield "Accepted throughout: " + "; ".join(f"{code} {asked} ({', '.join(counted(found))})" for code, asked, (found, _, _) in said if (code, asked) in right) + ".\n\n"
+    yield "| code | asked | accepted / differs / not read | the smallest that is not accepted |\n|---|---|---|---|\n"
+    for code, asked, (found, told, _) in said:
+        if (code, asked) in right:
+            continue
+        alike = {}
+        for field, counts in counted(found).items():
+            alike.setdefault((counts["accepted"], counts["differs"], counts["not read"], counts["no claim"]), []).append(field)
+        cells = [f"{', '.join(fields)} {yes} / {no} / {unread}" + f", {none} not printed" * (none > 0) for (yes, no, unread, none), fields in alike.items()]
         shown = [words.strip() for words in told if (" differs: " in words or " not read: " in words) and words.startswith("  ")]
-        guessed = told[next((at for at, words in enumerate(told) if words.startswith("guesses")), len(told)) + 1 :]
-        guessed = [words.strip() for words in guessed if not words.strip().startswith("in parts")]
-        yield from ([f"- {words}\n" for words in shown] or ["- nothing differs\n"])
-        yield from (f"- a guess: {words}\n" for words in guessed[:3])
+        yield f"| {code} | {asked} | {'; '.join(cells)} | {shown[0]} |\n"
 
 
-def of_made(said, titles):
-    """What codes print of the made molecules that is not accepted."""
-    yield "| molecule | code | asked | printed | right |\n|---|---|---|---|---|\n"
+def of_made(said, titles, right):
+    """What codes print of the made molecules that is not accepted, where they were right on all real ones: of each question the first field that is wrong."""
+    wrong = {}
     for code, asked, (found, _, _) in said:
-        for one in found:
-            wrong = [field for field, verdict in one["fields"].items() if verdict in ("differs", "not read")]
-            if wrong:
-                claimed, right = (", ".join(f"{field} {one[key][field]}" for field in wrong) for key in ("claimed", "worked_out"))
-                yield f"| {titles[one['record'] - 1]} | {code} | {asked} | {claimed} | {right} |\n"
+        for one in found if (code, asked) in right else ():
+            for field in [field for field, verdict in one["fields"].items() if verdict in ("differs", "not read")][:1]:
+                wrong.setdefault(titles[one["record"] - 1], {}).setdefault((field, one["worked_out"][field]), []).append(f"{code} {asked} {one['claimed'][field]}")
+    yield "| molecule | right | printed |\n|---|---|---|\n"
+    for title, fields in wrong.items():
+        for (field, worked_out), those in fields.items():
+            yield f"| {title} | {field} {worked_out} | {'; '.join(those)} |\n"
 
 
 def main(words):
@@ -135,7 +138,7 @@ def main(words):
         text = file.read().replace("{files}", ", ".join(parts)).replace("{versions}", versions).replace("{records}", str(len(real[0][2][0])))
     refused = collections.Counter((one["refusal"]["number"], one["refusal"]["words"]) for one in real[0][2][0] if "refusal" in one)
     text = text.replace("{refused}", "; ".join(f"{count} by {number}, {words}" for (number, words), count in sorted(refused.items())))
-    tables = {"table": table_of(real), "smallest": smallest(real), "made": of_made(made, titles)}
+    tables = {"table": table_of(real), "made": of_made(made, titles, all_right(real))}
     for name, lines in tables.items():
         text = text.replace(f"<!-- {name} -->\n", "".join(lines))
     with open(os.path.join(ROOT, "docs", "CODES.md"), "w", encoding="utf-8") as file:

@@ -1,4 +1,8 @@
 // V2000 molfiles: read as a block, hydrogens with one bond dropped.
+//
+// The lines of a file come once, in the order in which they stand. Marks of hydrogens, ends of bonds, weights and new numbers stand in arrays of one
+// size, so that any file takes the same stack. An atom's weight is 1 for each bond and 1 more for one that leads to an H, so that one pass over the
+// bonds says which H go. Line feeds are looked for in 16 bytes at a time.
 ghost use mathlib.Core.Path.{_≡_};
 ghost use Prim.Native.Nat.{_+_, _%_, _≤_};
 ghost use lib.ListN.{length};

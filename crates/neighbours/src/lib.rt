@@ -1,4 +1,8 @@
 // The neighbour text of document 001, table 1, read into a block, and the text of a block.
+//
+// The reader goes through the bytes once for 21, through the numbers once for 22 and the number of bonds, and once more to keep the bonds; the lent
+// output is touched when nothing can refuse any more. An end above 255 is kept as 255, which no block has as an atom either. The writer puts the text
+// into bytes of its own, with room for every block, so that its length is known before the output is touched.
 ghost use mathlib.Core.Path.{_≡_};
 ghost use Prim.Native.Nat.{_≤_};
 ghost use lib.ListN.{length};

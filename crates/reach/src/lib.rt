@@ -1,4 +1,9 @@
 // A block measured by reach: for each atom the set of the atoms at most d bonds away, one bond farther at a time. No distance is stored.
+//
+// One bond farther an atom reaches what its neighbours reached, so each set takes in those of its neighbours, bond by bond. How many atoms the sets
+// have together, level by level, gives how many ordered pairs lie at each distance, and so W, both parts and the polarity, each twice; the last level
+// is the largest distance. The atoms that an atom has not reached, all levels together, are its vertex sum. The loops go by the number of bonds and
+// of atoms and by no distance: that is why this is faster than a search from each atom.
 ghost use mathlib.Core.Path.{_≡_};
 ghost use Prim.Native.Nat.{ℕ, suc, _*_, _-_, _≤_};
 ghost use lib.Count.{ones};

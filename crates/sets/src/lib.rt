@@ -1,4 +1,9 @@
 // The sets of bonds that share no atom, and the sets of atoms no two of which are bonded, of a block that is a tree: the Hosoya index and the Merrifield-Simmons index.
+//
+// A tree loses one leaf after the other, each merged into the atom it hangs on. No distance is needed. Each atom has a key: a unit for each of its
+// bonds, and the numbers of the atoms at their other ends added up. So a key of one unit tells of one bond, and to which atom; the root's is kept
+// above that. A leaf is found by looking at each atom once, and after a merge at the atom that was merged into; as long as a bond is left there is
+// one. Both kinds of sets are worked in one loop: two chains of products then run beside each other.
 ghost use mathlib.Core.Path.{_≡_};
 ghost use Rattle.reply.specs.Read.{refusal};
 ghost use Rattle.block.specs.Block.{graphOf};

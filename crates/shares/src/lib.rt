@@ -1,4 +1,9 @@
 // Bond contributions: path counts, the common denominator D, and what each bond answers for, one starting atom at a time.
+//
+// The starts come one after the other, and the path counts of a start are worked out once, in one row (sweeps.rt); no square of counts is kept. D is
+// taken in start by start; where it grows, the entries so far are multiplied by the factor. Counts stop just above the limit of D, so that no bound
+// on them is owed. The entries stand in an array of the function's own and go into the lent ones at the end: refusal 8 may come late, and must change
+// nothing.
 ghost use mathlib.Core.Path.{_≡_};
 ghost use lib.ListN.{length};
 ghost use Rattle.reply.specs.Read.{read, refusal};

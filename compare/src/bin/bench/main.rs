@@ -1,4 +1,4 @@
-//! Times libtteuyomal.a beside plain search in the same process, and prints a Markdown table. Run it in release.
+//! Times libtteuyomal.a beside plain search in the same process, and prints the table of docs/BENCHMARKS.md. Run it in release.
 //!
 //!     bench [claims]      only the rows of claims and SDFs, where that word is given
 
@@ -31,8 +31,8 @@ use szeged::Szeged;
 use timing::medians;
 
 fn main() {
-    println!("| What | library | plain | plain / library | goal | |");
-    println!("|---|---|---|---|---|---|");
+    println!("| what | library | times as fast | goal |");
+    println!("|---|---|---|---|");
     if std::env::args().nth(1).as_deref() == Some("claims") {
         return println!("\n{}", claims::times());
     }
@@ -93,10 +93,21 @@ fn many_blocks(atoms: usize, blocks: usize, placements: usize) -> DeckPlan {
     deck
 }
 
-fn row(what: &str, [library, plain]: [f64; 2], goal: f64) {
+/// The page that keeps the goals, each at least nine tenths of the best ratio that was seen.
+const PAGE: &str = include_str!("../../../../docs/BENCHMARKS.md");
+
+/// The goal that the page has for a row.
+fn goal_of(what: &str) -> Option<f64> {
+    let rest = PAGE.lines().find_map(|line| line.strip_prefix("| ")?.strip_prefix(what)?.strip_prefix(" | "))?;
+    rest.split([' ', '|']).filter_map(|word| word.parse().ok()).nth(2)
+}
+
+/// Prints a row as the page has them. The goal is the page's, and what was given for a row that the page has not; it grows with the ratio.
+fn row(what: &str, [library, plain]: [f64; 2], given: f64) {
     let ratio = plain / library;
-    let met = if ratio >= goal { "met" } else { "MISSED" };
-    println!("| {what} | {} | {} | {ratio:.2} | {goal:.2} | {met} |", duration(library), duration(plain));
+    let goal = goal_of(what).unwrap_or(given);
+    let told = if ratio < goal { format!("{goal:.2} MISSED") } else { format!("{:.2}", goal.max(0.9 * ratio)) };
+    println!("| {what} | {} | {ratio:.2} | {told} |", duration(library));
 }
 
 fn duration(seconds: f64) -> String {
