@@ -11,6 +11,7 @@ use opinion::block::MOST_BONDS;
 use opinion::queues::{sheet_bytes, FIVE, SIX};
 use opinion::ranking::Ask;
 use opinion::walk::Walk;
+use std::borrow::Cow;
 
 const HEAD: usize = 8;
 const KEPT: &str = include_str!("../../../corpus.txt");
@@ -30,8 +31,8 @@ pub fn call(checker: &mut Checker, input: &[u8]) {
     let Some((head, rest)) = input.split_first_chunk::<HEAD>() else { return };
     let [which, room, other, a, b, c, d, more] = *head;
     let (a, b, c, d) = (a as usize, b as usize, c as usize, d as usize);
-    let lengthened = [rest, &vec![0; if more >= 0xF0 { 2_200 * (more as usize - 0xEF) } else { 0 }]].concat();
-    let data = &lengthened[..];
+    let longer = lengthened(rest, 8_800 * more.saturating_sub(0xFB) as usize);
+    let data = &longer[..];
     let bonds = (data.len() / 2).min(MOST_BONDS + 1);
     match which % 32 {
         0 => checker.judge(data),
@@ -76,6 +77,14 @@ pub fn call(checker: &mut Checker, input: &[u8]) {
             sdf::item(checker, text, name, about(room, 2));
         }
         _ => best(checker, data, [a, b, c], (room, other)),
+    }
+}
+
+/// With so many zeros behind it.
+fn lengthened(data: &[u8], zeros: usize) -> Cow<'_, [u8]> {
+    match zeros {
+        0 => Cow::Borrowed(data),
+        _ => Cow::Owned([data, &vec![0; zeros]].concat()),
     }
 }
 
