@@ -31,7 +31,7 @@ pub fn call(checker: &mut Checker, input: &[u8]) {
     let Some((head, rest)) = input.split_first_chunk::<HEAD>() else { return };
     let [which, room, other, a, b, c, d, more] = *head;
     let (a, b, c, d) = (a as usize, b as usize, c as usize, d as usize);
-    let longer = lengthened(rest, 8_800 * more.saturating_sub(0xFB) as usize);
+    let longer = lengthened(rest, 16_500 * more.saturating_sub(0xFD) as usize);
     let data = &longer[..];
     let bonds = (data.len() / 2).min(MOST_BONDS + 1);
     match which % 32 {
@@ -54,7 +54,7 @@ pub fn call(checker: &mut Checker, input: &[u8]) {
         16 => polynomial(checker, a, data, about(room, 2)),
         17 => checker.count_sets(a, data, about(room, 2)),
         18 => checker.read_molfile(data, about(room, 384), about(other, 2)),
-        19 => checker.write_molfile(a, data, about(room, 50 + 70 * a + 22 * bonds), about(other, 1)),
+        19 => checker.write_molfile(a, data, about(room, 50 + 70 * a.min(64) + 22 * bonds), about(other, 1)),
         20 => checker.read_neighbours(data, about(room, 384), about(other, 2)),
         21 => checker.write_neighbours(
             a,

@@ -1,9 +1,10 @@
 //! Compares libtteuyomal.a with the second opinion. The last line is 'N passed, M failed'; the exit status is 0 when
 //! nothing failed.
 //!
-//!     compare [--seed N] [--cases N] [--printed N] [--first N] [--programs FOLDER] [--until failure]
+//!     compare [--seed N] [--cases N] [--printed N] [--first N] [--parts PART,..] [--programs FOLDER] [--until failure]
 //!
-//! With --printed, so many random cases of claims and of SDFs, and not as many as of all else.
+//! With --printed, so many random cases of claims and of SDFs, and not as many as of all else. With --parts, random cases of these parts
+//! alone: random (decks and blocks), molfiles, neighbours, relisted, libraries, queues, claims, sdf.
 //! With a folder, the programs `sheet`, `judge` and `measure` in it are run and their lines compared too.
 
 #[path = "../../archive.rs"]
@@ -34,14 +35,29 @@ struct Options {
     cases: u64,
     printed: Option<u64>,
     first: u64,
+    parts: Option<String>,
     programs: Option<PathBuf>,
     until_failure: bool,
 }
 
+impl Options {
+    /// Whether random cases of a part are asked for.
+    fn asks(&self, part: &str) -> bool {
+        self.parts.as_ref().is_none_or(|parts| parts.split(',').any(|one| one == part))
+    }
+}
+
 /// The options of the command line, or what is wrong with it.
 fn options(mut words: impl Iterator<Item = String>) -> Result<Options, String> {
-    let mut options =
-        Options { seed: 20_011, cases: 4_000, printed: None, first: 0, programs: None, until_failure: false };
+    let mut options = Options {
+        seed: 20_011,
+        cases: 4_000,
+        printed: None,
+        first: 0,
+        parts: None,
+        programs: None,
+        until_failure: false,
+    };
     while let Some(word) = words.next() {
         let value = words.next().ok_or(format!("{word} wants a value"))?;
         let number = || value.parse::<u64>().map_err(|_| format!("{value} is no number"));
@@ -50,6 +66,7 @@ fn options(mut words: impl Iterator<Item = String>) -> Result<Options, String> {
             "--cases" => options.cases = number()?,
             "--printed" => options.printed = Some(number()?),
             "--first" => options.first = number()?,
+            "--parts" => options.parts = Some(value),
             "--until" if value == "failure" => options.until_failure = true,
             "--programs" => options.programs = Some(PathBuf::from(&value)),
             _ => return Err(format!("{word} is no option")),
@@ -63,7 +80,7 @@ fn main() -> ExitCode {
         Ok(options) => options,
         Err(fault) => {
             eprintln!(
-                "compare: {fault}\nusage: compare [--seed N] [--cases N] [--printed N] [--first N] [--programs FOLDER] [--until failure]"
+                "compare: {fault}\nusage: compare [--seed N] [--cases N] [--printed N] [--first N] [--parts PART,..] [--programs FOLDER] [--until failure]"
             );
             return ExitCode::from(2);
         }
@@ -73,19 +90,21 @@ fn main() -> ExitCode {
     if checker.ends {
         checker::limit_time();
     }
+    let Options { seed, first, .. } = options;
+    let cases = |part: &str, all: u64| if options.asks(part) { all } else { 0 };
+    let printed = options.printed.unwrap_or(options.cases);
     fixed::run(checker);
-    random::run(checker, options.seed, options.first, options.cases);
-    molfiles::run(checker, options.seed, options.first, options.cases);
-    neighbours::run(checker, options.seed, options.first, options.cases);
-    relisted::run(checker, options.seed, options.first, options.cases);
+    random::run(checker, seed, first, cases("random", options.cases));
+    molfiles::run(checker, seed, first, cases("molfiles", options.cases));
+    neighbours::run(checker, seed, first, cases("neighbours", options.cases));
+    relisted::run(checker, seed, first, cases("relisted", options.cases));
     libraries::run(checker);
     rankings::run(checker);
-    random_libraries::run(checker, options.seed, options.first, options.cases);
-    queues::run(checker, options.seed, options.first, options.cases);
+    random_libraries::run(checker, seed, first, cases("libraries", options.cases));
+    queues::run(checker, seed, first, cases("queues", options.cases));
     inputs::run(checker);
-    let printed = options.printed.unwrap_or(options.cases);
-    claims::run(checker, options.seed, options.first, printed);
-    sdf::run(checker, options.seed, options.first, printed);
+    claims::run(checker, seed, first, cases("claims", printed));
+    sdf::run(checker, seed, first, cases("sdf", printed));
     if let Some(folder) = &options.programs {
         programs::run(checker, folder, options.seed);
     }
