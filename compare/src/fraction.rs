@@ -12,6 +12,9 @@ impl Fraction {
     pub const ZERO: Fraction = Fraction { above: 0, below: 1 };
 
     pub fn new(above: u128, below: u128) -> Fraction {
+        if below == 1 {
+            return Fraction { above, below };
+        }
         let common = greatest_common_divisor(above, below);
         Fraction { above: above / common, below: below / common }
     }

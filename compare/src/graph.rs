@@ -137,7 +137,7 @@ impl Graph {
 /// Breadth-first search: the distance of each atom from the start, or None where no path leads. Entry 0 is None.
 pub fn search(neighbours: &[Vec<usize>], start: usize) -> Vec<Option<usize>> {
     let mut distance = vec![None; neighbours.len()];
-    let mut queue = VecDeque::new();
+    let mut queue = VecDeque::with_capacity(neighbours.len());
     distance[start] = Some(0);
     queue.push_back((start, 0));
     while let Some((atom, far)) = queue.pop_front() {

@@ -1,4 +1,4 @@
-//! A library run beside plain search over the same products, and how many products a second.
+//! A library run and the best of a library beside plain search over the same products, and how many products a second.
 
 use crate::archive;
 use crate::plain::Plain;
@@ -20,6 +20,10 @@ const PRODUCTS: usize = CANDIDATES.pow(SITES.len() as u32);
 const SHEET: usize = 40;
 const GOAL: f64 = 200.0;
 const PRODUCTS_A_SECOND: f64 = 2_000_000.0;
+const BEST: usize = 1_000;
+const EMPTY_GOAL: f64 = 1.0; // nine tenths of what was reached
+const FULL_GOAL: f64 = 1.0;
+const RANKED_A_SECOND: f64 = 10_000_000.0;
 
 /// A core of 20 atoms with four sites, and for each site eight candidates of 10 atoms, each by some atom.
 pub fn library() -> LibraryPlan {
@@ -42,17 +46,22 @@ pub fn largest() -> LibraryPlan {
     LibraryPlan::new(blocks, 1, sites.to_vec())
 }
 
-/// Each product written out by plain search, its sheet too; the last site turns fastest.
+/// The product at a position, written out and searched; the last site turns fastest.
+fn product(plain: &mut Plain, plan: &LibraryPlan, blocks: &[Vec<u8>], position: usize) -> [u64; 5] {
+    plain.read_block(plan.blocks[0].atoms as usize, &blocks[0]);
+    for (k, site) in plan.sites.iter().enumerate() {
+        let turn = CANDIDATES.pow((SITES.len() - 1 - k) as u32);
+        let (number, own) = site.candidates[position / turn % CANDIDATES];
+        let arm = number as usize - 1;
+        plain.join_block(plan.blocks[arm].atoms as usize, &blocks[arm], site.atom as usize - 1, own as usize - 1);
+    }
+    plain.indices()
+}
+
+/// The sheet of each product by plain search.
 fn search(plain: &mut Plain, plan: &LibraryPlan, blocks: &[Vec<u8>], out: &mut [u8]) {
     for (position, sheet) in out.chunks_exact_mut(SHEET).enumerate() {
-        plain.read_block(plan.blocks[0].atoms as usize, &blocks[0]);
-        for (k, site) in plan.sites.iter().enumerate() {
-            let turn = CANDIDATES.pow((SITES.len() - 1 - k) as u32);
-            let (number, own) = site.candidates[position / turn % CANDIDATES];
-            let arm = number as usize - 1;
-            plain.join_block(plan.blocks[arm].atoms as usize, &blocks[arm], site.atom as usize - 1, own as usize - 1);
-        }
-        let [atoms, fields @ ..] = plain.indices();
+        let [atoms, fields @ ..] = product(plain, plan, blocks, position);
         sheet[..4].copy_from_slice(&[36, 0, 3, 0]);
         sheet[4..8].copy_from_slice(&(atoms as u32).to_le_bytes());
         for (field, bytes) in fields.iter().zip(sheet[8..].chunks_exact_mut(8)) {
@@ -79,7 +88,41 @@ pub fn times() -> String {
     let mut same = || search(&mut plain, &plan, black_box(&blocks), &mut searched);
     let both = medians(&mut run, &mut same);
     row("library run, core of 20, four sites, eight candidates of 10", both, GOAL);
+    let ranked = [("an empty list", 0, EMPTY_GOAL), ("a list of better ones", BEST, FULL_GOAL)];
+    let ranked = ranked.map(|(into, held, goal)| time_best(into, held, goal, &plan));
     let a_second = PRODUCTS as f64 / both[0];
     let met = if a_second >= PRODUCTS_A_SECOND { "met" } else { "MISSED" };
-    format!("Products a second: {a_second:.0}, sheets of kind 3 written; goal {PRODUCTS_A_SECOND:.0}: {met}.")
+    let [empty, full] = ranked.map(|seconds| PRODUCTS as f64 / seconds);
+    let quick = if empty.min(full) >= RANKED_A_SECOND { "met" } else { "MISSED" };
+    format!(
+        "Products a second: {a_second:.0}, sheets of kind 3 written; goal {PRODUCTS_A_SECOND:.0}: {met}. Ranked: {empty:.0} into an empty list of {BEST}, {full:.0} into a full one; goal {RANKED_A_SECOND:.0}: {quick}."
+    )
+}
+
+/// The products with the smallest W into a list that holds so many better ones; by plain search all of them are put in order, equal ones as
+/// they came. Says the seconds.
+fn time_best(into: &str, held: usize, goal: f64, plan: &LibraryPlan) -> f64 {
+    let deck = plan.bytes();
+    let blocks: Vec<Vec<u8>> = plan.blocks.iter().map(BlockPlan::bond_bytes).collect();
+    let mut plain = Plain::new();
+    let mut ranked = || {
+        let mut all = vec![[0; 3]; held];
+        all.extend((0..PRODUCTS).map(|at| [product(&mut plain, plan, black_box(&blocks), at)[1], 1, at as u64]));
+        all.sort_by_key(|entry| entry[0]);
+        all.truncate(BEST);
+        all
+    };
+    let mut best = vec![0; 3 * BEST];
+    let mut library = || {
+        let mut many = [held as u64];
+        assert_eq!((archive::library_best(black_box(&deck), 2, 0, 1, &mut best, &mut many), many[0]), (0, BEST as u64));
+    };
+    library();
+    let right = ranked().concat();
+    let both = medians(&mut library, &mut || {
+        black_box(ranked());
+    });
+    assert_eq!(best, right);
+    row(&format!("the best {BEST} of the same products, into {into}"), both, goal);
+    both[0]
 }

@@ -1,6 +1,6 @@
 //! Times libtteuyomal.a beside plain search in the same process, and prints the table of docs/BENCHMARKS.md. Run it in release.
 //!
-//!     bench [claims]      only the rows of claims and SDFs, where that word is given
+//!     bench [claims | libraries]      only the rows of claims and SDFs, or of libraries, where that word is given
 
 #[allow(dead_code)] // the comparison calls every function, this program those it times
 #[path = "../../archive.rs"]
@@ -33,8 +33,10 @@ use timing::medians;
 fn main() {
     println!("| what | library | times as fast | goal |");
     println!("|---|---|---|---|");
-    if std::env::args().nth(1).as_deref() == Some("claims") {
-        return println!("\n{}", claims::times());
+    match std::env::args().nth(1).as_deref() {
+        Some("claims") => return println!("\n{}", claims::times()),
+        Some("libraries") => return println!("\n{}", libraries::times()),
+        _ => {}
     }
     let decks = [
         ("32 paths of 64 atoms", shapes::longest_path(), 150.0),

@@ -33,6 +33,8 @@ pub struct Checker {
     pub passed: usize,
     pub failed: usize,
     pub calls: usize,
+    /// How many of them are refused nothing and find no difference.
+    pub fine: usize,
     /// How often each refusal number was right.
     pub refused: Refusals,
     pub accepted: usize,
@@ -125,7 +127,7 @@ impl Checker {
     fn count(&mut self, right: u64) {
         self.calls += 1;
         match (right % 256, right / 256) {
-            (0, _) => {}
+            (0, _) => self.fine += 1,
             (DONE, _) => self.done += 1,
             (255, field) => self.differed[field as usize] += 1,
             (number, _) => self.refused.0[number as usize] += 1,
@@ -135,7 +137,10 @@ impl Checker {
     /// The same of claims, which have no field of their own.
     fn count_claims(&mut self, right: u64) {
         match right % 256 {
-            0 => self.claims_accepted += 1,
+            0 => {
+                self.fine += 1;
+                self.claims_accepted += 1;
+            }
             255 => self.claims_differed += 1,
             _ => return self.count(right),
         }

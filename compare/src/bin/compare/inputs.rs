@@ -12,6 +12,7 @@ use opinion::make::matchings::Matching;
 use opinion::queues::{sheet_bytes, FIVE, SIX};
 use opinion::ranking::Ask;
 use opinion::walk::Walk;
+use std::borrow::Cow;
 
 const HEAD: usize = 8;
 const KEPT: &str = include_str!("../../../corpus.txt");
@@ -31,8 +32,8 @@ pub fn call(checker: &mut Checker, input: &[u8]) {
     let Some((head, rest)) = input.split_first_chunk::<HEAD>() else { return };
     let [which, room, other, a, b, c, d, more] = *head;
     let (a, b, c, d) = (a as usize, b as usize, c as usize, d as usize);
-    let lengthened = [rest, &vec![0; if more >= 0xF0 { 2_200 * (more as usize - 0xEF) } else { 0 }]].concat();
-    let data = &lengthened[..];
+    let longer = lengthened(rest, 16_500 * more.saturating_sub(0xFD) as usize);
+    let data = &longer[..];
     let bonds = (data.len() / 2).min(MOST_BONDS + 1);
     match which % 32 {
         0 => checker.judge(data),
@@ -54,7 +55,7 @@ pub fn call(checker: &mut Checker, input: &[u8]) {
         16 => polynomial(checker, a, data, about(room, 2)),
         17 => checker.count_sets(a, data, about(room, 2)),
         18 => checker.read_molfile(data, about(room, 384), about(other, 2)),
-        19 => checker.write_molfile(a, data, about(room, 50 + 70 * a + 22 * bonds), about(other, 1)),
+        19 => checker.write_molfile(a, data, about(room, 50 + 70 * a.min(64) + 22 * bonds), about(other, 1)),
         20 => checker.read_neighbours(data, about(room, 384), about(other, 2)),
         21 => checker.write_neighbours(
             a,
@@ -94,6 +95,14 @@ fn matching(data: &[u8], atoms: usize, [bonds, pairs, far]: [usize; 3]) -> Match
         *last <<= 8;
     }
     Matching { deck: deck.to_vec(), atoms: if far == 0xE0 { usize::MAX } else { atoms }, bonds, pairs }
+}
+
+/// With so many zeros behind it.
+fn lengthened(data: &[u8], zeros: usize) -> Cow<'_, [u8]> {
+    match zeros {
+        0 => Cow::Borrowed(data),
+        _ => Cow::Owned([data, &vec![0; zeros]].concat()),
+    }
 }
 
 /// What is needed, or near it, or any number up to it.

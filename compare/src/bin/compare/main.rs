@@ -1,10 +1,11 @@
 //! Compares libtteuyomal.a with the second opinion. The last line is 'N passed, M failed'; the exit status is 0 when
 //! nothing failed.
 //!
-//!     compare [--seed N] [--cases N] [--printed N] [--first N] [--programs FOLDER] [--until failure]
+//!     compare [--seed N] [--cases N] [--printed N] [--first N] [--parts PART,..] [--programs FOLDER] [--until failure]
 //!     compare --real FOLDER [--seed N] [--cases N]
 //!
-//! With --printed, so many random cases of claims and of SDFs, and not as many as of all else.
+//! With --printed, so many random cases of claims and of SDFs, and not as many as of all else. With --parts, random cases of these parts
+//! alone: random (decks and blocks), molfiles, neighbours, relisted, libraries, queues, claims, sdf, whole.
 //! With --real, the molecules that compare/real_large.py puts into a folder and nothing else, each matching damaged so many times.
 //! With a folder, the programs `sheet`, `judge` and `measure` in it are run and their lines compared too.
 
@@ -37,9 +38,17 @@ struct Options {
     cases: u64,
     printed: Option<u64>,
     first: u64,
+    parts: Option<String>,
     programs: Option<PathBuf>,
     real: Option<PathBuf>,
     until_failure: bool,
+}
+
+impl Options {
+    /// Whether random cases of a part are asked for.
+    fn asks(&self, part: &str) -> bool {
+        self.parts.as_ref().is_none_or(|parts| parts.split(',').any(|one| one == part))
+    }
 }
 
 /// The options of the command line, or what is wrong with it.
@@ -49,6 +58,7 @@ fn options(mut words: impl Iterator<Item = String>) -> Result<Options, String> {
         cases: 4_000,
         printed: None,
         first: 0,
+        parts: None,
         programs: None,
         real: None,
         until_failure: false,
@@ -61,6 +71,7 @@ fn options(mut words: impl Iterator<Item = String>) -> Result<Options, String> {
             "--cases" => options.cases = number()?,
             "--printed" => options.printed = Some(number()?),
             "--first" => options.first = number()?,
+            "--parts" => options.parts = Some(value),
             "--until" if value == "failure" => options.until_failure = true,
             "--programs" => options.programs = Some(PathBuf::from(&value)),
             "--real" => options.real = Some(PathBuf::from(&value)),
@@ -75,7 +86,7 @@ fn main() -> ExitCode {
         Ok(options) => options,
         Err(fault) => {
             eprintln!(
-                "compare: {fault}\nusage: compare [--seed N] [--cases N] [--printed N] [--first N] [--programs FOLDER] [--until failure]"
+                "compare: {fault}\nusage: compare [--seed N] [--cases N] [--printed N] [--first N] [--parts PART,..] [--programs FOLDER] [--until failure]"
             );
             return ExitCode::from(2);
         }
@@ -92,20 +103,22 @@ fn main() -> ExitCode {
         }
         return if checker.failed == 0 { ExitCode::SUCCESS } else { ExitCode::FAILURE };
     }
+    let Options { seed, first, .. } = options;
+    let cases = |part: &str, all: u64| if options.asks(part) { all } else { 0 };
+    let printed = options.printed.unwrap_or(options.cases);
     fixed::run(checker);
-    random::run(checker, options.seed, options.first, options.cases);
-    molfiles::run(checker, options.seed, options.first, options.cases);
-    neighbours::run(checker, options.seed, options.first, options.cases);
-    relisted::run(checker, options.seed, options.first, options.cases);
+    random::run(checker, seed, first, cases("random", options.cases));
+    molfiles::run(checker, seed, first, cases("molfiles", options.cases));
+    neighbours::run(checker, seed, first, cases("neighbours", options.cases));
+    relisted::run(checker, seed, first, cases("relisted", options.cases));
     libraries::run(checker);
     rankings::run(checker);
-    random_libraries::run(checker, options.seed, options.first, options.cases);
-    queues::run(checker, options.seed, options.first, options.cases);
+    random_libraries::run(checker, seed, first, cases("libraries", options.cases));
+    queues::run(checker, seed, first, cases("queues", options.cases));
     inputs::run(checker);
-    let printed = options.printed.unwrap_or(options.cases);
-    claims::run(checker, options.seed, options.first, printed);
-    sdf::run(checker, options.seed, options.first, printed);
-    whole::run(checker, options.seed, options.first, options.cases);
+    claims::run(checker, seed, first, cases("claims", printed));
+    sdf::run(checker, seed, first, cases("sdf", printed));
+    whole::run(checker, seed, first, cases("whole", options.cases));
     if let Some(folder) = &options.programs {
         programs::run(checker, folder, options.seed);
     }

@@ -1,6 +1,8 @@
 //! The comparison for a fuzzer that looks at which branches of the library an input takes (libFuzzer). Each input is a call, or calls of two
 //! queues (compare/src/bin/compare/inputs.rs), with everything that is lent between pages that nobody may touch; the second opinion
 //! judges the reply and every lent entry, and the first difference ends the process. `compare/fuzz` builds and runs it.
+//!
+//! What was done is counted in the file that TTEUYOMAL_COUNTS names, which stays as it is when the process is killed.
 #![no_main]
 #![allow(dead_code)] // of the comparison only what an input can say is used
 
@@ -10,6 +12,7 @@ mod archive;
 mod checker;
 #[path = "../compare/claims.rs"]
 mod claims;
+mod counts;
 #[path = "../compare/inputs.rs"]
 mod inputs;
 mod lent;
@@ -24,23 +27,11 @@ mod seeds;
 mod whole;
 
 use checker::Checker;
+use counts::Counts;
 use std::sync::Mutex;
 use std::{env, process, slice};
 
-static CHECKER: Mutex<Option<Checker>> = Mutex::new(None);
-
-extern "C" {
-    fn atexit(function: extern "C" fn()) -> i32;
-}
-
-/// How many calls were compared, and what they were told.
-extern "C" fn told() {
-    if let Some(checker) = CHECKER.lock().ok().as_deref().and_then(Option::as_ref) {
-        let Checker { calls, accepted, failed, .. } = checker;
-        let refusals = checker.refused.0.iter().filter(|&&count| count > 0).count();
-        eprintln!("{calls} calls compared, {accepted} accepted, {refusals} refusals met, {failed} differences");
-    }
-}
+static STATE: Mutex<Option<(Checker, Counts)>> = Mutex::new(None);
 
 /// Writes the seeds, where TTEUYOMAL_SEEDS names a folder for them.
 #[no_mangle]
@@ -49,7 +40,7 @@ pub extern "C" fn LLVMFuzzerInitialize(_: *mut i32, _: *mut *mut *mut u8) -> i32
         seeds::write(folder.as_ref()).expect("seeds can be written");
         process::exit(0);
     }
-    unsafe { atexit(told) }
+    0
 }
 
 /// # Safety
@@ -57,9 +48,11 @@ pub extern "C" fn LLVMFuzzerInitialize(_: *mut i32, _: *mut *mut *mut u8) -> i32
 #[no_mangle]
 pub unsafe extern "C" fn LLVMFuzzerTestOneInput(data: *const u8, size: usize) -> i32 {
     let input = if size == 0 { &[][..] } else { unsafe { slice::from_raw_parts(data, size) } };
-    let mut kept = CHECKER.lock().expect("one thread");
-    let checker = kept.get_or_insert_with(Checker::default);
+    let mut state = STATE.lock().expect("one thread");
+    let (checker, counts) = state.get_or_insert_with(|| (Checker::default(), Counts::kept()));
+    let before = [checker.calls, checker.fine];
     checker.case("an input", |checker| inputs::call(checker, input));
+    counts.input(input, before, checker);
     if checker.failed > 0 {
         process::abort();
     }
