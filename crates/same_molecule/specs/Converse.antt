@@ -63,11 +63,11 @@ module _ (g h : Graph) (to : List ℕ) (s : Sound g) (m : Molecule h) (r : Renum
       let p = r .numbers in
       let a : eqb (partner to v) 0 ≡ false = ne-eqb (partner to v) 0 (λ z. omega (arith, there v w .low, z)) in
       let b : anyAtom (v - 1) (λ u. eqb (partner to u) (partner to v)) ≡ false
-          = no-atom (v - 1) (λ u. eqb (partner to u) (partner to v)) (λ u x.
-          let y : Within (g .atoms) u = omega (arith, x, w) in
-          ne-eqb (partner to u) (partner to v) (λ e.
-          let q : u ≡ v = sym (p .home u y) ∙ ap (p .back) (same u y ∙ e ∙ sym (same v w)) ∙ p .home v w in
-          omega (arith, x, w, q))) in
+      = no-atom (v - 1) (λ u. eqb (partner to u) (partner to v)) (λ u x.
+      let y : Within (g .atoms) u = omega (arith, x, w) in
+      ne-eqb (partner to u) (partner to v) (λ e.
+      let q : u ≡ v = sym (p .home u y) ∙ ap (p .back) (same u y ∙ e ∙ sym (same v w)) ∙ p .home v w in
+      omega (arith, x, w, q))) in
       rw (a, b)
 
   fast : (b : Bond) → bonded g (b .one) (b .two) ≡ true → isLoose g h to b ≡ false

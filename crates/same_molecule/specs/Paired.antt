@@ -28,6 +28,7 @@ found f (suc n) w v h e = go (eqb (f (suc n)) w) refl (λ q. found f n w v q e)
         earlier false s =
             let same : suc n ≡ v = omega (arith, ltb-false v (suc n) s, h .high) in
             absurd (eqb-false (f (suc n)) w t (ap f same ∙ e))
+
     go : (t : Bool) → eqb (f (suc n)) w ≡ t → (Within n v → Within n (backIn f n w) × (f (backIn f n w) ≡ w))
         → Within (suc n) (cond t (suc n) (backIn f n w)) × (f (cond t (suc n) (backIn f n w)) ≡ w)
     go true t more = (last n, eqb-true (f (suc n)) w t)
@@ -53,6 +54,7 @@ module _ (n : ℕ) (f : ℕ → ℕ) (there : (v : ℕ) → Within n v → Withi
           sum-cong m {f = λ v. cond (eqb (f v) w) 1 0} {h = λ v. 0}
           (λ i x. ap (λ (t : Bool). cond t 1 0) (ne-eqb (f i) w (λ q. new i (suc m) (omega (arith, x, h)) (omega arith) (omega (arith, x .high)) (q ∙ sym e))))
           ∙ sum-none m
+
       go : (t : Bool) → eqb (f (suc m)) w ≡ t → sum m (λ v. cond (eqb (f v) w) 1 0) ≤ 1 → sum m (λ v. cond (eqb (f v) w) 1 0) + cond t 1 0 ≤ 1
       go true t l = omega (arith, none (eqb-true (f (suc m)) w t))
       go false t l = omega arith

@@ -134,6 +134,7 @@ module _ (g h : Graph) (to : List ℕ) (size : g .atoms ≡ h .atoms)
     where
       r : Renumbered g h
       r = renumbered
+
       linked : (i j : ℕ) → Within (g .atoms) i → Within (g .atoms) j → (k : ℕ) × Walk g i j k
       linked i j a b =
           let (k, w) = m .linked (r .numbers .to i) (r .numbers .to j) (r .numbers .there i a) (r .numbers .there j b) in

@@ -73,6 +73,7 @@ none-passes (suc n) v p l e u a b = go (p v) refl (λ f q. none-passes n (suc v)
     here : p v ≡ false → (firstAtom n (suc v) p ≡ 0 → suc v ≤ u → p u ≡ false) → (s : Bool) → ltb v u ≡ s → p u ≡ false
     here t more true s = more (sym (atom-no n v p t) ∙ e) (omega (arith, ltb-true v u s))
     here t more false s = let q : u ≡ v = omega (arith, ltb-false v u s) in ap p q ∙ t
+
     go : (t : Bool) → p v ≡ t → (firstAtom n (suc v) p ≡ 0 → suc v ≤ u → p u ≡ false) → p u ≡ false
     go true t more = absurd (omega (arith, sym (atom-yes n v p t) ∙ e))
     go false t more = here t more (ltb v u) refl
@@ -113,6 +114,7 @@ partners-at d k m (suc n) i h = go (ltb i n) refl (partners-at d k m n i)
   where
     x : ℕ
     x = placedNumber d k (getD m (2 * n) 0) (getD m (2 * n + 1) 0)
+
     go : (t : Bool) → ltb i n ≡ t → (i < n → getD (partners d k m n) i 0 ≡ placedNumber d k (getD m (2 * i) 0) (getD m (2 * i + 1) 0))
         → getD (partners d k m n ++ (placedNumber d k (getD m (2 * n) 0) (getD m (2 * n + 1) 0) ∷ [])) i 0 ≡ placedNumber d k (getD m (2 * i) 0) (getD m (2 * i + 1) 0)
     go true t more = let l = ltb-true i n t in List·getD-append (partners d k m n) _ 0 i (omega (arith, l, partners-length d k m n)) ∙ more l
