@@ -7,6 +7,7 @@ import json
 import os
 import random
 import unittest
+from collections import Counter
 from unittest import mock
 
 from common import FORTY, RIGHT, RING
@@ -71,6 +72,21 @@ def tree(seed, atoms):
         bonds.append((room.pop(chance.randrange(len(room))), atom))
         room += [atom] * 3
     return Molecule(atoms, bonds)
+
+
+def searched(molecule):
+    """The six fields by a plain search from every atom."""
+    near, pairs = matching.neighbours(*molecule), Counter()
+    for start in range(molecule.atoms):
+        far, queue = {start: 0}, [start]
+        for atom in queue:
+            for end in near[atom]:
+                if end not in far:
+                    far[end] = far[atom] + 1
+                    queue.append(end)
+        pairs.update(distance for atom, distance in far.items() if atom > start)
+    even, odd = (sum(k * count for k, count in pairs.items() if k % 2 == rest) for rest in (0, 1))
+    return molecule.atoms, even + odd, even, odd, pairs[3], max(pairs, default=0)
 
 
 class Native(unittest.TestCase):
@@ -162,6 +178,11 @@ class Cutting(unittest.TestCase):
         """Units that 64 is no multiple of: smaller pieces are taken where the largest are too many different ones."""
         sizes = [3, 4, 5, 6, 7, 8, 9] * 22
         self.assertLessEqual(self.cut(chained(sizes)).blocks, 16)
+
+    def test_fields(self):
+        """The deck's fields are those of the molecule, by a plain search."""
+        for molecule in (path(1), path(130), chained([5, 6, 7] * 9), hung(62, 3, 20), renumbered(tree(9, 250), 1), renumbered(chained([33] * 8), 2)):
+            self.assertEqual(native.compose_six(self.cut(molecule).deck), searched(molecule))
 
     def test_renumbered(self):
         for seed in range(12):

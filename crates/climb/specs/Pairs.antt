@@ -4,7 +4,6 @@ use mathlib.Core.Bool.{false}
 use mathlib.Core.List.{List}
 use mathlib.Core.Path.{_≡_, ap}
 use native.Mathlib.Omega.{arith}
-use lib.ListN.{take}
 use lib.Seq.{take-append-seam}
 use Rattle.graph.specs.Graph.{Molecule, distance}
 use Rattle.graph.specs.Assembly.{Placed, written}
@@ -22,12 +21,8 @@ use Rattle.deck.specs.Deck.{Deck}
 use Rattle.deck.specs.Molecule.{placedIn, graphAt, joinAt}
 use Rattle.deck.specs.Said.{layoutOf}
 use Rattle.deck.specs.Sound.{WholeDeck}
-use Rattle.deck.specs.declared.Layout.{Layout}
 use Rattle.climb.specs.Placed.{isMissing}
-
--- the deck that a layout says
-abbrev pub deckOf : Layout → Deck
-deckOf x = record { blocks = take (x .count) (x .blocks); assembly = x .assembly; placements = x .placements; sheet = x .sheet }
+pub use Rattle.climb.specs.Placed.{deckOf}
 
 pub laid-out : (k : Deck) → deckOf (layoutOf k) ≡ k
 laid-out k = ap (λ (bs : List _). record { blocks = bs; assembly = k .assembly; placements = k .placements; sheet = k .sheet }) (take-append-seam (k .blocks) _)

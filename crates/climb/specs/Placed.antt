@@ -3,12 +3,18 @@
 use Prim.Native.Nat.{ℕ, _-_}
 use mathlib.Core.Bool.{Bool, _||_}
 use mathlib.Core.List.{List}
+use lib.ListN.{take}
 use Rattle.graph.specs.Graph.{distance}
 use Rattle.graph.specs.Assembly.{atomOf}
 use Rattle.reply.specs.Read.{Read, read, _then_, refuseIf, isOutside}
 use Rattle.deck.specs.Deck.{Deck, deckReply}
 use Rattle.deck.specs.Molecule.{graphAt, moleculeOf}
 use Rattle.deck.specs.declared.Form.the-variants.{Composed}
+use Rattle.deck.specs.declared.Layout.{Layout}
+
+-- the deck that a layout says
+abbrev pub deckOf : Layout → Deck
+deckOf x = record { blocks = take (x .count) (x .blocks); assembly = x .assembly; placements = x .placements; sheet = x .sheet }
 
 -- placement number k does not exist, or has no atom i
 unfoldable pub isMissing : List ℕ → Deck → ℕ → ℕ → Bool

@@ -21,12 +21,12 @@ use Rattle.climb.specs.Placed.{isMissing}
 use Rattle.climb.specs.Pairs.{present}
 use Rattle.whole.specs.Work.{mostStart}
 use Rattle.whole.specs.Joins.{start-few}
-use Rattle.matched.specs.Matched.{numberIn, partners, partner, isLost, isLoose, carried, isNew, firstAtom, firstBond, _orElse_, matchPlace}
+use Rattle.matched.specs.Matched.{placedNumber, partners, partner, isLost, isLoose, carried, isUnlisted, firstAtom, firstBond, _orElse_, matchPlace}
 use Rattle.matched.specs.Work.{isTaken}
 
 -- the number of a placed atom is small
-pub number-few : {d : List ℕ} {k : Deck} → WholeDeck d k → (p a : ℕ) → numberIn d k p a ≤ mostStart
-unfolding numberIn
+pub number-few : {d : List ℕ} {k : Deck} → WholeDeck d k → (p a : ℕ) → placedNumber d k p a ≤ mostStart
+unfolding placedNumber
 number-few {d} {k} w p a = go (isMissing d k p a) refl
   where
     go : (t : Bool) → isMissing d k p a ≡ t → cond t 0 (atomOf (graphAt d k) p a) ≤ mostStart
@@ -39,7 +39,7 @@ number-few {d} {k} w p a = go (isMissing d k p a) refl
 
 -- one partner more
 pub partners-next : (d : List ℕ) (k : Deck) (matching to : List ℕ) (i x : ℕ) → i < length to → take i to ≡ partners d k matching i
-    → x ≡ numberIn d k (getD matching (2 * i) 0) (getD matching (2 * i + 1) 0) → take (i + 1) (set to i x) ≡ partners d k matching (i + 1)
+    → x ≡ placedNumber d k (getD matching (2 * i) 0) (getD matching (2 * i + 1) 0) → take (i + 1) (set to i x) ≡ partners d k matching (i + 1)
 unfolding partners
 partners-next d k matching to i x h e f = rw (add-one i) (take-suc-set to i x h ∙ ap₂ (λ (l : List ℕ) (y : ℕ). l ++ (y ∷ [])) e f)
 
@@ -47,7 +47,7 @@ pub partners-length : (d : List ℕ) (k : Deck) (matching : List ℕ) (n : ℕ) 
 unfolding partners
 partners-length d k matching zero = refl
 partners-length d k matching (suc n) =
-    omega (arith, partners-length d k matching n, length-append (partners d k matching n) (numberIn d k (getD matching (2 * n) 0) (getD matching (2 * n + 1) 0) ∷ []))
+    omega (arith, partners-length d k matching n, length-append (partners d k matching n) (placedNumber d k (getD matching (2 * n) 0) (getD matching (2 * n + 1) 0) ∷ []))
 
 pub partner-none : (to : List ℕ) (v : ℕ) → isOutside (length to) v ≡ true → 0 ≡ partner to v
 unfolding partner
@@ -100,11 +100,12 @@ module _ (n v : ℕ) (p : ℕ → Bool) where
   unfolding firstAtom
   atom-over h = let e : n + 1 - v ≡ 0 = omega arith in rw e
 
-first-yes : (place : ℕ) (p : Bond → Bool) (b : Bond) (bs : List Bond) → p b ≡ true → firstBond place p (b ∷ bs) ≡ place
+-- the first bond of a list passes, or does not
+pub first-yes : (place : ℕ) (p : Bond → Bool) (b : Bond) (bs : List Bond) → p b ≡ true → firstBond place p (b ∷ bs) ≡ place
 unfolding firstBond
 first-yes place p b bs t = rw (t, firstBond)
 
-first-no : (place : ℕ) (p : Bond → Bool) (b : Bond) (bs : List Bond) → p b ≡ false → firstBond place p (b ∷ bs) ≡ firstBond (suc place) p bs
+pub first-no : (place : ℕ) (p : Bond → Bool) (b : Bond) (bs : List Bond) → p b ≡ false → firstBond place p (b ∷ bs) ≡ firstBond (suc place) p bs
 unfolding firstBond
 first-no place p b bs t = rw (t, firstBond)
 
@@ -197,6 +198,6 @@ module _ (g h : Graph) (to : List ℕ) (r : ℕ) where
   place-loose z e n = rw z (e ∙ or-first (firstBond (g .atoms + 1) (isLoose g h to) (g .bonds)) _ (λ z. n (e ∙ z)))
 
   pub place-new : firstAtom (g .atoms) 1 (isLost to) ≡ 0 → firstBond (g .atoms + 1) (isLoose g h to) (g .bonds) ≡ 0
-      → r ≡ firstBond (g .atoms + length (g .bonds) + 1) (isNew g to) (h .bonds) → r ≡ matchPlace g h to
+      → r ≡ firstBond (g .atoms + length (g .bonds) + 1) (isUnlisted g to) (h .bonds) → r ≡ matchPlace g h to
   unfolding matchPlace
   place-new z y e = rw (z, y) e

@@ -14,13 +14,13 @@ use Rattle.deck.specs.declared.Form.the-variants.{Composed}
 use Rattle.climb.specs.Placed.{isMissing}
 
 -- the number that atom a of placement number p has in the whole molecule; 0 where there is no such atom
-unfoldable pub numberIn : List ℕ → Deck → ℕ → ℕ → ℕ
-numberIn d k p a = cond (isMissing d k p a) 0 (atomOf (graphAt d k) p a)
+unfoldable pub placedNumber : List ℕ → Deck → ℕ → ℕ → ℕ
+placedNumber d k p a = cond (isMissing d k p a) 0 (atomOf (graphAt d k) p a)
 
 -- the partners of the first n atoms: a matching has two numbers for each atom, its placement and its atom there
 unfoldable pub partners : List ℕ → Deck → List ℕ → ℕ → List ℕ
 partners d k matching zero = []
-partners d k matching (suc n) = partners d k matching n ++ (numberIn d k (getD matching (2 * n) 0) (getD matching (2 * n + 1) 0) ∷ [])
+partners d k matching (suc n) = partners d k matching n ++ (placedNumber d k (getD matching (2 * n) 0) (getD matching (2 * n + 1) 0) ∷ [])
 
 -- the partner of an atom, from 1, in such a list; 0 where there is none
 unfoldable pub partner : List ℕ → ℕ → ℕ
@@ -41,8 +41,8 @@ carried to [] = []
 carried to (b ∷ bs) = bond (partner to (b .one)) (partner to (b .two)) ∷ carried to bs
 
 -- a bond of h joins the partners of no bond of g
-unfoldable pub isNew : Graph → List ℕ → Bond → Bool
-isNew g to b = not (anyJoins (carried to (g .bonds)) (b .one) (b .two))
+unfoldable pub isUnlisted : Graph → List ℕ → Bond → Bool
+isUnlisted g to b = not (anyJoins (carried to (g .bonds)) (b .one) (b .two))
 
 -- the first of n atoms from v on that passes; 0 where none does
 unfoldable pub firstAtom : ℕ → ℕ → (ℕ → Bool) → ℕ
@@ -65,7 +65,7 @@ unfoldable pub matchPlace : Graph → Graph → List ℕ → ℕ
 matchPlace g h to =
     firstAtom (g .atoms) 1 (isLost to) orElse λ _.
     firstBond (g .atoms + 1) (isLoose g h to) (g .bonds) orElse λ _.
-    firstBond (g .atoms + length (g .bonds) + 1) (isNew g to) (h .bonds)
+    firstBond (g .atoms + length (g .bonds) + 1) (isUnlisted g to) (h .bonds)
 
 pub data Answer : Type 0 where
   yes : Answer

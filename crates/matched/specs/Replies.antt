@@ -22,7 +22,7 @@ use Rattle.whole.specs.declared.Counts.{Counts}
 use Rattle.whole.specs.declared.MoleculeReply.{MoleculeReply}
 use Rattle.whole.specs.declared.MoleculeReply.the-variants as whole
 use Rattle.matched.specs.Matched.{partners, matchPlace, no, answerAt, matchAnswer, matchReply}
-use Rattle.matched.specs.Said.{saidAnswer, saidMatch}
+use Rattle.matched.specs.Said.{saidWhether, saidMatch}
 use Rattle.matched.specs.declared.MatchReply.the-variants as told
 
 -- with enough numbers lent every deck that is read is written out
@@ -66,6 +66,6 @@ module _ (d : List ℕ) (atoms : ℕ) (bonds matching : List ℕ) where
     match-short h = rw (e, lt-ltb (length matching) (2 * atoms) h)
 
     pub match-answered : 2 * atoms ≤ length matching
-        → saidAnswer (matchAnswer (graphOf atoms bonds) (moleculeOf d k) (partners d k matching atoms)) ≡ saidMatch (matchReply d atoms bonds matching)
+        → saidWhether (matchAnswer (graphOf atoms bonds) (moleculeOf d k) (partners d k matching atoms)) ≡ saidMatch (matchReply d atoms bonds matching)
     unfolding matchReply
     match-answered h = rw (e, le-ltb (length matching) (2 * atoms) h)

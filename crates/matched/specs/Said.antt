@@ -4,10 +4,10 @@ use Rattle.matched.specs.Matched.{Answer, yes, no}
 use Rattle.matched.specs.declared.MatchReply.{MatchReply}
 use Rattle.matched.specs.declared.MatchReply.the-variants as told
 
-abbrev pub saidAnswer : Answer → MatchReply
-saidAnswer yes = told.Yes
-saidAnswer (no p) = told.No p
+abbrev pub saidWhether : Answer → MatchReply
+saidWhether yes = told.Yes
+saidWhether (no p) = told.No p
 
 abbrev pub saidMatch : Read Answer → MatchReply
 saidMatch (refused r) = told.Refused r
-saidMatch (read a) = saidAnswer a
+saidMatch (read a) = saidWhether a

@@ -14,9 +14,9 @@ ghost use Rattle.deck.specs.Sound.{WholeDeck};
 ghost use Rattle.deck.specs.declared.Form.the-variants.{Composed};
 ghost use Rattle.climb.specs.Pairs.{deckOf};
 ghost use Rattle.whole.specs.Work.{mostStart, mostNumbers};
-ghost use Rattle.matched.specs.Matched.{numberIn, partners, partner, isLost, isLoose, carried, isNew, firstAtom, firstBond, matchPlace, answerAt, matchAnswer, matchReply};
+ghost use Rattle.matched.specs.Matched.{placedNumber, partners, partner, isLost, isLoose, carried, isUnlisted, firstAtom, firstBond, matchPlace, answerAt, matchAnswer, matchReply};
 ghost use Rattle.matched.specs.Work.{isTaken};
-ghost use Rattle.matched.specs.Said.{saidAnswer, saidMatch};
+ghost use Rattle.matched.specs.Said.{saidWhether, saidMatch};
 use deck::Form;
 use deck::Layout;
 use reply::Refusal;
@@ -44,7 +44,7 @@ fn wide(x: u16) -> usize
 
 // The number in the whole molecule of atom a of placement p, or 0.
 fn number_in(d: &[u8], deck: Layout, p: u16, a: u16) -> usize
-    ensures { λ r. ⌜ r ≡ numberIn (now (d .entry)) (deckOf deck) p a ⌝ }
+    ensures { λ r. ⌜ r ≡ placedNumber (now (d .entry)) (deckOf deck) p a ⌝ }
 {
     if climb::is_missing(d, deck, p as usize, a as usize) {
         return 0;
@@ -190,7 +190,7 @@ fn first_loose(n: usize, bonds: &[u16], whole: &[u16], to: &[u16]) -> usize
 fn first_new(n: usize, bonds: &[u16], whole: &[u16], to: &[u16]) -> usize
     requires { ⌜ (n ≤ mostStart) × (length (now whole) ≤ mostNumbers) ⌝ }
     ensures { λ r. ⌜
-        r ≡ firstBond (n + length (bondsOf (now (bonds .entry))) + 1) (isNew (graphOf n (now (bonds .entry))) (now (to .entry))) (bondsOf (now (whole .entry)))
+        r ≡ firstBond (n + length (bondsOf (now (bonds .entry))) + 1) (isUnlisted (graphOf n (now (bonds .entry))) (now (to .entry))) (bondsOf (now (whole .entry)))
         ⌝ }
 {
     let mut place = n + bonds.len() / 2 + 1;
@@ -222,7 +222,7 @@ fn match_place(n: usize, bonds: &[u16], whole: &[u16], to: &[u16]) -> usize
 }
 
 fn answer_at(place: usize) -> MatchReply
-    ensures { λ r. ⌜ r ≡ saidAnswer (answerAt place) ⌝ }
+    ensures { λ r. ⌜ r ≡ saidWhether (answerAt place) ⌝ }
 {
     if place == 0 {
         return MatchReply::Yes;
@@ -242,7 +242,7 @@ fn answer_placed(
 ) -> MatchReply
     requires { ⌜ WholeDeck (now d) (deckOf deck) × (n ≤ mostStart) × (n ≤ length (now to)) × (2 * n ≤ length (now matching)) × (length (now whole) ≤ mostNumbers) ⌝ }
     ensures { λ r. ⌜
-        r ≡ saidAnswer (answerAt (matchPlace (graphOf n (now (bonds .entry))) (graphOf n (now (whole .entry))) (partners (now (d .entry)) (deckOf deck) (now (matching .entry)) n)))
+        r ≡ saidWhether (answerAt (matchPlace (graphOf n (now (bonds .entry))) (graphOf n (now (whole .entry))) (partners (now (d .entry)) (deckOf deck) (now (matching .entry)) n)))
         ⌝ }
 {
     put_partners(d, deck, matching, &mut to[..n]);
@@ -264,7 +264,7 @@ fn answer_in(
         (deckReply Composed (now d) ≡ read (deckOf deck)) × (2 * n ≤ length (now matching)) × (mostNumbers ≤ length (now numbers)) × (mostStart ≤ length (now to))
         ⌝ }
     ensures { λ r. ⌜
-        r ≡ saidAnswer (matchAnswer (graphOf n (now (bonds .entry))) (moleculeOf (now (d .entry)) (deckOf deck)) (partners (now (d .entry)) (deckOf deck) (now (matching .entry)) n))
+        r ≡ saidWhether (matchAnswer (graphOf n (now (bonds .entry))) (moleculeOf (now (d .entry)) (deckOf deck)) (partners (now (d .entry)) (deckOf deck) (now (matching .entry)) n))
         ⌝ }
 {
     let reply = whole::bonds(d, numbers);
@@ -284,7 +284,7 @@ fn answer_in(
 fn answer(d: &[u8], deck: Layout, n: usize, bonds: &[u16], matching: &[u16]) -> MatchReply
     requires { ⌜ (deckReply Composed (now d) ≡ read (deckOf deck)) × (2 * n ≤ length (now matching)) ⌝ }
     ensures { λ r. ⌜
-        r ≡ saidAnswer (matchAnswer (graphOf n (now (bonds .entry))) (moleculeOf (now (d .entry)) (deckOf deck)) (partners (now (d .entry)) (deckOf deck) (now (matching .entry)) n))
+        r ≡ saidWhether (matchAnswer (graphOf n (now (bonds .entry))) (moleculeOf (now (d .entry)) (deckOf deck)) (partners (now (d .entry)) (deckOf deck) (now (matching .entry)) n))
         ⌝ }
 {
     let mut numbers = [0u16; NUMBERS];

@@ -24,7 +24,7 @@ same-bonded {g} {h} r u v hu hv =
     (λ e. sym (ap₂ (bonded g) (p .home u hu) (p .home v hv)) ∙ r .brought (p .to u) (p .to v) e)
 
 -- a walk on one is a walk on the other
-walk-to : {g h : Graph} {i j k : ℕ} (r : Renumbered g h) → Walk g i j k → Walk h (r .numbers .to i) (r .numbers .to j) k
+pub walk-to : {g h : Graph} {i j k : ℕ} (r : Renumbered g h) → Walk g i j k → Walk h (r .numbers .to i) (r .numbers .to j) k
 walk-to r stay = stay
 walk-to r (step {v = v} {w = w} p b) = step (walk-to r p) (r .carried v w b)
 

@@ -5,6 +5,7 @@
 -- | `Tells`, `Judges`, `Walks`       | 0 exactly where nothing is refused; else which refusal, and where         | `judge-tells`, `compose-tells`, `library-step-tells` |
 -- | `Steps`                          | 0 where there is a record, 254 where all are done                         | `sdf-record-tells`                                |
 -- | (the headline in C's number)     | 0 exactly where the sheet's fields are the molecule's; where claims say them | `zero-exactly`; `zero-claims`, `zero-block`    |
+-- | (large molecules in C's number) | 0 exactly where a molecule is written out; where a matching holds       | `written-out-tells`, `matched-tells`, `zero-matched` |
 -- | (there and back)                 | what the C functions write, they read                                     | `molfile-back`, `text-back`, `text-again`         |
 pub mod Bounded
 pub mod Recovered
@@ -16,3 +17,4 @@ pub mod Libraries
 pub mod Rankings
 pub mod Queues
 pub mod Claims
+pub mod Large

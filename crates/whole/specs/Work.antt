@@ -7,12 +7,9 @@ use Rattle.block.specs.Block.{mostAtoms, mostBytes, bondsOf}
 use Rattle.assembly.specs.Placements.{mostPlacements}
 use Rattle.whole.specs.Whole.{pairNumbers}
 
--- the most atoms of a deck's molecule; the most that a block's record can say
+-- the most atoms of a deck's molecule
 abbrev pub mostStart : ℕ
 mostStart = mostAtoms * mostPlacements
-
-abbrev pub mostCounted : ℕ
-mostCounted = 65535
 
 -- the most numbers that a placement's bonds take, with the one that joins it, and those of all
 abbrev pub mostBrought : ℕ

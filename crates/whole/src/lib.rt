@@ -12,7 +12,7 @@ ghost use Rattle.deck.specs.Sound.{WholeDeck};
 ghost use Rattle.climb.specs.Pairs.{deckOf};
 ghost use Rattle.whole.specs.Whole.{pairNumbers, wholeReply, numbersAfter};
 ghost use Rattle.whole.specs.Said.{saidMolecule};
-ghost use Rattle.whole.specs.Work.{mostStart, mostCounted, mostBrought, mostNumbers, overAtoms, overNumbers, blockNumbers, joinsOf, joining, brought, bondsBefore};
+ghost use Rattle.whole.specs.Work.{mostStart, mostBrought, mostNumbers, overAtoms, overNumbers, blockNumbers, joinsOf, joining, brought, bondsBefore};
 use deck::Form;
 use deck::Layout;
 use reply::Refusal;
@@ -65,7 +65,7 @@ fn put_block(bonds: &[u8], start: usize, out: &mut [u16], at: usize)
 
 // How many atoms stand before the placement at an index.
 pub fn start_of(d: &[u8], deck: Layout, k: u16) -> usize
-    ensures { λ r. ⌜ (r ≡ startAt (graphAt (now (d .entry)) (deckOf deck)) k) × (r ≤ mostCounted * k) ⌝ }
+    ensures { λ r. ⌜ (r ≡ startAt (graphAt (now (d .entry)) (deckOf deck)) k) × (r ≤ 65535 * k) ⌝ }
 {
     let end = k as usize;
     let mut start = 0;

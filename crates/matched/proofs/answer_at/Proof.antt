@@ -3,12 +3,12 @@ use Prim.Native.Nat.{ℕ, zero, suc}
 use mathlib.Core.Path.{_≡_, refl}
 use native.Mathlib.Omega.{arith}
 use Rattle.matched.specs.Matched.{answerAt}
-use Rattle.matched.specs.Said.{saidAnswer}
+use Rattle.matched.specs.Said.{saidWhether}
 use Rattle.matched.specs.declared.MatchReply.the-variants as told
 use Rattle.matched.proofs.answer_at.Statement.{statement}
 use Rattle.matched.proofs.answer_at.Tie as tie
 
-later : (p : ℕ) → (p ≡ 0 → ⊥) → told.No p ≡ saidAnswer (answerAt p)
+later : (p : ℕ) → (p ≡ 0 → ⊥) → told.No p ≡ saidWhether (answerAt p)
 later zero n = absurd (n refl)
 later (suc p) n = refl
 

@@ -16,7 +16,7 @@ use Rattle.deck.specs.Sized.{atoms-few}
 use Rattle.deck.specs.declared.Form.the-variants.{Composed}
 use Rattle.climb.specs.Pairs.{deckOf}
 use Rattle.matched.specs.Matched.{partners, matchPlace, answerAt}
-use Rattle.matched.specs.Said.{saidAnswer}
+use Rattle.matched.specs.Said.{saidWhether}
 use Rattle.whole.specs.Whole.{wholeReply, numbersAfter}
 use Rattle.whole.specs.Work.{mostNumbers}
 use Rattle.whole.specs.Said.{countsOf, saidMolecule}
@@ -64,7 +64,7 @@ returns : tie.Need-returns
 returns c =
     let a = c .before .before .before .before .before .before .before .before .before .before .before .before .before .before .args in
     let r = c .before .before .before in
-    ap saidAnswer (answer-other (graphOf (a .n) (now (a .bonds))) (moleculeOf (now (a .d)) (deckOf (a .deck))) (partners (now (a .d)) (deckOf (a .deck)) (now (a .matching)) (a .n))
+    ap saidWhether (answer-other (graphOf (a .n) (now (a .bonds))) (moleculeOf (now (a .d)) (deckOf (a .deck))) (partners (now (a .d)) (deckOf (a .deck)) (now (a .matching)) (a .n))
     (λ e. omega (arith, c .if1 .taken, e, ap (λ (x : Counts). x .atoms) (counts r))))
 
 mul-end : tie.Need-mul-end
@@ -121,8 +121,8 @@ returns-3 c =
     = ap (λ (l : List ℕ). graphOf (a .n) (take (2 * r .reply2 .given .0 .0 .bonds) l)) out
     ∙ read-back (moleculeOf (now (a .d)) (deckOf (a .deck))) (a .n) (2 * r .reply2 .given .0 .0 .bonds) (a .numbers .now) n m (omega (arith, few r, s .pre .2)) in
     c .before .before .answer-placed .ensures
-    ∙ ap (λ (h : Graph). saidAnswer (answerAt (matchPlace (graphOf (a .n) (now (a .bonds))) h to))) h
-    ∙ ap saidAnswer (answer-same (graphOf (a .n) (now (a .bonds))) (moleculeOf (now (a .d)) (deckOf (a .deck))) to n)
+    ∙ ap (λ (h : Graph). saidWhether (answerAt (matchPlace (graphOf (a .n) (now (a .bonds))) h to))) h
+    ∙ ap saidWhether (answer-same (graphOf (a .n) (now (a .bonds))) (moleculeOf (now (a .d)) (deckOf (a .deck))) to n)
 
 pub answer-in-spec : {M : Type 1} → statement M
 answer-in-spec =

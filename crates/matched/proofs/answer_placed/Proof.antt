@@ -11,7 +11,7 @@ use Rattle.block.specs.Block.{graphOf}
 use Rattle.deck.specs.Sound.{whole}
 use Rattle.climb.specs.Pairs.{deckOf}
 use Rattle.matched.specs.Matched.{partners, matchPlace, answerAt}
-use Rattle.matched.specs.Said.{saidAnswer}
+use Rattle.matched.specs.Said.{saidWhether}
 use Rattle.matched.specs.Laws.{partners-length}
 use Rattle.matched.proofs.answer_placed.Statement.{statement}
 use Rattle.matched.proofs.answer_placed.Tie as tie
@@ -53,7 +53,7 @@ returns c =
     let e : p .last .1 .1 .1 .0 ≡ partners (now (a .d)) (deckOf (a .deck)) (now (a .matching)) (a .n) = p .ensures ∙ ap (partners (now (a .d)) (deckOf (a .deck)) (now (a .matching))) n in
     let m : length (p .last .1 .1 .1 .0) ≡ a .n = ap length e ∙ partners-length (now (a .d)) (deckOf (a .deck)) (now (a .matching)) (a .n) in
     c .answer-at .ensures
-    ∙ ap (λ (i : ℕ). saidAnswer (answerAt i))
+    ∙ ap (λ (i : ℕ). saidWhether (answerAt i))
     (c .before .match-place .ensures ∙ ap (λ (l : List ℕ). matchPlace (graphOf (a .n) (now (a .bonds))) (graphOf (a .n) (now (a .whole))) l) (take-at (p .last .1 .1 .1 .0) _ (a .n) m ∙ e))
 
 pub answer-placed-spec : {M : Type 1} → statement M

@@ -6,7 +6,7 @@ use borrow.Author.Needs.{needs}
 use denote.Ref.{now}
 use Rattle.climb.specs.Pairs.{deckOf}
 use Rattle.climb.specs.Pairs.{present}
-use Rattle.matched.specs.Matched.{numberIn}
+use Rattle.matched.specs.Matched.{placedNumber}
 use Rattle.matched.proofs.number_in.Statement.{statement}
 use Rattle.matched.proofs.number_in.Tie as tie
 
@@ -14,7 +14,7 @@ is-missing-requires : tie.Need-is-missing-requires
 is-missing-requires c κs = search needs
 
 returns : tie.Need-returns
-unfolding numberIn
+unfolding placedNumber
 returns c = rw (sym (c .before .is-missing .ensures) ∙ c .if1 .taken)
 
 sub-start-of : tie.Need-sub-start-of
@@ -29,7 +29,7 @@ add-result : tie.Need-add-result
 add-result c = search needs
 
 returns-2 : tie.Need-returns-2
-unfolding numberIn
+unfolding placedNumber
 returns-2 c = rw (sym (c .before .before .is-missing .ensures) ∙ c .before .if1 .left) (ap (λ (n : ℕ). n + c .before .before .before .before .args .a) (c .start-of .ensures .0))
 
 pub number-in-spec : {M : Type 1} → statement M
