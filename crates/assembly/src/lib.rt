@@ -6,7 +6,7 @@ ghost use lib.ListN.{length, take};
 ghost use Rattle.graph.specs.Graph.{degree};
 ghost use Rattle.reply.specs.Read.{saidReply};
 ghost use Rattle.block.specs.Block.{limit, bondsOf};
-ghost use Rattle.records.specs.Bytes.{PartOf};
+ghost use Rattle.records.specs.Bytes.{PartOf, le16};
 ghost use Rattle.records.specs.Records.{blockKind};
 ghost use Rattle.assembly.specs.Book.{find, isNumbered, blockGraph, bookOf};
 ghost use Rattle.assembly.specs.Placements.{placementAt, sitesOf, atomSite, shelfOf, joinsOn, joinOn, isFull, firstFault, parentFault, joinFault, laterFault, fault, assemblyReply};
@@ -106,6 +106,22 @@ pub fn bonds_part(d: &[u8], b: BlockAt) -> &[u8]
     part(d, start + BLOCK_HEAD, BOND_BYTES * (b.bonds as usize))
 }
 
+// Two bytes that are there: nothing is tested between their reads.
+fn two_at(xs: &[u8], at: usize) -> u16
+    requires { ⌜ (at < 2 ^ 63) × (at + 2 ≤ length (now xs)) ⌝ }
+    ensures { λ r. ⌜ r ≡ le16 (now (xs .entry)) at ⌝ }
+{
+    let low = xs[at];
+    let high = xs[at + 1];
+    pair(low, high)
+}
+
+fn pair(low: u8, high: u8) -> u16
+    ensures { λ r. ⌜ r ≡ low + 256 * high ⌝ }
+{
+    (low as u16) + 256 * (high as u16)
+}
+
 // The placement at an index from 0 of an assembly's payload.
 pub fn placement_at(xs: &[u8], k: usize) -> Placement
     ensures { λ r. ⌜ r ≡ placementAt (now (xs .entry)) k ⌝ }
@@ -119,6 +135,14 @@ pub fn placement_at(xs: &[u8], k: usize) -> Placement
         };
     }
     let at = ASSEMBLY_HEAD + PLACEMENT_BYTES * k;
+    if at + PLACEMENT_BYTES <= xs.len() {
+        return Placement {
+            block: two_at(xs, at),
+            parent: two_at(xs, at + 2),
+            site: xs[at + 4],
+            own: xs[at + 5],
+        };
+    }
     Placement {
         block: le16_at(xs, at),
         parent: le16_at(xs, at + 2),
