@@ -5,7 +5,7 @@ ghost use Prim.Native.Nat.{_+_, _*_, _-_, _^_, _<_, _≤_, min};
 ghost use lib.ListN.{length, take};
 ghost use Rattle.graph.specs.Graph.{degree};
 ghost use Rattle.block.specs.Block.{limit, bondsOf};
-ghost use Rattle.records.specs.Bytes.{PartOf};
+ghost use Rattle.records.specs.Bytes.{PartOf, le16};
 ghost use Rattle.records.specs.Records.{blockKind};
 ghost use Rattle.assembly.specs.Book.{find, isNumbered};
 ghost use Rattle.assembly.specs.Placements.{placementAt, joinsOn, joinOn, isFull, firstFault, parentFault, joinFault};
@@ -103,6 +103,22 @@ pub fn bonds_part(d: &[u8], b: BlockAt) -> &[u8]
     part(d, start + BLOCK_HEAD, BOND_BYTES * (b.bonds as usize))
 }
 
+// Two bytes that are there: nothing is tested between their reads.
+fn two_at(xs: &[u8], at: usize) -> u16
+    requires { ⌜ (at < 2 ^ 63) × (at + 2 ≤ length (now xs)) ⌝ }
+    ensures { λ r. ⌜ r ≡ le16 (now (xs .entry)) at ⌝ }
+{
+    let low = xs[at];
+    let high = xs[at + 1];
+    pair(low, high)
+}
+
+fn pair(low: u8, high: u8) -> u16
+    ensures { λ r. ⌜ r ≡ low + 256 * high ⌝ }
+{
+    (low as u16) + 256 * (high as u16)
+}
+
 // The placement at an index from 0 of an assembly's payload.
 pub fn placement_at(xs: &[u8], k: usize) -> Placement
     ensures { λ r. ⌜ r ≡ placementAt (now (xs .entry)) k ⌝ }
@@ -116,6 +132,14 @@ pub fn placement_at(xs: &[u8], k: usize) -> Placement
         };
     }
     let at = ASSEMBLY_HEAD + PLACEMENT_BYTES * k;
+    if at + PLACEMENT_BYTES <= xs.len() {
+        return Placement {
+            block: two_at(xs, at),
+            parent: two_at(xs, at + 2),
+            site: xs[at + 4],
+            own: xs[at + 5],
+        };
+    }
     Placement {
         block: le16_at(xs, at),
         parent: le16_at(xs, at + 2),
