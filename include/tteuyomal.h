@@ -347,7 +347,7 @@ tteuyomal_reply tteuyomal_queue_drop(uint8_t *table, size_t table_len, size_t qu
  * Refusals: 9, then 20, 9 (out_len below 40, or 44 for kind 4), and the deck's as if the record began at byte 0; 16 for a
  * block number that the queue does not hold. */
 tteuyomal_reply tteuyomal_queue_compose(const uint8_t *table, size_t table_len, size_t queue, size_t kind,
-                                        const uint8_t *record, size_t record_len, uint8_t *out, size_t out_len);
+                                        const uint8_t *assembly, size_t assembly_len, uint8_t *out, size_t out_len);
 
 /* ---- Trees ---- */
 
@@ -401,7 +401,7 @@ tteuyomal_reply tteuyomal_sdf_record(const uint8_t *text, size_t text_len, size_
  * line behind it, and empty where that is missing or is a header itself.
  * Refusals: 38 (no such header, no name or one with more than 16 `<`, or the molfile's lines are refused), 39 (two), then 9
  * (span_len below 2). */
-tteuyomal_reply tteuyomal_sdf_item(const uint8_t *record, size_t record_len, const uint8_t *name, size_t name_len,
+tteuyomal_reply tteuyomal_sdf_item(const uint8_t *text, size_t text_len, const uint8_t *name, size_t name_len,
                                    uint64_t *span, size_t span_len);
 
 #ifdef __cplusplus

@@ -172,8 +172,8 @@ mod c {
             table_len: usize,
             queue: usize,
             kind: usize,
-            record: *const u8,
-            record_len: usize,
+            assembly: *const u8,
+            assembly_len: usize,
             out: *mut u8,
             out_len: usize,
         ) -> u64;
@@ -193,8 +193,8 @@ mod c {
             span_len: usize,
         ) -> u64;
         pub fn tteuyomal_sdf_item(
-            record: *const u8,
-            record_len: usize,
+            text: *const u8,
+            text_len: usize,
             name: *const u8,
             name_len: usize,
             span: *mut u64,

@@ -188,8 +188,8 @@ extern "C" {
         table_len: usize,
         queue: usize,
         kind: usize,
-        record: *const u8,
-        record_len: usize,
+        assembly: *const u8,
+        assembly_len: usize,
         out: *mut u8,
         out_len: usize,
     ) -> u64;
@@ -204,8 +204,8 @@ extern "C" {
     pub fn tteuyomal_sdf_record(text: *const u8, text_len: usize, from: usize, span: *mut u64, span_len: usize) -> u64;
     #[rustfmt::skip]
     pub fn tteuyomal_sdf_item(
-        record: *const u8,
-        record_len: usize,
+        text: *const u8,
+        text_len: usize,
         name: *const u8,
         name_len: usize,
         span: *mut u64,

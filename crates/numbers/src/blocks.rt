@@ -116,6 +116,6 @@ pub(crate) fn right(letter: u8, n: usize, bonds: &[u8], row: Row) -> bool {
         b'd' | b'e' => shared(letter, n, bonds, row),
         b'p' | b'm' | b'n' => valued(letter, n, bonds, row),
         b't' => typed::of_block(n, bonds, row),
-        _ => false,
+        _ => asked::of_block(letter, n, bonds, row),
     }
 }

@@ -84,6 +84,6 @@ pub(crate) fn right(letter: u8, deck: &[u8], row: Row) -> bool {
         b'k' => written(deck, Sheet::Six, false, row),
         b'o' => written(deck, Sheet::Six, true, row),
         b't' => typed::of_deck(deck, row),
-        _ => false,
+        _ => asked::of_bytes(letter, deck, row),
     }
 }

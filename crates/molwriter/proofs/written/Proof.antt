@@ -27,6 +27,13 @@ long s =
     let bs = bondsOf (s .args .bonds .now) in
     ap length (sym (text-pieces n bs)) ∙ omega (arith, pieces-length n bs, half-length (s .args .bonds .now))
 
+-- the test says what the text takes, with nothing else for omega to weigh
+room : (n m : ℕ) {k t : ℕ} → t ≡ 50 + 70 * n + 22 * m → 50 + 70 * n + 22 * m ≤ k → t ≤ k
+room n m e l = omega arith
+
+no-room : (n m : ℕ) {k t : ℕ} → t ≡ 50 + 70 * n + 22 * m → k < 50 + 70 * n + 22 * m → k < t
+no-room n m e l = omega arith
+
 mul-if1 : tie.Need-mul-if1
 mul-if1 c = let f = few (c .before .before) in omega arith
 
@@ -43,7 +50,7 @@ returns : tie.Need-returns
 returns c =
     let s = c .before .before .before in
     let a = s .args in
-    let e = write-short (a .n) (a .bonds .now) (length (a .out .now)) (s .pre) (omega (arith, long s, c .if1 .taken)) in
+    let e = write-short (a .n) (a .bonds .now) (length (a .out .now)) (s .pre) (no-room (a .n) (length (a .bonds .now) / 2) (long s) (c .if1 .taken)) in
     (sym (ap saidMolfileWritten e), sym (stays (molfileText (a .n) (bondsOf (a .bonds .now))) (a .out .now) e))
 
 put-counts-requires : tie.Need-put-counts-requires
@@ -75,7 +82,7 @@ returns-2 c =
     let a = s .args in
     let n = a .n in
     let xs = a .bonds .now in
-    let l : length (molfileText n (bondsOf xs)) ≤ length (a .out .now) = omega (arith, long s, p1 .before .before .if1 .left) in
+    let l : length (molfileText n (bondsOf xs)) ≤ length (a .out .now) = room n (length xs / 2) (long s) (p1 .before .before .if1 .left) in
     let first = as-word (ap (λ (m : ℕ). ascii "\n\n\n" ++ countsText n m) (sym (half-length xs))) (p1 .put-counts .ensures) in
     let F = at-front (as-word (text-pieces n (bondsOf xs)) (both (both (both first (p2 .put-atoms .ensures)) (p3 .put-bonds .ensures)) (p4 .put .ensures))) l in
     let e = write-fine n xs (length (a .out .now)) (s .pre) l in

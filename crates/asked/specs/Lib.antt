@@ -1,0 +1,3 @@
+-- Nothing is promised here: `asked` is read by a test alone.
+--
+-- | notion | meaning | the law that matters |
