@@ -6,7 +6,7 @@
 #   make wheel, make sdist      what pip takes, in target/dist: the same bytes each time
 #   make deb                    Debian packages for this machine's kind, in target/deb
 #   make test                   the tests of what stands around the library
-VERSION := 4.0.0
+VERSION := 4.1.0
 PREFIX ?= /usr/local
 DESTDIR ?=
 

@@ -15,7 +15,7 @@ from __future__ import annotations
 import importlib
 from typing import TYPE_CHECKING, Any
 
-__version__ = "4.0.0"
+__version__ = "4.1.0"
 
 if TYPE_CHECKING:
     from .public import *  # noqa: F403

@@ -4,7 +4,7 @@ use Prim.Native.Nat.{ℕ, _+_, _*_}
 use mathlib.Core.Path.{_≡_, sym, _∙_}
 
 abbrev pub version : ℕ
-version = 1000000 * 4 + 1000 * 0 + 0
+version = 1000000 * 4 + 1000 * 1 + 0
 
 -- two numbers that are the version are one
 pub unique-version : {x y : ℕ} → x ≡ version → y ≡ version → x ≡ y

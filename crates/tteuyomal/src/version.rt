@@ -6,5 +6,5 @@ ghost use Rattle.tteuyomal.specs.Version.{version};
 pub extern "C" fn tteuyomal_version() -> u64
     ensures { λ r. ⌜ r ≡ version ⌝ }
 {
-    4_000_000
+    4_001_000
 }
