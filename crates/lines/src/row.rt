@@ -16,13 +16,19 @@ pub const FAR: usize = 255;
 // A number from here on takes no more digits.
 const LONG: u64 = 1000000000000000;
 
-// The numbers behind a line's colon, and whether the word "refused" stands among them, which is told by its r. While open, the last number
-// is still being read.
+// The numbers behind a line's colon, and whether the word "refused" stands among them, which is told by its r.
 pub struct Row {
     pub refused: bool,
-    pub open: bool,
     pub count: usize,
     pub values: [u64; MOST],
+}
+
+// How far a line is read: so many numbers are whole, and while open, the next is still being read.
+struct Reading {
+    refused: bool,
+    open: bool,
+    count: usize,
+    number: u64,
 }
 
 // The value of a digit; 16 for any other byte.
@@ -58,47 +64,48 @@ fn place(asked: usize, i: usize) -> usize {
     MOST
 }
 
-impl Row {
-    pub fn none() -> Row {
-        Row {
-            refused: false,
-            open: false,
-            count: 0,
-            values: [0; MOST],
+impl Reading {
+    fn with_digit(self, digit: u64, hex: bool) -> Reading {
+        let before = if self.open { self.number } else { 0 };
+        Reading {
+            refused: self.refused,
+            open: true,
+            count: self.count,
+            number: longer(before, digit, hex),
         }
-    }
-
-    fn with_digit(self, digit: u64, hex: bool) -> Row {
-        let mut next = self;
-        let at = self.count;
-        if at < MOST {
-            next.values[at] = longer(next.values[at], digit, hex);
-            next.open = true;
-        }
-        next
     }
 
     // A byte that is no digit ends a number.
-    fn with_mark(self, byte: u8) -> Row {
-        let mut next = self;
-        if self.open {
-            next.count = after(self.count);
+    fn with_mark(self, byte: u8) -> Reading {
+        let count = if self.open {
+            after(self.count)
+        } else {
+            self.count
+        };
+        Reading {
+            refused: self.refused || byte == b'r',
+            open: false,
+            count,
+            number: 0,
         }
-        next.open = false;
-        next.refused = self.refused || byte == b'r';
-        next
     }
 
-    // A colon starts the numbers anew: those in the words do not count.
-    fn with_byte(self, byte: u8, hex: bool) -> Row {
-        if byte == b':' {
-            return Row::none();
-        }
+    fn with_byte(self, byte: u8, hex: bool) -> Reading {
         let value = digit(byte);
         if value < 10 || hex && value < 16 {
             self.with_digit(value, hex)
         } else {
             self.with_mark(byte)
+        }
+    }
+}
+
+impl Row {
+    pub fn none() -> Row {
+        Row {
+            refused: false,
+            count: 0,
+            values: [0; MOST],
         }
     }
 
@@ -164,15 +171,45 @@ fn is_hex(letter: u8) -> bool {
     }
 }
 
+// The place behind a line's last colon: the numbers in the words before it do not count.
+fn numbers_at(line: &[u8]) -> usize {
+    let mut from = 0;
+    let mut at = 0;
+    while at < line.len() {
+        if line[at] == b':' {
+            from = at;
+        }
+        at += 1;
+    }
+    from
+}
+
 // The numbers of a line that starts with a letter.
 pub fn row_of(line: &[u8], letter: u8) -> Row {
     let hex = is_hex(letter);
-    let mut row = Row::none();
-    let mut at = 0;
+    let mut values = [0u64; MOST];
+    let mut seen = Reading {
+        refused: false,
+        open: false,
+        count: 0,
+        number: 0,
+    };
+    let mut at = numbers_at(line);
     while at < line.len() {
-        let next = row.with_byte(line[at], hex);
-        row = next;
+        let next = seen.with_byte(line[at], hex);
+        seen = next;
+        let count = seen.count;
+        if seen.open {
+            if count < MOST {
+                values[count] = seen.number;
+            }
+        }
         at += 1;
     }
-    row.with_mark(b' ')
+    let last = seen.with_mark(b' ');
+    Row {
+        refused: last.refused,
+        count: last.count,
+        values,
+    }
 }

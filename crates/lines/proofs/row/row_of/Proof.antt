@@ -7,16 +7,16 @@ use Rattle.lines.proofs.row.row_of.Statement.{statement}
 use Rattle.lines.proofs.row.row_of.Tie as tie
 
 abbrev Inv-loop : tie.InvT-loop
-Inv-loop line letter hex row₀ at₀ row at = length line ≡ length line
+Inv-loop line letter hex values₀ seen₀ at₀ values seen at = length line ≡ length line
 
 abbrev μ-loop : tie.MeasureT-loop
-μ-loop line letter hex row₀ at₀ row at = length line - at
+μ-loop line letter hex values₀ seen₀ at₀ values seen at = length line - at
 
 is-hex-requires : tie.Need-is-hex-requires Inv-loop μ-loop
 is-hex-requires c κs = search needs
 
-none-requires : tie.Need-none-requires Inv-loop μ-loop
-none-requires c κs = search needs
+numbers-at-requires : tie.Need-numbers-at-requires Inv-loop μ-loop
+numbers-at-requires c κs = search needs
 
 loop-holds : tie.Need-loop-holds Inv-loop μ-loop
 loop-holds c = search needs
@@ -26,6 +26,12 @@ shared-slice-read-with-byte c = search needs
 
 with-byte-requires : tie.Need-with-byte-requires Inv-loop μ-loop
 with-byte-requires c κs = search needs
+
+mul-values : tie.Need-mul-values Inv-loop μ-loop
+mul-values c = search needs
+
+array-write-values : tie.Need-array-write-values Inv-loop μ-loop
+array-write-values c = search needs
 
 add-at : tie.Need-add-at Inv-loop μ-loop
 add-at c = search needs
@@ -49,10 +55,12 @@ row-of-spec =
     Inv-loop
     μ-loop
     is-hex-requires
-    none-requires
+    numbers-at-requires
     loop-holds
     shared-slice-read-with-byte
     with-byte-requires
+    mul-values
+    array-write-values
     add-at
     loop-less
     loop-again
