@@ -66,16 +66,7 @@ fn refuses(reply: IndicesReply, number: usize) -> bool {
 
 // The payload of an assembly that places one block.
 fn alone(number: u16) -> [u8; 8] {
-    [
-        1,
-        0,
-        (number % 256) as u8,
-        (number / 256) as u8,
-        0,
-        0,
-        0,
-        0,
-    ]
+    [1, 0, (number % 256) as u8, (number / 256) as u8, 0, 0, 0, 0]
 }
 
 // What a queue that holds the block under a number is told: its six fields when it looks, the same when it composes the block alone, and 30 once it is dropped. The

@@ -88,6 +88,6 @@ module _ {d : List ℕ} {l : Library} {bs : List BlockAt} {xs : List ℕ} {sites
   product-spread position h digits e arms p =
       let low = digits-low (t .held) position h digits e in
       product-joined (t .held) position h digits e c arms (t .core) (λ k i.
-          let small : getD digits k 0 < mostCandidates = omega (arith, low k i, many (t .held) k i .high) in
-          p .arm k i ∙ t .arms _ (omega (arith, small, few (t .held))) ∙ arm-there k (getD digits k 0) small
-          ∙ rw (lt-ltb (getD digits k 0) (getD sites k noSite .many) (low k i)))
+      let small : getD digits k 0 < mostCandidates = omega (arith, low k i, many (t .held) k i .high) in
+      p .arm k i ∙ t .arms _ (omega (arith, small, few (t .held))) ∙ arm-there k (getD digits k 0) small
+      ∙ rw (lt-ltb (getD digits k 0) (getD sites k noSite .many) (low k i)))
