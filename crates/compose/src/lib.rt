@@ -99,17 +99,25 @@ fn in_book(d: &[u8], form: Form, book: &mut [u8]) -> ComposeReply
     }
 }
 
-// The same, by a book just as large as so many blocks need.
-fn sized(d: &[u8], form: Form, many: usize) -> ComposeReply
-    requires { ⌜ (headsFrom mostBlocks (now d) 0 ≤ many) × (many ≤ mostBlocks) ⌝ }
+// The same, by a book just as large as so many blocks need: each size in a function of its own, so that the stack holds one of them.
+fn by_few(d: &[u8], form: Form) -> ComposeReply
+    requires { ⌜ headsFrom mostBlocks (now d) 0 ≤ 2 ⌝ }
     ensures { λ r. ⌜ r ≡ saidComposed (composeReply form (now (d .entry))) ⌝ }
 {
-    if many <= FEW {
-        return in_book(d, form, &mut [0u8; SUMMARY * FEW]);
-    }
-    if many <= SOME {
-        return in_book(d, form, &mut [0u8; SUMMARY * SOME]);
-    }
+    in_book(d, form, &mut [0u8; SUMMARY * FEW])
+}
+
+fn by_some(d: &[u8], form: Form) -> ComposeReply
+    requires { ⌜ headsFrom mostBlocks (now d) 0 ≤ 6 ⌝ }
+    ensures { λ r. ⌜ r ≡ saidComposed (composeReply form (now (d .entry))) ⌝ }
+{
+    in_book(d, form, &mut [0u8; SUMMARY * SOME])
+}
+
+fn by_all(d: &[u8], form: Form) -> ComposeReply
+    requires { ⌜ headsFrom mostBlocks (now d) 0 ≤ mostBlocks ⌝ }
+    ensures { λ r. ⌜ r ≡ saidComposed (composeReply form (now (d .entry))) ⌝ }
+{
     in_book(d, form, &mut [0u8; SUMMARY * BLOCKS])
 }
 
@@ -118,5 +126,12 @@ fn sized(d: &[u8], form: Form, many: usize) -> ComposeReply
 pub fn fields(d: &[u8], form: Form) -> ComposeReply
     ensures { λ r. ⌜ r ≡ saidComposed (composeReply form (now (d .entry))) ⌝ }
 {
-    sized(d, form, heads(d))
+    let many = heads(d);
+    if many <= FEW {
+        return by_few(d, form);
+    }
+    if many <= SOME {
+        return by_some(d, form);
+    }
+    by_all(d, form)
 }
