@@ -67,13 +67,13 @@ returns-2 c =
     let b = blockAt d at in
     let fit = sym (unfit-is (k .before .before .before)) ∙ k .before .before .if1 .left in (
       c .block-moved .ensures
-      ∙ ap (movedReply (blockPlace at)) (told-is k)
-      ∙ moved-said (blockPlace at) (blockReply (b .atoms) (bondBytes d b))
-      ∙ ap saidReply (sym (number-fit d at (done s) fit)),
+          ∙ ap (movedReply (blockPlace at)) (told-is k)
+          ∙ moved-said (blockPlace at) (blockReply (b .atoms) (bondBytes d b))
+          ∙ ap saidReply (sym (number-fit d at (done s) fit)),
       k .fill-at .ensures .1
-      ∙ ap (λ (x : BlockAt). filledBook d (s .args .book .now) (s .args .count) x) (s .pre .1)
-      ∙ ap (λ (n : ℕ). filledBook d (s .args .book .now) n b) (sym (counted s))
-      ∙ reply-filled d at (done s) (s .args .book .now) fit,
+          ∙ ap (λ (x : BlockAt). filledBook d (s .args .book .now) (s .args .count) x) (s .pre .1)
+          ∙ ap (λ (n : ℕ). filledBook d (s .args .book .now) n b) (sym (counted s))
+          ∙ reply-filled d at (done s) (s .args .book .now) fit,
     )
 
 pub block-reply-spec : {M : Type 1} → statement M

@@ -133,8 +133,8 @@ returns-2 c = let l = c .before .before .before .before .before .before .before 
     let k : (kindAt (deck l) (l .loop .next) ≡ 1 → ⊥) = λ e. c .before .if1 .taken (c .before .before .before .le16-at .ensures ∙ e) in
     let f = record-fine (c .before .before .before .before) in (
       c .deck-at .ensures
-      ∙ said (deck l) (l .loop .blocks) (done l) (l .loop .count) (l .loop .next) t (sym (counted l))
-      ∙ ap saidDeck (sym (left l ∙ no-block (mostBlocks - l .loop .count) (last l) (deck l) (l .loop .next) (done l) f k)),
+          ∙ said (deck l) (l .loop .blocks) (done l) (l .loop .count) (l .loop .next) t (sym (counted l))
+          ∙ ap saidDeck (sym (left l ∙ no-block (mostBlocks - l .loop .count) (last l) (deck l) (l .loop .next) (done l) f k)),
       sym (book-left l ∙ book-no-block (mostBlocks - l .loop .count) (last l) (deck l) (l .loop .next) (done l) (l .loop .book) f k),
     )
 
@@ -166,11 +166,11 @@ returns-3 c = let l = c .before .before .before .before .before .before .before 
     let f = record-fine (c .before .before .before .before .before .before .before .before .before .before .before) in
     let g = is-block (c .before .before .before .before .before .before .before .before) in (
       c .deck-refused2 .ensures
-      ∙ ap refusedDeck (r .1)
-      ∙ ap saidDeck (sym (left l ∙ bad-block k (last l) (deck l) (l .loop .next) (done l) f g (r .0 .0) e)),
+          ∙ ap refusedDeck (r .1)
+          ∙ ap saidDeck (sym (left l ∙ bad-block k (last l) (deck l) (l .loop .next) (done l) f g (r .0 .0) e)),
       c .before .before .before .before .before .block-reply .ensures .1
-      ∙ reply-stays (deck l) (l .loop .next) (done l) (l .loop .book) (r .0 .0) e
-      ∙ sym (book-left l ∙ book-bad-block k (last l) (deck l) (l .loop .next) (done l) (l .loop .book) f g (r .0 .0) e),
+          ∙ reply-stays (deck l) (l .loop .next) (done l) (l .loop .book) (r .0 .0) e
+          ∙ sym (book-left l ∙ book-bad-block k (last l) (deck l) (l .loop .next) (done l) (l .loop .book) f g (r .0 .0) e),
     )
 
 mul-blocks : tie.Need-mul-blocks Inv-loop μ-loop
@@ -213,7 +213,7 @@ loop-again c = let l = c .before .before .before .before .before .before .before
       table-next (l .loop .blocks) k (b .result) (l .loop .inv .4),
       c .before .before .before .before .book .given ∙ l .loop .inv .5,
       rw (m, table-grows (l .loop .blocks) k (b .result) (omega arith), b .ensures, c .le16-at2 .ensures, c .before .before .before .before .before .block-reply .ensures .1)
-      (book-left l ∙ book-one-block (mostBlocks - k) (last l) (deck l) (l .loop .next) (done l) (l .loop .book) f g h),
+          (book-left l ∙ book-one-block (mostBlocks - k) (last l) (deck l) (l .loop .next) (done l) (l .loop .book) f g h),
     )
 
 pub read-blocks-spec : {M : Type 1} → statement M
