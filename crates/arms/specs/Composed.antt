@@ -1,5 +1,5 @@
 -- Laws. Arms joined one by one to a core give what composing gives for placements that are all joined to the first. Assumes nothing.
-use Prim.Native.Nat.{ℕ, zero, suc, _+_, _*_, _-_, _^_, _≤_, _<_}
+use Prim.Native.Nat.{ℕ, zero, suc, _-_, _≤_, _<_}
 use mathlib.Core.List.{List}
 use mathlib.Core.Path.{_≡_, refl, sym, _∙_, ap, ap₂}
 use native.Mathlib.Omega.{arith}
@@ -13,7 +13,7 @@ use Rattle.tables.specs.Parts.{Part, grow, joinSix, farIn, sightIn, sixIn}
 use Rattle.tables.specs.Whole.{far-old, sight-old}
 use Rattle.tables.specs.Bounds.{SmallPart, SixBytes, held-bytes, sight-held, six-held}
 use Rattle.joining.specs.Joining.{grownOf, joinedOf}
-use Rattle.joining.specs.Small.{SmallCounts, SmallFields, grown-small, joined-small}
+use Rattle.joining.specs.Small.{SmallCounts, grown-small, joined-small}
 use Rattle.summary.specs.Layout.{storedFields, seenAt, keptOf}
 use Rattle.summaries.proofs.Small.{vertex-bytes, far-few}
 use Rattle.summaries.proofs.Ports.{small-held, room-held, room-bytes}

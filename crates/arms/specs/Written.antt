@@ -1,29 +1,27 @@
 -- Laws. The core and the arms of an assembly over a deck's blocks, joined one by one, have the fields of the one molecule with every atom and bond written out.
 -- Assumes nothing.
-use Prim.Native.Nat.{ℕ, suc, _+_, _*_, _-_, _^_, _≤_, _<_}
-use mathlib.Core.Bool.{Bool, true, false}
-use mathlib.Core.List.{List, [], _∷_, _++_}
-use mathlib.Core.Path.{_≡_, refl, sym, _∙_, ap}
+use Prim.Native.Nat.{ℕ, suc, _+_, _-_, _≤_, _<_}
+use mathlib.Core.Bool.{true}
+use mathlib.Core.List.{List}
+use mathlib.Core.Path.{_≡_, refl, _∙_, ap}
 use native.Mathlib.Decide.{decLt}
 use native.Mathlib.Nat.{mul-le-mul}
 use native.Mathlib.Omega.{arith}
 use borrow.Author.Tests.{le-ltb}
 use lib.ListN.{length, getD, take, drop, replicate, getD-replicate, length-replicate, List·getD-eq-default}
-use lib.Seq.{sets, sets-eq, take-at}
-use Rattle.graph.specs.Graph.{Graph, Molecule, Within}
+use lib.Seq.{sets-eq, take-at}
+use Rattle.graph.specs.Graph.{Graph}
 use Rattle.graph.specs.Assembly.{written}
 use Rattle.graph.specs.Bounds.{tame-itself, tame-even, tame-odd, tame-at, total-most}
 use Rattle.graph.specs.Largest.{largest-below}
-use Rattle.reply.specs.Read.{Read, refused, read, _then_, refuseIf}
+use Rattle.reply.specs.Read.{Read, refused, read}
 use Rattle.block.specs.Block.{graphOf, blockReply}
 use Rattle.block.specs.Index.{indicesOf}
 use Rattle.block.specs.Told.{few-atoms, molecule}
 use Rattle.block.specs.Tables.{getD-table}
-use Rattle.block.specs.declared.Indices.{Indices}
-use Rattle.sighted.specs.declared.Seen.{Seen}
-use Rattle.assembly.specs.Book.{Book, find, used, bondBytes, bookOf}
+use Rattle.assembly.specs.Book.{find, used, bondBytes, bookOf}
 use Rattle.assembly.specs.Placements.{placementCount, placementAt, graphOn, joinOf, joinOn, assemblyReply}
-use Rattle.assembly.specs.Sound.{WholeAssembly, whole, assembled}
+use Rattle.assembly.specs.Sound.{whole, assembled}
 use Rattle.assembly.specs.declared.BlockAt.{BlockAt}
 use Rattle.tables.specs.Bounds.{SixBytes}
 use Rattle.tables.specs.Table.{tableOf, Told}
@@ -34,7 +32,7 @@ use Rattle.summary.specs.Back.{summary-fits, fields-told, summary-told}
 use Rattle.summaries.specs.Ready.{LentBytes}
 use Rattle.summaries.proofs.Ports.{fields-bytes}
 use Rattle.filling.specs.Reply.{fillReply, filledSummary, fillBytes}
-use Rattle.arms.specs.Arms.{mostArms, noSeen, noArm, coreIn, opened, armOf, coreOf, sixOf}
+use Rattle.arms.specs.Arms.{mostArms, noSeen, noArm, coreIn, opened, armOf, sixOf}
 use Rattle.arms.specs.Composed.{Keeps, six-composed}
 use Rattle.arms.specs.declared.Arm.{Arm}
 use Rattle.arms.specs.declared.Core.{Core}

@@ -10,9 +10,9 @@ use summary::SUMMARY;
 use summary::fields;
 use summary::seen;
 ghost use mathlib.Core.Path.{_≡_};
-ghost use Prim.Native.Nat.{_<_, _≤_, min};
+ghost use Prim.Native.Nat.{_<_, min};
 ghost use Rattle.filling.specs.Reply.{fillBytes};
-ghost use Rattle.arms.specs.Arms.{mostArms, armRow, rowArm, armIn, armOf, coreIn, coreOf, sightOf, sixOf, stemOf, joinedTo};
+ghost use Rattle.arms.specs.Arms.{mostArms, armRow, rowArm, armIn, armOf, coreIn, coreOf, sightOf, stemOf, joinedTo};
 
 // The most arms of a core.
 pub const ARMS: usize = 4;

@@ -10,7 +10,6 @@ use borrow.Author.Tests.{eq-eqb, ne-eqb, eqb-true, eqb-false, lt-ltb, le-ltb}
 use lib.Dec.{eqb, ltb}
 use lib.ListN.{length, getD, take, drop, length-take, length-drop, take-append-drop}
 use lib.Seq.{sets, length-sets, sets-eq, getD-take, drop-drop}
-use Rattle.filling.specs.Reply.{fillReply, filledSummary, fillBytes}
 use Rattle.graph.specs.Graph.{Graph, Within, degree}
 use Rattle.graph.specs.Bonds.{both}
 use Rattle.graph.specs.Distance.{not-true}
@@ -27,21 +26,7 @@ use Rattle.summary.specs.Back.{length-summary, summary-fits, summary-told, ends
 use Rattle.shelf.specs.Shelf.{placesIn, summaryAt, placeFrom, placeOf, shelfIn}
 use Rattle.shelf.specs.Places.{place-here, place-next, place-none, place-zero, place-some}
 use Rattle.summaries.specs.Written.{HonestBook}
-use Rattle.deck.proofs.Filled.{in-place}
 use Rattle.deck.specs.Booked.{blockIn, summaryIn, Blank, HoldsBlock, Booked}
-
-module _ (d : List ℕ) (c : BlockAt) (fine : blockReply (c .atoms) (bondBytes d c) ≡ read tt) (b : List ℕ) (i : ℕ) (room : summaryBytes * i + summaryBytes ≤ length b) where
-  abbrev lent : List ℕ
-  lent = take (summaryBytes * i + summaryBytes - summaryBytes * i) (drop (summaryBytes * i) b)
-
-  pub put-at : (bs : List ℕ) → bs ≡ bondBytes d c → (new : List ℕ) → new ≡ fillBytes (c .number) (c .atoms) bs lent
-      → take (summaryBytes * i) b ++ (new ++ drop (summaryBytes * i + summaryBytes - summaryBytes * i) (drop (summaryBytes * i) b)) ≡ sets b (summaryBytes * i) (summaryIn d c)
-  unfolding fillReply filledSummary
-  put-at bs e new q =
-      let width : summaryBytes * i + summaryBytes - summaryBytes * i ≡ summaryBytes = omega arith in
-      let long : summaryBytes ≤ length (take summaryBytes (drop (summaryBytes * i) b)) = omega (arith, length-take summaryBytes (drop (summaryBytes * i) b), length-drop (summaryBytes * i) b) in
-      rw (q, e, width, fine, le-ltb (length (take summaryBytes (drop (summaryBytes * i) b))) summaryBytes long)
-      (in-place summaryBytes (summaryBytes * i) b (summaryIn d c) (summary-fits (c .number) (c .atoms) (bondBytes d c) fine) room)
 
 -- nothing is filled
 pub booked-none : {d : List ℕ} {bs : List BlockAt} {count : ℕ} {b : List ℕ} → Blank d bs count b → Booked d bs b 0

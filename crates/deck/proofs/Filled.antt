@@ -31,7 +31,7 @@ behind (suc n) zero d h = absurd (omega arith)
 behind (suc n) (suc w) [] h = refl
 behind (suc n) (suc w) (x ∷ d) h = behind n w d (omega arith)
 
-pub in-place : (w at : ℕ) (s v : List ℕ) → length v ≤ w → at + w ≤ length s → take at s ++ (sets (take w (drop at s)) 0 v ++ drop w (drop at s)) ≡ sets s at v
+in-place : (w at : ℕ) (s v : List ℕ) → length v ≤ w → at + w ≤ length s → take at s ++ (sets (take w (drop at s)) 0 v ++ drop w (drop at s)) ≡ sets s at v
 in-place w at s v l h =
     let d = drop at s in
     let z : 0 + length v ≤ length (take w d) = omega (arith, length-take w d, length-drop at s) in

@@ -1,6 +1,6 @@
 -- A choice, digit by digit from the last site's. Assumes nothing.
-use Prim.Native.Nat.{ℕ, zero, suc, _/_, _%_, _≤_, _<_}
-use mathlib.Core.List.{List, [], _∷_}
+use Prim.Native.Nat.{ℕ, suc, _/_, _%_, _≤_, _<_}
+use mathlib.Core.List.{List, _∷_}
 use mathlib.Core.Path.{_≡_, refl, _∙_, ap₂}
 use native.Mathlib.Omega.{arith}
 use lib.ListN.{length, getD, set}

@@ -1,13 +1,12 @@
 -- A field of a library's products, put into a row. Assumes nothing.
-use Prim.Native.Nat.{ℕ, _+_, _-_, _≤_, _<_, min}
-use mathlib.Core.Bool.{Bool, true, false}
-use mathlib.Core.List.{List, [], _∷_, _++_}
+use Prim.Native.Nat.{ℕ, _-_, min}
+use mathlib.Core.Bool.{true, false}
+use mathlib.Core.List.{List, [], _∷_}
 use mathlib.Core.Path.{_≡_, refl, sym, _∙_, ap}
 use native.Mathlib.Omega.{arith}
-use lib.ListN.{length, getD, drop, set}
+use lib.ListN.{length, getD}
 use Rattle.reply.specs.Read.{refused, read, refusal, isOutside}
 use Rattle.reply.specs.declared.Refusal.{Refusal}
-use Rattle.block.specs.Rows.{table}
 use Rattle.block.specs.Tables.{length-table}
 use Rattle.block.specs.declared.Indices.{Indices}
 use Rattle.sheets.specs.Sheets.{allFields}

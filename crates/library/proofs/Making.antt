@@ -13,7 +13,7 @@ use Rattle.records.specs.Records.{payloadAt}
 use Rattle.assembly.specs.Book.{find, bondBytes}
 use Rattle.assembly.specs.declared.BlockAt.{BlockAt}
 use Rattle.products.specs.Library.{mostSites, coreNumber, candidateNumber, candidateAtom, candidateAt, Library, libraryReply}
-use Rattle.products.specs.Products.{products, productAt, done, made, productReply}
+use Rattle.products.specs.Products.{products, productAt, productReply}
 use Rattle.products.specs.Sound.{whole}
 use Rattle.products.specs.declared.Site.{Site}
 use Rattle.catalogue.specs.Said.{saidLibrary}

@@ -1,8 +1,8 @@
 -- Laws. What is kept of a library that is read gives the fields of each product: a product is an assembly whose placements are all joined to the first, so its
 -- fields are those of the core with its arms. Assumes nothing.
-use Prim.Native.Nat.{ℕ, zero, suc, _+_, _*_, _-_, _≤_, _<_}
-use mathlib.Core.Bool.{true, false}
-use mathlib.Core.List.{List, [], _∷_, _++_}
+use Prim.Native.Nat.{ℕ, zero, suc, _-_, _≤_, _<_}
+use mathlib.Core.Bool.{true}
+use mathlib.Core.List.{List, _∷_}
 use mathlib.Core.Logic.{⊎-elim}
 use mathlib.Core.Path.{_≡_, refl, sym, _∙_, ap, subst}
 use native.Mathlib.Nat.{le-suc-iff, eq-or-lt-of-le}
@@ -13,8 +13,7 @@ use Rattle.block.specs.Block.{blockReply}
 use Rattle.block.specs.Tables.{getD-table}
 use Rattle.records.specs.Records.{payloadAt}
 use Rattle.assembly.specs.Book.{Book, find, used, bondBytes, bookOf}
-use Rattle.assembly.specs.Placements.{placementCount, placementAt}
-use Rattle.assembly.specs.declared.BlockAt.{BlockAt}
+use Rattle.assembly.specs.Placements.{placementAt}
 use Rattle.assembly.specs.declared.Placement.{Placement}
 use Rattle.deck.specs.Kept.{kept}
 use Rattle.deck.specs.Sound.{found}

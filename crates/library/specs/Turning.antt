@@ -8,7 +8,6 @@ use native.Mathlib.Omega.{arith}
 use lib.ListN.{length, getD, set, take, drop}
 use lib.Seq.{getD-set-same, getD-set-other}
 use Rattle.reply.specs.Read.{read}
-use Rattle.block.specs.declared.Indices.{Indices}
 use Rattle.records.specs.declared.Sheet.{Sheet}
 use Rattle.assembly.specs.declared.BlockAt.{BlockAt}
 use Rattle.products.specs.Library.{mostSites, mostCandidates, Library, libraryReply}

@@ -1,15 +1,20 @@
-//! Inputs to begin with: the documents' graphs and decks, the specimens of every refusal, libraries, texts, two queues.
+//! Inputs to begin with: the documents' graphs and decks, the specimens of every refusal, libraries, texts, two queues; and some decks and
+//! libraries by chance, which have more blocks and placements.
 
 use opinion::deck::Form;
 use opinion::documents::{ten_graphs, FORTY, NAPHTHALENE};
+use opinion::make::decks::random_deck;
+use opinion::make::libraries::random_library;
 use opinion::make::library_specimens::{libraries, TWO_PRODUCTS};
+use opinion::make::random::Random;
 use opinion::make::{shapes, specimens};
 use opinion::molecule::Measurer;
 use opinion::{answers, molfile, neighbours};
 use std::path::Path;
 use std::{fs, io};
 
-const LONGEST: usize = 2_000;
+const LONGEST: usize = 1_200;
+const BY_CHANCE: usize = 150;
 
 /// Writes each seed to a file of its own.
 pub fn write(folder: &Path) -> io::Result<()> {
@@ -30,6 +35,8 @@ fn all() -> Vec<Vec<u8>> {
     let mut seeds = Vec::new();
     let mut decks: Vec<Vec<u8>> = ten_graphs().into_iter().map(|(_, deck, _)| deck.bytes()).collect();
     decks.push(FORTY.to_vec());
+    let random = &mut Random::new(41);
+    decks.extend((0..BY_CHANCE).map(|_| random_deck(random).bytes()));
     decks.extend(specimens::decks().into_iter().filter(|one| one.form == Form::Composed).map(|one| one.deck));
     let mut judged: Vec<Vec<u8>> =
         specimens::decks().into_iter().filter(|one| one.form == Form::Judged).map(|one| one.deck).collect();
@@ -43,8 +50,10 @@ fn all() -> Vec<Vec<u8>> {
         judged.extend(written.into_iter().flatten().map(|sheet| [&deck[..], &sheet].concat()));
     }
     seeds.extend(judged.iter().map(|deck| input(0, [0; 4], deck)));
-    for deck in libraries().into_iter().map(|one| one.deck).chain([TWO_PRODUCTS.to_vec()]) {
+    let by_chance: Vec<Vec<u8>> = (0..BY_CHANCE).map(|_| random_library(random).bytes()).collect();
+    for deck in libraries().into_iter().map(|one| one.deck).chain([TWO_PRODUCTS.to_vec()]).chain(by_chance) {
         seeds.extend((6..9).map(|which| input(which, [4, 0, 0, 0], &deck)));
+        seeds.push(input(28, [2, 0, 3, 0], &deck));
     }
     let mut blocks: Vec<(usize, Vec<u8>)> =
         specimens::blocks().into_iter().map(|one| (one.atoms.min(255), one.bonds)).collect();

@@ -1,10 +1,10 @@
 -- `arms::core_in` meets its contract. The loop's invariant: the first k ends are seen. Assumes nothing.
 use Prim.Native.Nat.{ℕ, _-_, _≤_, _<_}
-use mathlib.Core.Path.{_≡_, refl, _∙_, ap}
+use mathlib.Core.Path.{_≡_, refl, _∙_}
 use native.Mathlib.Omega.{arith}
 use lib.ListN.{length, getD, length-set}
 use borrow.Author.Needs.{needs}
-use Rattle.summary.specs.Layout.{storedFields, seenAt}
+use Rattle.summary.specs.Layout.{seenAt}
 use Rattle.arms.specs.Arms.{mostArms, noSeen}
 use Rattle.arms.proofs.Keeping.{put-next, core-kept}
 use Rattle.arms.proofs.core_in.Statement.{statement}

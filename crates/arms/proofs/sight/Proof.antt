@@ -1,5 +1,5 @@
 -- `arms::sight` meets its contract. The loop's invariant: v is counted once the first m arms are joined. Assumes nothing.
-use Prim.Native.Nat.{ℕ, _-_, _≤_}
+use Prim.Native.Nat.{_-_, _≤_}
 use mathlib.Core.Path.{_≡_, _∙_, ap}
 use native.Mathlib.Omega.{arith}
 use lib.ListN.{getD}

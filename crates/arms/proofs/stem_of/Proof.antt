@@ -1,5 +1,5 @@
 -- `arms::stem_of` meets its contract. The loop's invariant: the fields are those with the first k arms. Assumes nothing.
-use Prim.Native.Nat.{ℕ, _-_, _≤_, min}
+use Prim.Native.Nat.{_-_, _≤_, min}
 use mathlib.Core.Path.{_≡_}
 use native.Mathlib.Omega.{arith}
 use borrow.Author.Needs.{needs}

@@ -1,7 +1,7 @@
 -- `library::run_read` meets its contract. Assumes nothing.
 use Prim.Native.Nat.{ℕ, _≤_}
 use mathlib.Core.List.{List}
-use mathlib.Core.Path.{_≡_, sym, ap, subst}
+use mathlib.Core.Path.{sym, ap, subst}
 use lib.ListN.{length, take, getD}
 use Rattle.records.specs.Records.{payloadAt}
 use Rattle.catalogue.specs.Said.{noSite}

@@ -1,7 +1,7 @@
 -- `library::values_read` meets its contract. Assumes nothing.
 use Prim.Native.Nat.{ℕ, _≤_}
 use mathlib.Core.List.{List}
-use mathlib.Core.Path.{_≡_, sym, subst}
+use mathlib.Core.Path.{sym, subst}
 use lib.ListN.{length, take, getD}
 use Rattle.records.specs.Records.{payloadAt}
 use Rattle.catalogue.specs.Said.{noSite}

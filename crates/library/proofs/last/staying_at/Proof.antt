@@ -1,6 +1,5 @@
 -- `library::last::staying_at` meets its contract. Assumes nothing.
-use Prim.Native.Nat.{ℕ, suc, _-_, _≤_, _<_, min}
-use mathlib.Core.List.{List}
+use Prim.Native.Nat.{suc, _-_, _≤_, _<_, min}
 use mathlib.Core.Path.{_≡_, _∙_, ap}
 use native.Mathlib.Omega.{arith}
 use lib.ListN.{length, getD}

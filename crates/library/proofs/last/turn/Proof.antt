@@ -1,12 +1,11 @@
 -- `library::last::turn` meets its contract. Assumes nothing.
 use Prim.Native.Nat.{ℕ, zero, suc, _+_, _-_, _^_, _≤_, _<_}
-use mathlib.Core.List.{List, [], _++_}
+use mathlib.Core.List.{List, _++_}
 use mathlib.Core.Path.{_≡_, refl, sym, _∙_, ap, subst}
 use native.Mathlib.Omega.{arith}
-use lib.ListN.{length, getD, take, drop}
+use lib.ListN.{length, take, drop}
 use borrow.Author.Needs.{needs}
-use Rattle.block.specs.declared.Indices.{Indices}
-use Rattle.arms.specs.Arms.{joinedTo, rowArm}
+use Rattle.arms.specs.Arms.{joinedTo}
 use Rattle.sheets.specs.Sheets.{sheetBytes}
 use Rattle.products.specs.Library.{Library}
 use Rattle.products.specs.Products.{products, productAt}

@@ -8,7 +8,6 @@ use borrow.Author.Needs.{needs}
 use Rattle.arms.specs.Arms.{noArm, rowArm}
 use Rattle.arms.proofs.Keeping.{put-next}
 use Rattle.products.specs.Library.{mostSites, mostCandidates}
-use Rattle.library.specs.Kept.{Picked}
 use Rattle.library.proofs.spread.pick.Statement.{statement}
 use Rattle.library.proofs.spread.pick.Tie as tie
 
