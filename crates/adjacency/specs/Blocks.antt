@@ -13,7 +13,7 @@ use Rattle.reply.specs.Read.{Read, refused, read, _then_, refuseIf, refuseFor, 
 use Rattle.reply.specs.Chain.{not-read}
 use Rattle.block.specs.Block.{mostAtoms, mostBytes, bondsOf, graphOf, bondFault, bondsReply}
 use Rattle.reply.specs.declared.Refusal.{Refusal}
-use Rattle.adjacency.specs.Neighbours.{TextNumber, number, numbers, faultAt, shapeFrom, steps, neighboursReply, Step, described, bonded, bondsIn, stepsReply, bondsLength, bondListBytes, molecule, blockOf, bytesAfter}
+use Rattle.adjacency.specs.Neighbours.{TextNumber, textNumber, numbers, faultAt, shapeFrom, steps, neighboursReply, Step, described, bonded, bondsIn, stepsReply, bondsLength, bondListBytes, molecule, blockOf, bytesAfter}
 use Rattle.adjacency.specs.Work.{until, anyHigh, putAt, FewBonds, Sized, keptReply, labelRefused, highReply}
 use Rattle.adjacency.specs.Judging.{sized}
 
@@ -222,7 +222,7 @@ module _ (text : List ℕ) (room : ℕ) where
     unfolding neighboursReply
     reply-none e = rw (le-ltb (faultAt text) (length text) fine, e)
 
-    module _ (n p : ℕ) (xs : List TextNumber) (e : numbers text ≡ number n p ∷ xs) where
+    module _ (n p : ℕ) (xs : List TextNumber) (e : numbers text ≡ textNumber n p ∷ xs) where
       pub reply-shape : (r : Refusal) → shapeFrom (length text) 0 xs ≡ refused r → neighboursReply text room ≡ refused r
       unfolding neighboursReply
       reply-shape r f = rw (le-ltb (faultAt text) (length text) fine, e, f)

@@ -7,10 +7,10 @@ use native.Mathlib.Omega.{arith}
 use lib.ListN.{length}
 use Rattle.graph.specs.Bonds.{both}
 use Rattle.text.specs.Text.{isDigit, digit, allDigits, valueFrom}
-use Rattle.adjacency.specs.Neighbours.{number, tooMuch, grown, run, numbersFrom}
+use Rattle.adjacency.specs.Neighbours.{textNumber, tooMuch, grown, run, numbersFrom}
 
 pub capped : (ds rest : List ℕ) (v place at : ℕ) → allDigits ds ≡ true
-    → numbersFrom (run (number (min v tooMuch) place)) at (ds ++ rest) ≡ numbersFrom (run (number (min (valueFrom v ds) tooMuch) place)) (at + length ds) rest
+    → numbersFrom (run (textNumber (min v tooMuch) place)) at (ds ++ rest) ≡ numbersFrom (run (textNumber (min (valueFrom v ds) tooMuch) place)) (at + length ds) rest
 unfolding valueFrom allDigits numbersFrom
 capped [] rest v place at d = let e : at + 0 ≡ at = omega arith in rw e
 capped (b ∷ ds) rest v place at d =

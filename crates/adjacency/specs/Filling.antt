@@ -5,7 +5,7 @@ use mathlib.Core.List.{List, [], _∷_}
 use mathlib.Core.Path.{_≡_, refl, sym, _∙_, ap}
 use native.Mathlib.Omega.{arith}
 use lib.ListN.{length, set, length-set}
-use Rattle.adjacency.specs.Neighbours.{TextNumber, number, labelAfter, Step, askedFrom, end}
+use Rattle.adjacency.specs.Neighbours.{TextNumber, textNumber, labelAfter, Step, askedFrom, end}
 use Rattle.adjacency.specs.Work.{isBond, isHigh, until, anyHigh, putAt, putOne, putEnd, BondsPut, Filling}
 use Rattle.adjacency.specs.Turns.{steps-none, steps-more, high-none, high-any, low-any, low-put, low-count}
 
@@ -23,7 +23,7 @@ module _ {n : ℕ} {ss : List Step} {first : List ℕ} {label : ℕ} {xs : List 
       let s = steps-none label e in
       record { bytes = sym (f .bytes ∙ rw s); counted = sym (f .count ∙ rw s (omega arith)); stopped = sym (f .high ∙ rw s); same = f .same }
 
-  module _ {v q : ℕ} {ys : List TextNumber} (e : xs ≡ number v q ∷ ys) where
+  module _ {v q : ℕ} {ys : List TextNumber} (e : xs ≡ textNumber v q ∷ ys) where
     pub filling-high : isHigh n label v ≡ true → BondsPut n ss first out p true
     unfolding putAt
     filling-high h =

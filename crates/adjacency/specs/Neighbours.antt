@@ -14,8 +14,8 @@ pub record TextNumber : Type 0 where
   pub value : ℕ
   pub place : ℕ
 
-abbrev pub number : ℕ → ℕ → TextNumber
-number v p = record { value = v; place = p }
+abbrev pub textNumber : ℕ → ℕ → TextNumber
+textNumber v p = record { value = v; place = p }
 
 -- the most that a number may say; what is above it says `tooMuch`
 abbrev pub mostValue : ℕ
@@ -35,8 +35,8 @@ pub data Run : Type 0 where
 
 -- a run that the digit b at a place makes longer
 abbrev pub longer : Run → ℕ → ℕ → Run
-longer none at b = run (number (grown 0 b) at)
-longer (run x) at b = run (number (grown (x .value) b) (x .place))
+longer none at b = run (textNumber (grown 0 b) at)
+longer (run x) at b = run (textNumber (grown (x .value) b) (x .place))
 
 -- a run that ends, and the numbers after it
 abbrev pub ended : Run → List TextNumber → List TextNumber

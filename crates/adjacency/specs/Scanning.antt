@@ -11,7 +11,7 @@ use lib.ListN.{length, getD, drop, drop-of-length-le, length-drop}
 use lib.Seq.{drop-cons}
 use Rattle.reply.specs.Read.{ifElse}
 use Rattle.text.specs.Text.{isDigit}
-use Rattle.adjacency.specs.Neighbours.{TextNumber, number, mostValue, tooMuch, grown, Run, none, run, longer, ended, numbersFrom, isApart, isGood, goodBytes, largeAt, faultAt}
+use Rattle.adjacency.specs.Neighbours.{TextNumber, textNumber, mostValue, tooMuch, grown, Run, none, run, longer, ended, numbersFrom, isApart, isGood, goodBytes, largeAt, faultAt}
 use Rattle.adjacency.specs.Work.{numbersAt, valueAfter, startAfter, Looking}
 
 module _ (t : List ℕ) (i : ℕ) where
@@ -33,11 +33,11 @@ module _ (t : List ℕ) (i : ℕ) where
     unfolding numbersFrom
     numbers-skip e = rw (drop-cons t i 0 h, e, add-one i)
 
-    pub numbers-first : isDigit (getD t i 0) ≡ true → numbersAt t i ≡ numbersFrom (run (number (grown 0 (getD t i 0)) i)) (i + 1) (drop (i + 1) t)
+    pub numbers-first : isDigit (getD t i 0) ≡ true → numbersAt t i ≡ numbersFrom (run (textNumber (grown 0 (getD t i 0)) i)) (i + 1) (drop (i + 1) t)
     unfolding numbersFrom
     numbers-first e = rw (drop-cons t i 0 h, e, add-one i)
 
-    pub run-more : (x : TextNumber) → isDigit (getD t i 0) ≡ true → numbersFrom (run x) i (drop i t) ≡ numbersFrom (run (number (grown (x .value) (getD t i 0)) (x .place))) (i + 1) (drop (i + 1) t)
+    pub run-more : (x : TextNumber) → isDigit (getD t i 0) ≡ true → numbersFrom (run x) i (drop i t) ≡ numbersFrom (run (textNumber (grown (x .value) (getD t i 0)) (x .place))) (i + 1) (drop (i + 1) t)
     unfolding numbersFrom
     run-more x e = rw (drop-cons t i 0 h, e, add-one i)
 
@@ -54,25 +54,25 @@ module _ (t : List ℕ) (i : ℕ) where
     good-bad e = rw (drop-cons t i 0 h, e)
 
 -- a 0 before a place where none goes on changes nothing of what is too large
-run-of-none : (last i : ℕ) (bs : List ℕ) → largeAt last (numbersFrom (run (number 0 i)) i bs) ≡ largeAt last (numbersFrom none i bs)
+run-of-none : (last i : ℕ) (bs : List ℕ) → largeAt last (numbersFrom (run (textNumber 0 i)) i bs) ≡ largeAt last (numbersFrom none i bs)
 unfolding numbersFrom largeAt
 run-of-none last i [] = refl
 run-of-none last i (b ∷ bs) = go (isDigit b)
   where
     go : (t : Bool)
-        → largeAt last (ifElse t (λ _. numbersFrom (longer (run (number 0 i)) i b) (i + 1) bs) (λ _. ended (run (number 0 i)) (numbersFrom none (i + 1) bs)))
+        → largeAt last (ifElse t (λ _. numbersFrom (longer (run (textNumber 0 i)) i b) (i + 1) bs) (λ _. ended (run (textNumber 0 i)) (numbersFrom none (i + 1) bs)))
         ≡ largeAt last (ifElse t (λ _. numbersFrom (longer none i b) (i + 1) bs) (λ _. ended none (numbersFrom none (i + 1) bs)))
     go true = refl
     go false = refl
 
 -- what is too large stays so, whatever digits follow
-run-large : (last start at : ℕ) (bs : List ℕ) → largeAt last (numbersFrom (run (number tooMuch start)) at bs) ≡ start
+run-large : (last start at : ℕ) (bs : List ℕ) → largeAt last (numbersFrom (run (textNumber tooMuch start)) at bs) ≡ start
 unfolding numbersFrom largeAt
 run-large last start at [] = refl
 run-large last start at (b ∷ bs) = go (isDigit b) (run-large last start (at + 1) bs)
   where
-    go : (t : Bool) → largeAt last (numbersFrom (run (number tooMuch start)) (at + 1) bs) ≡ start
-        → largeAt last (ifElse t (λ _. numbersFrom (longer (run (number tooMuch start)) at b) (at + 1) bs) (λ _. ended (run (number tooMuch start)) (numbersFrom none (at + 1) bs))) ≡ start
+    go : (t : Bool) → largeAt last (numbersFrom (run (textNumber tooMuch start)) (at + 1) bs) ≡ start
+        → largeAt last (ifElse t (λ _. numbersFrom (longer (run (textNumber tooMuch start)) at b) (at + 1) bs) (λ _. ended (run (textNumber tooMuch start)) (numbersFrom none (at + 1) bs))) ≡ start
     go true more = let e : grown tooMuch b ≡ tooMuch = omega arith in rw e more
     go false more = refl
 
@@ -106,7 +106,7 @@ later (run x) last at (b ∷ bs) p h = go (isDigit b) (later (longer (run x) at 
     go true q r = q
     go false q r = passed x last (numbersFrom none (at + 1) bs) (omega arith)
 
-small-passed : (last v p : ℕ) (xs : List TextNumber) → v ≤ mostValue → largeAt last (number v p ∷ xs) ≡ largeAt last xs
+small-passed : (last v p : ℕ) (xs : List TextNumber) → v ≤ mostValue → largeAt last (textNumber v p ∷ xs) ≡ largeAt last xs
 unfolding largeAt
 small-passed last v p xs h = rw (le-ltb mostValue v h)
 
@@ -122,7 +122,7 @@ looking-start t = record { same = let e : 0 + goodBytes t ≡ goodBytes t = omeg
 module _ {t : List ℕ} {value start i : ℕ} (l : Looking t value start i) where
   -- a number that goes on here, or ends here
   abbrev here : TextNumber
-  here = number value start
+  here = textNumber value start
 
   stopped : (xs : List TextNumber) → numbersFrom (run here) i (drop i t) ≡ here ∷ xs → largeAt (length t) (numbersFrom (run here) i (drop i t)) ≡ largeAt (length t) xs
   stopped xs e = ap (largeAt (length t)) e ∙ small-passed (length t) value start xs (l .small)
@@ -156,7 +156,7 @@ module _ {t : List ℕ} {value start i : ℕ} (l : Looking t value start i) wher
               arith,
               l .same,
               l .first,
-              ap (largeAt (length t)) (run-more t i h here e) ∙ ap (λ (v : ℕ). largeAt (length t) (numbersFrom (run (number v start)) (i + 1) (drop (i + 1) t))) g ∙ run-large (length t) start (i + 1) (drop (i + 1) t),
+              ap (largeAt (length t)) (run-more t i h here e) ∙ ap (λ (v : ℕ). largeAt (length t) (numbersFrom (run (textNumber v start)) (i + 1) (drop (i + 1) t))) g ∙ run-large (length t) start (i + 1) (drop (i + 1) t),
             )
         go false e q = absurd (omega arith)
 

@@ -10,14 +10,14 @@ use Rattle.graph.specs.Graph.{bond}
 use Rattle.reply.specs.Read.{Read, refused, read, refusal, _then_}
 use Rattle.reply.specs.Chain.{not-read}
 use Rattle.reply.specs.declared.Refusal.{Refusal}
-use Rattle.adjacency.specs.Neighbours.{TextNumber, number, labelAfter, isLast, lastReply, shapeFrom, end, Step, described, bonded, asked, askedFrom, bondsIn}
+use Rattle.adjacency.specs.Neighbours.{TextNumber, textNumber, labelAfter, isLast, lastReply, shapeFrom, end, Step, described, bonded, asked, askedFrom, bondsIn}
 use Rattle.adjacency.specs.Work.{isBond, isHigh, shapedFrom, until, anyHigh, putAt, putOne, putEnd}
 
 pub steps-none : (label : ℕ) {xs : List TextNumber} → xs ≡ [] → askedFrom label xs ≡ []
 unfolding askedFrom
 steps-none label e = rw e
 
-pub steps-more : (label : ℕ) {v p : ℕ} {xs ys : List TextNumber} → xs ≡ number v p ∷ ys → askedFrom label xs ≡ asked label v ++ askedFrom (labelAfter label v) ys
+pub steps-more : (label : ℕ) {v p : ℕ} {xs ys : List TextNumber} → xs ≡ textNumber v p ∷ ys → askedFrom label xs ≡ asked label v ++ askedFrom (labelAfter label v) ys
 unfolding askedFrom
 steps-more label e = rw e
 
@@ -89,7 +89,7 @@ module _ (last k label : ℕ) {xs : List TextNumber} where
   unfolding shapeFrom
   shaped-none e = rw e
 
-  module _ {v p : ℕ} {ys : List TextNumber} (e : xs ≡ number v p ∷ ys) where
+  module _ {v p : ℕ} {ys : List TextNumber} (e : xs ≡ textNumber v p ∷ ys) where
     count-more : k + length (bondsIn (askedFrom label xs)) ≡ k + cond (isBond label v) 1 0 + length (bondsIn (askedFrom (labelAfter label v) ys))
     count-more = let c = counted label v (askedFrom (labelAfter label v) ys) in rw (steps-more label e) (omega arith)
 

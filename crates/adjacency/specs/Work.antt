@@ -11,7 +11,7 @@ use Rattle.reply.specs.Read.{Read, refused, read, _then_, refuseIf, refusal, is
 use Rattle.block.specs.Block.{blockReply, bondsReply, bondsOf, graphOf, mostAtoms, mostBytes}
 use Rattle.block.specs.Near.{around}
 use Rattle.text.specs.Text.{isDigit}
-use Rattle.adjacency.specs.Neighbours.{TextNumber, number, mostValue, grown, none, run, numbersFrom, goodBytes, largeAt, faultAt, shapeFrom, end, Step, described, bonded, askedFrom, bondsIn, bondsLength}
+use Rattle.adjacency.specs.Neighbours.{TextNumber, textNumber, mostValue, grown, none, run, numbersFrom, goodBytes, largeAt, faultAt, shapeFrom, end, Step, described, bonded, askedFrom, bondsIn, bondsLength}
 
 -- what digits say that a byte goes on with, and where they begin; 0 and the next place where it is no digit
 abbrev pub valueAfter : ℕ → ℕ → ℕ
@@ -22,7 +22,7 @@ startAfter start next b = cond (isDigit b) start next
 
 -- the bytes before i are good, and the digits right before it, from `start` on, say `value`
 pub record Looking (t : List ℕ) (value start i : ℕ) : Type 0 where
-  pub same : faultAt t ≡ min (i + goodBytes (drop i t)) (largeAt (length t) (numbersFrom (run (number value start)) i (drop i t)))
+  pub same : faultAt t ≡ min (i + goodBytes (drop i t)) (largeAt (length t) (numbersFrom (run (textNumber value start)) i (drop i t)))
   pub small : value ≤ mostValue
   pub first : start ≤ i
   pub within : i ≤ length t
@@ -43,7 +43,7 @@ pub record Skipped (t : List ℕ) (at r : ℕ) : Type 0 where
 
 -- a number from a place on says `value` and begins at `place`, and `next` is the place behind it
 pub record Here (t : List ℕ) (at value place next : ℕ) : Type 0 where
-  pub same : numbersAt t at ≡ number value place ∷ numbersAt t next
+  pub same : numbersAt t at ≡ textNumber value place ∷ numbersAt t next
   pub later : at < next
   pub within : next ≤ length t
 

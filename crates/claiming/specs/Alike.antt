@@ -12,7 +12,7 @@ use Rattle.reply.specs.Chain.{not-read, then-read, unique}
 use Rattle.records.specs.Bytes.{byteAt, part}
 use Rattle.printed.specs.declared.Printed.{Printed}
 use Rattle.printed.specs.declared.Printed.the-variants.{Unread, Of}
-use Rattle.claiming.specs.Claims.{numberOf, claimOf, saidReply, sizeAt, claimReply, claimsFrom, claimsIn, truth, fieldOf, near, isRight, firstWrong, anySets, endReply, claimsReply}
+use Rattle.claiming.specs.Claims.{printedOf, claimOf, saidReading, sizeAt, claimReply, claimsFrom, claimsIn, truth, fieldOf, near, isRight, firstWrongClaim, anySets, claimsEnd, claimsReply}
 use Rattle.claiming.specs.Asked.{asksFrom, asks}
 use Rattle.claiming.specs.Going.{claim-read}
 use Rattle.claiming.specs.declared.Claim.{Claim}
@@ -67,8 +67,8 @@ said-field f k Unread c e = absurd (not-read e)
 said-field f k (Of x) c e = let same : record { field = f; value = x .value; unit = x .unit } ≡ c = cc in sym (ap (λ (y : Claim). y .field) same)
 
 claim-field : (most : ℕ) (cs : List ℕ) (at k : ℕ) (c : Claim) → claimReply most cs at k ≡ read c → c .field ≡ byteAt cs at
-unfolding saidReply
-claim-field most cs at k c e = said-field (byteAt cs at) k (numberOf (byteAt cs at) (part cs (at + 2) (byteAt cs (at + 1)))) c (claim-read most cs at k e .2)
+unfolding saidReading
+claim-field most cs at k c e = said-field (byteAt cs at) k (printedOf (byteAt cs at) (part cs (at + 2) (byteAt cs (at + 1)))) c (claim-read most cs at k e .2)
 
 -- FIELDS ALIKE where some claims ask for them
 pub record AlikeIn (cs fs gs : List ℕ) : Type 0 where
@@ -81,15 +81,15 @@ right-alike fs gs above c e = rw e
 
 module _ (cs fs gs : List ℕ) (above most : ℕ) where
   -- of claims that are read from a place on, each field asked for is the same
-  wrong-alike : (fuel at k : ℕ) (xs : List Claim) → claimsFrom fuel most cs at k ≡ read xs → ((f : ℕ) → asksFrom fuel f cs at ≡ true → fieldOf fs f ≡ fieldOf gs f) → (j : ℕ) → firstWrong fs above j xs ≡ firstWrong gs above j xs
-  unfolding claimsFrom firstWrong
+  wrong-alike : (fuel at k : ℕ) (xs : List Claim) → claimsFrom fuel most cs at k ≡ read xs → ((f : ℕ) → asksFrom fuel f cs at ≡ true → fieldOf fs f ≡ fieldOf gs f) → (j : ℕ) → firstWrongClaim fs above j xs ≡ firstWrongClaim gs above j xs
+  unfolding claimsFrom firstWrongClaim
   wrong-alike zero at k xs e same j = let none : [] ≡ xs = cc in rw (← none)
   wrong-alike (suc fuel) at k xs e same j = go (ltb at (length cs)) refl e (λ more q l. wrong-alike fuel (at + sizeAt cs at) (suc k) more q (λ i a. same i (asks-behind i cs fuel at l a)) (suc j))
     where
       go : (t : Bool) → ltb at (length cs) ≡ t
           → ifElse t (λ _. claimReply most cs at k then λ c. claimsFrom fuel most cs (at + sizeAt cs at) (suc k) then λ more. read (c ∷ more)) (λ _. read []) ≡ read xs
-          → ((more : List Claim) → claimsFrom fuel most cs (at + sizeAt cs at) (suc k) ≡ read more → at < length cs → firstWrong fs above (suc j) more ≡ firstWrong gs above (suc j) more)
-          → firstWrong fs above j xs ≡ firstWrong gs above j xs
+          → ((more : List Claim) → claimsFrom fuel most cs (at + sizeAt cs at) (suc k) ≡ read more → at < length cs → firstWrongClaim fs above (suc j) more ≡ firstWrongClaim gs above (suc j) more)
+          → firstWrongClaim fs above j xs ≡ firstWrongClaim gs above j xs
       go false l f ih = let none : [] ≡ xs = cc in rw (← none)
       go true l f ih =
           let (c, p, g) = then-read (claimReply most cs at k) _ f in
@@ -106,9 +106,9 @@ told-alike cs fs gs above tree A =
     rw (A .count) (ap (λ (x : Read ℕ). refuseIf (eqb (length cs) 0) 36 0 then λ _. x) (go (claimsFrom (length cs) (length gs) cs 0 1) refl))
   where
     go : (m : Read (List Claim)) → claimsFrom (length cs) (length gs) cs 0 1 ≡ m
-        → (m then λ xs. endReply (anySets xs) tree (firstWrong fs above 1 xs)) ≡ (m then λ xs. endReply (anySets xs) tree (firstWrong gs above 1 xs))
+        → (m then λ xs. claimsEnd (anySets xs) tree (firstWrongClaim fs above 1 xs)) ≡ (m then λ xs. claimsEnd (anySets xs) tree (firstWrongClaim gs above 1 xs))
     go (refused r) e = refl
-    go (read xs) e = ap (endReply (anySets xs) tree) (wrong-alike cs fs gs above (length gs) (length cs) 0 1 xs e (A .alike) 1)
+    go (read xs) e = ap (claimsEnd (anySets xs) tree) (wrong-alike cs fs gs above (length gs) (length cs) 0 1 xs e (A .alike) 1)
 
 pub unique-is-asked : (f : ℕ) (cs : List ℕ) (r s : Bool) → r ≡ asks f cs → s ≡ asks f cs → r ≡ s
 unique-is-asked f cs r s = unique

@@ -9,7 +9,7 @@ ghost use Prim.Native.Nat.{_+_, _-_, _≤_, _<_};
 ghost use lib.ListN.{length};
 ghost use Rattle.reply.specs.Read.{read, refusal};
 ghost use Rattle.judging.specs.Judging.{saidVerdict};
-ghost use Rattle.claiming.specs.Claims.{numberOf, fieldOf, sizeAt, saidReply, claimReply, near, isRight, isOfSets, truth, endReply, claimsReply};
+ghost use Rattle.claiming.specs.Claims.{printedOf, fieldOf, sizeAt, saidReading, claimReply, near, isRight, isOfSets, truth, claimsEnd, claimsReply};
 ghost use Rattle.claiming.specs.Asked.{asks};
 ghost use Rattle.claiming.specs.Work.{earlier, saidClaim, saidGone, goneThrough};
 
@@ -44,7 +44,7 @@ const HEAD: usize = 2;
 
 // What a text says of a field.
 fn number(field: usize, text: &[u8]) -> Printed
-    ensures { λ r. ⌜ r ≡ numberOf field (now (text .entry)) ⌝ }
+    ensures { λ r. ⌜ r ≡ printedOf field (now (text .entry)) ⌝ }
 {
     if field == FINE {
         return printed::fine(text);
@@ -68,7 +68,7 @@ fn refused(number: usize, place: usize) -> ClaimReply
 
 // What a claim says that lies within the bytes, the k-th.
 fn said(field: usize, text: &[u8], k: usize) -> ClaimReply
-    ensures { λ r. ⌜ r ≡ saidClaim (saidReply field (now (text .entry)) k) ⌝ }
+    ensures { λ r. ⌜ r ≡ saidClaim (saidReading field (now (text .entry)) k) ⌝ }
 {
     let told = number(field, text);
     match told {
@@ -217,7 +217,7 @@ fn compared(n: usize) -> Verdict
 
 // 34 where sets are claimed of what is no tree; then the verdict.
 fn ended(wrong: usize, sets: bool, tree: bool) -> Verdict
-    ensures { λ r. ⌜ r ≡ saidVerdict (endReply sets tree wrong) ⌝ }
+    ensures { λ r. ⌜ r ≡ saidVerdict (claimsEnd sets tree wrong) ⌝ }
 {
     if !sets {
         return compared(wrong);

@@ -22,11 +22,11 @@ use Rattle.sheets.specs.Back.{FitWidths}
 use Rattle.judging.specs.Judging.{judgeReply}
 use Rattle.judging.specs.Theorems.{sheet-judged}
 use Rattle.text.specs.Text.{decimal}
-use Rattle.printed.specs.Printed.{most, number, wholeOf}
+use Rattle.printed.specs.Printed.{mostPrinted, number, wholeOf}
 use Rattle.printed.specs.declared.Printed.{Printed}
 use Rattle.printed.specs.declared.Printed.the-variants.{Of}
 use Rattle.printed.proofs.Decimal.{decimal-read}
-use Rattle.claiming.specs.Claims.{fineField, numberOf, claimOf, saidReply, claimsIn, fieldOf, isRight, firstWrong, anySets, endReply, claimsReply}
+use Rattle.claiming.specs.Claims.{fineField, printedOf, claimOf, saidReading, claimsIn, fieldOf, isRight, firstWrongClaim, anySets, claimsEnd, claimsReply}
 use Rattle.claiming.specs.Printout.{bytesOf, readEach}
 use Rattle.claiming.specs.Listed.{as-listed}
 use Rattle.claiming.specs.declared.Claim.{Claim}
@@ -39,11 +39,11 @@ claimsOf k (x ∷ xs) = record { field = k; value = x; unit = 0 } ∷ claimsOf (
 
 Small : List ℕ → Type 0
 Small [] = Unit {0}
-Small (x ∷ xs) = (x < most) × Small xs
+Small (x ∷ xs) = (x < mostPrinted) × Small xs
 
 -- a field below J's says the number that its text says in decimal
-said-decimal : (f k x : ℕ) → f < fineField → x < most → saidReply f (decimal x) k ≡ read (record { field = f; value = x; unit = 0 })
-unfolding saidReply numberOf
+said-decimal : (f k x : ℕ) → f < fineField → x < mostPrinted → saidReading f (decimal x) k ≡ read (record { field = f; value = x; unit = 0 })
+unfolding saidReading printedOf
 said-decimal f k x h l = rw (ne-eqb f fineField (λ e. omega arith)) (ap (claimOf f k) (decimal-read x l))
 
 inside : (n f : ℕ) → 1 ≤ f → f ≤ n → isOutside n f ≡ false
@@ -66,8 +66,8 @@ eqb-swap x y = go (eqb x y) refl (eqb y x) refl
     go false p true q = sym p ∙ eq-eqb x y (sym (eqb-true y x q))
 
 wrong-same : (fs ws xs : List ℕ) (j : ℕ) → length ws ≡ length xs → ((i : ℕ) → i < length xs → getD fs (j + i) 0 ≡ getD ws i 0) → j + length xs < fineField
-    → firstWrong fs 0 (suc j) (claimsOf (suc j) xs) ≡ sheet.firstWrong (suc j) ws xs
-unfolding claimsOf firstWrong isRight sheet.firstWrong
+    → firstWrongClaim fs 0 (suc j) (claimsOf (suc j) xs) ≡ sheet.firstWrong (suc j) ws xs
+unfolding claimsOf firstWrongClaim isRight sheet.firstWrong
 wrong-same fs [] [] j l same h = refl
 wrong-same fs (w ∷ ws) [] j l same h = absurd (omega arith)
 wrong-same fs [] (x ∷ xs) j l same h = absurd (omega arith)
@@ -121,7 +121,7 @@ unfolding deckClaimsReply claimsReply deckTruth sheetOf
 as-sheet s x fit d k e =
     let y = indicesOf (moleculeOf d k) in
     let n : length (allFields y) ≡ 6 = six y in
-    let left : deckClaimsReply d (sheetClaims (fieldsOf s x)) ≡ read (firstWrong (allFields y) 0 1 (claimsOf 1 (fieldsOf s x))) =
+    let left : deckClaimsReply d (sheetClaims (fieldsOf s x)) ≡ read (firstWrongClaim (allFields y) 0 1 (claimsOf 1 (fieldsOf s x))) =
     rw (e, ne-eqb (length (sheetClaims (fieldsOf s x))) 0 (some-bytes (fieldsOf s x) (few-fields s x .0)), n, claims-back s x (small-fields s x fit), no-false (anySets (claimsOf 1 (fieldsOf s x)))) in
     left
     ∙ ap read (wrong-same (allFields y) (fieldsOf s y) (fieldsOf s x) 0 (same-count s y x) (same-field s x y) (omega (arith, few-fields s x)))

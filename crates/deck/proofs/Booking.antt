@@ -20,7 +20,7 @@ use Rattle.block.specs.Block.{graphOf, blockReply}
 use Rattle.block.specs.Told.{molecule}
 use Rattle.assembly.specs.Book.{Book, noBlock, find, used, isNumbered, bondBytes, blockGraph, bookOf}
 use Rattle.assembly.specs.declared.BlockAt.{BlockAt}
-use Rattle.summary.specs.Layout.{headBytes, atomBytes, summaryBytes}
+use Rattle.summary.specs.Layout.{summaryHead, atomBytes, summaryBytes}
 use Rattle.summary.specs.Summary.{summaryOf}
 use Rattle.summary.specs.Back.{length-summary, summary-fits, summary-told, ends-told, number-told}
 use Rattle.shelf.specs.Shelf.{placesIn, summaryAt, placeFrom, placeOf, shelfIn}

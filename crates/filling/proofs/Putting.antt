@@ -11,7 +11,7 @@ use Rattle.half.specs.Half.{mostAtoms}
 use Rattle.block.specs.Opened.{setOf, neighboursOf}
 use Rattle.block.specs.Tables.{getD-table}
 use Rattle.records.specs.Bytes.{littleBytes}
-use Rattle.summary.specs.Layout.{headBytes, atomBytes}
+use Rattle.summary.specs.Layout.{summaryHead, atomBytes}
 use Rattle.summary.specs.Summary.{atomsFrom}
 use Rattle.filling.specs.Work.{nearBytes}
 use Rattle.filling.proofs.Laws.{sets-append}
@@ -22,7 +22,7 @@ length-set m = refl
 
 -- the sets of i atoms of the first n are put
 pub record AtomsPut (near : List ℕ) (n : ℕ) (old new : List ℕ) (i : ℕ) : Type 0 where
-  pub is : sets new (headBytes + atomBytes * i) (nearBytes near i (n - i)) ≡ sets old headBytes (nearBytes near 0 n)
+  pub is : sets new (summaryHead + atomBytes * i) (nearBytes near i (n - i)) ≡ sets old summaryHead (nearBytes near 0 n)
   pub size : length new ≡ length old
   pub low : i ≤ n
 
@@ -36,16 +36,16 @@ atoms-step near l i left p q e =
     rw k (sym (sets-append (littleBytes 8 (getD near i 0)) (nearBytes near (suc i) left) l p))
 
 pub atoms-next : {near : List ℕ} {n : ℕ} {old new r : List ℕ} {i : ℕ} → AtomsPut near n old new i → i < n → length r ≡ length new
-    → r ≡ sets new (headBytes + atomBytes * i) (littleBytes 8 (getD near i 0)) → AtomsPut near n old r (i + 1)
+    → r ≡ sets new (summaryHead + atomBytes * i) (littleBytes 8 (getD near i 0)) → AtomsPut near n old r (i + 1)
 atoms-next {near} {n} {old} {new} {r} {i} A l k e = record {
-  is = rw (add-one i) (ap (λ (x : List ℕ). sets x (headBytes + atomBytes * suc i) (nearBytes near (suc i) (n - suc i))) e
-      ∙ atoms-step near new i (n - suc i) (headBytes + atomBytes * i) (headBytes + atomBytes * suc i) (omega arith)
-      ∙ ap (λ (k : ℕ). sets new (headBytes + atomBytes * i) (nearBytes near i k)) (omega arith) ∙ A .is);
+  is = rw (add-one i) (ap (λ (x : List ℕ). sets x (summaryHead + atomBytes * suc i) (nearBytes near (suc i) (n - suc i))) e
+      ∙ atoms-step near new i (n - suc i) (summaryHead + atomBytes * i) (summaryHead + atomBytes * suc i) (omega arith)
+      ∙ ap (λ (k : ℕ). sets new (summaryHead + atomBytes * i) (nearBytes near i k)) (omega arith) ∙ A .is);
   size = k ∙ A .size;
   low = omega arith;
 }
 
-pub atoms-end : {near : List ℕ} {n : ℕ} {old new : List ℕ} {i : ℕ} → AtomsPut near n old new i → n ≤ i → new ≡ sets old headBytes (nearBytes near 0 n)
+pub atoms-end : {near : List ℕ} {n : ℕ} {old new : List ℕ} {i : ℕ} → AtomsPut near n old new i → n ≤ i → new ≡ sets old summaryHead (nearBytes near 0 n)
 unfolding nearBytes
 atoms-end {n = n} {i = i} A l = let z : n - i ≡ 0 = omega arith in rw z at (A .is)
 

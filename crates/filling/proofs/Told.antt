@@ -17,7 +17,7 @@ use Rattle.block.specs.Opened.{neighboursOf}
 use Rattle.block.specs.Told.{few-atoms, molecule}
 use Rattle.block.specs.declared.Indices.{Indices}
 use Rattle.records.specs.Bytes.{littleBytes}
-use Rattle.summary.specs.Layout.{headBytes, summaryBytes}
+use Rattle.summary.specs.Layout.{summaryHead, summaryBytes}
 use Rattle.summary.specs.Summary.{headOf, atomsFrom, summaryOf}
 use Rattle.filling.specs.Reply.{fillReply, filledSummary, fillBytes}
 use Rattle.filling.specs.Work.{nearBytes, firstBytes, totalBytes, headOn}
@@ -38,17 +38,17 @@ module _ (n : ℕ) (xs : List ℕ) (fine : blockReply n xs ≡ read tt) where
       let l = largest-below (molecule n xs fine) (f .low) in
       rw (small n (omega (arith, f .high)), small (indicesOf g .largest) (omega (arith, l, f .high)))
 
-  length-head : (x : ℕ) → length (headOf x (indicesOf g)) ≡ headBytes
+  length-head : (x : ℕ) → length (headOf x (indicesOf g)) ≡ summaryHead
   unfolding headOf littleBytes
   length-head x = refl
 
   -- ALL OF IT
   pub all-put : (old : List ℕ) {m r : List ℕ} (x : ℕ) (s : Indices) → s ≡ indicesOf g → m ≡ sets old 0 (headOn x s) → (near : List ℕ) → near ≡ neighboursOf g
-      → r ≡ sets m headBytes (nearBytes near 0 n) → r ≡ sets old 0 (summaryOf x g)
+      → r ≡ sets m summaryHead (nearBytes near 0 n) → r ≡ sets old 0 (summaryOf x g)
   unfolding summaryOf
   all-put old {m} x s e a near q b =
-      joined old (headOf x (indicesOf g)) (atomsFrom g 1 n) 0 headBytes (a ∙ ap (λ (t : Indices). sets old 0 (headOn x t)) e ∙ ap (sets old 0) (head-same x))
-      (b ∙ ap (λ (l : List ℕ). sets m headBytes (nearBytes l 0 n)) q ∙ ap (sets m headBytes) (near-same g n 0 (omega (arith, few-atoms n xs fine .high)))) (omega (arith, length-head x))
+      joined old (headOf x (indicesOf g)) (atomsFrom g 1 n) 0 summaryHead (a ∙ ap (λ (t : Indices). sets old 0 (headOn x t)) e ∙ ap (sets old 0) (head-same x))
+      (b ∙ ap (λ (l : List ℕ). sets m summaryHead (nearBytes l 0 n)) q ∙ ap (sets m summaryHead) (near-same g n 0 (omega (arith, few-atoms n xs fine .high)))) (omega (arith, length-head x))
 
 -- the replies
 module _ (n : ℕ) (xs : List ℕ) where

@@ -8,13 +8,13 @@ ghost use Prim.Native.Nat.{_≤_};
 ghost use lib.ListN.{length};
 ghost use lib.Seq.{sets};
 ghost use Rattle.half.specs.Half.{mostAtoms};
-ghost use Rattle.summary.specs.Layout.{headBytes, summaryBytes};
+ghost use Rattle.summary.specs.Layout.{summaryHead, summaryBytes};
 ghost use Rattle.filling.specs.Work.{nearBytes};
 
 // The sets of the first n atoms.
 pub(crate) fn put_atoms(out: &mut [u8], near: &Neighbours, n: usize)
     requires { ⌜ (n ≤ mostAtoms) × (summaryBytes ≤ length (now out)) ⌝ }
-    ensures { λ _. ⌜ now (out .exit) ≡ sets (now (out .entry)) headBytes (nearBytes (now (near .entry)) 0 n) ⌝ }
+    ensures { λ _. ⌜ now (out .exit) ≡ sets (now (out .entry)) summaryHead (nearBytes (now (near .entry)) 0 n) ⌝ }
 {
     let mut i = 0;
     while i < n {

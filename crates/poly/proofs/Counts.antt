@@ -13,7 +13,7 @@ use Rattle.graph.specs.Bounds.{pairs-most}
 use Rattle.block.specs.Block.{mostAtoms}
 use Rattle.block.specs.Index.{pairsOf}
 use Rattle.block.specs.Tables.{getD-table}
-use Rattle.poly.specs.Poly.{pairsCounted, ofParity, turn, horner, mostDistance, value, valuesOf, valuesReply, zeroF}
+use Rattle.poly.specs.Poly.{pairsCounted, ofParity, turn, horner, mostDistance, value, polynomialValues, polynomialAt, zeroF}
 use Rattle.graph.specs.Farthest.{largest}
 use Rattle.graph.specs.Largest.{largest-over}
 
@@ -50,8 +50,8 @@ unfolding value ofParity
 value-same p n m x e = horner-same (ofParity p n) (ofParity p m) x mostDistance zeroF (λ i w. rw (e i w))
 
 -- the values at the counts of a block's table are those at the counts of its graph
-pub table-values : (g : Graph) (x : Float) → valuesReply (pairsCounted (pairsOf g)) x ≡ valuesReply (pairsAt g) x
-unfolding valuesReply valuesOf pairsOf
+pub table-values : (g : Graph) (x : Float) → polynomialAt (pairsCounted (pairsOf g)) x ≡ polynomialAt (pairsAt g) x
+unfolding polynomialAt polynomialValues pairsOf
 table-values g x =
     let e : (i : ℕ) → Within mostDistance i → pairsCounted (pairsOf g) i ≡ pairsAt g i = λ i w. getD-table mostAtoms (pairsAt g) i 0 (omega arith) in
     rw (value-same 0 (pairsCounted (pairsOf g)) (pairsAt g) x e, value-same 1 (pairsCounted (pairsOf g)) (pairsAt g) x e)

@@ -8,12 +8,12 @@ use lib.Ieee.{Float, nan, fin}
 use Rattle.graph.specs.Graph.{joins, anyJoins, bonded, anyAtom, reaches, firstFrom, distance, allAtoms, connected, degree, sum, sumPairs, isAt, total}
 use Rattle.reply.specs.Read.{Read, refused, read, refusal}
 use Rattle.block.specs.Block.{bondsOf, bondFault, bondsReply, blockReply}
-use Rattle.poly.specs.Poly.{half, unusable, ofParity, horner, value, valuesOf, valuesReply, polynomialReply, zeroF, oneF}
+use Rattle.poly.specs.Poly.{half, unusable, ofParity, horner, value, polynomialValues, polynomialAt, polynomialReply, zeroF, oneF}
 use Rattle.poly.specs.declared.Values.{Values}
 
 -- all that is to be worked out
 told : ℕ → List ℕ → Float → Read Values
-unfolding joins anyJoins bonded anyAtom reaches firstFrom distance allAtoms connected degree sum sumPairs isAt total bondsOf bondFault bondsReply blockReply unusable ofParity horner value valuesOf valuesReply polynomialReply lib.Ieee.add lib.Ieee.mul lib.Ieee.ofInt lib.Ieee.eq lib.Ieee.lt lib.Ieee.isNan
+unfolding joins anyJoins bonded anyAtom reaches firstFrom distance allAtoms connected degree sum sumPairs isAt total bondsOf bondFault bondsReply blockReply unusable ofParity horner value polynomialValues polynomialAt polynomialReply lib.Ieee.add lib.Ieee.mul lib.Ieee.ofInt lib.Ieee.eq lib.Ieee.lt lib.Ieee.isNan
 told n xs x = polynomialReply n xs x
 
 -- document 001's naphthalene, its bonds in the order of table 2

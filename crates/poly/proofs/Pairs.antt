@@ -11,7 +11,7 @@ use Rattle.block.specs.Index.{pairsOf, pairsReply, saidPairs}
 use Rattle.reply.specs.declared.Refusal.{Refusal}
 use Rattle.block.specs.declared.Pairs.{Pairs}
 use Rattle.reply.specs.declared.Reply.the-variants as reply
-use Rattle.poly.specs.Poly.{pairsCounted, valuesReply, polynomialReply, saidPolynomial}
+use Rattle.poly.specs.Poly.{pairsCounted, polynomialAt, polynomialReply, saidPolynomial}
 use Rattle.poly.specs.declared.Values.{Values}
 use Rattle.poly.specs.declared.ValuesReply.the-variants as answer
 use Rattle.poly.proofs.Counts.{table-values}
@@ -32,10 +32,10 @@ module _ (ns : List ℕ) (v : Read Values) (p : Pairs) where
 module _ (n : ℕ) (xs : List ℕ) (x : Float) (p : Pairs) (is : p ≡ saidPairs (pairsReply n xs)) where
   pub refused-reply : (r : Refusal) → p .reply ≡ reply.Refused r → answer.Refused r ≡ saidPolynomial (polynomialReply n xs x)
   unfolding pairsReply polynomialReply
-  refused-reply r e = refused-then (pairsOf (graphOf n xs)) (valuesReply (pairsAt (graphOf n xs)) x) p (blockReply n xs) r is e
+  refused-reply r e = refused-then (pairsOf (graphOf n xs)) (polynomialAt (pairsAt (graphOf n xs)) x) p (blockReply n xs) r is e
 
-  pub fine-reply : p .reply ≡ reply.Fine → saidPolynomial (valuesReply (pairsCounted (p .at)) x) ≡ saidPolynomial (polynomialReply n xs x)
+  pub fine-reply : p .reply ≡ reply.Fine → saidPolynomial (polynomialAt (pairsCounted (p .at)) x) ≡ saidPolynomial (polynomialReply n xs x)
   unfolding pairsReply polynomialReply
   fine-reply e =
-      let (table, rest) = fine-then (pairsOf (graphOf n xs)) (valuesReply (pairsAt (graphOf n xs)) x) p (blockReply n xs) is e in
-      ap (λ (ns : List ℕ). saidPolynomial (valuesReply (pairsCounted ns) x)) table ∙ ap saidPolynomial (table-values (graphOf n xs) x) ∙ rest
+      let (table, rest) = fine-then (pairsOf (graphOf n xs)) (polynomialAt (pairsAt (graphOf n xs)) x) p (blockReply n xs) is e in
+      ap (λ (ns : List ℕ). saidPolynomial (polynomialAt (pairsCounted ns) x)) table ∙ ap saidPolynomial (table-values (graphOf n xs) x) ∙ rest

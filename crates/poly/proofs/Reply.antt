@@ -13,7 +13,7 @@ use Rattle.graph.specs.Farthest.{largest}
 use Rattle.reply.specs.Read.{Read, refused, read, _then_, refuseIf}
 use Rattle.block.specs.Block.{mostAtoms, graphOf, blockReply}
 use Rattle.block.specs.Told.{few-atoms, molecule}
-use Rattle.poly.specs.Poly.{half, unusable, value, valuesOf, valuesReply, polynomialReply, saidPolynomial}
+use Rattle.poly.specs.Poly.{half, unusable, value, polynomialValues, polynomialAt, polynomialReply, saidPolynomial}
 use Rattle.poly.specs.Exact.{allFinite, exactTo, scaled, Exact}
 use Rattle.poly.specs.declared.ValuesReply.{ValuesReply}
 use Rattle.poly.proofs.Counts.{count-most, none-beyond}
@@ -30,7 +30,7 @@ few n xs fine k = count-most (graphOf n xs) k mostAtoms (few-atoms n xs fine .hi
 
 -- no value is a NaN or infinite
 pub finite-reply : (n : ℕ) (xs : List ℕ) (x : Float) (r : ValuesReply) → r ≡ saidPolynomial (polynomialReply n xs x) → T (allFinite r)
-unfolding polynomialReply valuesReply valuesOf
+unfolding polynomialReply polynomialAt polynomialValues
 finite-reply n xs x r e = subst (λ (a : ValuesReply). T (allFinite a)) (sym e) (go (blockReply n xs) refl (unusable x) refl)
   where
     g : Graph
@@ -44,14 +44,14 @@ finite-reply n xs x r e = subst (λ (a : ValuesReply). T (allFinite a)) (sym e) 
 
 -- at x = 0.5 both values of a block of largest distance at most 40 are exact
 pub exact-reply : (n : ℕ) (xs : List ℕ) → blockReply n xs ≡ read tt → largest (graphOf n xs) ≤ exactTo → (r : ValuesReply) → r ≡ saidPolynomial (polynomialReply n xs half) → Exact (graphOf n xs) r
-unfolding polynomialReply valuesReply valuesOf unusable eq lt isNan
+unfolding polynomialReply polynomialAt polynomialValues unusable eq lt isNan
 exact-reply n xs fine short r e = subst (Exact g) (sym (e ∙ ap said fine)) (both 0, both 1)
   where
     g : Graph
     g = graphOf n xs
 
     said : Read (Unit {0}) → ValuesReply
-    said b = saidPolynomial (b then λ _. valuesReply (pairsAt g) half)
+    said b = saidPolynomial (b then λ _. polynomialAt (pairsAt g) half)
 
     both : (p : ℕ) → HasValue (value p (pairsAt g) half) false (scaled p (pairsAt g)) (2 ^ exactTo)
     both p = exact-at-half p (pairsAt g) (few n xs fine) (λ k h. none-beyond g exactTo k (molecule n xs fine) short h)

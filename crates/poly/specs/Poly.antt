@@ -48,15 +48,15 @@ mostDistance = mostAtoms - 1
 unfoldable pub value : ℕ → (ℕ → ℕ) → Float → Float
 value p n x = horner (ofParity p n) x mostDistance zeroF
 
-unfoldable pub valuesOf : (ℕ → ℕ) → Float → Values
-valuesOf n x = record { even = value 0 n x; odd = value 1 n x }
+unfoldable pub polynomialValues : (ℕ → ℕ) → Float → Values
+polynomialValues n x = record { even = value 0 n x; odd = value 1 n x }
 
 -- refusal 10, or the values for n(k) pairs at each distance k
-unfoldable pub valuesReply : (ℕ → ℕ) → Float → Read Values
-valuesReply n x = refuseIf (unusable x) 10 0 then λ _. read (valuesOf n x)
+unfoldable pub polynomialAt : (ℕ → ℕ) → Float → Read Values
+polynomialAt n x = refuseIf (unusable x) 10 0 then λ _. read (polynomialValues n x)
 
 unfoldable pub polynomialReply : ℕ → List ℕ → Float → Read Values
-polynomialReply n xs x = blockReply n xs then λ _. valuesReply (pairsAt (graphOf n xs)) x
+polynomialReply n xs x = blockReply n xs then λ _. polynomialAt (pairsAt (graphOf n xs)) x
 
 -- how the code says it
 abbrev pub saidPolynomial : Read Values → ValuesReply

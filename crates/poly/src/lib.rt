@@ -1,6 +1,6 @@
 // The even and odd polynomial values of a block.
 ghost use mathlib.Core.Path.{_≡_};
-ghost use Rattle.poly.specs.Poly.{pairsCounted, value, valuesReply, polynomialReply, saidPolynomial};
+ghost use Rattle.poly.specs.Poly.{pairsCounted, value, polynomialAt, polynomialReply, saidPolynomial};
 use block::ATOMS;
 use reply::Refusal;
 use reply::Reply;
@@ -37,7 +37,7 @@ fn value_of(counts: [u16; ATOMS], parity: usize, x: f64) -> f64
 }
 
 fn values_of(counts: [u16; ATOMS], x: f64) -> ValuesReply
-    ensures { λ r. ⌜ r ≡ saidPolynomial (valuesReply (pairsCounted counts) x) ⌝ }
+    ensures { λ r. ⌜ r ≡ saidPolynomial (polynomialAt (pairsCounted counts) x) ⌝ }
 {
     if x > 0.0 {
         if x <= 1.0 {

@@ -13,8 +13,8 @@ use Rattle.ranking.specs.Best.{bestReply, bestOut}
 use Rattle.calls.specs.Convention.{code, coded, over}
 
 -- any number but 0 wants the greatest
-abbrev pub wanted : ℕ → Bool
-wanted greatest = cond (eqb greatest 0) false true
+abbrev pub wantsGreatest : ℕ → Bool
+wantsGreatest greatest = cond (eqb greatest 0) false true
 
 -- where no number is lent for how many are held, no entry is
 abbrev pub lentFor : List ℕ → List ℕ → List ℕ
@@ -22,7 +22,7 @@ lentFor [] best = []
 lentFor (h ∷ hs) best = best
 
 abbrev pub bestFor : List ℕ → ℕ → ℕ → ℕ → List ℕ → List ℕ → Read (List Entry)
-bestFor d field greatest tag best held = bestReply d field (wanted greatest) tag (lentFor held best) (getD held 0 0)
+bestFor d field greatest tag best held = bestReply d field (wantsGreatest greatest) tag (lentFor held best) (getD held 0 0)
 
 -- how many are held, afterwards
 abbrev pub heldOut : Read (List Entry) → List ℕ → List ℕ

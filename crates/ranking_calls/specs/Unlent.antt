@@ -15,12 +15,12 @@ use Rattle.library.specs.Values.{mostFields, valuesReply, saidValues}
 use Rattle.ranked.specs.Ranked.{Entry}
 use Rattle.ranking.specs.Best.{bestReply, saidBest, bestOut}
 use Rattle.calls.specs.Convention.{code, coded, over, thenNine}
-use Rattle.ranking_calls.specs.Ranks.{wanted, lentFor, bestFor, heldOut, countedCode, countedOut, Ranks}
+use Rattle.ranking_calls.specs.Ranks.{wantsGreatest, lentFor, bestFor, heldOut, countedCode, countedOut, Ranks}
 
-pub wants-smallest : (g : ℕ) → g ≡ 0 → false ≡ wanted g
+pub wants-smallest : (g : ℕ) → g ≡ 0 → false ≡ wantsGreatest g
 wants-smallest g e = rw (eq-eqb g 0 e)
 
-pub wants-greatest : (g : ℕ) → (g ≡ 0 → ⊥) → true ≡ wanted g
+pub wants-greatest : (g : ℕ) → (g ≡ 0 → ⊥) → true ≡ wantsGreatest g
 wants-greatest g e = rw (ne-eqb g 0 e)
 
 -- the first entry
@@ -59,9 +59,9 @@ none-lent d field g tag h best held = go (libraryReply d) refl (isOutside mostFi
 module _ (d : List ℕ) (field greatest tag : ℕ) (best : List ℕ) where
   pub ranks-lacking : (held : List ℕ) → length held < 1 → (r : ℕ) → r ≡ coded (thenNine (valuesReply d field 0 1)) → Ranks (bestFor d field greatest tag best held) best held r best held
   ranks-lacking [] h r e = record {
-    replied = e ∙ unlent-best d field 1 (wanted greatest) tag 0;
-    entries = sym (none-lent d field (wanted greatest) tag 0 best [] .0);
-    many = sym (none-lent d field (wanted greatest) tag 0 best [] .1);
+    replied = e ∙ unlent-best d field 1 (wantsGreatest greatest) tag 0;
+    entries = sym (none-lent d field (wantsGreatest greatest) tag 0 best [] .0);
+    many = sym (none-lent d field (wantsGreatest greatest) tag 0 best [] .1);
   }
   ranks-lacking (x ∷ xs) h r e = absurd (omega arith)
 
@@ -73,12 +73,12 @@ module _ (d : List ℕ) (field greatest tag : ℕ) (best : List ℕ) where
   said-held (refused r) held = refl
   said-held (read l) held = refl
 
-  pub ranks-told : (held : List ℕ) → 1 ≤ length held → (g : Bool) → g ≡ wanted greatest → (told : CountReply) (r : ℕ) (best′ held′ : List ℕ)
+  pub ranks-told : (held : List ℕ) → 1 ≤ length held → (g : Bool) → g ≡ wantsGreatest greatest → (told : CountReply) (r : ℕ) (best′ held′ : List ℕ)
       → told ≡ saidBest (bestReply d field g tag best (getD held 0 0)) → best′ ≡ bestOut best (bestReply d field g tag best (getD held 0 0))
       → r ≡ countedCode told → held′ ≡ countedOut told held → Ranks (bestFor d field greatest tag best held) best held r best′ held′
   ranks-told [] h g w told r best′ held′ e f p q = absurd (omega arith)
   ranks-told (y ∷ held) h g w told r best′ held′ e f p q =
-      let same : bestReply d field g tag best y ≡ bestReply d field (wanted greatest) tag best y = ap (λ (b : Bool). bestReply d field b tag best y) w in
+      let same : bestReply d field g tag best y ≡ bestReply d field (wantsGreatest greatest) tag best y = ap (λ (b : Bool). bestReply d field b tag best y) w in
       let x = bestReply d field g tag best y in
       record {
         replied = p ∙ ap countedCode e ∙ said-code x ∙ ap coded same;

@@ -7,11 +7,11 @@ ghost use Prim.Native.Nat.{_≤_};
 ghost use lib.ListN.{length};
 ghost use Rattle.library.specs.Values.{valuesReply};
 ghost use Rattle.calls.specs.Convention.{coded, thenNine};
-ghost use Rattle.ranking_calls.specs.Ranks.{wanted, bestFor, countedCode, countedOut, Ranks};
+ghost use Rattle.ranking_calls.specs.Ranks.{wantsGreatest, bestFor, countedCode, countedOut, Ranks};
 
 // Whether the greatest are wanted: any number but 0 says so.
 fn wants(greatest: usize) -> bool
-    ensures { λ r. ⌜ r ≡ wanted greatest ⌝ }
+    ensures { λ r. ⌜ r ≡ wantsGreatest greatest ⌝ }
 {
     if greatest == 0 {
         return false;

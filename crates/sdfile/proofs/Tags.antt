@@ -10,7 +10,7 @@ use lib.Dec.{eqb}
 use lib.ListN.{length, getD, take, drop, drop-of-length-le, length-drop, length-append}
 use lib.Seq.{drop-cons, drop-drop}
 use Rattle.text.specs.Text.{ascii, untilFeed, lineEnd, startsWith}
-use Rattle.sdfile.specs.Sdf.{tagged, holds, isHeader, stands, opens, closes, hasTag, isSomeHeader}
+use Rattle.sdfile.specs.Sdf.{tagged, hasName, isHeader, stands, opens, closes, hasTag, isSomeHeader}
 
 and-false : (t : Bool) → (t && false) ≡ false
 and-false true = refl
@@ -76,17 +76,17 @@ module _ (d name : List ℕ) (at : ℕ) (h : at < length d) where
 
 -- somewhere, place by place
 module _ (word d : List ℕ) (i : ℕ) where
-  pub holds-past : length d ≤ i → holds word (drop i d) ≡ false
-  unfolding holds
+  pub holds-past : length d ≤ i → hasName word (drop i d) ≡ false
+  unfolding hasName
   holds-past h = rw (drop-of-length-le d h)
 
   module _ (h : i < length d) where
-    pub holds-here : startsWith word (drop i d) ≡ true → holds word (drop i d) ≡ true
-    unfolding holds
+    pub holds-here : startsWith word (drop i d) ≡ true → hasName word (drop i d) ≡ true
+    unfolding hasName
     holds-here e = let f = rw (drop-cons d i 0 h) at e in rw (drop-cons d i 0 h, f)
 
-    pub holds-later : startsWith word (drop i d) ≡ false → holds word (drop i d) ≡ holds word (drop (i + 1) d)
-    unfolding holds
+    pub holds-later : startsWith word (drop i d) ≡ false → hasName word (drop i d) ≡ hasName word (drop (i + 1) d)
+    unfolding hasName
     holds-later e = let f = rw (drop-cons d i 0 h) at e in rw (add-one i, drop-cons d i 0 h, f)
 
 -- a header begins with > and holds it in its line
@@ -99,7 +99,7 @@ module _ (d : List ℕ) (at : ℕ) (h : at < length d) where
   unfolding isHeader
   header-not name e = rw (header-first, ne-eqb (getD d at 0) 62 e)
 
-  pub header-is : (name : List ℕ) → getD d at 0 ≡ 62 → (end : ℕ) → end ≡ lineEnd d at → isHeader name (drop at d) ≡ holds (tagged name) (take (end - at) (drop at d))
+  pub header-is : (name : List ℕ) → getD d at 0 ≡ 62 → (end : ℕ) → end ≡ lineEnd d at → isHeader name (drop at d) ≡ hasName (tagged name) (take (end - at) (drop at d))
   unfolding isHeader lineEnd
   header-is name e end p = let n : untilFeed (drop at d) ≡ end - at = omega arith in rw (header-first, eq-eqb (getD d at 0) 62 e, n)
 

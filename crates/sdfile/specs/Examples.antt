@@ -5,7 +5,7 @@ use Prim.Native.Nat.{ℕ}
 use Rattle.reply.specs.Read.{Read, refused, read, refusal}
 use Rattle.text.specs.Text.{ascii, untilFeed, lineEnd, hasCarriage, lineChars, nextLine, laterLine, startsWith, lineStarts, isNumber, allDigits, numberOf, valueFrom}
 use Rattle.molfile.specs.Molfile.{inTurn, lineReply, numbersReply, bondReply, endLineReply, linesReply}
-use Rattle.sdfile.specs.Sdf.{untilLine, lineFrom, isWhite, allWhite, stepAt, holds, isHeader, stands, hasTag, isSomeHeader, valueChars, opensIn, isNoName, valueReply, itemReply}
+use Rattle.sdfile.specs.Sdf.{untilLine, lineFrom, isWhite, allWhite, stepAt, hasName, isHeader, stands, hasTag, isSomeHeader, valueChars, opensIn, isNoName, valueReply, itemReply}
 use Rattle.sdfile.specs.declared.Span.{Span}
 use Rattle.sdfile.specs.declared.Step.{Step}
 use Rattle.sdfile.specs.declared.Step.the-variants.{Done, Next}
@@ -21,7 +21,7 @@ abbrev pub at : ℕ → ℕ → Read Span
 at a n = read (record { start = a; len = n })
 
 unfoldable pub said : List ℕ → List ℕ → Read Span
-unfolding itemReply isNoName opensIn valueReply valueChars isSomeHeader hasTag stands isHeader holds lineFrom untilLine startsWith nextLine laterLine lineChars hasCarriage lineEnd untilFeed lineStarts isNumber allDigits numberOf valueFrom inTurn lineReply numbersReply bondReply endLineReply linesReply
+unfolding itemReply isNoName opensIn valueReply valueChars isSomeHeader hasTag stands isHeader hasName lineFrom untilLine startsWith nextLine laterLine lineChars hasCarriage lineEnd untilFeed lineStarts isNumber allDigits numberOf valueFrom inTurn lineReply numbersReply bondReply endLineReply linesReply
 said d name = itemReply d name
 
 -- two records, the second with no line behind it; a line that has marks later on begins with none

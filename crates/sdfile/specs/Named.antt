@@ -9,7 +9,7 @@ use lib.Dec.{eqb}
 use lib.ListN.{take}
 use Rattle.reply.specs.Read.{ifElse}
 use Rattle.text.specs.Text.{ascii, untilFeed, startsWith}
-use Rattle.sdfile.specs.Sdf.{holds, tagged, isHeader, stands, opens, closes, hasTag, isSomeHeader}
+use Rattle.sdfile.specs.Sdf.{hasName, tagged, isHeader, stands, opens, closes, hasTag, isSomeHeader}
 
 both : (p q : Bool) → (p && q) ≡ true → (p ≡ true) × (q ≡ true)
 both true q e = (refl, e)
@@ -59,27 +59,27 @@ tag-starts : (name : List ℕ) (b : ℕ) (bs : List ℕ) → startsWith (tagged 
 unfolding startsWith
 tag-starts name b bs e = both (eqb b opens) (startsWith (name ++ ascii ">") bs) e
 
-tag-named : (xs : List ℕ) → hasTag xs ≡ true → (name : List ℕ) × (holds (tagged name) xs ≡ true)
-unfolding hasTag holds
+tag-named : (xs : List ℕ) → hasTag xs ≡ true → (name : List ℕ) × (hasName (tagged name) xs ≡ true)
+unfolding hasTag hasName
 tag-named [] e = absurd (true≢false (sym e))
 tag-named (b ∷ bs) e = go (eqb b opens) refl e (λ f. tag-named bs f)
   where
-    later : (name : List ℕ) (t : Bool) → holds (tagged name) bs ≡ true → ifElse t (λ _. true) (λ _. holds (tagged name) bs) ≡ true
+    later : (name : List ℕ) (t : Bool) → hasName (tagged name) bs ≡ true → ifElse t (λ _. true) (λ _. hasName (tagged name) bs) ≡ true
     later name true h = refl
     later name false h = h
 
-    go : (t : Bool) → eqb b opens ≡ t → ifElse t (λ _. stands closes bs) (λ _. hasTag bs) ≡ true → (hasTag bs ≡ true → (name : List ℕ) × (holds (tagged name) bs ≡ true))
-        → (name : List ℕ) × (ifElse (startsWith (tagged name) (b ∷ bs)) (λ _. true) (λ _. holds (tagged name) bs) ≡ true)
+    go : (t : Bool) → eqb b opens ≡ t → ifElse t (λ _. stands closes bs) (λ _. hasTag bs) ≡ true → (hasTag bs ≡ true → (name : List ℕ) × (hasName (tagged name) bs ≡ true))
+        → (name : List ℕ) × (ifElse (startsWith (tagged name) (b ∷ bs)) (λ _. true) (λ _. hasName (tagged name) bs) ≡ true)
     go true q f ih = let (name, h) = name-before bs f in (name, rw (starts-tag name b bs q h))
     go false q f ih = let (name, h) = ih f in (name, later name (startsWith (tagged name) (b ∷ bs)) h)
 
-named-tag : (name xs : List ℕ) → holds (tagged name) xs ≡ true → hasTag xs ≡ true
-unfolding hasTag holds
+named-tag : (name xs : List ℕ) → hasName (tagged name) xs ≡ true → hasTag xs ≡ true
+unfolding hasTag hasName
 named-tag name [] e = absurd (true≢false (sym e))
 named-tag name (b ∷ bs) e = go (startsWith (tagged name) (b ∷ bs)) refl (eqb b opens) refl e (λ f. named-tag name bs f)
   where
-    go : (s : Bool) → startsWith (tagged name) (b ∷ bs) ≡ s → (t : Bool) → eqb b opens ≡ t → ifElse s (λ _. true) (λ _. holds (tagged name) bs) ≡ true
-        → (holds (tagged name) bs ≡ true → hasTag bs ≡ true) → ifElse t (λ _. stands closes bs) (λ _. hasTag bs) ≡ true
+    go : (s : Bool) → startsWith (tagged name) (b ∷ bs) ≡ s → (t : Bool) → eqb b opens ≡ t → ifElse s (λ _. true) (λ _. hasName (tagged name) bs) ≡ true
+        → (hasName (tagged name) bs ≡ true → hasTag bs ≡ true) → ifElse t (λ _. stands closes bs) (λ _. hasTag bs) ≡ true
     go true p true q f ih = before-name name bs (tag-starts name b bs p .1)
     go true p false q f ih = absurd (true≢false (sym (tag-starts name b bs p .0) ∙ q))
     go false p true q f ih = tag-closes bs (ih f)
@@ -90,5 +90,5 @@ pub some-header : (xs : List ℕ) → (isSomeHeader xs ≡ true) ↔ ((name : Li
 unfolding isSomeHeader isHeader
 some-header xs = (
   (λ e. let (p, q) = both (startsWith (ascii ">") xs) (hasTag (take (untilFeed xs) xs)) e in let (name, h) = tag-named (take (untilFeed xs) xs) q in (name, together p h)),
-  (λ x. let (p, q) = both (startsWith (ascii ">") xs) (holds (tagged (x .0)) (take (untilFeed xs) xs)) (x .1) in together p (named-tag (x .0) (take (untilFeed xs) xs) q)),
+  (λ x. let (p, q) = both (startsWith (ascii ">") xs) (hasName (tagged (x .0)) (take (untilFeed xs) xs)) (x .1) in together p (named-tag (x .0) (take (untilFeed xs) xs) q)),
 )

@@ -53,16 +53,16 @@ abbrev pub itemsFrom : List ℕ → ℕ
 itemsFrom d = nextLine d (lineFrom (startsWith endWord) d (restOf d))
 
 -- whether a word stands somewhere in bytes
-unfoldable pub holds : List ℕ → List ℕ → Bool
-holds word [] = false
-holds word (b ∷ bs) = ifElse (startsWith word (b ∷ bs)) (λ _. true) (λ _. holds word bs)
+unfoldable pub hasName : List ℕ → List ℕ → Bool
+hasName word [] = false
+hasName word (b ∷ bs) = ifElse (startsWith word (b ∷ bs)) (λ _. true) (λ _. hasName word bs)
 
 abbrev pub tagged : List ℕ → List ℕ
 tagged name = ascii "<" ++ name ++ ascii ">"
 
 -- a header line begins with > and has <NAME> somewhere in it
 unfoldable pub isHeader : List ℕ → List ℕ → Bool
-isHeader name xs = startsWith (ascii ">") xs && holds (tagged name) (take (untilFeed xs) xs)
+isHeader name xs = startsWith (ascii ">") xs && hasName (tagged name) (take (untilFeed xs) xs)
 
 -- the first header of a name from a place on
 abbrev pub headerFrom : List ℕ → List ℕ → ℕ → ℕ

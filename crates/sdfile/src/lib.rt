@@ -7,7 +7,7 @@ ghost use lib.ListN.{length, drop};
 ghost use Rattle.reply.specs.Read.{refused, refusal};
 ghost use Rattle.records.specs.Bytes.{PartOf};
 ghost use Rattle.text.specs.Text.{startsWith, nextLine};
-ghost use Rattle.sdfile.specs.Sdf.{lineFrom, isWhite, allWhite, stepAt, itemsFrom, tagged, holds, isHeader, headerFrom, stands, hasTag, isSomeHeader, valueChars, opens, opensIn, isNoName, valueReply, itemReply};
+ghost use Rattle.sdfile.specs.Sdf.{lineFrom, isWhite, allWhite, stepAt, itemsFrom, tagged, hasName, isHeader, headerFrom, stands, hasTag, isSomeHeader, valueChars, opens, opensIn, isNoName, valueReply, itemReply};
 ghost use Rattle.sdfile.specs.Said.{saidValue, spanOf};
 use reply::Refusal;
 use text::BLANK;
@@ -134,7 +134,7 @@ fn is_tag(d: &[u8], at: usize, name: &[u8]) -> bool
 
 // Whether it stands somewhere.
 fn has_tag(d: &[u8], name: &[u8]) -> bool
-    ensures { λ r. ⌜ r ≡ holds (tagged (now (name .entry))) (now (d .entry)) ⌝ }
+    ensures { λ r. ⌜ r ≡ hasName (tagged (now (name .entry))) (now (d .entry)) ⌝ }
 {
     let mut i = 0;
     while i < d.len() {

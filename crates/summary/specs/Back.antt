@@ -31,7 +31,7 @@ use Rattle.sighted.specs.Unique.{seen-steps}
 use Rattle.tables.specs.Table.{tableOf, totalBy, Told}
 use Rattle.tables.specs.Grow.{same-six, total-parts}
 use Rattle.tables.specs.Written.{six-is, sight-is, alone-molecule}
-use Rattle.summary.specs.Layout.{headBytes, atomBytes, summaryBytes, storedNumber, storedAtoms, storedFields, nearIn, setIn, seenAt, vertexAt, storedDegree, farAt, keptOf}
+use Rattle.summary.specs.Layout.{summaryHead, atomBytes, summaryBytes, storedNumber, storedAtoms, storedFields, nearIn, setIn, seenAt, vertexAt, storedDegree, farAt, keptOf}
 use Rattle.summary.specs.Summary.{headOf, atomsFrom, summaryOf}
 use Rattle.summary.specs.Ones.{bonds-are-ends}
 
@@ -87,7 +87,7 @@ module _ (w : ℕ) (piece : ℕ → List ℕ) (size : (i : ℕ) → length (piec
       rw (more i left, n) (getD-append-add (piece i) (all (suc i) left) (w * m + s) 0 ∙ piece-back m left (suc i) s (omega arith) l ∙ ap (λ (x : ℕ). getD (piece x) s 0) j)
 
 -- how long a summary is
-pub length-head : (x : ℕ) (v : Indices) → length (headOf x v) ≡ headBytes
+pub length-head : (x : ℕ) (v : Indices) → length (headOf x v) ≡ summaryHead
 unfolding headOf littleBytes
 length-head x v = refl
 
@@ -110,19 +110,19 @@ module _ (g : Graph) where
   pub length-atoms : (left i : ℕ) → length (atomsFrom g i left) ≡ atomBytes * left
   length-atoms = length-pieces atomBytes (λ i. littleBytes 8 (nearOf i)) length-set (atomsFrom g) no-atom next-atom
 
-  pub length-summary : (x : ℕ) → length (summaryOf x g) ≡ headBytes + atomBytes * g .atoms
+  pub length-summary : (x : ℕ) → length (summaryOf x g) ≡ summaryHead + atomBytes * g .atoms
   unfolding summaryOf
   length-summary x = length-append (headOf x (indicesOf g)) (atomsFrom g 1 (g .atoms)) ∙ omega (arith, length-head x (indicesOf g), length-atoms (g .atoms) 1)
 
   -- a byte of the head, of an atom
-  head-byte : (x k : ℕ) → k < headBytes → byteAt (summaryOf x g) k ≡ getD (headOf x (indicesOf g)) k 0
+  head-byte : (x k : ℕ) → k < summaryHead → byteAt (summaryOf x g) k ≡ getD (headOf x (indicesOf g)) k 0
   unfolding summaryOf
   head-byte x k h = List·getD-append (headOf x (indicesOf g)) (atomsFrom g 1 (g .atoms)) 0 k (omega (arith, length-head x (indicesOf g)))
 
-  atom-byte : (x i k : ℕ) → Within (g .atoms) i → k < atomBytes → byteAt (summaryOf x g) (headBytes + atomBytes * (i - 1) + k) ≡ getD (littleBytes 8 (nearOf i)) k 0
+  atom-byte : (x i k : ℕ) → Within (g .atoms) i → k < atomBytes → byteAt (summaryOf x g) (summaryHead + atomBytes * (i - 1) + k) ≡ getD (littleBytes 8 (nearOf i)) k 0
   unfolding summaryOf
   atom-byte x i k w h =
-      let e : headBytes + atomBytes * (i - 1) + k ≡ length (headOf x (indicesOf g)) + (atomBytes * (i - 1) + k) = omega (arith, length-head x (indicesOf g)) in
+      let e : summaryHead + atomBytes * (i - 1) + k ≡ length (headOf x (indicesOf g)) + (atomBytes * (i - 1) + k) = omega (arith, length-head x (indicesOf g)) in
       let j : 1 + (i - 1) ≡ i = omega (arith, w .low) in
       ap (byteAt (headOf x (indicesOf g) ++ atomsFrom g 1 (g .atoms))) e
       ∙ getD-append-add (headOf x (indicesOf g)) (atomsFrom g 1 (g .atoms)) (atomBytes * (i - 1) + k) 0
@@ -145,19 +145,19 @@ module _ (x n : ℕ) (xs : List ℕ) (fine : blockReply n xs ≡ read tt) where
 
   -- bytes that begin with the summary, whatever stands behind it
   module _ (b : List ℕ) (begins : take (length (summaryOf x (graphOf n xs))) b ≡ summaryOf x (graphOf n xs)) where
-    same-byte : (k : ℕ) → k < headBytes + atomBytes * n → byteAt b k ≡ byteAt (summaryOf x g) k
+    same-byte : (k : ℕ) → k < summaryHead + atomBytes * n → byteAt b k ≡ byteAt (summaryOf x g) k
     same-byte k h = sym (getD-take (length (summaryOf x g)) b k 0 (omega (arith, length-summary g x))) ∙ ap (λ (l : List ℕ). byteAt l k) begins
 
-    head-at : (k : ℕ) → k < headBytes → byteAt b k ≡ getD (headOf x (indicesOf g)) k 0
+    head-at : (k : ℕ) → k < summaryHead → byteAt b k ≡ getD (headOf x (indicesOf g)) k 0
     head-at k h = same-byte k (omega arith) ∙ head-byte g x k h
 
     near-at : (i q : ℕ) → Within n i → q < atomBytes → byteAt (nearIn b) (atomBytes * (i - 1) + q) ≡ getD (littleBytes 8 (setOf n (bonded g i))) q 0
     near-at i q w l =
-        let e : headBytes + (atomBytes * (i - 1) + q) ≡ headBytes + atomBytes * (i - 1) + q = omega arith in
-        getD-take (atomBytes * mostAtoms) (drop headBytes b) (atomBytes * (i - 1) + q) 0 (omega (arith, few, w .low, w .high))
-        ∙ getD-drop headBytes b (atomBytes * (i - 1) + q) 0
+        let e : summaryHead + (atomBytes * (i - 1) + q) ≡ summaryHead + atomBytes * (i - 1) + q = omega arith in
+        getD-take (atomBytes * mostAtoms) (drop summaryHead b) (atomBytes * (i - 1) + q) 0 (omega (arith, few, w .low, w .high))
+        ∙ getD-drop summaryHead b (atomBytes * (i - 1) + q) 0
         ∙ ap (byteAt b) e
-        ∙ same-byte (headBytes + atomBytes * (i - 1) + q) (omega (arith, w .low, w .high))
+        ∙ same-byte (summaryHead + atomBytes * (i - 1) + q) (omega (arith, w .low, w .high))
         ∙ atom-byte g x i q w l
 
     -- the set of an atom is that of its neighbours

@@ -14,14 +14,14 @@ use Rattle.block.specs.declared.Vertex.{Vertex}
 use Rattle.tables.specs.Parts.{Part}
 
 -- the bytes that a summary opens with, those of an atom, and those of a place
-abbrev pub headBytes : ℕ
-headBytes = 16
+abbrev pub summaryHead : ℕ
+summaryHead = 16
 
 abbrev pub atomBytes : ℕ
 atomBytes = 8
 
 abbrev pub summaryBytes : ℕ
-summaryBytes = headBytes + atomBytes * mostAtoms
+summaryBytes = summaryHead + atomBytes * mostAtoms
 
 abbrev pub storedNumber : List ℕ → ℕ
 storedNumber s = le16 s 0
@@ -42,7 +42,7 @@ storedFields s = record {
 
 -- the bytes of the sets, and the set of atom i
 abbrev pub nearIn : List ℕ → List ℕ
-nearIn s = part s headBytes (atomBytes * mostAtoms)
+nearIn s = part s summaryHead (atomBytes * mostAtoms)
 
 abbrev pub setIn : List ℕ → ℕ → ℕ
 setIn s i = setAt (nearIn s) i

@@ -13,7 +13,7 @@ ghost use mathlib.Core.Path.{_≡_};
 ghost use Prim.Native.Nat.{_*_, _^_, _<_};
 ghost use Rattle.half.specs.Half.{mostAtoms};
 ghost use Rattle.records.specs.Bytes.{byteAt, little, le16, PartOf};
-ghost use Rattle.summary.specs.Layout.{headBytes, atomBytes, storedAtoms, storedFields, seenAt, storedDegree};
+ghost use Rattle.summary.specs.Layout.{summaryHead, atomBytes, storedAtoms, storedFields, seenAt, storedDegree};
 
 // The bytes of the number, counts and fields that a summary opens with; those of an atom, which are the set of its neighbours; and those of a place for a summary.
 pub const HEAD: usize = 16;
@@ -67,7 +67,7 @@ pub fn fields(s: &[u8]) -> Indices
 
 // The bytes of the sets.
 fn near(s: &[u8]) -> &[u8]
-    ensures { λ r. ⌜ PartOf (s .entry) headBytes (atomBytes * mostAtoms) r ⌝ }
+    ensures { λ r. ⌜ PartOf (s .entry) summaryHead (atomBytes * mostAtoms) r ⌝ }
 {
     part(s, HEAD, ATOM * ATOMS)
 }

@@ -19,7 +19,7 @@ use Rattle.deck.specs.declared.Form.the-variants.{Composed}
 use Rattle.judging.specs.Judging.{saidVerdict}
 use Rattle.printed.specs.declared.Printed.{Printed}
 use Rattle.printed.specs.declared.Printed.the-variants.{Unread, Of}
-use Rattle.claiming.specs.Claims.{numberOf, claimOf, saidReply, sizeAt, claimReply, claimsFrom, claimsIn, Truth, isRight, firstWrong, anySets, claimsReply}
+use Rattle.claiming.specs.Claims.{printedOf, claimOf, saidReading, sizeAt, claimReply, claimsFrom, claimsIn, Truth, isRight, firstWrongClaim, anySets, claimsReply}
 use Rattle.claiming.specs.Going.{claim-read}
 use Rattle.claiming.specs.Headline.{Right, Claimed}
 use Rattle.claiming.specs.declared.Claim.{Claim}
@@ -43,11 +43,11 @@ of-bounded f k Unread h = record { low = omega arith; high = omega arith; place 
 of-bounded f k (Of x) h = tt
 
 claim-bounded : (most : ℕ) (cs : List ℕ) (at k : ℕ) → k < mostPlace → Bounded mostPlace (claimReply most cs at k)
-unfolding claimReply saidReply
+unfolding claimReply saidReading
 claim-bounded most cs at k h =
     let t = isOutside most (byteAt cs at) || ltb (length cs) (at + sizeAt cs at) in
     then-bounded mostPlace (refuseIf t 35 k) _ (if-bounded mostPlace t 35 k (record { low = omega arith; high = omega arith; place = h })) (λ u e.
-    of-bounded (byteAt cs at) k (numberOf (byteAt cs at) (part cs (at + 2) (byteAt cs (at + 1)))) h)
+    of-bounded (byteAt cs at) k (printedOf (byteAt cs at) (part cs (at + 2) (byteAt cs (at + 1)))) h)
 
 -- All claims: each takes a byte at least, so that the number of one that is there is at most the length.
 module _ (cs : List ℕ) (l : length cs < mostPlace) where
@@ -79,12 +79,12 @@ few-claims most cs (suc fuel) at k xs h e = go (ltb at (length cs)) e (λ more l
         let all : c ∷ more ≡ xs = cc in
         omega (arith, ap length all, ih more (claim-read most cs at k p .1) q)
 
-first-within : (fs : List ℕ) (above k : ℕ) (xs : List Claim) → firstWrong fs above (suc k) xs ≤ k + length xs
-unfolding firstWrong
+first-within : (fs : List ℕ) (above k : ℕ) (xs : List Claim) → firstWrongClaim fs above (suc k) xs ≤ k + length xs
+unfolding firstWrongClaim
 first-within fs above k [] = omega arith
 first-within fs above k (c ∷ xs) = go (isRight fs above c) (first-within fs above (suc k) xs)
   where
-    go : (t : Bool) → firstWrong fs above (suc (suc k)) xs ≤ suc k + length xs → cond t (firstWrong fs above (suc (suc k)) xs) (suc k) ≤ k + suc (length xs)
+    go : (t : Bool) → firstWrongClaim fs above (suc (suc k)) xs ≤ suc k + length xs → cond t (firstWrongClaim fs above (suc (suc k)) xs) (suc k) ≤ k + suc (length xs)
     go true h = omega (arith, h)
     go false h = omega arith
 
@@ -94,7 +94,7 @@ module _ (t : Truth) (cs : List ℕ) (l : length cs < mostPlace) where
   claims-bounded =
       then-bounded mostPlace (refuseIf (eqb (length cs) 0) 36 0) _ (if-bounded mostPlace (eqb (length cs) 0) 36 0 (omega arith)) (λ u e.
       then-bounded mostPlace (claimsFrom (length cs) (length (t .fields)) cs 0 1) _ (from-bounded cs l (length (t .fields)) (length cs) 0 1 (omega arith)) (λ xs f.
-      then-bounded mostPlace (refuseIf (anySets xs && not (t .tree)) 34 0) (λ _. read (firstWrong (t .fields) (t .above) 1 xs)) (if-bounded mostPlace (anySets xs && not (t .tree)) 34 0 (omega arith)) (λ v g. tt)))
+      then-bounded mostPlace (refuseIf (anySets xs && not (t .tree)) 34 0) (λ _. read (firstWrongClaim (t .fields) (t .above) 1 xs)) (if-bounded mostPlace (anySets xs && not (t .tree)) 34 0 (omega arith)) (λ v g. tt)))
 
   -- the claim that is named is one of them
   claim-small : (k : ℕ) → claimsReply t cs ≡ read k → k < mostPlace
@@ -103,7 +103,7 @@ module _ (t : Truth) (cs : List ℕ) (l : length cs < mostPlace) where
       let (u, p, f) = then-read (refuseIf (eqb (length cs) 0) 36 0) _ e in
       let (xs, q, g) = then-read (claimsFrom (length cs) (length (t .fields)) cs 0 1) _ f in
       let (v, r, h) = then-read (refuseIf (anySets xs && not (t .tree)) 34 0) _ g in
-      let same : firstWrong (t .fields) (t .above) 1 xs ≡ k = cc in
+      let same : firstWrongClaim (t .fields) (t .above) 1 xs ≡ k = cc in
       omega (arith, same, first-within (t .fields) (t .above) 0 xs, few-claims (length (t .fields)) cs (length cs) 0 1 xs (omega arith) q, l)
 
 -- FUNCTION BY FUNCTION

@@ -11,7 +11,7 @@ use Rattle.library.specs.Values.{mostFields}
 use Rattle.ranked.specs.Entries.{room}
 use Rattle.ranking.specs.Best.{bestReply}
 use Rattle.calls.specs.Convention.{mostPlace}
-use Rattle.ranking_calls.specs.Ranks.{wanted, lentFor, bestFor}
+use Rattle.ranking_calls.specs.Ranks.{wantsGreatest, lentFor, bestFor}
 use Rattle.told.specs.Bounded.{Bounded, then-bounded, if-bounded}
 use Rattle.told.specs.Recovered.{Tells, tells}
 use Rattle.told.specs.Libraries.{library-bounded}
@@ -24,4 +24,4 @@ best-bounded d field g tag entries held = then-bounded mostPlace (libraryReply d
 
 pub library-best-tells : (d : List ℕ) (field greatest tag : ℕ) (best held : List ℕ) → Tells (bestFor d field greatest tag best held)
 library-best-tells d field greatest tag best held =
-    tells (bestFor d field greatest tag best held) (best-bounded d field (wanted greatest) tag (lentFor held best) (getD held 0 0))
+    tells (bestFor d field greatest tag best held) (best-bounded d field (wantsGreatest greatest) tag (lentFor held best) (getD held 0 0))

@@ -20,7 +20,7 @@ use Rattle.szeged.specs.Reply.{szegedReply}
 use Rattle.balaban.specs.Balaban.{balabanReply}
 use Rattle.molwriter.specs.Written as molwriter
 use Rattle.shares.specs.Reply.{mostDenominator, sharesReply}
-use Rattle.poly.specs.Poly.{unusable, valuesReply, polynomialReply}
+use Rattle.poly.specs.Poly.{unusable, polynomialAt, polynomialReply}
 use Rattle.sets.specs.Reply.{treeReply, setsReply}
 use Rattle.block.specs.declared.Indices.{Indices}
 use Rattle.records.specs.Records.{sheetAt}
@@ -142,7 +142,7 @@ vertex-bounded n xs a =
     then-bounded mostPlace (refuseIf (isOutside n a) 18 0) (λ _. read (vertexOf (graphOf n xs) a)) (if-bounded mostPlace (isOutside n a) 18 0 (omega arith)) (λ v f. tt))
 
 polynomial-bounded : (n : ℕ) (xs : List ℕ) (x : Float) → Bounded mostPlace (polynomialReply n xs x)
-unfolding polynomialReply valuesReply
+unfolding polynomialReply polynomialAt
 polynomial-bounded n xs x =
     then-bounded mostPlace (blockReply n xs) _ (block-here n xs) (λ u e.
     then-bounded mostPlace (refuseIf (unusable x) 10 0) _ (if-bounded mostPlace (unusable x) 10 0 (omega arith)) (λ v f. tt))

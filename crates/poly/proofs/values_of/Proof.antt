@@ -6,15 +6,15 @@ use lib.Ieee.{Float, ofBits, lt, le}
 use borrow.Author.Needs.{needs}
 use Rattle.reply.specs.Read.{read, _then_, refuseIf}
 use Rattle.poly.specs.declared.ValuesReply.{ValuesReply}
-use Rattle.poly.specs.Poly.{zeroF, oneF, pairsCounted, valuesOf, valuesReply, saidPolynomial}
+use Rattle.poly.specs.Poly.{zeroF, oneF, pairsCounted, polynomialValues, polynomialAt, saidPolynomial}
 use Rattle.poly.proofs.Usable.{two-tests}
 use Rattle.poly.proofs.values_of.Statement.{statement}
 use Rattle.poly.proofs.values_of.Tie as tie
 
 -- the reply, by what the two tests gave
 chosen : (n : ℕ → ℕ) (x : Float) (a b : Bool) → lt zeroF x ≡ a → le x oneF ≡ b
-    → saidPolynomial (refuseIf (not (a && b)) 10 0 then λ _. read (valuesOf n x)) ≡ saidPolynomial (valuesReply n x)
-unfolding valuesReply
+    → saidPolynomial (refuseIf (not (a && b)) 10 0 then λ _. read (polynomialValues n x)) ≡ saidPolynomial (polynomialAt n x)
+unfolding polynomialAt
 chosen n x a b p q = rw (two-tests x, p, q)
 
 value-of-requires : tie.Need-value-of-requires
@@ -24,7 +24,7 @@ value-of-requires-2 : tie.Need-value-of-requires-2
 value-of-requires-2 c κs = search needs
 
 returns : tie.Need-returns
-unfolding ofBits valuesOf
+unfolding ofBits polynomialValues
 returns c =
     let tests = c .before .before in
     let start = tests .before .before in

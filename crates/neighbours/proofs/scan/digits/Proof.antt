@@ -5,14 +5,14 @@ use lib.ListN.{length, drop}
 use native.Mathlib.Omega.{arith}
 use borrow.Author.Needs.{needs}
 use borrow.Author.Tests.{not-true, not-false}
-use Rattle.adjacency.specs.Neighbours.{number, run, numbersFrom, tooMuch}
+use Rattle.adjacency.specs.Neighbours.{textNumber, run, numbersFrom, tooMuch}
 use Rattle.adjacency.specs.Work.{numbersAt}
 use Rattle.adjacency.specs.Scanning.{numbers-first, run-past, run-more, run-stop}
 use Rattle.neighbours.proofs.scan.digits.Statement.{statement}
 use Rattle.neighbours.proofs.scan.digits.Tie as tie
 
 abbrev Inv-loop : tie.InvT-loop
-Inv-loop text at value₀ next₀ value next = (numbersAt text at ≡ numbersFrom (run (number value at)) next (drop next text)) × (at < next) × (next ≤ length text) × (value ≤ tooMuch)
+Inv-loop text at value₀ next₀ value next = (numbersAt text at ≡ numbersFrom (run (textNumber value at)) next (drop next text)) × (at < next) × (next ≤ length text) × (value ≤ tooMuch)
 
 abbrev μ-loop : tie.MeasureT-loop
 μ-loop text at value₀ next₀ value next = length text - next
