@@ -8,9 +8,12 @@ use lines::row::Row;
 use lines::row::STAYS;
 use lines::told;
 use lines::told::Told;
+use matched::MatchReply;
 use records::Sheet;
 use sdfile::Step;
 use sdfile::Value;
+use whole::MoleculeReply;
+use wholefile::WholeRead;
 
 // The bytes of a sheet of kind 4.
 const SHEET: usize = 44;
@@ -102,6 +105,42 @@ fn item(text: &[u8], row: Row) -> bool {
     }
 }
 
+// Room for the numbers of a small molecule.
+const SMALL: usize = 64;
+
+// The numbers of atoms and bonds of a molfile that is read whole.
+fn whole_file(text: &[u8], row: Row) -> bool {
+    let mut out = [STAYS as u16; SMALL];
+    let reply = wholefile::read_whole(text, &mut out);
+    match reply {
+        WholeRead::Refused(r) => told::refusal(r).is(row, 0),
+        WholeRead::Molecule(x) => three(x.atoms as u64, x.bonds as u64, 0).is(row, 0),
+    }
+}
+
+// The numbers of atoms and bonds of a deck's molecule written out.
+fn written_out(deck: &[u8], row: Row) -> bool {
+    let mut out = [STAYS as u16; SMALL];
+    let reply = whole::bonds(deck, &mut out);
+    match reply {
+        MoleculeReply::Refused(r) => told::refusal(r).is(row, 0),
+        MoleculeReply::Of(x) => three(x.atoms as u64, x.bonds as u64, 0).is(row, 0),
+    }
+}
+
+// A number of atoms; whether a deck is the molecule of so many whose atoms 1 and 2 are bonded, by the matching of these to the first atoms of the first two
+// placements: nothing for yes, or the place that fails.
+fn pair(deck: &[u8], row: Row) -> bool {
+    let bonds = [1u16, 2];
+    let matching = [1u16, 1, 2, 1];
+    let reply = matched::check(deck, row.first(0, FAR), &bonds, &matching);
+    match reply {
+        MatchReply::Refused(r) => told::refusal(r).is(row, 1),
+        MatchReply::Yes => told::nothing().is(row, 1),
+        MatchReply::No(place) => told::one(place as u64).is(row, 1),
+    }
+}
+
 // Whether the reply to a question, which is known by its first letter, is that of its line.
 pub fn of_bytes(letter: u8, bytes: &[u8], row: Row) -> bool {
     match letter {
@@ -113,6 +152,9 @@ pub fn of_bytes(letter: u8, bytes: &[u8], row: Row) -> bool {
         b'n' => told::of_measured(measuring::measure_neighbours(bytes)).is(row, 0),
         b'd' => data_record(bytes, row),
         b'i' => item(bytes, row),
+        b'g' => whole_file(bytes, row),
+        b'y' => written_out(bytes, row),
+        b'x' => pair(bytes, row),
         _ => false,
     }
 }

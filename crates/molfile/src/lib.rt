@@ -310,9 +310,10 @@ fn rest(d: &[u8], from: usize, n: usize, m: usize, ones: &mut [u16], twos: &mut 
             if text::line_starts(d, at, b"M  END") {
                 return Walk::At(at);
             }
+            let end = d.len();
             Walk::Refused(Refusal {
                 number: 25,
-                place: d.len(),
+                place: end,
             })
         }
     }

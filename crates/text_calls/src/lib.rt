@@ -34,9 +34,9 @@ pub fn read_molfile(text: &[u8], bonds: &mut [u8], counts: &mut [u64]) -> u64
     let answer = molfile::read(text, bonds);
     match answer {
         MolRead::Refused(r) => code_of(r),
-        MolRead::Block(x) => {
-            counts[0] = x.atoms as u64;
-            counts[1] = x.bonds as u64;
+        MolRead::Block(block) => {
+            counts[0] = block.atoms as u64;
+            counts[1] = block.bonds as u64;
             0
         }
     }
@@ -84,8 +84,8 @@ pub fn write_molfile(atoms: usize, bonds: &[u8], text: &mut [u8], length: &mut [
     let answer = molwriter::write(atoms, bonds, text);
     match answer {
         MolWritten::Refused(r) => code_of(r),
-        MolWritten::Bytes(k) => {
-            length[0] = k as u64;
+        MolWritten::Bytes(bytes) => {
+            length[0] = bytes as u64;
             0
         }
     }
