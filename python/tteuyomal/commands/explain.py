@@ -34,4 +34,4 @@ def run(options: argparse.Namespace, out: Output) -> int:
         return judged.status
     answer = explain.held(judged.data, file)
     out.write("\n".join(["", *explain.against(answer, file)]) + "\n")
-    return max(judged.status, 2 if answer is None else judging.STATUS.get(answer.word, 0))
+    return max(judged.status, 0 if answer else 2 if answer is None else judging.STATUS[answer.word])
