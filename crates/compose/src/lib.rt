@@ -2,9 +2,6 @@
 mod blocks;
 mod reading;
 
-pub use reading::open_deck;
-pub use reading::read_deck;
-
 use assembly::BLOCKS;
 use assembly::PLACEMENT_BYTES;
 use block::Indices;
@@ -12,6 +9,8 @@ use block::IndicesReply;
 use blocks::open_book;
 use deck::Form;
 use deck::sheet_reply;
+pub use reading::open_deck;
+pub use reading::read_deck;
 use records::ASSEMBLY;
 use records::BLOCK;
 use records::HEAD;
