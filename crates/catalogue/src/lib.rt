@@ -5,7 +5,7 @@ mod sites;
 use assembly::BLOCKS;
 use assembly::BlockTable;
 use assembly::NO_BLOCK;
-use deck::open_deck;
+use compose::open_deck;
 use products::LIBRARY;
 use products::SITES;
 use products::Site;

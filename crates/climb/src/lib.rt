@@ -1,19 +1,58 @@
-// The distance of two placed atoms of a deck: it climbs from the later placement to its parent.
+// What is asked of a deck that is read: the payload of a block, and the distance of two placed atoms, which climbs from the later placement to its parent.
 ghost use mathlib.Core.Path.{_≡_};
 ghost use Prim.Native.Nat.{_-_};
+ghost use lib.ListN.{take};
 ghost use Rattle.graph.specs.Graph.{distance};
 ghost use Rattle.block.specs.Index.{saidDistance};
+ghost use Rattle.records.specs.Bytes.{PartOf};
 ghost use Rattle.assembly.specs.Book.{find};
+ghost use Rattle.deck.specs.Deck.{payload, blockSpan};
 ghost use Rattle.deck.specs.Molecule.{placedIn, graphAt};
 ghost use Rattle.climb.specs.Placed.{isMissing, placedDistanceReply};
 ghost use Rattle.climb.specs.Pairs.{deckOf, between, PlacedPair};
+use assembly::BLOCK_HEAD;
+use assembly::BOND_BYTES;
 use assembly::BlockAt;
+use assembly::BlockTable;
 use block::DistanceReply;
 use deck::Form;
 use deck::Layout;
+use records::part;
 use reply::Refusal;
 use reply::Reply;
 use reply::is_outside;
+
+// The payload of the block of a number among the first `count`, and nothing where there is no such block.
+fn payload_of(d: &[u8], blocks: BlockTable, count: usize, number: usize) -> &[u8]
+    ensures { λ r. ⌜ PartOf (d .entry) (payload (take count blocks) number .from) (payload (take count blocks) number .len) r ⌝ }
+{
+    let b = assembly::find_block(blocks, count, number);
+    if !assembly::is_numbered(b, number) {
+        return part(d, 0, 0);
+    }
+    part(d, b.start, BLOCK_HEAD + BOND_BYTES * (b.bonds as usize))
+}
+
+// The part of a deck that holds the payload of a block: empty exactly where the deck is refused in both forms or has no such block.
+pub fn block_part(d: &[u8], number: usize) -> &[u8]
+    ensures { λ r. ⌜ PartOf (d .entry) (blockSpan (now (d .entry)) number .from) (blockSpan (now (d .entry)) number .len) r ⌝ }
+{
+    let k = compose::read_deck(d, Form::Composed);
+    let composed = k.reply;
+    let Reply::Fine = composed else {
+        let j = compose::read_deck(d, Form::Judged);
+        let judged = j.reply;
+        let Reply::Fine = judged else {
+            return part(d, 0, 0);
+        };
+        let layout = j.layout;
+        let blocks = layout.blocks;
+        return payload_of(d, blocks, layout.count, number);
+    };
+    let layout = k.layout;
+    let blocks = layout.blocks;
+    payload_of(d, blocks, layout.count, number)
+}
 
 // The block of the placement at an index from 0.
 pub fn block_at(d: &[u8], deck: Layout, k: usize) -> BlockAt
@@ -71,7 +110,7 @@ fn climb(d: &[u8], deck: Layout, k: usize, i: usize, l: usize, j: usize) -> u64
 pub fn placed_distance(d: &[u8], k: usize, i: usize, l: usize, j: usize) -> DistanceReply
     ensures { λ r. ⌜ r ≡ saidDistance (placedDistanceReply (now (d .entry)) k i l j) ⌝ }
 {
-    let read = deck::read_deck(d, Form::Composed);
+    let read = compose::read_deck(d, Form::Composed);
     let reply = read.reply;
     match reply {
         Reply::Refused(r) => DistanceReply::Refused(r),

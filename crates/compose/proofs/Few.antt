@@ -15,7 +15,7 @@ use Rattle.assembly.specs.Book.{mostBlocks}
 use Rattle.assembly.specs.declared.BlockAt.{BlockAt}
 use Rattle.deck.specs.Deck.{kindsAfter, Deck, blockAt, deckAt, blockReplyAt, blocksFrom, blocksReply}
 use Rattle.deck.specs.Kept.{fit, chosen}
-use Rattle.compose.specs.Booked.{headsFrom}
+use Rattle.compose.specs.Unfilled.{headsFrom}
 
 -- one head more, and none
 pub heads-end : (left : ℕ) (d : List ℕ) (at : ℕ) → left ≡ 0 → headsFrom left d at ≡ 0

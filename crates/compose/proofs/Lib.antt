@@ -1,4 +1,3 @@
 -- The laws behind the proofs of composing.
-pub mod Booking
-pub mod Reading
+pub mod Replies
 pub mod Few

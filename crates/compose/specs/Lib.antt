@@ -1,8 +1,8 @@
--- The six fields of a deck, and what composing them works on.
+-- Decks read, and the six fields of a deck.
 --
--- | notion                             | meaning                                                           | the law that matters |
--- | `fieldsReply form d`               | the six fields of the molecule written out, or the deck's refusal | `unique-fields`      |
--- | `Unfilled`, `Blank`, `Booked`      | a book before and after it is filled from a deck's blocks         | proofs/Booking       |
+-- | notion                        | meaning                                                           | the law that matters |
+-- | `fieldsReply form d`          | the six fields of the molecule written out, or the deck's refusal | `unique-fields`      |
+-- | `headsFrom`, `Unfilled`       | how many blocks a deck can have, and a book with room for them    | `few-heads`          |
 pub mod Fields
-pub mod Booked
+pub mod Unfilled
 pub mod Unique

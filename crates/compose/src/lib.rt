@@ -1,11 +1,16 @@
-// Composing: the six fields of the molecule that a deck describes, over a book that is filled while the deck is read.
+// Reading a deck, and composing it: the six fields of the molecule that it describes, over a book that is filled while its blocks are read.
+mod blocks;
+mod reading;
+
 use assembly::BLOCKS;
 use assembly::PLACEMENT_BYTES;
 use block::Indices;
 use block::IndicesReply;
+use blocks::open_book;
 use deck::Form;
-use deck::open_book;
 use deck::sheet_reply;
+pub use reading::open_deck;
+pub use reading::read_deck;
 use records::ASSEMBLY;
 use records::BLOCK;
 use records::HEAD;
@@ -21,7 +26,7 @@ ghost use Rattle.reply.specs.Read.{refused, refusal};
 ghost use Rattle.assembly.specs.Book.{mostBlocks};
 ghost use Rattle.assembly.specs.Placements.{mostPlacements};
 ghost use Rattle.deck.specs.Deck.{longestDeck, placementPlace};
-ghost use Rattle.compose.specs.Booked.{headsFrom, Unfilled};
+ghost use Rattle.compose.specs.Unfilled.{headsFrom, Unfilled};
 ghost use Rattle.compose.specs.Fields.{composeReply, behindReply, saidComposed};
 
 // The blocks of a small deck and of a middling one, for which a shorter book is cleared.

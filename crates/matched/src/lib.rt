@@ -299,7 +299,7 @@ fn answer(d: &[u8], deck: Layout, n: usize, bonds: &[u16], matching: &[u16]) -> 
 pub fn check(d: &[u8], atoms: usize, bonds: &[u16], matching: &[u16]) -> MatchReply
     ensures { λ r. ⌜ r ≡ saidMatch (matchReply (now (d .entry)) atoms (now (bonds .entry)) (now (matching .entry))) ⌝ }
 {
-    let read = deck::read_deck(d, Form::Composed);
+    let read = compose::read_deck(d, Form::Composed);
     let reply = read.reply;
     match reply {
         Reply::Refused(r) => MatchReply::Refused(r),

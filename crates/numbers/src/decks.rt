@@ -45,7 +45,7 @@ fn apart(deck: &[u8], row: Row) -> bool {
 
 // The part of the deck that holds a block.
 fn found(deck: &[u8], row: Row) -> bool {
-    let part = deck::block_part(deck, row.first(0, FAR));
+    let part = climb::block_part(deck, row.first(0, FAR));
     row.left(1) == part.len() && told::bytes_are(part, row)
 }
 

@@ -169,7 +169,7 @@ pub fn bonds(d: &[u8], out: &mut [u16]) -> MoleculeReply
     ensures reply { λ r. ⌜ r ≡ saidMolecule (wholeReply (now (d .entry)) (length (now (out .entry)))) ⌝ }
     ensures numbers { λ _. ⌜ now (out .exit) ≡ numbersAfter (wholeReply (now (d .entry)) (length (now (out .entry)))) (now (out .entry)) ⌝ }
 {
-    let read = deck::read_deck(d, Form::Composed);
+    let read = compose::read_deck(d, Form::Composed);
     let reply = read.reply;
     match reply {
         Reply::Refused(r) => MoleculeReply::Refused(r),

@@ -5,7 +5,7 @@ use native.Mathlib.Omega.{arith}
 use borrow.Author.Needs.{needs}
 use Rattle.records.specs.Records.{kindAt, endAt}
 use Rattle.assembly.specs.Book.{mostBlocks}
-use Rattle.compose.specs.Booked.{headsFrom}
+use Rattle.compose.specs.Unfilled.{headsFrom}
 use Rattle.compose.proofs.Few.{head-more, head-none, heads-end}
 use Rattle.compose.proofs.heads.Statement.{statement}
 use Rattle.compose.proofs.heads.Tie as tie

@@ -1,0 +1,84 @@
+// What a deck says, over a book that is filled while its blocks are read.
+ghost use mathlib.Core.Path.{_≡_};
+ghost use Prim.Native.Nat.{ℕ, _*_, _≤_};
+ghost use lib.ListN.{length, getD};
+ghost use Rattle.reply.specs.Read.{saidReply};
+ghost use Rattle.records.specs.Records.{payloadAt};
+ghost use Rattle.assembly.specs.Book.{mostBlocks};
+ghost use Rattle.assembly.specs.Placements.{mostPlacements, shelfReply};
+ghost use Rattle.summary.specs.Layout.{summaryBytes};
+ghost use Rattle.shelf.specs.Shelf.{shelfIn};
+ghost use Rattle.deck.specs.Deck.{longestDeck, placementPlace, moved, openReply, deckReply};
+ghost use Rattle.deck.specs.Said.{saidDeck};
+use super::blocks::deck_refused;
+use super::blocks::open_book;
+use assembly::BLOCKS;
+use assembly::PLACEMENT_BYTES;
+use deck::DeckRead;
+use deck::Form;
+use deck::sheet_reply;
+use records::ASSEMBLY;
+use records::Kind;
+use records::payload_at;
+use reply::Refusal;
+use reply::Reply;
+use summary::SUMMARY;
+
+// The place of an assembly's refusal in a deck: the placement's first byte, or the record's.
+fn placement_place(at: usize, r: Refusal) -> usize
+    requires { ⌜ (at ≤ longestDeck) × (r .place ≤ mostPlacements) ⌝ }
+    ensures { λ p. ⌜ p ≡ placementPlace at r ⌝ }
+{
+    at + PLACEMENT_BYTES * r.place
+}
+
+// Refusals 15 to 19, 23 and 24 of the assembly record at a place, over a book.
+fn assembly_reply(d: &[u8], at: usize, book: &[u8]) -> Reply
+    requires { ⌜ at ≤ longestDeck ⌝ }
+    ensures { λ r. ⌜ r ≡ saidReply (moved (placementPlace at) (shelfReply (shelfIn (now (book .entry))) (payloadAt (now (d .entry)) at))) ⌝ }
+{
+    let reply = shelf::check(book, payload_at(d, at));
+    match reply {
+        Reply::Fine => Reply::Fine,
+        Reply::Refused(r) => Reply::Refused(Refusal {
+            number: r.number,
+            place: placement_place(at, r),
+        }),
+    }
+}
+
+// What a deck says, by a lent book that is all 0 and has a place for each block that it can have.
+fn read_in(d: &[u8], form: Form, book: &mut [u8]) -> DeckRead
+    requires { ⌜ (summaryBytes * mostBlocks ≤ length (now book)) × ((p : ℕ) → getD (now book) p 0 ≡ 0) ⌝ }
+    ensures { λ r. ⌜ r ≡ saidDeck (deckReply form (now (d .entry))) ⌝ }
+{
+    let k = open_book(d, ASSEMBLY, book);
+    let first = k.reply;
+    let Reply::Fine = first else {
+        return k;
+    };
+    let layout = k.layout;
+    let a = assembly_reply(d, layout.assembly, book);
+    let Reply::Fine = a else {
+        return deck_refused(a);
+    };
+    let s = sheet_reply(form, d, layout.sheet);
+    let Reply::Fine = s else {
+        return deck_refused(s);
+    };
+    k
+}
+
+// What a deck says: record by record, each taken or refused with its place.
+pub fn read_deck(d: &[u8], form: Form) -> DeckRead
+    ensures { λ r. ⌜ r ≡ saidDeck (deckReply form (now (d .entry))) ⌝ }
+{
+    read_in(d, form, &mut [0u8; SUMMARY * BLOCKS])
+}
+
+// What stands before a record of the kind `last`, whatever that says: refusal 20, the blocks', and 11 to 13 of that record.
+pub fn open_deck(d: &[u8], last: Kind) -> DeckRead
+    ensures { λ r. ⌜ r ≡ saidDeck (openReply last (now (d .entry))) ⌝ }
+{
+    open_book(d, last, &mut [0u8; 1])
+}
