@@ -7,13 +7,12 @@ use Rattle.graph.specs.Graph.{Graph}
 use Rattle.reply.specs.Read.{Read, refused, read, _then_}
 use Rattle.reply.specs.declared.Refusal.{Refusal}
 use Rattle.block.specs.Block.{blockReply}
-use Rattle.block.specs.Rows.{unlessRefused, halfAfter, farAfter}
+use Rattle.block.specs.Rows.{farOf, halfTable, unlessRefused, halfAfter, farAfter}
 use Rattle.block.specs.declared.Indices.{Indices}
 use Rattle.records.specs.declared.Sheet.{Sheet}
 use Rattle.shares.specs.Reply.{sharesReply, sharesEntries}
 use Rattle.shares.specs.Examples as shares
-use Rattle.szeged.specs.Reply.{szegedReply, szegedEntries}
-use Rattle.szeged.specs.Examples as szeged
+use Rattle.szeged.specs.Reply.{szegedReply, filledTerms, szegedEntries}
 use Rattle.molfile.specs.Molfile.{keptReply, molfileReply}
 use Rattle.molfile.specs.Said.{filledBonds, molfileBytes, keptNumbers}
 use Rattle.wholefile.specs.Whole.{wholeFileReply}
@@ -22,7 +21,7 @@ use Rattle.molwriter.specs.Written.{molfileWriteReply, filledText, writtenBytes
 use Rattle.adjacency.specs.Neighbours.{bytesAfter}
 use Rattle.adjacency.specs.Written.{textAfter}
 use Rattle.storage.specs.Shelf.{unless, addReply, added, dropReply, dropped}
-use Rattle.storage.specs.Table.{shelfBytes, shelf, withShelf, tableReply, tableAfter, emptied}
+use Rattle.storage.specs.Table.{shelfBytes, shelf, withShelf, tableReply, tableAfter, zeroed, emptied}
 use Rattle.storage.specs.declared.Queue.{Queue}
 use Rattle.storage.specs.declared.Queue.the-variants.{Day, Night}
 use Rattle.summary.specs.Layout.{summaryBytes}
@@ -87,11 +86,11 @@ sheet-unchanged s out (read x) not = absurd (not refl)
 
 -- the queues' table
 pub empty-unchanged : (t : List ℕ) → (coded (tableReply summaryBytes t) ≡ 0 → ⊥) → emptied summaryBytes t ≡ t
-empty-unchanged t = go (tableReply summaryBytes t)
+empty-unchanged t = go (zeroed summaryBytes t) (tableReply summaryBytes t)
   where
-    go : {new : List ℕ} (x : Read (Unit {0})) → (coded x ≡ 0 → ⊥) → unless x t new ≡ t
-    go (refused r) not = refl
-    go (read u) not = absurd (not refl)
+    go : (new : List ℕ) (x : Read (Unit {0})) → (coded x ≡ 0 → ⊥) → unless x t new ≡ t
+    go new (refused r) not = refl
+    go new (read u) not = absurd (not refl)
 
 same-shelf : (q : Queue) (t : List ℕ) → withShelf summaryBytes q t (shelf summaryBytes q t) ≡ t
 same-shelf Day t = take-append-drop (shelfBytes summaryBytes) t
@@ -114,16 +113,16 @@ unfolding dropped
 drop-unchanged t q x = shelf-kept q t _ (tableReply summaryBytes t) (dropReply summaryBytes (ownPlaces t q) x)
 
 -- The functions below C. A block's distances:
-module _ (n : ℕ) (xs : List ℕ) (r : Refusal) (no : blockReply n xs ≡ refused r) where
-  pub table-unchanged : (half far : List ℕ) → (halfAfter n xs half ≡ half) × (farAfter n xs far ≡ far)
-  table-unchanged half far = (ap (λ (x : Read (Unit {0})). unlessRefused x half _) no, ap (λ (x : Read (Unit {0})). unlessRefused x far _) no)
+pub table-unchanged : (n : ℕ) (xs half far : List ℕ) (r : Refusal) → blockReply n xs ≡ refused r → (halfAfter n xs half ≡ half) × (farAfter n xs far ≡ far)
+table-unchanged n xs half far r e = (ap (λ (x : Read (Unit {0})). unlessRefused x half (halfTable n xs)) e, ap (λ (x : Read (Unit {0})). unlessRefused x far (farOf n xs)) e)
 
 -- contributions and Szeged terms (a block's summary: `refusal-keeps`, filling)
 pub shares-unchanged : (n : ℕ) (xs out : List ℕ) (r : Refusal) → sharesReply n xs (length out) ≡ refused r → sharesEntries n xs out ≡ out
 shares-unchanged n xs = shares.refusal-keeps n xs
 
 pub terms-unchanged : (n : ℕ) (xs out : List ℕ) (r : Refusal) → szegedReply n xs (length out) ≡ refused r → szegedEntries n xs out ≡ out
-terms-unchanged n xs = szeged.refusal-keeps n xs
+unfolding filledTerms
+terms-unchanged n xs out r e = rw e
 
 -- texts, read and written
 bonds-kept : (x : Read (Unit {0})) (xs out : List ℕ) (r : Refusal) → x ≡ refused r → filledBonds x xs out ≡ out
