@@ -1,7 +1,7 @@
 -- The products of a library, step by step.
 --
 -- | notion                    | meaning                                                              | the law that matters                                     |
--- | `stepReply s d p n`       | refusals 20, 9 and the library's, the product at a position, or done | `made-step`; `length-first`, `then-nine`                 |
+-- | `stepReply s d p n`       | refusals 20, 9 and the library's, the product at a position, or done | `made-step`                                              |
 -- | `stepsFrom`, `runOf`      | steps one after the other, each into what the one before left        | `run-next`, `run-done`, `run-full`                       |
 -- | `valuesReply d f p n`     | 20, the library's refusals, 35, the values of a field from a position | `unique-values`; `filled-whole`: place by place          |
 -- | `saidProduct`, `saidStep` | how the code says it                                                 | `unique-product`, `unique-step`, `unique-run`            |

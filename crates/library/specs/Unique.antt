@@ -1,14 +1,10 @@
--- Laws. Each promise determines the reply and the buffer: two that satisfy it are equal. A step's first refusals. Assumes nothing.
-use Prim.Native.Nat.{ℕ, suc, _≤_, _<_}
+-- Laws. Each promise determines the reply and the buffer: two that satisfy it are equal. Assumes nothing.
+use Prim.Native.Nat.{ℕ, suc}
 use mathlib.Core.List.{List}
 use mathlib.Core.Path.{_≡_}
-use borrow.Author.Tests.{lt-ltb, le-ltb}
 use lib.ListN.{length}
-use Rattle.reply.specs.Read.{refused, refusal}
 use Rattle.reply.specs.Chain.{unique}
 use Rattle.records.specs.declared.Sheet.{Sheet}
-use Rattle.deck.specs.Deck.{longestDeck}
-use Rattle.sheets.specs.Sheets.{sheetBytes}
 use Rattle.products.specs.Products.{productReply}
 use Rattle.catalogue.specs.declared.CountReply.{CountReply}
 use Rattle.library.specs.Said.{saidProduct}
@@ -40,12 +36,3 @@ module _ (d : List ℕ) (position : ℕ) where
 
     pub unique-values-numbers : (a b : List ℕ) → let x = valuesReply d field position (length row) in a ≡ valuesOut row x → b ≡ valuesOut row x → a ≡ b
     unique-values-numbers a b = unique
-
--- 20 before 9, 9 before the library's refusals
-pub length-first : (s : Sheet) (d : List ℕ) (position n : ℕ) → longestDeck < length d → stepReply s d position n ≡ refused (refusal 20 0)
-unfolding stepReply
-length-first s d position n long = rw (lt-ltb longestDeck (length d) long)
-
-pub then-nine : (s : Sheet) (d : List ℕ) (position n : ℕ) → length d ≤ longestDeck → n < sheetBytes s → stepReply s d position n ≡ refused (refusal 9 0)
-unfolding stepReply
-then-nine s d position n fits short = rw (le-ltb longestDeck (length d) fits, lt-ltb n (sheetBytes s) short)
