@@ -9,6 +9,7 @@
 -- | `writtenText n bs`               | the text of a block                                              | `text-most`: how long it is                          |
 -- | `neighboursWriteReply n xs room` | the same, or its refusal                                         | `round-trip`: over the lent bytes, there and back    |
 -- | `canonical n bs`                 | a block's bonds in the order of its text, smaller end first      | `reads-back`: what was written is read in that order |
+-- | `Rearranged bs cs`               | one list is the other in another order, some ends turned         | `rearranged`: the canonical list and the block's     |
 -- Definitions
 pub mod Neighbours
 pub mod Written
@@ -32,5 +33,6 @@ pub mod Again
 pub mod Degrees
 pub mod Order
 pub mod RoundTrip
+pub mod Rearranged
 pub mod Ends
 pub mod Roomy

@@ -1,11 +1,11 @@
 -- Laws. The definitions compute: the rules' values for a ring of 6 and for two rings of 6 as one block, and a block for each refusal. Assumes nothing.
 use Prim.Native.Nat.{ℕ, zero, suc, _+_}
-use mathlib.Core.List.{List, [], _∷_}
+use mathlib.Core.List.{List, [], _∷_, _++_}
 use mathlib.Core.Path.{_≡_, refl}
 use lib.ListN.{replicate}
 use Rattle.graph.specs.Graph.{joins, anyJoins, bonded, anyAtom, reaches, firstFrom, distance, allAtoms, connected, degree, sum, sumPairs, evenOf, oddOf, evenOne, oddOne, isAt, total, vertex}
 use Rattle.graph.specs.Farthest.{most, mostPairs, farthest, largest}
-use Rattle.reply.specs.Read.{refused, read, refusal}
+use Rattle.reply.specs.Read.{Read, refused, read, refusal}
 use Rattle.block.specs.Block.{mostAtoms, limit, mostBytes, bondsOf, bondFault, bondsReply, blockReply}
 use Rattle.block.specs.Index.{indicesOf, indicesReply, vertexOf, vertexReply, distanceReply}
 
@@ -73,3 +73,17 @@ one-more = refl
 pub apart : blockReply 7 ring ≡ refused (refusal 7 0)
 unfolding ring joins anyJoins bonded anyAtom reaches firstFrom distance allAtoms connected degree bondsOf bondFault bondsReply blockReply
 apart = refl
+
+-- Where two are due: 1 before 2, 2 before a bond's; with atom 1 full, 3, 4 and 5 before 6; 3 before 4; an earlier bond before a later one; a bond's before 7.
+-- (4 and 5 are never due at once: no bond of an atom with itself has passed.)
+unfoldable pub fullAnd : ℕ → ℕ → Read (Unit {0})
+unfolding star joins anyJoins degree bondsOf bondFault bondsReply blockReply
+fullAnd a b = blockReply (limit + 1) (star limit ++ a ∷ b ∷ [])
+
+pub in-order :
+    (blockReply 0 (1 ∷ []) ∷ blockReply 1 (9 ∷ 9 ∷ 9 ∷ []) ∷ fullAnd 1 99 ∷ fullAnd 1 1 ∷ fullAnd 2 1 ∷ blockReply 2 (9 ∷ 9 ∷ [])
+    ∷ blockReply 2 (1 ∷ 2 ∷ 2 ∷ 1 ∷ 9 ∷ 9 ∷ []) ∷ blockReply 4 (1 ∷ 2 ∷ 1 ∷ 1 ∷ []) ∷ [])
+    ≡ (refused (refusal 1 0) ∷ refused (refusal 2 0) ∷ refused (refusal 3 (limit + 1)) ∷ refused (refusal 4 (limit + 1)) ∷ refused (refusal 5 (limit + 1)) ∷ refused (refusal 3 1)
+    ∷ refused (refusal 5 2) ∷ refused (refusal 4 2) ∷ [])
+unfolding fullAnd joins anyJoins degree bondsOf bondFault bondsReply blockReply
+in-order = refl

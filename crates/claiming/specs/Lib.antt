@@ -11,8 +11,8 @@
 -- | `Claimed P cs`      | cs are the bytes of one printout or more, of which each is P                     |                                                                                  |
 pub mod Claims
 pub mod Asked
-pub mod Work
 pub mod Printout
+pub mod Work
 pub mod Going
 pub mod Listed
 pub mod Alike

@@ -191,6 +191,34 @@ refusals : map (λ (c : Case). told Composed (c .deck)) cases ≡ map (λ (c : C
 unfolding told cases _is_at_ record' block assembly sheet five atom first joinTo alone atoms star joinsTo
 refusals = refl
 
+-- where two refusals are due, which of them is told
+orders : List Case
+unfolding _is_at_ record' block assembly sheet five atom first joinTo alone atoms star joinsTo
+orders =
+    -- 11 before 12 and 13, 12 before 13, 13 before 14, 14 before the block's own
+    (6 ∷ 0 ∷ 9 ∷ 0 ∷ []) is 11 at 0
+    ∷ (6 ∷ 0 ∷ 1 ∷ 0 ∷ 1 ∷ 0 ∷ 1 ∷ 0 ∷ 1 ∷ []) is 11 at 0
+    ∷ (atom ++ record' 3 []) is 12 at 10
+    ∷ record' 1 (0 ∷ 0 ∷ 1 ∷ 0 ∷ 1 ∷ 0 ∷ []) is 13 at 0
+    ∷ (atoms mostBlocks 1 ++ record' 1 (0 ∷ 0 ∷ 1 ∷ 0 ∷ 1 ∷ 0 ∷ [])) is 13 at (10 * mostBlocks)
+    ∷ block 0 0 [] is 14 at 0
+    -- 13 before 15, 15 before 16, 16 before 17 and 23, 23 and 24 before 18, 18 before 19
+    ∷ (atom ++ record' 2 (0 ∷ 0 ∷ 0 ∷ [])) is 13 at 10
+    ∷ (block 2 1 [] ++ assembly (mostPlacements + 1) (first ++ joinsTo mostPlacements)) is 15 at 10
+    ∷ (block 2 1 [] ++ assembly 1 (joinTo 1 1 1)) is 16 at 16
+    ∷ (atom ++ assembly 2 (first ++ 9 ∷ 0 ∷ 0 ∷ 0 ∷ 0 ∷ 0 ∷ [])) is 16 at 22
+    ∷ (atom ++ assembly 2 (first ++ joinTo 0 0 0)) is 23 at 22
+    ∷ (atom ++ assembly 2 (first ++ joinTo 2 0 0)) is 24 at 22
+    ∷ (block 1 (limit + 1) (star limit) ++ assembly 2 (first ++ joinTo 1 1 0)) is 18 at (22 + 2 * limit)
+    -- an earlier placement before a later one, a placement before 11 for what follows
+    ∷ (block 1 (limit + 1) (star limit) ++ assembly 3 (first ++ joinTo 1 1 2 ++ 9 ∷ 0 ∷ 0 ∷ 0 ∷ 0 ∷ 0 ∷ [])) is 19 at (22 + 2 * limit)
+    ∷ (block 2 1 [] ++ alone ++ 0 ∷ []) is 16 at 16
+    ∷ []
+
+in-order : map (λ (c : Case). told Composed (c .deck)) orders ≡ map (λ (c : Case). c .number ∷ c .place ∷ []) orders
+unfolding told orders _is_at_ record' block assembly sheet five atom first joinTo alone atoms star joinsTo
+in-order = refl
+
 -- 20 needs no list of 32,769 bytes
 pub too-long : (form : Form) (d : List ℕ) → longestDeck < length d → deckReply form d ≡ refused (refusal 20 0)
 unfolding deckReply

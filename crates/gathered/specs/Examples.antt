@@ -1,15 +1,20 @@
 -- Laws. What records are told, computed: of a placement of a block that no queue holds, of bytes that follow, of another kind, of nothing, and in which order.
-use Prim.Native.Nat.{ℕ}
+use Prim.Native.Nat.{ℕ, _<_}
 use mathlib.Core.List.{List, [], _∷_, _++_}
 use mathlib.Core.Path.{_≡_, refl}
-use lib.ListN.{replicate}
+use borrow.Author.Tests.{lt-ltb}
+use lib.ListN.{length, replicate}
 use Rattle.reply.specs.Read.{Read, refused, read, refusal}
 use Rattle.block.specs.declared.Indices.{Indices}
 use Rattle.records.specs.Bytes.{little}
 use Rattle.records.specs.Records.{kindReply, isWrong, lengthReply, recordReply}
+use Rattle.records.specs.declared.Sheet.{Sheet}
 use Rattle.records.specs.declared.Sheet.the-variants.{Five, Six}
+use Rattle.summary.specs.Layout.{summaryBytes}
+use Rattle.storage.specs.Table.{tableBytes}
+use Rattle.storage.specs.declared.Queue.{Queue}
 use Rattle.deck.specs.Deck.{endReply}
-use Rattle.gathered.specs.Gathered.{behindHead, overRecord, overOutput}
+use Rattle.gathered.specs.Gathered.{behindHead, overRecord, overOutput, sheetTold}
 
 -- one placement of block 1
 abbrev lone : List ℕ
@@ -57,3 +62,7 @@ output-first = (refl, refl)
 pub length-first : overOutput Five nobody (replicate 32769 0) 0 ≡ refused (refusal 20 0)
 unfolding overOutput
 length-first = refl
+
+-- 9 for the table before all
+pub table-first : (t : List ℕ) (q : Queue) (s : Sheet) (d : List ℕ) (n : ℕ) → length t < tableBytes summaryBytes → sheetTold t q s d n ≡ refused (refusal 9 0)
+table-first t q s d n short = rw (lt-ltb (length t) (tableBytes summaryBytes) short)

@@ -1,4 +1,4 @@
--- Work. A queue's blocks as the records of a deck.
+-- Definitions. A queue's blocks as the records of a deck.
 use Prim.Native.Nat.{ℕ, _+_, _/_, _≤_}
 use mathlib.Core.List.{List, [], _∷_, _++_}
 use lib.ListN.{length}

@@ -7,7 +7,7 @@ use Rattle.reply.specs.Read.{Read, refused, read, refusal}
 use Rattle.block.specs.Block.{bondsOf, graphOf, bondFault, bondsReply, blockReply}
 use Rattle.sets.specs.Sets.{withOne, subsets, passing, some, apart, setsApart, touches, shareAtom, atomsDown, hosoya, merrifieldSimmons}
 use Rattle.sets.specs.Recursion.{Branch, child, children, productOf, sumOf, atAtom, branch, fromRoot}
-use Rattle.sets.specs.Reply.{setsOf, treeReply, setsReply}
+use Rattle.sets.specs.Reply.{setsOf, treeReply, setsReply, setsFromReply}
 use Rattle.sets.specs.declared.Sets.{Sets}
 
 unfoldable pub told : ℕ → List ℕ → Read Sets
@@ -47,6 +47,18 @@ ring-of-3 = refl
 pub two-parts : told 4 (1 ∷ 2 ∷ 2 ∷ 3 ∷ 3 ∷ 1 ∷ []) ≡ refused (refusal 7 0)
 unfolding told
 two-parts = refl
+
+-- from a root that is named: the block's refusal, then 18 where there is no such atom, then 34
+unfoldable pub toldFrom : ℕ → List ℕ → ℕ → Read Sets
+unfolding joins anyJoins bonded anyAtom reaches firstFrom distance allAtoms connected degree bondsOf bondFault bondsReply blockReply treeReply setsFromReply
+toldFrom n xs root = setsFromReply n xs root
+
+abbrev pub ring : List ℕ
+ring = 1 ∷ 2 ∷ 2 ∷ 3 ∷ 3 ∷ 1 ∷ []
+
+pub in-order : (toldFrom 4 ring 9 ∷ toldFrom 3 ring 9 ∷ toldFrom 3 ring 3 ∷ []) ≡ (refused (refusal 7 0) ∷ refused (refusal 18 0) ∷ refused (refusal 34 0) ∷ [])
+unfolding toldFrom
+in-order = refl
 
 -- the recursion of [Ilić, Ilić] from each atom of the branched tree, and what it keeps of the first
 unfoldable pub rooted : ℕ → List ℕ → ℕ → Branch

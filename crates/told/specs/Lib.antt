@@ -7,6 +7,7 @@
 -- | (the headline in C's number)     | 0 exactly where the sheet's fields are the molecule's; where claims say them | `zero-exactly`; `zero-claims`, `zero-block`    |
 -- | (large molecules in C's number) | 0 exactly where a molecule is written out; where a matching holds       | `written-out-tells`, `matched-tells`, `zero-matched` |
 -- | (there and back)                 | what the C functions write, they read                                     | `molfile-back`, `text-back`, `text-again`         |
+-- | (a refusal writes nothing)       | what was lent is as it was where the reply is not 0, or a function refuses | `lent-unchanged`, `beside-unchanged`, `add-unchanged` |
 pub mod Bounded
 pub mod Recovered
 pub mod Accepted
@@ -18,3 +19,4 @@ pub mod Rankings
 pub mod Queues
 pub mod Claims
 pub mod Large
+pub mod Unchanged
