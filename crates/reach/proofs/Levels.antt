@@ -1,7 +1,8 @@
 -- One bond farther after the other: what holds before each turn, and what is found in the end. Assumes nothing.
 use Prim.Native.Nat.{ℕ, suc, _+_, _-_, _*_, _/_, _^_, _≤_, _<_, min}
+use mathlib.Core.Bool.{true}
 use mathlib.Core.List.{List}
-use mathlib.Core.Path.{_≡_, refl, sym, ap, ap₂, _∙_}
+use mathlib.Core.Path.{_≡_, refl, sym, ap, ap₂, subst, _∙_}
 use native.Mathlib.Nat.{mul-le-mul, le-refl}
 use native.Mathlib.Numerals.{add-one}
 use native.Mathlib.Omega.{arith}
@@ -194,9 +195,12 @@ module _ (n : ℕ) (xs : List ℕ) (drawn : drawnReply n xs ≡ read tt) where
           let v : s .all / 2 - s .odd / 2 ≡ total g evenOf = omega (arith, all-twice, odd-twice, parts) in
           rw (block-drawn n xs, drawn, linked) (λ k. Of (record { atoms = n; w = all-twice k; even = v k; odd = odd-twice k; polarity = threes-twice k; largest = sym largest-last k }))
 
--- a reply with indices is no refusal, and says one largest distance
+-- a reply with indices is no refusal, and has one largest distance
 pub not-of : {r : Refusal} {x : Indices} → Refused r ≡ Of x → ⊥
 not-of e = let z : _≡_ {A = ℕ} 0 1 = cc in omega arith
 
-pub of-largest : (y x : Indices) → Of y ≡ Of x → y .largest ≡ x .largest
-of-largest y x e = cc
+pub of-reached : {g : Graph} {k : ℕ} {reached : List ℕ} (y x : Indices) → Of y ≡ Of x → Reached g k (y .largest) reached → Reached g k (x .largest) reached
+of-reached {g} {k} {reached} y x e R = subst (λ (d : ℕ). Reached g k d reached) (same y x e) R
+  where
+    same : (y x : Indices) → Of y ≡ Of x → y .largest ≡ x .largest
+    same y x e = cc

@@ -98,8 +98,9 @@ fn settled(sets: &Sets, n: usize, near: &mut [u64]) -> u64
     let mut i = 0;
     while i < n {
         let set = sets[i];
+        let atoms = size(set);
         near[i] = set;
-        met += size(set);
+        met += atoms;
         i += 1;
     }
     met
@@ -112,7 +113,8 @@ fn count(sets: &Sets, k: usize, reached: &mut [u64])
 {
     let mut i = 0;
     while i < k {
-        reached[i] = reached[i] + size(sets[i]);
+        let atoms = size(sets[i]);
+        reached[i] = reached[i] + atoms;
         i += 1;
     }
 }
