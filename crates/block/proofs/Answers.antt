@@ -9,16 +9,14 @@ use Rattle.reply.specs.Read.{Read, refused, read, _then_, refuseIf, refusal, is
 use Rattle.half.specs.Half.{halfAt}
 use Rattle.reply.specs.Chain.{not-read}
 use Rattle.block.specs.Block.{mostAtoms, graphOf, blockReply}
-use Rattle.block.specs.Rows.{rowOf, halfTable, farOf, noRow, rowReply, saidRow}
-use Rattle.block.specs.Index.{indicesReply, saidIndices, vertexOf, vertexReply, saidVertex, distanceReply, saidDistance, pairsOf, pairsReply, saidPairs}
-use Rattle.block.specs.Sums.{entry, indicesBy, countsBy, vertexBy}
+use Rattle.block.specs.Rows.{rowOf, halfTable, noRow, rowReply, saidRow}
+use Rattle.block.specs.Index.{vertexOf, vertexReply, saidVertex, distanceReply, saidDistance, pairsOf, pairsReply, saidPairs}
+use Rattle.block.specs.Sums.{entry, countsBy, vertexBy}
 use Rattle.block.specs.Faults.{inside}
 use Rattle.block.specs.Told.{entry-at}
-use Rattle.block.specs.Measures.{all-atoms, indices-are, counts-are, vertex-is}
+use Rattle.block.specs.Measures.{all-atoms, counts-are, vertex-is}
 use Rattle.reply.specs.declared.Refusal.{Refusal}
 use Rattle.reply.specs.declared.Reply.the-variants as reply
-use Rattle.block.specs.declared.Indices.{Indices}
-use Rattle.block.specs.declared.IndicesReply.the-variants as measured
 use Rattle.block.specs.declared.Vertex.{Vertex}
 use Rattle.block.specs.declared.VertexReply.the-variants as around
 use Rattle.block.specs.declared.DistanceReply.the-variants as apart
@@ -49,15 +47,6 @@ asked-in (read u) true a b e = absurd (not-read e)
 asked-in (read u) false a b e = (refl, refl, cc)
 
 module _ (n : ℕ) (xs : List ℕ) where
-  pub measure-refused : (r : Refusal) → blockReply n xs ≡ refused r → measured.Refused r ≡ saidIndices (indicesReply n xs)
-  unfolding indicesReply
-  measure-refused r e = rw e
-
-  pub measure-fine : blockReply n xs ≡ read tt → (half : List ℕ) → half ≡ halfTable n xs → (far : List ℕ) → far ≡ farOf n xs
-      → (x : Indices) → x ≡ indicesBy (min n mostAtoms) (halfAt half) (entry far) → measured.Of x ≡ saidIndices (indicesReply n xs)
-  unfolding indicesReply
-  measure-fine e half q far f x p = rw (e, p, q, f, all-atoms n xs e, indices-are n xs e)
-
   pub pairs-refused : (p : Pairs) (r : Refusal) → blockReply n xs ≡ refused r → p .reply ≡ reply.Refused r → p .at ≡ noRow → p ≡ saidPairs (pairsReply n xs)
   unfolding pairsReply
   pairs-refused p r e q a = rw e (λ i. record { reply = q i; at = a i })

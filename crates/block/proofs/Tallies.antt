@@ -1,4 +1,4 @@
--- How a tally, and a run, grow by one distance. Assumes nothing.
+-- How a tally grows by one distance. Assumes nothing.
 use Prim.Native.Nat.{ℕ, suc, _+_, _-_, _*_, _%_, _≤_}
 use mathlib.Core.Bool.{Bool, true, false, cond}
 use mathlib.Core.List.{List}
@@ -12,9 +12,8 @@ use lib.ListN.{getD}
 use mir.Val.{boolByte}
 use Rattle.graph.specs.Graph.{sum, evenOf, oddOf, evenOne, oddOne, isAt}
 use Rattle.block.specs.Sums.{entry}
-use Rattle.block.specs.Tally.{tallyBy, Tallied, runAt, RunOf}
+use Rattle.block.specs.Tally.{tallyBy, Tallied, runAt}
 use Rattle.block.specs.declared.Tally.{Tally}
-use Rattle.block.specs.declared.Run.{Run}
 
 -- a test as a number
 pub bit-low : (b : Bool) → boolByte b ≤ 1
@@ -97,30 +96,8 @@ module _ (row : List ℕ) (j : ℕ) (t : Tally) (T : Tallied row j t) (d : ℕ) 
   tally-odd p = rw (drop-zero (t .even), drop-zero (t .evens)) (tallied 0 d 0 1 (parts-odd d p) (omega arith) l (omega arith) (omega arith))
 
 -- a distance times its last binary digit
-odd-product : (d : ℕ) → d * (d % 2) ≡ oddOf d
-odd-product d = elim (ℕ-discrete (d % 2) 0) [
-  | yes e ↦ rw (e, parts-even d e .odd-is) (omega arith)
-  | no e ↦ let o : d % 2 ≡ 1 = omega arith in rw (o, parts-odd d e .odd-is) (omega arith)
-]
-
 pub odd-low : (d : ℕ) → d * (d % 2) ≤ d
 odd-low d = elim (ℕ-discrete (d % 2) 0) [ yes e ↦ rw e (omega arith) | no e ↦ let o : d % 2 ≡ 1 = omega arith in rw o (omega arith) ]
 
 pub run-here : (h : List ℕ) (from j : ℕ) → getD h (from + j) 0 ≡ runAt h from (suc j)
 run-here h from j = let k : suc j - 1 ≡ j = omega arith in rw k
-
-pub run-none : (h : List ℕ) (from : ℕ) → RunOf h from 0 (record { all = 0; odd = 0; threes = 0 })
-unfolding sum
-run-none h from = record { all-is = refl; odd-is = refl; threes-is = refl; low = omega arith }
-
-pub run-more : (h : List ℕ) (from j : ℕ) (r : Run) → RunOf h from j r → (d : ℕ) → d ≡ getD h (from + j) 0 → d ≤ 255
-    → RunOf h from (j + 1) (record { all = r .all + d; odd = r .odd + d * (d % 2); threes = r .threes + boolByte (eqb d 3) })
-unfolding sum
-run-more h from j r R d e l =
-    let q : d ≡ runAt h from (suc j) = e ∙ run-here h from j in
-    record {
-      all-is = rw (add-one j, ← q, R .all-is);
-      odd-is = rw (add-one j, ← q, R .odd-is, odd-product d);
-      threes-is = rw (add-one j, ← q, R .threes-is, bit-at 3 d);
-      low = omega (arith, R .low, odd-low d, bit-low (eqb d 3));
-    }

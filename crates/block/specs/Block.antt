@@ -43,3 +43,10 @@ blockReply n xs =
     refuseIf (not (eqb (length xs % 2) 0) || ltb mostBytes (length xs)) 2 0 then λ _.
     bondsReply n [] (bondsOf xs) then λ _.
     refuseIf (not (connected (graphOf n xs))) 7 0
+
+-- the same without the last
+unfoldable pub drawnReply : ℕ → List ℕ → Read (Unit {0})
+drawnReply n xs =
+    refuseIf (isOutside mostAtoms n) 1 0 then λ _.
+    refuseIf (not (eqb (length xs % 2) 0) || ltb mostBytes (length xs)) 2 0 then λ _.
+    bondsReply n [] (bondsOf xs)

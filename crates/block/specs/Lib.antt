@@ -5,8 +5,8 @@
 -- | `blockReply`                                                 | refusals 1 to 7, in order                          | `passed`: the tests that a fine block passed; `place-within` |
 -- | `rowReply`, `rowsOf`, `farOf`                                | the distances from one atom, from all; the largest | `row-at`, `distance-at`, `farthest-at`                       |
 -- | `halfTable`                                                  | half of the distances from all                     | `table-is-rows`, `table-distance`, `table-row`               |
--- | `indicesReply`, `vertexReply`, `distanceReply`, `pairsReply` | the six numbers, one atom's sums, a distance, n(k) | `indices-are`, `vertex-is`, `counts-are`                     |
--- | `indicesBy`, `vertexBy`                                      | the same sums over any table of numbers            | `unique-sums`, `unique-around-row`                           |
+-- | `drawnReply`                                                 | refusals 1 to 6                                    | `block-drawn`: then 7                                        |
+-- | `indicesReply`, `vertexReply`, `distanceReply`, `pairsReply` | the six numbers, one atom's sums, a distance, n(k) | `vertex-is`, `counts-are`                                    |
 -- | `limit`, `mostAtoms`, `mostBytes`                            | the limits of a block                              | `few-bonds`, `few-atoms`                                     |
 pub mod Block
 pub mod Rows

@@ -1,19 +1,18 @@
--- Laws. The sums over half of the distances of a block that is not refused, and over a row, are its indices, its vertex sums and its counts of pairs. Assumes nothing.
-use Prim.Native.Nat.{ℕ, _-_, min}
+-- Laws. The sums over half of the distances of a block that is not refused, and over a row, are its counts of pairs and its vertex sums. Assumes nothing.
+use Prim.Native.Nat.{ℕ, min}
 use mathlib.Core.List.{List}
-use mathlib.Core.Path.{_≡_, sym, ap, fun-ext, _∙_}
+use mathlib.Core.Path.{_≡_, ap, fun-ext}
 use native.Mathlib.Omega.{arith}
 use Rattle.graph.specs.Graph.{Graph, sum, sumPairs, total, vertex, itself, evenOf, oddOf, evenOne, oddOne, isAt}
-use Rattle.graph.specs.Farthest.{most, farthest, largest}
+use Rattle.graph.specs.Farthest.{farthest}
 use Rattle.graph.specs.Sums.{sum-cong, sumPairs-cong}
-use Rattle.graph.specs.Largest.{most-cong, largest-is}
 use Rattle.reply.specs.Read.{read}
 use Rattle.half.specs.Half.{halfAt}
 use Rattle.block.specs.Block.{mostAtoms, graphOf, blockReply}
-use Rattle.block.specs.Rows.{table, rowOf, halfTable, farOf}
-use Rattle.block.specs.Index.{indicesOf, vertexOf, pairsOf}
-use Rattle.block.specs.Sums.{entry, indicesBy, countsBy, vertexBy}
-use Rattle.block.specs.Told.{few-atoms, molecule, entry-at, farthest-at}
+use Rattle.block.specs.Rows.{table, rowOf, halfTable}
+use Rattle.block.specs.Index.{vertexOf, pairsOf}
+use Rattle.block.specs.Sums.{entry, countsBy, vertexBy}
+use Rattle.block.specs.Told.{few-atoms, entry-at}
 use Rattle.block.specs.Halved.{table-distance}
 
 module _ (n : ℕ) (xs : List ℕ) (fine : blockReply n xs ≡ read tt) where
@@ -28,13 +27,6 @@ module _ (n : ℕ) (xs : List ℕ) (fine : blockReply n xs ≡ read tt) where
   row-same : (a : ℕ) (f : ℕ → ℕ) → sum n (λ j. f (entry (rowOf g a) j)) ≡ vertex g a f
   unfolding vertex
   row-same a f = sum-cong n (λ j w. ap f (entry-at n xs fine a w))
-
-  largest-same : most n (entry (farOf n xs)) ≡ largest g
-  largest-same = most-cong n (λ i w. farthest-at n xs fine w) ∙ sym (largest-is (molecule n xs fine))
-
-  pub indices-are : indicesBy n (halfAt (halfTable n xs)) (entry (farOf n xs)) ≡ indicesOf g
-  unfolding indicesBy indicesOf
-  indices-are = rw (pairs-same itself, pairs-same evenOf, pairs-same oddOf, pairs-same (isAt 3), largest-same)
 
   pub counts-are : countsBy n (halfAt (halfTable n xs)) ≡ pairsOf g
   unfolding countsBy pairsOf

@@ -8,7 +8,7 @@ use lib.ListN.{length, getD, set}
 use Rattle.graph.specs.Graph.{Graph, Bond, Within, anyJoins, bonded, degree}
 use Rattle.graph.specs.Sets.{has, alone}
 use Rattle.reply.specs.Read.{read, saidReply}
-use Rattle.block.specs.Block.{mostAtoms, bondsOf, graphOf, bondsReply, blockReply}
+use Rattle.block.specs.Block.{mostAtoms, bondsOf, graphOf, bondsReply, drawnReply, blockReply}
 use Rattle.block.specs.declared.Opened.{Opened}
 use Rattle.reply.specs.declared.Reply.the-variants.{Fine}
 
@@ -53,6 +53,11 @@ pub record ReadyBlock (n : ℕ) (xs : List ℕ) (near : List ℕ) : Type 0 where
 -- what reading the bonds gives: the reply to them and, where they are fine, the neighbours
 pub record Reading (n : ℕ) (xs : List ℕ) (r : Opened) : Type 0 where
   pub replied : r .reply ≡ saidReply (bondsReply n [] (bondsOf xs))
+  pub drawn : r .reply ≡ Fine → ShowsGraph (graphOf n xs) (r .near)
+
+-- what a block gives before it is known to be connected
+pub record Drawing (n : ℕ) (xs : List ℕ) (r : Opened) : Type 0 where
+  pub replied : r .reply ≡ saidReply (drawnReply n xs)
   pub drawn : r .reply ≡ Fine → ShowsGraph (graphOf n xs) (r .near)
 
 -- what a block gives: the reply to it and, where it is fine, the neighbours

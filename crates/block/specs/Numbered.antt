@@ -16,8 +16,8 @@ use Rattle.graph.specs.Walk.{far-end}
 use Rattle.graph.specs.Tree.{enough-bonds}
 use Rattle.reply.specs.Read.{read}
 use Rattle.reply.specs.Chain.{neither}
-use Rattle.block.specs.Block.{mostBytes, bondsOf, graphOf, blockReply}
-use Rattle.block.specs.Told.{passed, sound, molecule, each-bond}
+use Rattle.block.specs.Block.{mostBytes, bondsOf, graphOf, drawnReply, blockReply}
+use Rattle.block.specs.Told.{passed, drawn-sound, fine-drawn, molecule, each-bond}
 
 -- bond k of the bytes, and the bonds from k on
 abbrev pub bondAt : List ℕ → ℕ → Bond
@@ -98,6 +98,14 @@ bond-listed (a ∷ (b ∷ xs)) (suc k) l =
     subst (λ (c : Bond). anyJoins (bond a b ∷ bondsOf xs) (c .one) (c .two) ≡ true) (next-bond a b xs k)
     (any-tail (bond a b) (bondsOf xs) (bondAt xs k .one) (bondAt xs k .two) (bond-listed xs k (omega arith)))
 
+-- the ends of the bonds of a block, connected or not
+pub drawn-within : (n : ℕ) (xs : List ℕ) → drawnReply n xs ≡ read tt → (k : ℕ) → k < length xs / 2 → Within n (bondAt xs k .one) × Within n (bondAt xs k .two)
+unfolding bonded
+drawn-within n xs drawn k l =
+    let j = bond-listed xs k l in
+    let s = drawn-sound n xs drawn in
+    (s .ends (bondAt xs k .one) (bondAt xs k .two) j, far-end s (bondAt xs k .one) (bondAt xs k .two) j)
+
 -- the bonds of a block that is not refused
 module _ (n : ℕ) (xs : List ℕ) (fine : blockReply n xs ≡ read tt) where
   pub few-bytes : length xs ≤ mostBytes
@@ -107,10 +115,7 @@ module _ (n : ℕ) (xs : List ℕ) (fine : blockReply n xs ≡ read tt) where
   least-bonds = omega (arith, enough-bonds (molecule n xs fine), bonds-length xs)
 
   pub bond-within : (k : ℕ) → k < length xs / 2 → Within n (bondAt xs k .one) × Within n (bondAt xs k .two)
-  unfolding bonded
-  bond-within k l =
-      let j = bond-listed xs k l in
-      (sound n xs fine .ends (bondAt xs k .one) (bondAt xs k .two) j, far-end (sound n xs fine) (bondAt xs k .one) (bondAt xs k .two) j)
+  bond-within = drawn-within n xs (fine-drawn n xs fine)
 
   -- none joins an atom to itself
   pub ends-apart : (u v : ℕ) → bonded (graphOf n xs) u v ≡ true → u ≡ v → ⊥

@@ -5,7 +5,7 @@ use mathlib.Core.List.{List}
 use Rattle.graph.specs.Graph.{Graph, bonded, sum}
 use Rattle.graph.specs.Sets.{alone}
 use Rattle.reply.specs.Read.{Read, refused, read, _then_}
-use Rattle.block.specs.Block.{mostAtoms, graphOf, blockReply}
+use Rattle.block.specs.Block.{mostAtoms, graphOf, drawnReply, blockReply}
 use Rattle.block.specs.Rows.{table, noRow}
 use Rattle.block.specs.declared.Opened.{Opened}
 use Rattle.reply.specs.declared.Reply.the-variants.{Fine, Refused}
@@ -24,3 +24,7 @@ openedReply n xs = blockReply n xs then λ _. read (neighboursOf (graphOf n xs))
 abbrev pub saidOpened : Read (List ℕ) → Opened
 saidOpened (refused r) = record { reply = Refused r; near = noRow }
 saidOpened (read near) = record { reply = Fine; near = near }
+
+-- the neighbours of a block that is not refused by 1 to 6, else none
+unfoldable pub drawnNear : ℕ → List ℕ → List ℕ
+drawnNear n xs = saidOpened (drawnReply n xs then λ _. read (neighboursOf (graphOf n xs))) .near

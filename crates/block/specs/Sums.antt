@@ -1,29 +1,17 @@
--- Definitions. Sums over distances d, whatever says them: a graph, a row, or half a table; and what is farthest from each atom, as it is handed in.
+-- Definitions. Sums over distances d, whatever says them: a graph, a row, or half a table.
 use Prim.Native.Nat.{ℕ, _-_}
 use mathlib.Core.List.{List}
 use lib.ListN.{getD}
 use Rattle.graph.specs.Graph.{sum, sumPairs, evenOf, oddOf, evenOne, oddOne, isAt}
-use Rattle.graph.specs.Farthest.{most}
 use Rattle.block.specs.Block.{mostAtoms}
 use Rattle.block.specs.Rows.{table}
-use Rattle.block.specs.declared.Indices.{Indices}
 use Rattle.block.specs.declared.Vertex.{Vertex}
 
 -- what a row says of atom j
 abbrev pub entry : List ℕ → ℕ → ℕ
 entry row j = getD row (j - 1) 0
 
--- over the pairs i < j of n atoms; far says how far the farthest is from each
-unfoldable pub indicesBy : ℕ → (ℕ → ℕ → ℕ) → (ℕ → ℕ) → Indices
-indicesBy n d far = record {
-  atoms = n;
-  w = sumPairs n (λ i j. d i j);
-  even = sumPairs n (λ i j. evenOf (d i j));
-  odd = sumPairs n (λ i j. oddOf (d i j));
-  polarity = sumPairs n (λ i j. isAt 3 (d i j));
-  largest = most n far;
-}
-
+-- over the pairs i < j of n atoms
 unfoldable pub countsBy : ℕ → (ℕ → ℕ → ℕ) → List ℕ
 countsBy n d = table mostAtoms (λ k. sumPairs n (λ i j. isAt k (d i j)))
 

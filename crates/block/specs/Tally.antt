@@ -1,4 +1,4 @@
--- Work. How the sums over a row and over half a table, and the counts of pairs, are worked.
+-- Work. How the sums over a row, and the counts of pairs, are worked.
 use Prim.Native.Nat.{ℕ, _+_, _-_, _*_, _≤_, _<_}
 use mathlib.Core.List.{List}
 use mathlib.Core.Path.{_≡_}
@@ -7,7 +7,6 @@ use Rattle.graph.specs.Graph.{sum, evenOf, oddOf, evenOne, oddOne, isAt}
 use Rattle.block.specs.Block.{mostAtoms}
 use Rattle.block.specs.Sums.{entry}
 use Rattle.block.specs.declared.Tally.{Tally}
-use Rattle.block.specs.declared.Run.{Run}
 
 -- the tally of the distances d 1 to d k
 unfoldable pub tallyBy : ℕ → (ℕ → ℕ) → Tally
@@ -37,13 +36,6 @@ pub record Tallied (row : List ℕ) (k : ℕ) (t : Tally) : Type 0 where
 -- what stands in a half at the places behind `from`, the first for j = 1
 abbrev pub runAt : List ℕ → ℕ → ℕ → ℕ
 runAt h from j = getD h (from + (j - 1)) 0
-
--- what k bytes of a half add up to
-pub record RunOf (h : List ℕ) (from k : ℕ) (r : Run) : Type 0 where
-  pub all-is : r .all ≡ sum k (λ j. runAt h from j)
-  pub odd-is : r .odd ≡ sum k (λ j. oddOf (runAt h from j))
-  pub threes-is : r .threes ≡ sum k (λ j. isAt 3 (runAt h from j))
-  pub low : (r .all ≤ 255 * k) × (r .odd ≤ r .all) × (r .threes ≤ k)
 
 -- counts, one for each number below 64, none above b
 pub record Counts (b : ℕ) (at : List ℕ) : Type 0 where

@@ -16,7 +16,7 @@ use Rattle.graph.specs.Connected.{connected-molecule}
 use Rattle.graph.specs.Distance.{not-true}
 use Rattle.reply.specs.Read.{Read, refused, read, _then_, refuseIf, refuseFor, refusal, isOutside}
 use Rattle.reply.specs.Chain.{not-read, then-read, if-read, for-read}
-use Rattle.block.specs.Block.{mostAtoms, mostBytes, limit, bondsOf, graphOf, bondFault, bondsReply, blockReply}
+use Rattle.block.specs.Block.{mostAtoms, mostBytes, limit, bondsOf, graphOf, bondFault, bondsReply, blockReply, drawnReply}
 use Rattle.block.specs.Rows.{rowOf, rowReply, saidRow, rowsOf, farOf, distanceAt}
 use Rattle.block.specs.Faults.{inside, Faultless, faultless}
 use Rattle.block.specs.Tables.{getD-table}
@@ -113,7 +113,48 @@ place-within n xs r e =
     go false false (read v) true q h = zero-place q
     go false false (read v) false q h = absurd (not-read (sym q))
 
+-- refusals 1 to 6, and then 7
+pub block-drawn : (n : ℕ) (xs : List ℕ) → blockReply n xs ≡ (drawnReply n xs then λ _. refuseIf (not (connected (graphOf n xs))) 7 0)
+unfolding blockReply drawnReply
+block-drawn n xs = go (isOutside mostAtoms n) (not (eqb (length xs % 2) 0) || ltb mostBytes (length xs)) (bondsReply n [] (bondsOf xs)) (refuseIf (not (connected (graphOf n xs))) 7 0)
+  where
+    go : (s t : Bool) (m w : Read (Unit {0})) → (refuseIf s 1 0 then λ _. refuseIf t 2 0 then λ _. m then λ _. w) ≡ ((refuseIf s 1 0 then λ _. refuseIf t 2 0 then λ _. m) then λ _. w)
+    go true t m w = refl
+    go false true m w = refl
+    go false false (refused r) w = refl
+    go false false (read u) w = refl
+
+pub drawn-refused : (n : ℕ) (xs : List ℕ) (r : Refusal) → drawnReply n xs ≡ refused r → blockReply n xs ≡ refused r
+drawn-refused n xs r e = rw (block-drawn n xs, e)
+
+-- a block that 1 to 6 do not refuse, connected or not
+module _ (n : ℕ) (xs : List ℕ) (drawn : drawnReply n xs ≡ read tt) where
+  pub record Tested : Type 0 where
+    pub size : isOutside mostAtoms n ≡ false
+    pub bytes : (not (eqb (length xs % 2) 0) || ltb mostBytes (length xs)) ≡ false
+    pub bonds : bondsReply n [] (bondsOf xs) ≡ read tt
+
+  pub tested : Tested
+  unfolding drawnReply
+  tested =
+      let (u, a, f) = then-read (refuseIf (isOutside mostAtoms n) 1 0) _ drawn in
+      let (v, b, g) = then-read (refuseIf (not (eqb (length xs % 2) 0) || ltb mostBytes (length xs)) 2 0) _ f in
+      record { size = if-read (isOutside mostAtoms n) 1 0 a; bytes = if-read (not (eqb (length xs % 2) 0) || ltb mostBytes (length xs)) 2 0 b; bonds = g }
+
+  pub drawn-atoms : Within mostAtoms n
+  drawn-atoms = inside mostAtoms n (tested .size)
+
+  pub drawn-sound : Sound (graphOf n xs)
+  unfolding bonded
+  drawn-sound = record { ends = bonds-ends n [] (bondsOf xs) (tested .bonds) }
+
 module _ (n : ℕ) (xs : List ℕ) (fine : blockReply n xs ≡ read tt) where
+  told : (u : Unit {0}) × (drawnReply n xs ≡ read u) × (refuseIf (not (connected (graphOf n xs))) 7 0 ≡ read tt)
+  told = then-read (drawnReply n xs) _ (sym (block-drawn n xs) ∙ fine)
+
+  pub fine-drawn : drawnReply n xs ≡ read tt
+  fine-drawn = told .1
+
   -- the tests that it passed
   pub record Passed : Type 0 where
     pub size : isOutside mostAtoms n ≡ false
@@ -122,24 +163,15 @@ module _ (n : ℕ) (xs : List ℕ) (fine : blockReply n xs ≡ read tt) where
     pub whole : connected (graphOf n xs) ≡ true
 
   pub passed : Passed
-  unfolding blockReply
   passed =
-      let (u, a, f) = then-read (refuseIf (isOutside mostAtoms n) 1 0) _ fine in
-      let (v, b, g) = then-read (refuseIf (not (eqb (length xs % 2) 0) || ltb mostBytes (length xs)) 2 0) _ f in
-      let (w, c, h) = then-read (bondsReply n [] (bondsOf xs)) _ g in
-      record {
-        size = if-read (isOutside mostAtoms n) 1 0 a;
-        bytes = if-read (not (eqb (length xs % 2) 0) || ltb mostBytes (length xs)) 2 0 b;
-        bonds = c;
-        whole = not-false (connected (graphOf n xs)) (if-read (not (connected (graphOf n xs))) 7 0 h);
-      }
+      let t = tested n xs fine-drawn in
+      record { size = t .size; bytes = t .bytes; bonds = t .bonds; whole = not-false (connected (graphOf n xs)) (if-read (not (connected (graphOf n xs))) 7 0 (told .2)) }
 
   pub few-atoms : Within mostAtoms n
-  few-atoms = inside mostAtoms n (passed .size)
+  few-atoms = drawn-atoms n xs fine-drawn
 
   pub sound : Sound (graphOf n xs)
-  unfolding bonded
-  sound = record { ends = bonds-ends n [] (bondsOf xs) (passed .bonds) }
+  sound = drawn-sound n xs fine-drawn
 
   pub molecule : Molecule (graphOf n xs)
   molecule = connected-molecule sound (passed .whole)

@@ -1,21 +1,16 @@
 -- Laws. Each promise determines the reply: two replies that satisfy it are equal. Assumes nothing.
-use Prim.Native.Nat.{ℕ, min}
+use Prim.Native.Nat.{ℕ}
 use mathlib.Core.List.{List}
 use mathlib.Core.Path.{_≡_}
-use Rattle.half.specs.Half.{halfAt}
 use Rattle.reply.specs.Read.{saidReply}
 use Rattle.reply.specs.Chain.{unique}
-use Rattle.block.specs.Block.{mostAtoms, blockReply}
-use Rattle.block.specs.Rows.{halfTable, halfAfter, farAfter, rowReply, saidRow}
-use Rattle.block.specs.Opened.{openedReply, saidOpened}
-use Rattle.block.specs.Index.{indicesReply, saidIndices, vertexReply, saidVertex, distanceReply, saidDistance, pairsReply, saidPairs}
-use Rattle.block.specs.Sums.{entry, indicesBy, vertexBy}
+use Rattle.block.specs.Block.{drawnReply, blockReply}
+use Rattle.block.specs.Rows.{halfAfter, farAfter, rowReply, saidRow}
+use Rattle.block.specs.Opened.{drawnNear, openedReply, saidOpened}
+use Rattle.block.specs.Index.{vertexReply, saidVertex, distanceReply, saidDistance, pairsReply, saidPairs}
 use Rattle.reply.specs.declared.Reply.{Reply}
 use Rattle.block.specs.declared.OneRow.{OneRow}
 use Rattle.block.specs.declared.Opened.{Opened}
-use Rattle.block.specs.declared.Indices.{Indices}
-use Rattle.block.specs.declared.IndicesReply.{IndicesReply}
-use Rattle.block.specs.declared.Vertex.{Vertex}
 use Rattle.block.specs.declared.VertexReply.{VertexReply}
 use Rattle.block.specs.declared.DistanceReply.{DistanceReply}
 use Rattle.block.specs.declared.Pairs.{Pairs}
@@ -23,6 +18,9 @@ use Rattle.block.specs.declared.Pairs.{Pairs}
 module _ (n : ℕ) (xs : List ℕ) where
   pub unique-check : (r s : Reply) → r ≡ saidReply (blockReply n xs) → s ≡ saidReply (blockReply n xs) → r ≡ s
   unique-check r s = unique
+
+  pub unique-drawn : (r s : Reply) (p q : List ℕ) → (r ≡ saidReply (drawnReply n xs)) × (p ≡ drawnNear n xs) → (s ≡ saidReply (drawnReply n xs)) × (q ≡ drawnNear n xs) → (r ≡ s) × (p ≡ q)
+  unique-drawn r s p q x y = (unique (x .0) (y .0), unique (x .1) (y .1))
 
   pub unique-neighbours : (r s : Opened) → r ≡ saidOpened (openedReply n xs) → s ≡ saidOpened (openedReply n xs) → r ≡ s
   unique-neighbours r s = unique
@@ -32,14 +30,8 @@ module _ (n : ℕ) (xs : List ℕ) where
       → (s ≡ saidOpened (openedReply n xs)) × (q ≡ halfAfter n xs h) × (v ≡ farAfter n xs f) → (r ≡ s) × (p ≡ q) × (u ≡ v)
   unique-table h f r s p q u v x y = (unique (x .0) (y .0), unique (x .1) (y .1), unique (x .2) (y .2))
 
-  pub unique-distances : (f p q u v : List ℕ) → (p ≡ halfTable n xs) × (u ≡ farAfter n xs f) → (q ≡ halfTable n xs) × (v ≡ farAfter n xs f) → (p ≡ q) × (u ≡ v)
-  unique-distances f p q u v x y = (unique (x .0) (y .0), unique (x .1) (y .1))
-
   pub unique-row : (i : ℕ) (r s : OneRow) → r ≡ saidRow (rowReply n xs i) → s ≡ saidRow (rowReply n xs i) → r ≡ s
   unique-row i r s = unique
-
-  pub unique-measure : (r s : IndicesReply) → r ≡ saidIndices (indicesReply n xs) → s ≡ saidIndices (indicesReply n xs) → r ≡ s
-  unique-measure r s = unique
 
   pub unique-distance : (i j : ℕ) (r s : DistanceReply) → r ≡ saidDistance (distanceReply n xs i j) → s ≡ saidDistance (distanceReply n xs i j) → r ≡ s
   unique-distance i j r s = unique
@@ -49,10 +41,3 @@ module _ (n : ℕ) (xs : List ℕ) where
 
   pub unique-pair-counts : (r s : Pairs) → r ≡ saidPairs (pairsReply n xs) → s ≡ saidPairs (pairsReply n xs) → r ≡ s
   unique-pair-counts r s = unique
-
-pub unique-sums : (half far : List ℕ) (n : ℕ) (r s : Indices)
-    → r ≡ indicesBy (min n mostAtoms) (halfAt half) (entry far) → s ≡ indicesBy (min n mostAtoms) (halfAt half) (entry far) → r ≡ s
-unique-sums half far n r s = unique
-
-pub unique-around-row : (row : List ℕ) (n far : ℕ) (r s : Vertex) → r ≡ vertexBy (min n mostAtoms) (entry row) far → s ≡ vertexBy (min n mostAtoms) (entry row) far → r ≡ s
-unique-around-row row n far r s = unique

@@ -1,15 +1,13 @@
 // One block: its refusals 1 to 7, its distances, indices and vertex sums.
 ghost use mathlib.Core.Path.{_≡_};
 ghost use Prim.Native.Nat.{min};
-ghost use lib.ListN.{replicate};
 ghost use Rattle.reply.specs.Read.{refusal, saidReply};
-ghost use Rattle.block.specs.Block.{mostAtoms, blockReply};
-ghost use Rattle.half.specs.Half.{allPairs, halfAt};
-ghost use Rattle.block.specs.Rows.{noRow, halfTable, halfAfter, farAfter, rowReply, saidRow};
-ghost use Rattle.block.specs.Index.{indicesReply, saidIndices, vertexReply, saidVertex, distanceReply, saidDistance, pairsReply, saidPairs};
-ghost use Rattle.block.specs.Sums.{entry, indicesBy, vertexBy};
-ghost use Rattle.block.specs.Opened.{openedReply, saidOpened};
-ghost use Rattle.block.specs.Near.{Admitting};
+ghost use Rattle.block.specs.Block.{mostAtoms, drawnReply, blockReply};
+ghost use Rattle.block.specs.Rows.{noRow, halfAfter, farAfter, rowReply, saidRow};
+ghost use Rattle.block.specs.Index.{vertexReply, saidVertex, distanceReply, saidDistance, pairsReply, saidPairs};
+ghost use Rattle.block.specs.Sums.{entry, vertexBy};
+ghost use Rattle.block.specs.Opened.{drawnNear, openedReply, saidOpened};
+ghost use Rattle.block.specs.Near.{Drawing, Admitting};
 
 mod bonding;
 mod search;
@@ -105,13 +103,6 @@ struct Tally {
     pub twos: u64,
 }
 
-// What distances that stand in a row add up to: all of them and the odd ones; and how many are 3.
-struct Run {
-    pub all: u16,
-    pub odd: u16,
-    pub threes: u16,
-}
-
 // A refusal at place 0.
 fn refused(number: usize) -> Reply
     ensures { λ r. ⌜ r ≡ Reply.Refused (refusal number 0) ⌝ }
@@ -119,10 +110,10 @@ fn refused(number: usize) -> Reply
     Reply::Refused(Refusal { number, place: 0 })
 }
 
-// The reply to a block and, where it is fine, in what is lent, empty before, the neighbours.
-fn admit(n: usize, bonds: &[u8], near: &mut [u64]) -> Reply
+// Refusals 1 to 6 of a block and, where there is none, in what is lent, empty before, the neighbours.
+fn draw(n: usize, bonds: &[u8], near: &mut [u64]) -> Reply
     requires { ⌜ now near ≡ noRow ⌝ }
-    ensures { λ r. ⌜ Admitting n (now (bonds .entry)) (record { reply = r; near = now (near .exit) }) ⌝ }
+    ensures { λ r. ⌜ Drawing n (now (bonds .entry)) (record { reply = r; near = now (near .exit) }) ⌝ }
 {
     if is_outside(ATOMS, n) {
         return refused(1);
@@ -133,7 +124,29 @@ fn admit(n: usize, bonds: &[u8], near: &mut [u64]) -> Reply
     if bonds.len() > BYTES {
         return refused(2);
     }
-    let reply = bonding::build(n, bonds, near);
+    bonding::build(n, bonds, near)
+}
+
+// Refusals 1 to 6 of a block, and in what is lent its neighbours; none where it is refused.
+pub fn drawn(n: usize, bonds: &[u8], near: &mut Neighbours) -> Reply
+    ensures reply { λ r. ⌜ r ≡ saidReply (drawnReply n (now (bonds .entry))) ⌝ }
+    ensures near { λ _. ⌜ now (near .exit) ≡ drawnNear n (now (bonds .entry)) ⌝ }
+{
+    *near = [0u64; ATOMS];
+    let reply = draw(n, bonds, near);
+    let Reply::Fine = reply else {
+        *near = [0u64; ATOMS];
+        return reply;
+    };
+    reply
+}
+
+// The reply to a block and, where it is fine, in what is lent, empty before, the neighbours.
+fn admit(n: usize, bonds: &[u8], near: &mut [u64]) -> Reply
+    requires { ⌜ now near ≡ noRow ⌝ }
+    ensures { λ r. ⌜ Admitting n (now (bonds .entry)) (record { reply = r; near = now (near .exit) }) ⌝ }
+{
+    let reply = draw(n, bonds, near);
     let Reply::Fine = reply else {
         return reply;
     };
@@ -165,31 +178,6 @@ pub fn check(n: usize, bonds: &[u8]) -> Reply
 {
     let mut near = [0u64; ATOMS];
     admit(n, bonds, &mut near)
-}
-
-// Half of the distances of a block and how far the farthest is from each atom, in what is lent, the half all 0 before. A refused block changes nothing.
-fn fill(n: usize, bonds: &[u8], out: &mut [u8], far: &mut Farthest)
-    requires { ⌜ now out ≡ replicate allPairs 0 ⌝ }
-    ensures half { λ _. ⌜ now (out .exit) ≡ halfTable n (now (bonds .entry)) ⌝ }
-    ensures far { λ _. ⌜ now (far .exit) ≡ farAfter n (now (bonds .entry)) (now (far .entry)) ⌝ }
-{
-    let mut near = [0u64; ATOMS];
-    let reply = admit(n, bonds, &mut near);
-    let Reply::Fine = reply else {
-        return;
-    };
-    search::from_all(&near, n, out, far);
-}
-
-// Half of the distances of a block, all 0 where it is refused, and in what is lent how far the farthest is from each atom, 0 beyond them. A refused
-// block changes nothing that is lent. No other crate calls it: `table` lends the same.
-pub fn distances(n: usize, bonds: &[u8], far: &mut Farthest) -> Half
-    ensures half { λ r. ⌜ r ≡ halfTable n (now (bonds .entry)) ⌝ }
-    ensures far { λ _. ⌜ now (far .exit) ≡ farAfter n (now (bonds .entry)) (now (far .entry)) ⌝ }
-{
-    let mut half = [0u8; PAIRS];
-    fill(n, bonds, &mut half, far);
-    half
 }
 
 // The reply to a block and its neighbours; and in what is lent half of its distances, and how far the farthest is from each atom, all 0 beyond
@@ -244,38 +232,8 @@ pub fn row(n: usize, bonds: &[u8], i: usize) -> OneRow
     }
 }
 
-// The indices of the first n atoms, at most ATOMS, by half of their distances and how far the farthest is from each. The half is read row by row.
-pub fn sums(half: &Half, far: &Farthest, n: usize) -> Indices
-    ensures { λ r. ⌜ r ≡ indicesBy (min n mostAtoms) (halfAt (now (half .entry))) (entry (now (far .entry))) ⌝ }
-{
-    let m = within(n);
-    let mut w: u64 = 0;
-    let mut odd: u64 = 0;
-    let mut threes: u64 = 0;
-    let mut largest: u64 = 0;
-    let mut from = 0;
-    let mut i = 0;
-    while i < m {
-        let run = totals::run(half, from, m - 1 - i);
-        w += run.all as u64;
-        odd += run.odd as u64;
-        threes += run.threes as u64;
-        largest = totals::larger(largest, wide(far[i]));
-        from = from + (ATOMS - 1 - i);
-        i += 1;
-    }
-    Indices {
-        atoms: m as u64,
-        w,
-        even: w - odd,
-        odd,
-        polarity: threes,
-        largest,
-    }
-}
-
 // The vertex sum of an atom and what goes with it, by the row of its distances to the first n atoms, at most ATOMS, and the largest of them.
-pub fn around_row(row: &DistanceRow, n: usize, farthest: u8) -> Vertex
+fn around_row(row: &DistanceRow, n: usize, farthest: u8) -> Vertex
     ensures { λ r. ⌜ r ≡ vertexBy (min n mostAtoms) (entry (now (row .entry))) farthest ⌝ }
 {
     let m = within(n);
@@ -289,24 +247,6 @@ pub fn around_row(row: &DistanceRow, n: usize, farthest: u8) -> Vertex
         ones: t.ones,
         twos: t.twos,
         farthest: wide(farthest),
-    }
-}
-
-// The indices of a block by half of its distances, or its refusal. No other crate calls it: `reach` tells the same and stores no distance.
-pub fn measure(n: usize, bonds: &[u8]) -> IndicesReply
-    ensures { λ r. ⌜ r ≡ saidIndices (indicesReply n (now (bonds .entry))) ⌝ }
-{
-    let mut near = [0u64; ATOMS];
-    let reply = admit(n, bonds, &mut near);
-    match reply {
-        Reply::Refused(refusal) => IndicesReply::Refused(refusal),
-        Reply::Fine => {
-            let mut far = [0u8; ATOMS];
-            let mut half = [0u8; PAIRS];
-            search::from_all(&near, n, &mut half, &mut far);
-            let indices = sums(&half, &far, n);
-            IndicesReply::Of(indices)
-        }
     }
 }
 

@@ -1,17 +1,16 @@
 // Sums over rows of distances, whatever the rows hold.
 use super::ATOMS;
 use super::DistanceRow;
-use super::Run;
 use super::Tally;
 use half::Half;
 use half::within;
 use reply::wide;
 ghost use mathlib.Core.Path.{_≡_};
-ghost use Prim.Native.Nat.{min, max, _+_, _*_, _≤_};
+ghost use Prim.Native.Nat.{min, _+_, _*_, _≤_};
 ghost use Rattle.half.specs.Half.{allPairs, halfAt};
 ghost use Rattle.block.specs.Block.{mostAtoms};
 ghost use Rattle.block.specs.Sums.{countsBy};
-ghost use Rattle.block.specs.Tally.{Tallied, runAt, RunOf, Counts, CountsAdded};
+ghost use Rattle.block.specs.Tally.{Tallied, runAt, Counts, CountsAdded};
 
 // The first k entries of a row.
 pub(crate) fn along(row: &DistanceRow, k: usize) -> Tally
@@ -46,39 +45,6 @@ pub(crate) fn along(row: &DistanceRow, k: usize) -> Tally
         ones,
         twos,
     }
-}
-
-// The larger of two numbers.
-pub(crate) fn larger(a: u64, b: u64) -> u64
-    ensures { λ r. ⌜ r ≡ max a b ⌝ }
-{
-    if a < b { b } else { a }
-}
-
-// A byte as a number of 16 bits, with its bound.
-fn word(x: u8) -> u16
-    ensures { λ r. ⌜ (r ≡ x) × (r ≤ 255) ⌝ }
-{
-    x as u16
-}
-
-// k bytes of a half, from a place on: no branch, so that several go at once.
-pub(crate) fn run(half: &Half, from: usize, k: usize) -> Run
-    requires { ⌜ (k ≤ mostAtoms) × (from + k ≤ allPairs) ⌝ }
-    ensures { λ r. ⌜ RunOf (now (half .entry)) from k r ⌝ }
-{
-    let mut all: u16 = 0;
-    let mut odd: u16 = 0;
-    let mut threes: u16 = 0;
-    let mut j = 0;
-    while j < k {
-        let d = word(half[from + j]);
-        all += d;
-        odd += d * (d % 2);
-        threes += (d == 3) as u16;
-        j += 1;
-    }
-    Run { all, odd, threes }
 }
 
 // How often each number stands among k bytes of a half, from a place on, added to counts.

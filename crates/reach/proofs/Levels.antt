@@ -1,43 +1,48 @@
 -- One bond farther after the other: what holds before each turn, and what is found in the end. Assumes nothing.
-use Prim.Native.Nat.{ℕ, zero, suc, _+_, _-_, _*_, _/_, _^_, _≤_, _<_}
+use Prim.Native.Nat.{ℕ, suc, _+_, _-_, _*_, _/_, _^_, _≤_, _<_, min}
+use mathlib.Core.Bool.{true}
 use mathlib.Core.List.{List}
-use mathlib.Core.Path.{_≡_, refl, sym, ap, ap₂, _∙_}
+use mathlib.Core.Path.{_≡_, refl, sym, ap, ap₂, subst, _∙_}
 use native.Mathlib.Nat.{mul-le-mul, le-refl}
 use native.Mathlib.Numerals.{add-one}
 use native.Mathlib.Omega.{arith}
 use lib.Count.{ones, onesIn, ones-cat}
-use lib.ListN.{length, getD, replicate}
+use lib.ListN.{length}
 use lib.Pow.{pow-pos}
-use Rattle.graph.specs.Graph.{Graph, Within, distance, sum, total, itself, each, evenOf, oddOf, isAt}
+use Rattle.graph.specs.Graph.{Graph, Within, Sound, Molecule, connected, distance, sum, total, itself, each, evenOf, oddOf, isAt}
 use Rattle.graph.specs.Farthest.{largest}
 use Rattle.graph.specs.Bounds.{tame-odd, tame-at}
 use Rattle.graph.specs.Parts.{parts-of}
-use Rattle.graph.specs.Sums.{sum-cong, sum-const, sumPairs-add, sumPairs-cong}
-use Rattle.reply.specs.Read.{read}
-use Rattle.block.specs.Block.{mostAtoms, graphOf, blockReply}
-use Rattle.block.specs.Index.{indicesOf}
+use Rattle.graph.specs.Connected.{connected-molecule}
+use Rattle.graph.specs.Distance.{distance-self}
+use Rattle.graph.specs.Sums.{sum-cong, sum-const, sum-none, sumPairs-add, sumPairs-cong}
+use Rattle.reply.specs.Read.{read, refusal}
+use Rattle.reply.specs.declared.Refusal.{Refusal}
+use Rattle.block.specs.Block.{mostAtoms, graphOf, drawnReply, blockReply}
+use Rattle.block.specs.Index.{indicesOf, indicesReply, saidIndices}
 use Rattle.block.specs.Near.{around}
-use Rattle.block.specs.Told.{few-atoms, molecule}
+use Rattle.block.specs.Told.{block-drawn, drawn-atoms, drawn-sound}
+use Rattle.block.specs.declared.Indices.{Indices}
+use Rattle.block.specs.declared.IndicesReply.the-variants.{Of, Refused}
 use Rattle.reach.specs.Reach.{Own, Reach, LowSums, Room, Added, Reached, LevelsUpTo, upTo, fartherOf}
 use Rattle.reach.specs.declared.Both.{Both}
 use Rattle.reach.proofs.Touching.{reach-none, reach-same}
-use Rattle.reach.proofs.Summing.{up-next, up-none, up-most, up-more, up-all, met-all, room, last-is, count-reach, one-each, one-farther}
+use Rattle.reach.proofs.Summing.{up-next, up-none, up-most, up-more, up-all, met-all, deeper, apart, room, all-connected, last-is, count-reach, one-farther}
 
-pub record Level (n : ℕ) (xs near sets reached : List ℕ) (s : Both) (met d : ℕ) : Type 0 where
+pub record Level (n : ℕ) (xs : List ℕ) (k : ℕ) (near sets reached : List ℕ) (s : Both) (met d : ℕ) : Type 0 where
   pub near-size : length near ≡ mostAtoms
   pub sets-size : length sets ≡ mostAtoms
   pub reach : Reach (graphOf n xs) d near
   pub wide : Reach (graphOf n xs) d sets
   pub upto : LevelsUpTo (graphOf n xs) d met s
-  pub counts : Reached (graphOf n xs) d reached
+  pub counts : Reached (graphOf n xs) k d reached
 
 -- what a turn finds: the sets one bond farther, copied, and how many atoms they have
-pub record Turned (n : ℕ) (xs : List ℕ) (d : ℕ) (reached near sets more : List ℕ) (met : ℕ) : Type 0 where
+pub record Turned (n : ℕ) (xs : List ℕ) (d : ℕ) (near sets : List ℕ) (met : ℕ) : Type 0 where
   pub near-size : length near ≡ mostAtoms
   pub sets-size : length sets ≡ mostAtoms
   pub wide : Reach (graphOf n xs) (suc d) sets
   pub copied : (v : ℕ) → Within n v → around near v ≡ around sets v
-  pub counts : Added n sets reached more
   pub met-is : met ≡ sum n (λ v. ones (around sets v))
 
 -- a set of one atom
@@ -48,25 +53,24 @@ ones-alone p = let e : 1 * 2 ^ p + 0 ≡ 2 ^ p = omega arith in ap ones (sym e) 
 cube : {n c : ℕ} → n ≤ mostAtoms → c ≤ mostAtoms → n * (n * c) ≤ mostAtoms * (mostAtoms * mostAtoms)
 cube l h = mul-le-mul l (mul-le-mul l h)
 
-ones-in : (m p : ℕ) → p < m → _≡_ {A = ℕ} (getD (replicate m 1) p 0) 1
-ones-in (suc m) zero l = refl
-ones-in (suc m) (suc p) l = ones-in m p (omega arith)
-ones-in zero p l = absurd (omega arith)
-
 -- x more pairs, f for each
 gain : (f u v m x : ℕ) → v + f * m ≡ u + f * (m + x) → u + f * x ≡ v
 gain f u v m x e = omega arith
 
-module _ (n : ℕ) (xs : List ℕ) (fine : blockReply n xs ≡ read tt) where
+module _ (n : ℕ) (xs : List ℕ) (drawn : drawnReply n xs ≡ read tt) where
   abbrev g : Graph
   g = graphOf n xs
 
   pub few : Within mostAtoms n
-  few = few-atoms n xs fine
+  few = drawn-atoms n xs drawn
 
-  pub level-start : (near : List ℕ) → Own n near → Level n xs near near (replicate mostAtoms 1) (record { all = 0; odd = 0; threes = 0 }) n 0
+  sound : Sound g
+  sound = drawn-sound n xs drawn
+
+  pub level-start : (k : ℕ) (near reached : List ℕ) → k ≤ n → Own n near → ((v : ℕ) → Within k v → around reached v ≡ 1)
+      → Level n xs k near near reached (record { all = 0; odd = 0; threes = 0 }) n 0
   unfolding oddOf isAt
-  level-start near O = record {
+  level-start k near reached h O one = record {
     near-size = O .size;
     sets-size = O .size;
     reach = R;
@@ -75,19 +79,26 @@ module _ (n : ℕ) (xs : List ℕ) (fine : blockReply n xs ≡ read tt) where
       all-is = sym (up-none g itself refl);
       odd-is = sym (up-none g oddOf refl);
       threes-is = sym (up-none g (isAt 3) refl);
-      met-is = sym (sym (count-reach g 0 near R) ∙ sum-cong n (λ v w. ap ones (O .own v w) ∙ ones-alone (v - 1)) ∙ sum-const n 1 ∙ omega arith);
-      deep = λ k e. absurd (omega arith);
+      met-is = sym (sym (count-reach g 0 near R) ∙ sum-cong n own ∙ sum-const n 1 ∙ omega arith);
+      below = omega (arith, few);
+      deep = λ none. none 1 1 first first (distance-self sound first);
     };
-    counts = record { size = refl; wanting = λ v w. ap₂ _+_ (ones-in mostAtoms (v - 1) (omega (arith, few))) refl ∙ one-each g (molecule n xs fine) v w };
+    counts = record { wanting = λ v w. omega (arith, one v w, own v (omega arith), one-farther g 0 near R v (omega arith), sum-cong n {f = λ u. min (distance g v u) 0} {h = λ u. 0} (λ u b. omega arith), sum-none n) };
   }
     where
       R : Reach g 0 near
-      R = reach-none g (molecule n xs fine) near O
+      R = reach-none g sound near O
 
-  module _ {near sets reached : List ℕ} {s : Both} {met d : ℕ} (L : Level n xs near sets reached s met d) where
+      own : (v : ℕ) → Within n v → ones (around near v) ≡ 1
+      own v w = ap ones (O .own v w) ∙ ones-alone (v - 1)
+
+      first : Within n 1
+      first = omega (arith, few)
+
+  module _ {k : ℕ} {near sets reached : List ℕ} {s : Both} {met d : ℕ} (L : Level n xs k near sets reached s met d) where
     module _ (more : met < n * n) where
       pub shallow : suc d < n
-      shallow = room g (molecule n xs fine) d (omega (arith, L .upto .met-is))
+      shallow = room g sound d (L .upto .below) (L .upto .deep) (omega (arith, L .upto .met-is))
 
       abbrev deepest : d ≤ 63
       deepest = omega (arith, shallow, few)
@@ -99,11 +110,11 @@ module _ (n : ℕ) (xs : List ℕ) (fine : blockReply n xs ≡ read tt) where
         threes-low = omega (arith, L .upto .threes-is, up-most g (isAt 3) d mostAtoms (λ x l. omega (arith, deepest, tame-at 3 .tame x)), cube {n = n} {c = mostAtoms} (few .high) (le-refl mostAtoms));
       }
 
-      pub spare : Room n reached
+      pub spare : Room k reached
       spare = let h : suc d ≤ mostAtoms = omega (arith, deepest) in record { room = λ v w. omega (arith, L .counts .wanting v w, mul-le-mul (few .high) h) }
 
       -- one bond farther
-      module _ {near′ sets′ reached′ : List ℕ} {met′ : ℕ} (T : Turned n xs d reached near′ sets′ reached′ met′) where
+      module _ {near′ sets′ : List ℕ} {met′ : ℕ} (T : Turned n xs d near′ sets′ met′) where
         here : met′ ≡ upTo g each (suc d)
         here = T .met-is ∙ count-reach g (suc d) sets′ (T .wide)
 
@@ -113,14 +124,19 @@ module _ (n : ℕ) (xs : List ℕ) (fine : blockReply n xs ≡ read tt) where
         pub fits : met′ - met ≤ mostAtoms * mostAtoms
         fits = omega (arith, here, up-most g each (suc d) 1 (λ x l. omega arith), mul-le-mul (few .high) (few .high))
 
+        -- nothing was added
+        pub stuck : met′ ≡ met → Refused (refusal 7 0) ≡ saidIndices (indicesReply n xs)
+        unfolding indicesReply
+        stuck e = rw (block-drawn n xs, drawn, apart g sound d (omega (arith, here, L .upto .met-is)) (omega (arith, L .upto .met-is)))
+
         added : (f : ℕ → ℕ) (u : ℕ) → u ≡ upTo g f d → u + f (suc d) * (met′ - met) ≡ upTo g f (suc d)
         added f u e =
             let k : met′ ≡ met + (met′ - met) = omega (arith, grows) in
             gain (f (suc d)) u (upTo g f (suc d)) met (met′ - met)
             (ap (λ (m : ℕ). upTo g f (suc d) + f (suc d) * m) (L .upto .met-is) ∙ up-next g f d ∙ ap₂ (λ (x y : ℕ). x + f (suc d) * y) (sym e) (sym here ∙ k))
 
-        pub level-next : Level n xs near′ sets′ reached′ (fartherOf s (d + 1) (met′ - met)) met′ (d + 1)
-        level-next = rw (add-one d) (record {
+        pub level-next : k ≤ n → (met′ ≡ met → ⊥) → (reached′ : List ℕ) → Added k sets′ reached reached′ → Level n xs k near′ sets′ reached′ (fartherOf s (d + 1) (met′ - met)) met′ (d + 1)
+        level-next h ne reached′ A = rw (add-one d) (record {
           near-size = T .near-size;
           sets-size = T .sets-size;
           reach = reach-same g (suc d) sets′ near′ (T .copied) (T .wide);
@@ -130,9 +146,10 @@ module _ (n : ℕ) (xs : List ℕ) (fine : blockReply n xs ≡ read tt) where
             odd-is = added oddOf (s .odd) (L .upto .odd-is);
             threes-is = added (isAt 3) (s .threes) (L .upto .threes-is);
             met-is = here;
-            deep = λ k e. let q : d ≡ k = omega arith in omega (arith, more, L .upto .met-is, ap (upTo g each) q);
+            below = shallow;
+            deep = deeper g d (omega (arith, here, L .upto .met-is, grows));
           };
-          counts = record { size = T .counts .size; wanting = λ v w. omega (arith, T .counts .added v w, L .counts .wanting v w, one-farther g d sets′ (T .wide) v w) };
+          counts = record { wanting = λ v w. omega (arith, A .added v w, L .counts .wanting v w, one-farther g (suc d) sets′ (T .wide) v (omega arith)) };
         })
 
     -- no pair is left
@@ -140,8 +157,14 @@ module _ (n : ℕ) (xs : List ℕ) (fine : blockReply n xs ≡ read tt) where
       pub whole : (i j : ℕ) → Within n i → Within n j → distance g i j ≤ d
       whole = met-all g d (omega (arith, L .upto .met-is))
 
+      linked : connected g ≡ true
+      linked = all-connected g sound d (L .upto .below) whole
+
+      molecule : Molecule g
+      molecule = connected-molecule sound linked
+
       twice : (f : ℕ → ℕ) (u : ℕ) → f 0 ≡ 0 → u ≡ upTo g f d → u / 2 ≡ total g f
-      twice f u z e = omega (arith, e, up-all g (molecule n xs fine) f z d whole)
+      twice f u z e = omega (arith, e, up-all g molecule f z d whole)
 
       parts : total g evenOf + total g oddOf ≡ total g itself
       unfolding total
@@ -161,13 +184,23 @@ module _ (n : ℕ) (xs : List ℕ) (fine : blockReply n xs ≡ read tt) where
       threes-twice = twice (isAt 3) (s .threes) refl (L .upto .threes-is)
 
       pub largest-last : largest g ≡ d
-      largest-last = last-is g (molecule n xs fine) d (few .low) whole (L .upto .deep)
+      largest-last = last-is g molecule d (few .low) whole (L .upto .deep)
 
       pub odd-less : s .odd / 2 ≤ s .all / 2
       odd-less = omega (arith, all-twice, odd-twice, parts)
 
-      pub level-end : record { atoms = n; w = s .all / 2; even = s .all / 2 - s .odd / 2; odd = s .odd / 2; polarity = s .threes / 2; largest = d } ≡ indicesOf g
-      unfolding indicesOf
+      pub level-end : Of (record { atoms = n; w = s .all / 2; even = s .all / 2 - s .odd / 2; odd = s .odd / 2; polarity = s .threes / 2; largest = d }) ≡ saidIndices (indicesReply n xs)
+      unfolding indicesReply indicesOf
       level-end =
           let v : s .all / 2 - s .odd / 2 ≡ total g evenOf = omega (arith, all-twice, odd-twice, parts) in
-          λ k. record { atoms = n; w = all-twice k; even = v k; odd = odd-twice k; polarity = threes-twice k; largest = sym largest-last k }
+          rw (block-drawn n xs, drawn, linked) (λ k. Of (record { atoms = n; w = all-twice k; even = v k; odd = odd-twice k; polarity = threes-twice k; largest = sym largest-last k }))
+
+-- a reply with indices is no refusal, and has one largest distance
+pub not-of : {r : Refusal} {x : Indices} → Refused r ≡ Of x → ⊥
+not-of e = let z : _≡_ {A = ℕ} 0 1 = cc in omega arith
+
+pub of-reached : {g : Graph} {k : ℕ} {reached : List ℕ} (y x : Indices) → Of y ≡ Of x → Reached g k (y .largest) reached → Reached g k (x .largest) reached
+of-reached {g} {k} {reached} y x e R = subst (λ (d : ℕ). Reached g k d reached) (same y x e) R
+  where
+    same : (y x : Indices) → Of y ≡ Of x → y .largest ≡ x .largest
+    same y x e = cc

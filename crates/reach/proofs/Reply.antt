@@ -13,20 +13,19 @@ use Rattle.graph.specs.Graph.{Graph, Within, vertexSum}
 use Rattle.graph.specs.Farthest.{largest}
 use Rattle.graph.specs.Largest.{largest-over, largest-below}
 use Rattle.half.specs.Half.{table}
-use Rattle.reply.specs.Read.{refused, read}
+use Rattle.reply.specs.Read.{refused, read, _then_}
 use Rattle.reply.specs.declared.Refusal.{Refusal}
 use Rattle.reply.specs.declared.Reply.{Reply}
 use Rattle.reply.specs.declared.Reply.the-variants as reply
-use Rattle.block.specs.Block.{mostAtoms, graphOf, blockReply}
+use Rattle.block.specs.Block.{mostAtoms, graphOf, drawnReply, blockReply}
 use Rattle.block.specs.Index.{indicesOf, indicesReply, saidIndices}
 use Rattle.block.specs.Near.{around}
-use Rattle.block.specs.Opened.{openedReply, saidOpened}
+use Rattle.block.specs.Opened.{neighboursOf, openedReply, saidOpened, drawnNear}
 use Rattle.block.specs.Rows.{noRow}
-use Rattle.block.specs.declared.Opened.{Opened}
-use Rattle.block.specs.Told.{few-atoms, molecule}
+use Rattle.block.specs.Told.{few-atoms, molecule, fine-drawn, drawn-refused}
 use Rattle.block.specs.declared.Indices.{Indices}
-use Rattle.block.specs.declared.IndicesReply.{IndicesReply}
 use Rattle.block.specs.declared.IndicesReply.the-variants as measured
+use Rattle.reach.specs.Told.{indices-refused, indices-fine}
 use Rattle.reach.specs.Taken.{takenOf}
 use Rattle.reach.specs.declared.Taken.{Taken}
 use Rattle.reach.specs.Reach.{Reached}
@@ -35,33 +34,34 @@ use Rattle.reach.proofs.Summing.{all-wanting}
 use Rattle.reach.proofs.Leaving.{table-cong}
 
 module _ (n : ℕ) (xs : List ℕ) where
-  pub refused-reply : (r : Refusal) → blockReply n xs ≡ refused r → measured.Refused r ≡ saidIndices (indicesReply n xs)
+  -- 1 to 6
+  pub refused-reply : (r : Refusal) → drawnReply n xs ≡ refused r → measured.Refused r ≡ saidIndices (indicesReply n xs)
   unfolding indicesReply
-  refused-reply r e = rw e
+  refused-reply r e = rw (drawn-refused n xs r e)
 
   pub sums-refused : (r : Refusal) → blockReply n xs ≡ refused r → (p : Reply) → p ≡ reply.Refused r → record { reply = p; at = noRow } ≡ saidSums (sumsReply n xs)
   unfolding sumsReply
   sums-refused r b p e = rw b (λ j. record { reply = e j; at = noRow })
 
-  -- a block that is opened, where the reply beside its neighbours is known
-  module _ (v : Opened) (e : v ≡ saidOpened (openedReply n xs)) where
-    pub open-refused : (r : Refusal) → blockReply n xs ≡ refused r → _≡_ {A = Taken} (record { reply = measured.Refused r; near = v .near }) (takenOf n xs)
-    unfolding takenOf indicesReply
-    open-refused r b = rw b (λ i. record { reply = measured.Refused r; near = e i .near })
+  pub open-refused : (r : Refusal) → measured.Refused r ≡ saidIndices (indicesReply n xs) → _≡_ {A = Taken} (record { reply = measured.Refused r; near = noRow }) (takenOf n xs)
+  unfolding takenOf openedReply
+  open-refused r e = λ i. record { reply = e i; near = none i }
+    where
+      none : noRow ≡ saidOpened (blockReply n xs then λ _. read (neighboursOf (graphOf n xs))) .near
+      none = rw (indices-refused n xs r (sym e))
 
-    pub open-fine : blockReply n xs ≡ read tt → (x : Indices) → x ≡ indicesOf (graphOf n xs) → _≡_ {A = Taken} (record { reply = measured.Of x; near = v .near }) (takenOf n xs)
-    unfolding takenOf indicesReply
-    open-fine f x q = rw f (λ i. record { reply = measured.Of (q i); near = e i .near })
+  pub open-fine : (x : Indices) → measured.Of x ≡ saidIndices (indicesReply n xs) → (near : List ℕ) → near ≡ drawnNear n xs → _≡_ {A = Taken} (record { reply = measured.Of x; near = near }) (takenOf n xs)
+  unfolding takenOf openedReply drawnNear
+  open-fine x e near q = λ i. record { reply = e i; near = (q ∙ same) i }
+    where
+      same : saidOpened (drawnReply n xs then λ _. read (neighboursOf (graphOf n xs))) .near ≡ saidOpened (blockReply n xs then λ _. read (neighboursOf (graphOf n xs))) .near
+      same = let f = indices-fine n xs x (sym e) .0 in rw (fine-drawn n xs f, f)
 
   module _ (fine : blockReply n xs ≡ read tt) where
-    pub fine-reply : (x : Indices) → x ≡ indicesOf (graphOf n xs) → measured.Of x ≡ saidIndices (indicesReply n xs)
-    unfolding indicesReply
-    fine-reply x e = rw (fine, e)
-
     abbrev g : Graph
     g = graphOf n xs
 
-    module _ (x : Indices) (e : x ≡ indicesOf g) (reached : List ℕ) (R : Reached g (x .largest) reached) where
+    module _ (x : Indices) (e : x ≡ indicesOf g) (reached : List ℕ) (R : Reached g n (x .largest) reached) where
       last-is : x .largest ≡ largest g
       unfolding indicesOf
       last-is = ap (λ (y : Indices). y .largest) e

@@ -14,30 +14,21 @@ use Rattle.block.specs.Block.{mostAtoms}
 use Rattle.block.specs.Near.{around}
 use Rattle.reach.specs.Reach.{Room}
 
-pub record Settling (sets old near reached : List ℕ) (met i : ℕ) : Type 0 where
+pub record Settling (sets near : List ℕ) (met i : ℕ) : Type 0 where
   pub size : length near ≡ mostAtoms
-  pub long : length reached ≡ mostAtoms
-  pub added : (v : ℕ) → Within i v → around reached v ≡ around old v + ones (around sets v)
-  pub rest : (p : ℕ) → i ≤ p → getD reached p 0 ≡ getD old p 0
   pub copied : (v : ℕ) → Within i v → around near v ≡ around sets v
   pub met-is : met ≡ sum i (λ v. ones (around sets v))
   pub low : met ≤ mostAtoms * i
 
-pub settling-none : (sets old near : List ℕ) → length near ≡ mostAtoms → length old ≡ mostAtoms → Settling sets old near old 0 0
+pub settling-none : (sets near : List ℕ) → length near ≡ mostAtoms → Settling sets near 0 0
 unfolding sum
-settling-none sets old near e f = record { size = e; long = f; added = λ v w. absurd (omega arith); rest = λ p l. refl; copied = λ v w. absurd (omega arith); met-is = refl; low = omega arith }
+settling-none sets near e = record { size = e; copied = λ v w. absurd (omega arith); met-is = refl; low = omega arith }
 
-pub settling-more : (sets old near reached : List ℕ) (met i : ℕ) → i < mostAtoms → ones (getD sets i 0) ≤ mostAtoms → Settling sets old near reached met i
-    → Settling sets old (set near i (getD sets i 0)) (set reached i (getD reached i 0 + ones (getD sets i 0))) (met + ones (getD sets i 0)) (i + 1)
+pub settling-more : (sets near : List ℕ) (met i : ℕ) → i < mostAtoms → ones (getD sets i 0) ≤ mostAtoms → Settling sets near met i
+    → Settling sets (set near i (getD sets i 0)) (met + ones (getD sets i 0)) (i + 1)
 unfolding sum
-settling-more sets old near reached met i l few S = record {
+settling-more sets near met i l few S = record {
   size = length-set near i (getD sets i 0) ∙ S .size;
-  long = length-set reached i (getD reached i 0 + ones (getD sets i 0)) ∙ S .long;
-  added = λ v w. elim (ℕ-discrete (v - 1) i) [
-    | yes e ↦ rw (e, getD-set-same reached i (getD reached i 0 + ones (getD sets i 0)) 0 (omega (arith, S .long)), S .rest i (le-refl i)) refl
-    | no ne ↦ rw (getD-set-other reached i (v - 1) (getD reached i 0 + ones (getD sets i 0)) 0 ne) (S .added v (omega arith))
-  ];
-  rest = λ p h. getD-set-other reached i p (getD reached i 0 + ones (getD sets i 0)) 0 (omega arith) ∙ S .rest p (omega arith);
   copied = λ v w. elim (ℕ-discrete (v - 1) i) [
     | yes e ↦ rw (e, getD-set-same near i (getD sets i 0) 0 (omega (arith, S .size))) refl
     | no ne ↦ rw (getD-set-other near i (v - 1) (getD sets i 0) 0 ne) (S .copied v (omega arith))
@@ -46,7 +37,26 @@ settling-more sets old near reached met i l few S = record {
   low = omega (arith, S .low);
 }
 
-pub room-here : {n : ℕ} {sets old near reached : List ℕ} {met i : ℕ} → Settling sets old near reached met i → Room n old → i < n → getD reached i 0 ≤ mostAtoms * mostAtoms
+-- how many atoms the sets of the first i atoms have is added to what they reached
+pub record Adding (sets old reached : List ℕ) (i : ℕ) : Type 0 where
+  pub long : length reached ≡ length old
+  pub added : (v : ℕ) → Within i v → around reached v ≡ around old v + ones (around sets v)
+  pub rest : (p : ℕ) → i ≤ p → getD reached p 0 ≡ getD old p 0
+
+pub adding-none : (sets old : List ℕ) → Adding sets old old 0
+adding-none sets old = record { long = refl; added = λ v w. absurd (omega arith); rest = λ p l. refl }
+
+pub adding-more : (sets old reached : List ℕ) (i : ℕ) → i < length old → Adding sets old reached i → Adding sets old (set reached i (getD reached i 0 + ones (getD sets i 0))) (i + 1)
+adding-more sets old reached i l S = record {
+  long = length-set reached i (getD reached i 0 + ones (getD sets i 0)) ∙ S .long;
+  added = λ v w. elim (ℕ-discrete (v - 1) i) [
+    | yes e ↦ rw (e, getD-set-same reached i (getD reached i 0 + ones (getD sets i 0)) 0 (omega (arith, S .long)), S .rest i (le-refl i)) refl
+    | no ne ↦ rw (getD-set-other reached i (v - 1) (getD reached i 0 + ones (getD sets i 0)) 0 ne) (S .added v (omega arith))
+  ];
+  rest = λ p h. getD-set-other reached i p (getD reached i 0 + ones (getD sets i 0)) 0 (omega arith) ∙ S .rest p (omega arith);
+}
+
+pub room-here : {k : ℕ} {sets old reached : List ℕ} {i : ℕ} → Adding sets old reached i → Room k old → i < k → getD reached i 0 ≤ mostAtoms * mostAtoms
 room-here {i = i} S R l =
     let k : suc i - 1 ≡ i = omega arith in
     omega (arith, S .rest i (le-refl i), rw k at (R .room (suc i) (record { low = omega arith; high = omega arith })))

@@ -13,17 +13,17 @@ use lib.Dec.{eqb, leb}
 use lib.ListN.{length, getD, set, length-set}
 use lib.Pow.{pow-lt}
 use lib.Seq.{getD-set-same, getD-set-other}
-use Rattle.graph.specs.Graph.{Graph, Bond, Within, Molecule, anyJoins, bonded, distance}
+use Rattle.graph.specs.Graph.{Graph, Bond, Within, Sound, anyJoins, bonded, distance}
 use Rattle.graph.specs.Bonds.{both, both-true, one-of, first-of, second-of, same-test, any-out, any-head, any-tail, any-none, bonded-sym}
-use Rattle.graph.specs.Distance.{distance-sym, distance-self, distance-zero, distance-bond, parent}
+use Rattle.graph.specs.Distance.{distance-self, sound-sym, sound-zero, sound-bond, sound-parent}
 use Rattle.graph.specs.Walk.{far-end}
 use Rattle.graph.specs.Sets.{has}
 use Rattle.graph.specs.SetLaws.{has-or, has-alone}
 use Rattle.reply.specs.Read.{read}
-use Rattle.block.specs.Block.{mostAtoms, bondsOf, graphOf, blockReply}
+use Rattle.block.specs.Block.{mostAtoms, bondsOf, graphOf, drawnReply}
 use Rattle.block.specs.Near.{around}
-use Rattle.block.specs.Numbered.{rest, rest-cons, rest-none, bond-within}
-use Rattle.block.specs.Told.{few-atoms, molecule}
+use Rattle.block.specs.Numbered.{rest, rest-cons, rest-none, drawn-within}
+use Rattle.block.specs.Told.{drawn-atoms, drawn-sound}
 use Rattle.reach.specs.Reach.{Own, Reach, touched}
 
 -- touched says whether there is such an atom
@@ -54,10 +54,10 @@ touched-in (b ∷ bs) p v u j y =
     (any-out b bs v u j)
 
 -- ONE BOND FARTHER: an atom is at most d + 1 bonds away exactly where it is at most d bonds away from here or from a neighbour
-pub reach-next : (g : Graph) → Molecule g → (d v w : ℕ) → Within (g .atoms) v → Within (g .atoms) w → (p : ℕ → Bool)
+pub reach-next : (g : Graph) → Sound g → (d v w : ℕ) → suc d < g .atoms → Within (g .atoms) v → Within (g .atoms) w → (p : ℕ → Bool)
     → ((u : ℕ) → Within (g .atoms) u → p u ≡ leb (distance g u w) d) → (leb (distance g v w) d || touched (g .bonds) p v) ≡ leb (distance g v w) (suc d)
 unfolding bonded
-reach-next g m d v w hv hw p is = same-test (leb (distance g v w) d || touched (g .bonds) p v) (leb (distance g v w) (suc d)) up down
+reach-next g s d v w shallow hv hw p is = same-test (leb (distance g v w) d || touched (g .bonds) p v) (leb (distance g v w) (suc d)) up down
   where
     up : (leb (distance g v w) d || touched (g .bonds) p v) ≡ true → leb (distance g v w) (suc d) ≡ true
     up e =
@@ -65,19 +65,19 @@ reach-next g m d v w hv hw p is = same-test (leb (distance g v w) d || touched (
         (⊎-elim (λ h. omega (arith, leb-true (distance g v w) d h))
         (λ h.
         let (u, j, y) = touched-out (g .bonds) p v h in
-        let hu = far-end (m .sound) v u j in
+        let hu = far-end s v u j in
         let l = leb-true (distance g u w) d (sym (is u hu) ∙ y) in
-        omega (arith, distance-bond m hw u v (bonded-sym g v u j), distance-sym m hw hu, distance-sym m hw hv))
+        omega (arith, sound-bond s hw u v (bonded-sym g v u j), sound-sym s hw hu, sound-sym s hw hv))
         (one-of (leb (distance g v w) d) (touched (g .bonds) p v) e))
 
     down : leb (distance g v w) (suc d) ≡ true → (leb (distance g v w) d || touched (g .bonds) p v) ≡ true
     down e = elim (decLt d (distance g v w)) [
       | yes h ↦
           let l = leb-true (distance g v w) (suc d) e in
-          let (u, j, q) = parent m hw hv (λ (x : w ≡ v). omega (arith, h, distance-self (m .sound) hw, ap (λ (y : ℕ). distance g y w) x)) in
-          let hu = m .sound .ends u v j in
+          let (u, j, q) = sound-parent s hw v (λ (x : w ≡ v). omega (arith, h, distance-self s hw, ap (λ (y : ℕ). distance g y w) x)) (omega (arith, sound-sym s hw hv)) in
+          let hu = s .ends u v j in
           second-of (leb (distance g v w) d) (touched (g .bonds) p v)
-          (touched-in (g .bonds) p v u (bonded-sym g u v j) (is u hu ∙ le-leb (distance g u w) d (omega (arith, q, distance-sym m hw hu, distance-sym m hw hv))))
+          (touched-in (g .bonds) p v u (bonded-sym g u v j) (is u hu ∙ le-leb (distance g u w) d (omega (arith, q, sound-sym s hw hu, sound-sym s hw hv))))
       | no h ↦ first-of (leb (distance g v w) d) (touched (g .bonds) p v) (le-leb (distance g v w) d (omega arith))
     ]
 
@@ -108,7 +108,7 @@ pub record Spreading (n : ℕ) (xs near old sets : List ℕ) (k : ℕ) : Type 0 
   pub left : (v w : ℕ) → Within n v → Within n w
       → (has (around sets v) w || touched (rest xs k) (λ u. has (around near u) w) v) ≡ (has (around old v) w || touched (bondsOf xs) (λ u. has (around near u) w) v)
 
-module _ (n : ℕ) (xs : List ℕ) (fine : blockReply n xs ≡ read tt) (d : ℕ) (near old : List ℕ) (N : Reach (graphOf n xs) d near) (O : Reach (graphOf n xs) d old) where
+module _ (n : ℕ) (xs : List ℕ) (drawn : drawnReply n xs ≡ read tt) (d : ℕ) (shallow : suc d < n) (near old : List ℕ) (N : Reach (graphOf n xs) d near) (O : Reach (graphOf n xs) d old) where
   pub spread-start : Spreading n xs near old old 0
   spread-start = record { fits = O .fits; left = λ v w a b. refl }
 
@@ -125,8 +125,8 @@ module _ (n : ℕ) (xs : List ℕ) (fine : blockReply n xs ≡ read tt) (d : ℕ
     pub spread-next : Spreading n xs near old (set one (b - 1) (bitOr (around one b) (around near a))) (k + 1)
     unfolding touched
     spread-next =
-        let (wa, wb) = bond-within n xs fine k l in
-        let small : n ≤ mostAtoms = few-atoms n xs fine .high in
+        let (wa, wb) = drawn-within n xs drawn k l in
+        let small : n ≤ mostAtoms = drawn-atoms n xs drawn .high in
         let long : length one ≡ mostAtoms = length-set sets (a - 1) (bitOr (around sets a) (around near b)) ∙ size in
         record {
           fits = put-fits n one long small b wb (around near a) (N .fits a wa) (put-fits n sets size small a wa (around near b) (N .fits b wb) (S .fits));
@@ -150,7 +150,7 @@ module _ (n : ℕ) (xs : List ℕ) (fine : blockReply n xs ≡ read tt) (d : ℕ
         ∙ ap (λ (bs : List Bond). has (around sets v) w || touched bs (λ u. has (around near u) w) v) (sym (rest-none xs k (omega arith)))
         ∙ S .left v w a b
         ∙ ap (λ (t : Bool). t || touched (bondsOf xs) (λ u. has (around near u) w) v) (O .holds v w a b)
-        ∙ reach-next (graphOf n xs) (molecule n xs fine) d v w a b (λ u. has (around near u) w) (λ u h. N .holds u w h b);
+        ∙ reach-next (graphOf n xs) (drawn-sound n xs drawn) d v w shallow a b (λ u. has (around near u) w) (λ u h. N .holds u w h b);
   }
 
 -- sets that are the same on the atoms
@@ -158,16 +158,16 @@ pub reach-same : (g : Graph) (d : ℕ) (sets near : List ℕ) → ((v : ℕ) →
 reach-same g d sets near e R = record { fits = λ v a. rw (e v a) (R .fits v a); holds = λ v w a b. rw (e v a) (R .holds v w a b) }
 
 -- each atom alone: those no bond away
-pub reach-none : (g : Graph) → Molecule g → (sets : List ℕ) → Own (g .atoms) sets → Reach g 0 sets
-reach-none g m sets O = record {
+pub reach-none : (g : Graph) → Sound g → (sets : List ℕ) → Own (g .atoms) sets → Reach g 0 sets
+reach-none g s sets O = record {
   fits = λ v a. rw (O .own v a) (pow-lt (omega arith));
   holds = λ v w a b. ap (λ (x : ℕ). has x w) (O .own v a) ∙ has-alone v w (a .low) (b .low) ∙ at v w a b (ℕ-discrete w v);
 }
   where
     at : (v w : ℕ) → Within (g .atoms) v → Within (g .atoms) w → Dec (w ≡ v) → eqb w v ≡ leb (distance g v w) 0
-    at v w a b (yes e) = eq-eqb w v e ∙ sym (le-leb (distance g v w) 0 (omega (arith, distance-self (m .sound) b, ap (λ (x : ℕ). distance g x w) e)))
+    at v w a b (yes e) = eq-eqb w v e ∙ sym (le-leb (distance g v w) 0 (omega (arith, distance-self s b, ap (λ (x : ℕ). distance g x w) e)))
     at v w a b (no ne) = ne-eqb w v ne ∙ sym (lt-zero (leb (distance g v w) 0) refl)
       where
         lt-zero : (t : Bool) → leb (distance g v w) 0 ≡ t → t ≡ false
-        lt-zero true h = absurd (ne (sym (distance-zero m a b (omega (arith, leb-true (distance g v w) 0 h)))))
+        lt-zero true h = absurd (ne (sym (sound-zero s a w (omega (arith, leb-true (distance g v w) 0 h)))))
         lt-zero false h = refl

@@ -41,13 +41,14 @@ pub record LowSums (s : Both) : Type 0 where
   pub odd-low : s .odd ≤ mostAtoms * (mostAtoms * mostAtoms)
   pub threes-low : s .threes ≤ mostAtoms * (mostAtoms * mostAtoms)
 
--- the sums over the pairs at most d bonds apart, of which there are met; with one bond less there was another pair
+-- the sums over the pairs at most d bonds apart, of which there are met; some are d bonds apart, which are fewer than there are atoms
 pub record LevelsUpTo (g : Graph) (d met : ℕ) (s : Both) : Type 0 where
   pub all-is : s .all ≡ upTo g itself d
   pub odd-is : s .odd ≡ upTo g oddOf d
   pub threes-is : s .threes ≡ upTo g (isAt 3) d
   pub met-is : met ≡ upTo g each d
-  pub deep : (k : ℕ) → d ≡ suc k → upTo g each k < g .atoms * g .atoms
+  pub below : d < g .atoms
+  pub deep : ((i j : ℕ) → Within (g .atoms) i → Within (g .atoms) j → distance g i j ≡ d → ⊥) → ⊥
 
 -- numbers of n atoms to which more can be added
 pub record Room (n : ℕ) (reached : List ℕ) : Type 0 where
@@ -55,10 +56,10 @@ pub record Room (n : ℕ) (reached : List ℕ) : Type 0 where
 
 -- how many atoms the set of each of n atoms has is added
 pub record Added (n : ℕ) (sets old new : List ℕ) : Type 0 where
-  pub size : length new ≡ mostAtoms
+  pub size : length new ≡ length old
   pub added : (v : ℕ) → Within n v → around new v ≡ around old v + ones (around sets v)
 
--- the numbers of atoms within reach of each atom, at 0 to d bonds together; what is wanting to all atoms is the vertex sum, once all are within reach
-pub record Reached (g : Graph) (d : ℕ) (reached : List ℕ) : Type 0 where
-  pub size : length reached ≡ mostAtoms
-  pub wanting : (v : ℕ) → Within (g .atoms) v → around reached v + sum (g .atoms) (λ w. min (distance g v w) (suc d)) ≡ g .atoms * suc d
+-- the numbers of atoms within reach of each of the first k, at 0 to d bonds together; what is wanting to all atoms is the vertex sum, once all are
+-- within reach
+pub record Reached (g : Graph) (k d : ℕ) (reached : List ℕ) : Type 0 where
+  pub wanting : (v : ℕ) → Within k v → around reached v + sum (g .atoms) (λ w. min (distance g v w) (suc d)) ≡ g .atoms * suc d

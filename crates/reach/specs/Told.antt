@@ -9,7 +9,7 @@ use Rattle.reply.specs.declared.Refusal.{Refusal}
 use Rattle.reply.specs.declared.Reply.the-variants.{Fine, Refused}
 use Rattle.block.specs.Block.{graphOf, blockReply}
 use Rattle.block.specs.Index.{indicesOf, indicesReply, saidIndices}
-use Rattle.block.specs.Opened.{neighboursOf, openedReply, saidOpened}
+use Rattle.block.specs.Opened.{neighboursOf, openedReply}
 use Rattle.block.specs.declared.Indices.{Indices}
 use Rattle.block.specs.declared.IndicesReply.the-variants as measured
 use Rattle.reach.specs.Taken.{takenOf}
@@ -36,14 +36,14 @@ module _ (n : ℕ) (xs : List ℕ) (v : VertexSums) (e : v ≡ saidSums (sumsRep
       let f = fine-read (blockReply n xs) (sym reply-is ∙ q) in
       (f, ap (λ (w : VertexSums). w .at) e ∙ rw f refl)
 
--- WHAT OPENING TELLS: the block's refusal, or its indices and its neighbours
-module _ (n : ℕ) (xs : List ℕ) (v : Taken) (e : v ≡ takenOf n xs) where
+-- what a reply with indices tells
+module _ (n : ℕ) (xs : List ℕ) where
   not-refused : (x : Indices) (r : Refusal) → measured.Of x ≡ measured.Refused r → ⊥
   not-refused x r f = let z : _≡_ {A = ℕ} 0 1 = cc in absurd (omega arith)
 
-  pub taken-refused : (r : Refusal) → v .reply ≡ measured.Refused r → blockReply n xs ≡ refused r
-  unfolding takenOf indicesReply
-  taken-refused r q = go (blockReply n xs) (sym (ap (λ (t : Taken). t .reply) e) ∙ q)
+  pub indices-refused : (r : Refusal) → saidIndices (indicesReply n xs) ≡ measured.Refused r → blockReply n xs ≡ refused r
+  unfolding indicesReply
+  indices-refused r = go (blockReply n xs)
     where
       go : (b : Read (Unit {0})) → saidIndices (b then λ _. read (indicesOf (graphOf n xs))) ≡ measured.Refused r → b ≡ refused r
       go (refused s) f = same s f
@@ -52,14 +52,25 @@ module _ (n : ℕ) (xs : List ℕ) (v : Taken) (e : v ≡ takenOf n xs) where
           same s f = cc
       go (read u) f = absurd (not-refused (indicesOf (graphOf n xs)) r f)
 
-  pub taken-fine : (x : Indices) → v .reply ≡ measured.Of x → (blockReply n xs ≡ read tt) × (x ≡ indicesOf (graphOf n xs)) × (v .near ≡ neighboursOf (graphOf n xs))
-  unfolding takenOf indicesReply openedReply
-  taken-fine x q = go (blockReply n xs) (sym (ap (λ (t : Taken). t .reply) e) ∙ q) (ap (λ (t : Taken). t .near) e)
+  pub indices-fine : (x : Indices) → saidIndices (indicesReply n xs) ≡ measured.Of x → (blockReply n xs ≡ read tt) × (x ≡ indicesOf (graphOf n xs))
+  unfolding indicesReply
+  indices-fine x = go (blockReply n xs)
     where
       same : (y : Indices) → measured.Of y ≡ measured.Of x → x ≡ y
       same y f = cc
 
-      go : (b : Read (Unit {0})) → saidIndices (b then λ _. read (indicesOf (graphOf n xs))) ≡ measured.Of x → v .near ≡ saidOpened (b then λ _. read (neighboursOf (graphOf n xs))) .near
-          → (b ≡ read tt) × (x ≡ indicesOf (graphOf n xs)) × (v .near ≡ neighboursOf (graphOf n xs))
-      go (refused s) f h = absurd (not-refused x s (sym f))
-      go (read tt) f h = (refl, same (indicesOf (graphOf n xs)) f, h)
+      go : (b : Read (Unit {0})) → saidIndices (b then λ _. read (indicesOf (graphOf n xs))) ≡ measured.Of x → (b ≡ read tt) × (x ≡ indicesOf (graphOf n xs))
+      go (refused s) f = absurd (not-refused x s (sym f))
+      go (read tt) f = (refl, same (indicesOf (graphOf n xs)) f)
+
+-- WHAT OPENING TELLS: the block's refusal, or its indices and its neighbours
+module _ (n : ℕ) (xs : List ℕ) (v : Taken) (e : v ≡ takenOf n xs) where
+  pub taken-refused : (r : Refusal) → v .reply ≡ measured.Refused r → blockReply n xs ≡ refused r
+  unfolding takenOf
+  taken-refused r q = indices-refused n xs r (sym (ap (λ (t : Taken). t .reply) e) ∙ q)
+
+  pub taken-fine : (x : Indices) → v .reply ≡ measured.Of x → (blockReply n xs ≡ read tt) × (x ≡ indicesOf (graphOf n xs)) × (v .near ≡ neighboursOf (graphOf n xs))
+  unfolding takenOf openedReply
+  taken-fine x q =
+      let (f, h) = indices-fine n xs x (sym (ap (λ (t : Taken). t .reply) e) ∙ q) in
+      (f, h, ap (λ (t : Taken). t .near) e ∙ rw f refl)

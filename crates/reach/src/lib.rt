@@ -5,16 +5,17 @@
 // is the largest distance. The atoms that an atom has not reached, all levels together, are its vertex sum. The loops go by the number of bonds and
 // of atoms and by no distance: that is why this is faster than a search from each atom.
 ghost use mathlib.Core.Path.{_≡_};
-ghost use Prim.Native.Nat.{ℕ, suc, _*_, _-_, _≤_};
+ghost use Prim.Native.Nat.{ℕ, suc, _*_, _-_, _≤_, _<_};
 ghost use lib.Count.{ones};
 ghost use lib.Dec.{ltb};
-ghost use lib.ListN.{length, getD, replicate};
+ghost use lib.ListN.{length, getD};
 ghost use mathlib.Core.Bool.{cond};
 ghost use Rattle.graph.specs.Graph.{Within, sum, oddOf};
 ghost use Rattle.reply.specs.Read.{read};
-ghost use Rattle.block.specs.Block.{mostAtoms, graphOf, blockReply};
-ghost use Rattle.block.specs.Index.{indicesOf, indicesReply, saidIndices};
+ghost use Rattle.block.specs.Block.{mostAtoms, graphOf, drawnReply};
+ghost use Rattle.block.specs.Index.{indicesReply, saidIndices};
 ghost use Rattle.block.specs.Near.{around};
+ghost use Rattle.block.specs.Opened.{drawnNear};
 ghost use Rattle.half.specs.Half.{table};
 ghost use Rattle.reach.specs.Sums.{sumsReply, saidSums};
 ghost use Rattle.reach.specs.Taken.{takenOf};
@@ -23,6 +24,7 @@ use block::ATOMS;
 use block::Indices;
 use block::IndicesReply;
 use block::Neighbours;
+use reply::Refusal;
 use reply::Reply;
 
 // A set of atoms for each atom: that of atom v at v - 1.
@@ -63,8 +65,8 @@ fn alone(n: usize) -> Sets
 
 // One bond farther: to the set of each atom come those of its neighbours.
 fn spread(near: &Sets, n: usize, bonds: &[u8], sets: &mut [u64])
-    requires { ⌜ (blockReply n (now bonds) ≡ read tt) × (length (now sets) ≡ mostAtoms) ⌝ }
-    ensures { λ _. ⌜ ((d : ℕ) → Reach (graphOf n (now (bonds .entry))) d (now (near .entry))
+    requires { ⌜ (drawnReply n (now bonds) ≡ read tt) × (length (now sets) ≡ mostAtoms) ⌝ }
+    ensures { λ _. ⌜ ((d : ℕ) → suc d < n → Reach (graphOf n (now (bonds .entry))) d (now (near .entry))
         → Reach (graphOf n (now (bonds .entry))) d (now (sets .entry))
         → Reach (graphOf n (now (bonds .entry))) (suc d) (now (sets .exit))) ⌝ }
 {
@@ -86,13 +88,11 @@ pub fn size(set: u64) -> u64
     u64::count_ones(set) as u64
 }
 
-// How many atoms the sets of the first n atoms have together. The sets are copied, and what each has is added to what was reached.
-fn settled(sets: &Sets, n: usize, near: &mut [u64], reached: &mut [u64]) -> u64
-    requires { ⌜ (n ≤ mostAtoms) × (length (now near) ≡ mostAtoms)
-        × (length (now reached) ≡ mostAtoms) × Room n (now reached) ⌝ }
+// How many atoms the sets of the first n atoms have together. The sets are copied.
+fn settled(sets: &Sets, n: usize, near: &mut [u64]) -> u64
+    requires { ⌜ (n ≤ mostAtoms) × (length (now near) ≡ mostAtoms) ⌝ }
     ensures met { λ r. ⌜ r ≡ sum n (λ v. ones (around (now (sets .entry)) v)) ⌝ }
     ensures copied { λ _. ⌜ ((v : ℕ) → Within n v → around (now (near .exit)) v ≡ around (now (sets .entry)) v) ⌝ }
-    ensures added { λ _. ⌜ Added n (now (sets .entry)) (now (reached .entry)) (now (reached .exit)) ⌝ }
 {
     let mut met: u64 = 0;
     let mut i = 0;
@@ -100,11 +100,23 @@ fn settled(sets: &Sets, n: usize, near: &mut [u64], reached: &mut [u64]) -> u64
         let set = sets[i];
         let atoms = size(set);
         near[i] = set;
-        reached[i] = reached[i] + atoms;
         met += atoms;
         i += 1;
     }
     met
+}
+
+// How many atoms the set of each of the first k atoms has is added to what it reached.
+fn count(sets: &Sets, k: usize, reached: &mut [u64])
+    requires { ⌜ (k ≤ mostAtoms) × (k ≤ length (now reached)) × Room k (now reached) ⌝ }
+    ensures { λ _. ⌜ Added k (now (sets .entry)) (now (reached .entry)) (now (reached .exit)) ⌝ }
+{
+    let mut i = 0;
+    while i < k {
+        let atoms = size(sets[i]);
+        reached[i] = reached[i] + atoms;
+        i += 1;
+    }
 }
 
 // d where it is odd, else 0.
@@ -126,11 +138,13 @@ fn farther(s: Both, d: u64, pairs: u64) -> Both
     }
 }
 
-// The indices of a block that is not refused; and lent, from 1 for each atom on, how many atoms were within its reach, all levels together.
-fn summed(n: usize, bonds: &[u8], reached: &mut [u64]) -> Indices
-    requires { ⌜ (blockReply n (now bonds) ≡ read tt) × (now reached ≡ replicate mostAtoms 1) ⌝ }
-    ensures indices { λ r. ⌜ r ≡ indicesOf (graphOf n (now (bonds .entry))) ⌝ }
-    ensures reached { λ r. ⌜ Reached (graphOf n (now (bonds .entry))) (r .largest) (now (reached .exit)) ⌝ }
+// The indices of a block that 1 to 6 do not refuse, or 7: a level that adds nothing comes before all pairs are met. And lent, from 1 for each of the
+// first k atoms on, how many atoms were within its reach, all levels together.
+fn summed(n: usize, bonds: &[u8], k: usize, reached: &mut [u64]) -> IndicesReply
+    requires { ⌜ (drawnReply n (now bonds) ≡ read tt) × (k ≤ n) × (k ≤ length (now reached))
+        × ((v : ℕ) → Within k v → around (now reached) v ≡ 1) ⌝ }
+    ensures reply { λ r. ⌜ r ≡ saidIndices (indicesReply n (now (bonds .entry))) ⌝ }
+    ensures reached { λ r. ⌜ ((x : Indices) → r ≡ IndicesReply.Of x → Reached (graphOf n (now (bonds .entry))) k (x .largest) (now (reached .exit))) ⌝ }
 {
     let pairs = n as u64 * n as u64;
     let mut near = alone(n);
@@ -144,18 +158,43 @@ fn summed(n: usize, bonds: &[u8], reached: &mut [u64]) -> Indices
     let mut d: u64 = 0;
     while met < pairs {
         spread(&near, n, bonds, &mut sets);
-        let reached = settled(&sets, n, &mut near, reached);
+        let more = settled(&sets, n, &mut near);
+        if more == met {
+            return IndicesReply::Refused(Refusal {
+                number: 7,
+                place: 0,
+            });
+        }
+        count(&sets, k, reached);
         d += 1;
-        s = farther(s, d, reached - met);
-        met = reached;
+        s = farther(s, d, more - met);
+        met = more;
     }
-    Indices {
+    let w = s.all / 2;
+    let odd = s.odd / 2;
+    let even = w - odd;
+    IndicesReply::Of(Indices {
         atoms: n as u64,
-        w: s.all / 2,
-        even: s.all / 2 - s.odd / 2,
-        odd: s.odd / 2,
+        w,
+        even,
+        odd,
         polarity: s.threes / 2,
         largest: d,
+    })
+}
+
+// The indices of a block, or its refusal; and lent what `block::drawn` says.
+fn indices(n: usize, bonds: &[u8], near: &mut Neighbours) -> IndicesReply
+    ensures reply { λ r. ⌜ r ≡ saidIndices (indicesReply n (now (bonds .entry))) ⌝ }
+    ensures near { λ _. ⌜ now (near .exit) ≡ drawnNear n (now (bonds .entry)) ⌝ }
+{
+    let reply = block::drawn(n, bonds, near);
+    match reply {
+        Reply::Refused(refusal) => IndicesReply::Refused(refusal),
+        Reply::Fine => {
+            let mut none = [0u64; 0];
+            summed(n, bonds, 0, &mut none)
+        }
     }
 }
 
@@ -163,37 +202,25 @@ fn summed(n: usize, bonds: &[u8], reached: &mut [u64]) -> Indices
 pub fn measure(n: usize, bonds: &[u8]) -> IndicesReply
     ensures { λ r. ⌜ r ≡ saidIndices (indicesReply n (now (bonds .entry))) ⌝ }
 {
-    let reply = block::check(n, bonds);
-    match reply {
-        Reply::Refused(refusal) => IndicesReply::Refused(refusal),
-        Reply::Fine => {
-            let mut reached = [1u64; ATOMS];
-            let indices = summed(n, bonds, &mut reached);
-            IndicesReply::Of(indices)
-        }
-    }
+    let mut near = [0u64; ATOMS];
+    indices(n, bonds, &mut near)
 }
 
 // A block that is opened, its bonds read once: its indices or its refusal, and its neighbours, none where it is refused.
 pub fn opened(n: usize, bonds: &[u8]) -> Taken
     ensures { λ r. ⌜ r ≡ takenOf n (now (bonds .entry)) ⌝ }
 {
-    let read = block::neighbours(n, bonds);
-    let reply = read.reply;
-    let near = read.near;
+    let mut near = [0u64; ATOMS];
+    let reply = indices(n, bonds, &mut near);
     match reply {
-        Reply::Refused(refusal) => Taken {
+        IndicesReply::Refused(refusal) => Taken {
             reply: IndicesReply::Refused(refusal),
+            near: [0u64; ATOMS],
+        },
+        IndicesReply::Of(of) => Taken {
+            reply: IndicesReply::Of(of),
             near,
         },
-        Reply::Fine => {
-            let mut reached = [1u64; ATOMS];
-            let indices = summed(n, bonds, &mut reached);
-            Taken {
-                reply: IndicesReply::Of(indices),
-                near,
-            }
-        }
     }
 }
 
@@ -216,7 +243,8 @@ fn left(n: usize, levels: u64, reached: &Sets) -> Sets
 pub fn vertex_sums(n: usize, bonds: &[u8]) -> VertexSums
     ensures { λ r. ⌜ r ≡ saidSums (sumsReply n (now (bonds .entry))) ⌝ }
 {
-    let reply = block::check(n, bonds);
+    let mut near = [0u64; ATOMS];
+    let reply = block::drawn(n, bonds, &mut near);
     let Reply::Fine = reply else {
         return VertexSums {
             reply,
@@ -224,7 +252,15 @@ pub fn vertex_sums(n: usize, bonds: &[u8]) -> VertexSums
         };
     };
     let mut reached = [1u64; ATOMS];
-    let indices = summed(n, bonds, &mut reached);
-    let at = left(n, indices.largest + 1, &reached);
-    VertexSums { reply, at }
+    let answer = summed(n, bonds, n, &mut reached);
+    match answer {
+        IndicesReply::Refused(refusal) => VertexSums {
+            reply: Reply::Refused(refusal),
+            at: [0u64; ATOMS],
+        },
+        IndicesReply::Of(indices) => {
+            let at = left(n, indices.largest + 1, &reached);
+            VertexSums { reply, at }
+        }
+    }
 }

@@ -1,18 +1,18 @@
 use Prim.Native.Nat.{_-_, _≤_}
 use mathlib.Core.Path.{_≡_}
 use native.Mathlib.Omega.{arith}
-use Rattle.reach.proofs.Settling.{Settling, settling-none, settling-more, room-here}
+use Rattle.reach.proofs.Settling.{Settling, settling-none, settling-more}
 use Rattle.reach.proofs.settled.Statement.{statement}
 use Rattle.reach.proofs.settled.Tie as tie
 
 abbrev Inv-loop : tie.InvT-loop
-Inv-loop sets n near₀ reached₀ met₀ i₀ near reached met i = (i ≤ n) × Settling sets reached₀ near reached met i
+Inv-loop sets n near₀ met₀ i₀ near met i = (i ≤ n) × Settling sets near met i
 
 abbrev μ-loop : tie.MeasureT-loop
-μ-loop sets n near₀ reached₀ met₀ i₀ near reached met i = n - i
+μ-loop sets n near₀ met₀ i₀ near met i = n - i
 
 loop-holds : tie.Need-loop-holds Inv-loop μ-loop
-loop-holds c = let p = c .before .before .pre in (omega arith, settling-none _ _ _ (p .1) (p .2))
+loop-holds c = (omega arith, settling-none _ _ (c .before .pre .1))
 
 mul-set : tie.Need-mul-set Inv-loop μ-loop
 mul-set c = omega arith
@@ -29,25 +29,8 @@ mul-near c = omega arith
 slice-write-near : tie.Need-slice-write-near Inv-loop μ-loop
 slice-write-near c = omega (arith, c .before .before .before .loop .inv .1 .size)
 
-mul-reached : tie.Need-mul-reached Inv-loop μ-loop
-mul-reached c = omega arith
-
-slice-read-reached : tie.Need-slice-read-reached Inv-loop μ-loop
-slice-read-reached c = omega (arith, c .before .before .before .before .loop .inv .1 .long)
-
-add-reached : tie.Need-add-reached Inv-loop μ-loop
-add-reached c =
-    let p = c .before .before .before .before in
-    omega (arith, room-here (p .loop .inv .1) (p .before .before .before .pre .3) (c .before .before .before .loop-test .taken), c .before .size .ensures .1)
-
-mul-reached-2 : tie.Need-mul-reached-2 Inv-loop μ-loop
-mul-reached-2 c = omega arith
-
-slice-write-reached : tie.Need-slice-write-reached Inv-loop μ-loop
-slice-write-reached c = omega (arith, c .before .before .before .before .loop .inv .1 .long)
-
 add-met : tie.Need-add-met Inv-loop μ-loop
-add-met c = omega (arith, c .before .size .ensures .1, c .before .before .before .before .loop .inv .1 .low)
+add-met c = omega (arith, c .size .ensures .1, c .before .before .before .loop .inv .1 .low)
 
 add-i : tie.Need-add-i Inv-loop μ-loop
 add-i c = omega arith
@@ -57,21 +40,18 @@ loop-less c = omega arith
 
 loop-again : tie.Need-loop-again Inv-loop μ-loop
 loop-again c =
-    let l = c .before .before .before .before .loop in
-    let z = c .before .size .ensures in
-    (omega arith, rw (z .0) (settling-more _ _ _ _ _ (l .i) (omega arith) (omega (arith, z .0, z .1)) (l .inv .1)))
+    let l = c .before .before .before .loop in
+    let z = c .size .ensures in
+    (omega arith, rw (z .0) (settling-more _ _ _ (l .i) (omega arith) (omega (arith, z .0, z .1)) (l .inv .1)))
 
 same-length : tie.Need-same-length Inv-loop μ-loop
-same-length c = omega (arith, c .before .loop .inv .1 .size, c .before .before .before .before .pre .1)
-
-same-length-2 : tie.Need-same-length-2 Inv-loop μ-loop
-same-length-2 c = omega (arith, c .before .loop .inv .1 .long, c .before .before .before .before .pre .2)
+same-length c = omega (arith, c .before .loop .inv .1 .size, c .before .before .before .pre .1)
 
 returns : tie.Need-returns Inv-loop μ-loop
 returns c =
-    let e : c .before .loop .i ≡ c .before .before .before .before .args .n = omega arith in
+    let e : c .before .loop .i ≡ c .before .before .before .args .n = omega arith in
     let S = rw e at (c .before .loop .inv .1) in
-    (S .met-is, (S .copied, record { size = S .long; added = S .added }))
+    (S .met-is, S .copied)
 
 pub settled-spec : {M : Type 1} → statement M
 settled-spec =
@@ -85,15 +65,9 @@ settled-spec =
     size-requires
     mul-near
     slice-write-near
-    mul-reached
-    slice-read-reached
-    add-reached
-    mul-reached-2
-    slice-write-reached
     add-met
     add-i
     loop-less
     loop-again
     same-length
-    same-length-2
     returns)

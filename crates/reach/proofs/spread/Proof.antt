@@ -1,11 +1,11 @@
-use Prim.Native.Nat.{ℕ, _+_, _-_, _*_, _/_, _≤_}
+use Prim.Native.Nat.{ℕ, suc, _+_, _-_, _*_, _/_, _≤_, _<_}
 use mathlib.Core.Path.{_≡_}
 use native.Mathlib.Omega.{arith}
 use lib.ListN.{length, getD, length-set}
 use Rattle.graph.specs.Graph.{Within}
 use Rattle.block.specs.Block.{mostAtoms, graphOf}
-use Rattle.block.specs.Numbered.{bond-within}
-use Rattle.block.specs.Told.{few-atoms}
+use Rattle.block.specs.Numbered.{drawn-within}
+use Rattle.block.specs.Told.{drawn-atoms}
 use Rattle.reach.specs.Reach.{Reach}
 use Rattle.reach.proofs.Touching.{Spreading, spread-start, spread-next, spread-end}
 use Rattle.reach.proofs.spread.Statement.{statement}
@@ -13,21 +13,21 @@ use Rattle.reach.proofs.spread.Tie as tie
 
 abbrev Inv-loop : tie.InvT-loop
 Inv-loop near n bonds sets₀ m k₀ sets k = (k ≤ length bonds / 2) × (length sets ≡ mostAtoms)
-    × ((d : ℕ) → Reach (graphOf n bonds) d near → Reach (graphOf n bonds) d sets₀ → Spreading n bonds near sets₀ sets k)
+    × ((d : ℕ) → suc d < n → Reach (graphOf n bonds) d near → Reach (graphOf n bonds) d sets₀ → Spreading n bonds near sets₀ sets k)
 
 abbrev μ-loop : tie.MeasureT-loop
 μ-loop near n bonds sets₀ m k₀ sets k = m - k
 
 loop-holds : tie.Need-loop-holds Inv-loop μ-loop
-loop-holds c = (omega arith, c .pre .1, λ d N O. spread-start _ _ (c .pre .0) d _ _ N O)
+loop-holds c = (omega arith, c .pre .1, λ d s N O. spread-start _ _ (c .pre .0) d s _ _ N O)
 
 -- the ends of the bond are atoms
 ends : (c : tie.In-loop Inv-loop μ-loop) → let xs = c .before .before .args .bonds .now in let k = c .before .loop .k in
     Within mostAtoms (getD xs (2 * k) 0) × Within mostAtoms (getD xs (2 * k + 1) 0)
 ends c =
     let f = c .before .before .pre .0 in
-    let (a, b) = bond-within _ _ f (c .before .loop .k) (c .loop-test .taken) in
-    let s = few-atoms _ _ f .high in
+    let (a, b) = drawn-within _ _ f (c .before .loop .k) (c .loop-test .taken) in
+    let s = drawn-atoms _ _ f .high in
     (omega arith, omega arith)
 
 mul-u : tie.Need-mul-u Inv-loop μ-loop
@@ -104,15 +104,15 @@ loop-again c =
     let i = c .before .before .before .before .before .before in
     let l = i .before .loop in
     let f = i .before .before .pre .0 in
-    (omega (arith, i .loop-test .taken), rw length-set (rw length-set (l .inv .1)), λ d N O. spread-next _ _ f d _ _ N O (l .k) (i .loop-test .taken) _ (l .inv .1) (l .inv .2 d N O))
+    (omega (arith, i .loop-test .taken), rw length-set (rw length-set (l .inv .1)), λ d s N O. spread-next _ _ f d s _ _ N O (l .k) (i .loop-test .taken) _ (l .inv .1) (l .inv .2 d s N O))
 
 same-length : tie.Need-same-length Inv-loop μ-loop
 same-length c = omega (arith, c .before .loop .inv .1, c .before .before .pre .1)
 
 returns : tie.Need-returns Inv-loop μ-loop
-returns c d N O =
+returns c d s N O =
     let l = c .before .loop in
-    spread-end _ _ (c .before .before .pre .0) d _ _ N O (l .k) (omega (arith, l .inv .0)) _ (l .inv .2 d N O)
+    spread-end _ _ (c .before .before .pre .0) d s _ _ N O (l .k) (omega (arith, l .inv .0)) _ (l .inv .2 d s N O)
 
 pub spread-spec : {M : Type 1} → statement M
 spread-spec =

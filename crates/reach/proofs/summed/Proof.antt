@@ -1,19 +1,19 @@
 use Prim.Native.Nat.{suc, _-_, _*_, _≤_, _<_}
-use mathlib.Core.Path.{_≡_, refl, sym, ap}
+use mathlib.Core.Path.{_≡_, refl, sym}
 use native.Mathlib.Nat.{mul-le-mul}
 use native.Mathlib.Omega.{arith}
 use lib.ListN.{length}
 use Rattle.reply.specs.Read.{read}
-use Rattle.block.specs.Block.{graphOf, blockReply}
-use Rattle.reach.proofs.Levels.{Level, Turned, few, level-start, shallow, low, spare, grows, fits, level-next, odd-less, level-end}
+use Rattle.block.specs.Block.{drawnReply}
+use Rattle.reach.proofs.Levels.{Level, Turned, few, level-start, shallow, low, spare, grows, fits, stuck, level-next, odd-less, level-end, not-of, of-reached}
 use Rattle.reach.proofs.summed.Statement.{statement}
 use Rattle.reach.proofs.summed.Tie as tie
 
 abbrev Inv-loop : tie.InvT-loop
-Inv-loop n bonds reached₀ pairs near₀ sets₀ s₀ met₀ d₀ reached near sets s met d = (pairs ≡ n * n) × Level n bonds near sets reached s met d
+Inv-loop n bonds k reached₀ pairs near₀ sets₀ s₀ met₀ d₀ reached near sets s met d = (pairs ≡ n * n) × (length reached ≡ length reached₀) × Level n bonds k near sets reached s met d
 
 abbrev μ-loop : tie.MeasureT-loop
-μ-loop n bonds reached₀ pairs near₀ sets₀ s₀ met₀ d₀ reached near sets s met d = n - d
+μ-loop n bonds k reached₀ pairs near₀ sets₀ s₀ met₀ d₀ reached near sets s met d = pairs - met
 
 mul-pairs : tie.Need-mul-pairs Inv-loop μ-loop
 mul-pairs c = let l = few _ _ (c .before .before .pre .0) .high in omega (arith, mul-le-mul l l)
@@ -22,90 +22,103 @@ alone-requires : tie.Need-alone-requires Inv-loop μ-loop
 alone-requires c κs = few _ _ (c .before .before .pre .0) .high
 
 loop-holds : tie.Need-loop-holds Inv-loop μ-loop
-loop-holds c = let p = c .before .before .before .pre in (refl, rw (p .1) (level-start _ _ (p .0) _ (c .alone .ensures)))
+loop-holds c = let p = c .before .before .before .pre in (refl, refl, level-start _ _ (p .0) _ _ _ (p .1) (c .alone .ensures) (p .3))
 
--- in a turn: the block is fine, and a pair is left
-fine-in : (c : tie.In-loop Inv-loop μ-loop) → let a = c .before .before .before .before .before .args in blockReply (a .n) (a .bonds .now) ≡ read tt
-fine-in c = c .before .before .before .before .before .pre .0
+-- in a turn: 1 to 6 do not refuse, and a pair is left
+drawn-in : (c : tie.In-loop Inv-loop μ-loop) → let a = c .before .before .before .before .before .args in drawnReply (a .n) (a .bonds .now) ≡ read tt
+drawn-in c = c .before .before .before .before .before .pre .0
 
 more-in : (c : tie.In-loop Inv-loop μ-loop) → let n = c .before .before .before .before .before .args .n in c .before .loop .met < n * n
 more-in c = omega (arith, c .loop-test .taken, c .before .loop .inv .0)
 
 shallow-in : (c : tie.In-loop Inv-loop μ-loop) → suc (c .before .loop .d) < c .before .before .before .before .before .args .n
-shallow-in c = shallow _ _ (fine-in c) (c .before .loop .inv .1) (more-in c)
+shallow-in c = shallow _ _ (drawn-in c) (c .before .loop .inv .2) (more-in c)
 
 slice-aggregate-spread : tie.Need-slice-aggregate-spread Inv-loop μ-loop
-slice-aggregate-spread c = sym (c .before .before .before .loop .inv .1 .sets-size)
+slice-aggregate-spread c = sym (c .before .before .before .loop .inv .2 .sets-size)
 
 spread-requires : tie.Need-spread-requires Inv-loop μ-loop
-spread-requires c κs = (fine-in (c .before .before), c .before .before .before .loop .inv .1 .sets-size)
+spread-requires c κs = (drawn-in (c .before .before), c .before .before .before .loop .inv .2 .sets-size)
 
 slice-aggregate-settled : tie.Need-slice-aggregate-settled Inv-loop μ-loop
-slice-aggregate-settled c = sym (c .before .before .before .before .before .before .before .loop .inv .1 .near-size)
+slice-aggregate-settled c = sym (c .before .before .before .before .before .before .before .loop .inv .2 .near-size)
 
 settled-requires : tie.Need-settled-requires Inv-loop μ-loop
-settled-requires c κs =
-    let t = c .before .before .before .before .before .before .before in
-    let L = t .before .loop .inv .1 in
-    (few _ _ (fine-in t) .high, L .near-size, L .counts .size, spare _ _ (fine-in t) L (more-in t))
+settled-requires c κs = let t = c .before .before .before .before .before .before in (few _ _ (drawn-in t) .high, t .before .loop .inv .2 .near-size)
 
 -- what a turn finds
-found : (c : tie.After-slice-known2 Inv-loop μ-loop) →
-    let t = c .before .before .before .before .before .before .before .before .before .before .before in
-    let l = t .before .loop in
+found : (c : tie.After-near3 Inv-loop μ-loop) →
+    let t = c .before .before .before .before .before .before .before .before in
     let a = t .before .before .before .before .before .args in
-    let m = c .before .before .before .settled in
-    Turned (a .n) (a .bonds .now) (l .d) (l .reached) (m .last .1 .1 .0) (c .before .before .before .before .before .before .before .before .spread .last .1 .1 .1 .0) (m .last .1 .1 .1 .0) (m .result)
+    let m = c .before .settled in
+    Turned (a .n) (a .bonds .now) (t .before .loop .d) (m .last .1 .1 .0) (c .before .before .before .before .before .spread .last .1 .1 .1 .0) (m .result)
 found c =
-    let l = c .before .before .before .before .before .before .before .before .before .before .before .before .loop in
-    let m = c .before .before .before .settled .ensures in
+    let t = c .before .before .before .before .before .before .before .before in
+    let L = t .before .loop .inv .2 in
+    let m = c .before .settled .ensures in
     record {
-      near-size = c .before .before .near3 .given;
-      sets-size = c .before .before .before .before .before .before .before .sets2 .given;
-      wide = c .before .before .before .before .before .before .before .before .spread .ensures (l .d) (l .inv .1 .reach) (l .inv .1 .wide);
-      copied = m .1 .0;
-      counts = m .1 .1;
+      near-size = c .near3 .given;
+      sets-size = c .before .before .before .before .sets2 .given;
+      wide = c .before .before .before .before .before .spread .ensures (t .before .loop .d) (shallow-in t) (L .reach) (L .wide);
+      copied = m .1;
       met-is = m .0;
     }
 
+same-length : tie.Need-same-length Inv-loop μ-loop
+same-length c = omega arith
+
+returns : tie.Need-returns Inv-loop μ-loop
+returns c = let t = c .before .before .before .before .before .before .before .before .before in (stuck _ _ (drawn-in t) (t .before .loop .inv .2) (more-in t) (found (c .before)) (c .if1 .taken), λ x e. absurd (not-of e))
+
+count-requires : tie.Need-count-requires Inv-loop μ-loop
+count-requires c κs =
+    let t = c .before .before .before .before .before .before .before .before .before .before .before in
+    let p = t .before .before .before .before .before .pre in
+    let l = t .before .loop .inv in
+    (omega (arith, p .1, few _ _ (p .0)), omega (arith, p .2, l .1), spare _ _ (p .0) (l .2) (more-in t))
+
 add-d : tie.Need-add-d Inv-loop μ-loop
-add-d c = let t = c .before .before .before .before .before .before .before .before .before .before .before in omega (arith, shallow-in t, few _ _ (fine-in t))
+add-d c = let t = c .before .before .before .before .before .before .before .before .before .before .before .before .before .before in omega (arith, shallow-in t, few _ _ (drawn-in t))
 
 sub-farther : tie.Need-sub-farther Inv-loop μ-loop
-sub-farther c = let t = c .before .before .before .before .before .before .before .before .before .before .before in grows _ _ (fine-in t) (t .before .loop .inv .1) (more-in t) (found c)
+sub-farther c = let t = c .before .before .before .before .before .before .before .before .before .before .before .before .before .before in grows _ _ (drawn-in t) (t .before .loop .inv .2) (more-in t) (found (c .before .before .before .before .before .before))
 
 farther-requires : tie.Need-farther-requires Inv-loop μ-loop
 farther-requires c κs =
-    let t = c .before .before .before .before .before .before .before .before .before .before .before in
-    let f = fine-in t in
-    let L = t .before .loop .inv .1 in
-    (low _ _ f L (more-in t), omega (arith, shallow-in t, few _ _ f), fits _ _ f L (more-in t) (found c))
+    let t = c .before .before .before .before .before .before .before .before .before .before .before .before .before .before in
+    let f = drawn-in t in
+    let L = t .before .loop .inv .2 in
+    (low _ _ f L (more-in t), omega (arith, shallow-in t, few _ _ f), fits _ _ f L (more-in t) (found (c .before .before .before .before .before .before)))
 
 loop-less : tie.Need-loop-less Inv-loop μ-loop
-loop-less c = omega (arith, shallow-in (c .before .before .before .before .before .before .before .before .before .before .before .before))
+loop-less c =
+    let t = c .before .before .before .before .before .before .before .before .before .before .before .before .before .before .before in
+    let l = t .before .loop .inv in
+    omega (arith, grows _ _ (drawn-in t) (l .2) (more-in t) (found (c .before .before .before .before .before .before .before)), c .before .before .before .before .before .before .if1 .left, t .loop-test .taken)
 
 loop-again : tie.Need-loop-again Inv-loop μ-loop
 loop-again c =
-    let t = c .before .before .before .before .before .before .before .before .before .before .before .before in
-    let f = fine-in t in
-    let l = t .before .loop in
-    let T = found (c .before) in
-    (refl, rw (c .farther .ensures) (level-next _ _ f (l .inv .1) (more-in t) T))
+    let t = c .before .before .before .before .before .before .before .before .before .before .before .before .before .before .before in
+    let p = t .before .before .before .before .before .pre in
+    let l = t .before .loop .inv in
+    let A = c .before .before .before .count .ensures in
+    (refl, omega (arith, A .size, l .1), rw (c .farther .ensures) (level-next _ _ (p .0) (l .2) (more-in t) (found (c .before .before .before .before .before .before .before)) (p .1) (c .before .before .before .before .before .before .if1 .left) _ A))
 
-sub-t27 : tie.Need-sub-t27 Inv-loop μ-loop
-sub-t27 c = let p = c .before .before .before .before in odd-less _ _ (p .before .before .before .before .pre .0) (p .loop .inv .1) (omega (arith, p .loop .inv .0, c .before .before .before .loop-test .left))
+-- in the end: no pair is left
+over : (c : tie.After-loop Inv-loop μ-loop) → let n = c .before .before .before .before .before .args .n in n * n ≤ c .before .loop .met
+over c = omega (arith, c .before .loop .inv .0, c .loop-test .left)
 
-same-length : tie.Need-same-length Inv-loop μ-loop
-same-length c = let p = c .before .before .before .before .before .before in omega (arith, p .loop .inv .1 .counts .size, ap length (p .before .before .before .before .pre .1))
+sub-even : tie.Need-sub-even Inv-loop μ-loop
+sub-even c = let t = c .before .before in odd-less _ _ (t .before .before .before .before .before .pre .0) (t .before .loop .inv .2) (over t)
 
-returns : tie.Need-returns Inv-loop μ-loop
-returns c =
-    let p = c .before .before .before .before .before .before in
-    let f = p .before .before .before .before .pre .0 in
-    let n = p .before .before .before .before .args .n in
-    let L = p .loop .inv .1 in
-    let o : n * n ≤ p .loop .met = omega (arith, p .loop .inv .0, c .before .before .before .before .before .loop-test .left) in
-    (level-end _ _ f L o, L .counts)
+same-length-2 : tie.Need-same-length-2 Inv-loop μ-loop
+same-length-2 c = omega arith
+
+returns-2 : tie.Need-returns-2 Inv-loop μ-loop
+returns-2 c =
+    let t = c .before .before .before in
+    let L = t .before .loop .inv .2 in
+    (level-end _ _ (t .before .before .before .before .before .pre .0) L (over t), λ x e. of-reached _ x e (L .counts))
 
 pub summed-spec : {M : Type 1} → statement M
 summed-spec =
@@ -120,11 +133,14 @@ summed-spec =
     spread-requires
     slice-aggregate-settled
     settled-requires
+    same-length
+    returns
+    count-requires
     add-d
     sub-farther
     farther-requires
     loop-less
     loop-again
-    sub-t27
-    same-length
-    returns)
+    sub-even
+    same-length-2
+    returns-2)

@@ -1,15 +1,19 @@
+use Prim.Native.Nat.{_-_}
 use mathlib.Core.Path.{_≡_, refl, sym, _∙_}
 use native.Mathlib.Omega.{arith}
 use borrow.Author.Needs.{needs}
+use lib.ListN.{getD-replicate}
 use Rattle.reply.specs.Read.{read}
 use Rattle.reply.specs.Chain.{fine-read, refused-read}
-use Rattle.block.specs.Block.{blockReply}
+use Rattle.block.specs.Block.{mostAtoms, drawnReply}
+use Rattle.block.specs.Told.{drawn-atoms, drawn-refused}
+use Rattle.reach.specs.Told.{indices-refused, indices-fine}
 use Rattle.reach.proofs.Reply.{sums-refused, sums-fine, sums-fit}
 use Rattle.reach.proofs.vertex_sums.Statement.{statement}
 use Rattle.reach.proofs.vertex_sums.Tie as tie
 
-check-requires : tie.Need-check-requires
-check-requires c κs = search needs
+drawn-requires : tie.Need-drawn-requires
+drawn-requires c κs = search needs
 
 enum-told : tie.Need-enum-told
 enum-told c = search needs
@@ -20,42 +24,62 @@ enum-told-2 c = search needs
 returns : tie.Need-returns
 returns c =
     let e = c .enum-told2 .given .1 in
-    sums-refused _ _ _ (refused-read _ _ (sym (c .before .before .check .ensures) ∙ e)) _ e
+    sums-refused _ _ _ (drawn-refused _ _ _ (refused-read _ _ (sym (c .before .before .drawn .ensures .0) ∙ e))) _ e
 
-fine : (c : tie.After-enum-told) → let a = c .before .before .before .before .args in blockReply (a .n) (a .bonds .now) ≡ read tt
-fine c = fine-read _ (sym (c .before .before .check .ensures) ∙ c .enum-told .given .1)
+drawn : (c : tie.After-enum-told) → let a = c .before .before .before .before .before .args in drawnReply (a .n) (a .bonds .now) ≡ read tt
+drawn c = fine-read _ (sym (c .before .before .drawn .ensures .0) ∙ c .enum-told .given .1)
 
 slice-aggregate-summed : tie.Need-slice-aggregate-summed
 slice-aggregate-summed c = search needs
 
 summed-requires : tie.Need-summed-requires
-summed-requires c κs = (fine (c .before), refl)
+summed-requires c κs =
+    let w = drawn-atoms _ _ (drawn (c .before)) in
+    (drawn (c .before), omega arith, omega arith, λ v x. getD-replicate mostAtoms (v - 1) 1 0 (omega arith))
+
+enum-known-answer : tie.Need-enum-known-answer
+enum-known-answer c = search needs
+
+enum-known-answer-2 : tie.Need-enum-known-answer-2
+enum-known-answer-2 c = search needs
 
 add-left : tie.Need-add-left
 add-left c =
-    let s = c .before .before in
-    let p = sums-fit _ _ (fine (s .before .before)) _ (s .summed .ensures .0) _ (s .summed .ensures .1) in
-    omega (arith, p .1)
+    let s = c .before .before .before .before .before .summed .ensures in
+    let a = c .before .before .answer2 .given .1 in
+    let (f, e) = indices-fine _ _ _ (sym (s .0) ∙ a) in
+    omega (arith, sums-fit _ _ f _ e _ (s .1 _ a) .1)
 
 left-requires : tie.Need-left-requires
-left-requires c κs = let s = c .before .before .before in sums-fit _ _ (fine (s .before .before)) _ (s .summed .ensures .0) _ (s .summed .ensures .1)
+left-requires c κs =
+    let s = c .before .before .before .before .before .before .summed .ensures in
+    let a = c .before .before .before .answer2 .given .1 in
+    let (f, e) = indices-fine _ _ _ (sym (s .0) ∙ a) in
+    sums-fit _ _ f _ e _ (s .1 _ a)
 
 returns-2 : tie.Need-returns-2
-returns-2 c =
-    let s = c .before .before .before .before in
-    let t = s .before .before in
-    sums-fine _ _ (fine t) _ (s .summed .ensures .0) _ (s .summed .ensures .1) _ (c .left .ensures) _ (t .enum-told .given .1)
+returns-2 c = sums-refused _ _ _ (indices-refused _ _ _ (sym (c .before .before .before .before .summed .ensures .0) ∙ c .before .answer .given .1)) _ refl
+
+returns-3 : tie.Need-returns-3
+returns-3 c =
+    let s = c .before .before .before .before .before .before .before .summed .ensures in
+    let a = c .before .before .before .before .answer2 .given .1 in
+    let (f, e) = indices-fine _ _ _ (sym (s .0) ∙ a) in
+    sums-fine _ _ f _ e _ (s .1 _ a) _ (c .left .ensures) _ (c .before .before .before .before .before .before .before .before .before .enum-told .given .1)
 
 pub vertex-sums-spec : {M : Type 1} → statement M
 vertex-sums-spec =
     tie.close
     (tie.spec
-    check-requires
+    drawn-requires
     enum-told
     enum-told-2
     returns
     slice-aggregate-summed
     summed-requires
+    enum-known-answer
+    enum-known-answer-2
     add-left
     left-requires
-    returns-2)
+    returns-2
+    returns-3)
