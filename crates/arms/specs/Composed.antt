@@ -9,9 +9,9 @@ use Rattle.block.specs.declared.Indices.{Indices}
 use Rattle.block.specs.declared.Vertex.{Vertex}
 use Rattle.sighted.specs.Sighted.{stepsIn}
 use Rattle.sighted.specs.declared.Seen.{Seen}
-use Rattle.tables.specs.Parts.{Part, grow, joinSix, farIn, sightIn, sixIn}
-use Rattle.tables.specs.Whole.{far-old, sight-old}
-use Rattle.tables.specs.Bounds.{SmallPart, SixBytes, held-bytes, sight-held, six-held}
+use Rattle.joining.specs.Parts.{Part, grow, joinSix, farIn, sightIn, sixIn}
+use Rattle.joining.specs.Whole.{far-old, sight-old}
+use Rattle.joining.specs.Bounds.{SmallPart, SixBytes, held-bytes, sight-held, six-held}
 use Rattle.joining.specs.Joining.{grownOf, joinedOf}
 use Rattle.joining.specs.Small.{SmallCounts, grown-small, joined-small}
 use Rattle.summary.specs.Layout.{storedFields, seenAt, keptOf}

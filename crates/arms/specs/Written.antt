@@ -23,9 +23,9 @@ use Rattle.assembly.specs.Book.{find, used, bondBytes, bookOf}
 use Rattle.assembly.specs.Placements.{placementCount, placementAt, graphOn, joinOf, joinOn, assemblyReply}
 use Rattle.assembly.specs.Sound.{whole, assembled}
 use Rattle.assembly.specs.declared.BlockAt.{BlockAt}
-use Rattle.tables.specs.Bounds.{SixBytes}
-use Rattle.tables.specs.Table.{tableOf, Told}
-use Rattle.tables.specs.Written.{fields-written}
+use Rattle.joining.specs.Bounds.{SixBytes}
+use Rattle.joining.specs.Table.{tableOf, Told}
+use Rattle.joining.specs.Written.{fields-written}
 use Rattle.summary.specs.Layout.{summaryBytes, storedFields, seenAt, keptOf}
 use Rattle.summary.specs.Summary.{summaryOf}
 use Rattle.summary.specs.Back.{summary-fits, fields-told, summary-told}

@@ -8,11 +8,11 @@ use lines::told;
 use lines::told::Told;
 use molwriter::MolWritten;
 use neighbours::NeighboursWritten;
+use queues::Queue;
 use queues::TABLE;
 use reply::Reply;
 use sets::SetsReply;
 use shares::BONDS;
-use storage::Queue;
 use szeged::SzegedReply;
 
 // Room for a text of a small block.

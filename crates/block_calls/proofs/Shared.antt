@@ -6,7 +6,7 @@ use lib.ListN.{length, drop, length-map}
 use Rattle.reply.specs.Read.{Read, refused, read, _then_}
 use Rattle.reply.specs.declared.Refusal.{Refusal}
 use Rattle.block.specs.Block.{graphOf, bondsOf, blockReply}
-use Rattle.paths.specs.Paths.{share}
+use Rattle.graph.specs.Paths.{share}
 use Rattle.shares.specs.declared.SharesReply.{SharesReply}
 use Rattle.shares.specs.declared.SharesReply.the-variants as shares
 use Rattle.shares.specs.Reply.{sharesReply, saidShares, filledShares, sharesEntries}

@@ -9,7 +9,7 @@ use Rattle.block.specs.Block.{bondsOf, graphOf, blockReply}
 use Rattle.block.specs.Index.{indicesReply, vertexReply}
 use Rattle.block.specs.Rows.{rowReply}
 use Rattle.block.specs.declared.Vertex.{Vertex}
-use Rattle.paths.specs.Paths.{share}
+use Rattle.graph.specs.Paths.{share}
 use Rattle.shares.specs.Reply.{sharesReply}
 use Rattle.szeged.specs.Szeged.{szegedTerms}
 use Rattle.szeged.specs.Reply.{szegedReply}

@@ -18,10 +18,10 @@ use Rattle.assembly.specs.declared.BlockAt.{BlockAt}
 use Rattle.deck.specs.Deck.{longestDeck, Deck, openReply, endReply}
 use Rattle.deck.specs.Kept.{kept}
 use Rattle.deck.specs.Said.{blockTable}
-use Rattle.products.specs.Library.{mostSites, libraryKind, sitesReply, Library, afterBlocks, libraryReply}
-use Rattle.products.specs.Products.{products, countReply}
-use Rattle.products.specs.Sound.{listed}
-use Rattle.products.specs.declared.Site.{Site}
+use Rattle.catalogue.specs.Library.{mostSites, libraryKind, sitesReply, Library, afterBlocks, libraryReply}
+use Rattle.catalogue.specs.Products.{products, countReply}
+use Rattle.catalogue.specs.Sound.{listed}
+use Rattle.catalogue.specs.declared.Site.{Site}
 use Rattle.catalogue.specs.Said.{siteTable, saidSites, tabled, tabledLibrary, saidLibrary, saidCount}
 use Rattle.catalogue.specs.Table.{sitesIn, sites-back}
 use Rattle.catalogue.specs.declared.CountReply.the-variants as counted

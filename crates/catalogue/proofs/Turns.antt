@@ -13,13 +13,13 @@ use Rattle.graph.specs.Graph.{Graph}
 use Rattle.reply.specs.Read.{refused, read, refusal, refuseFor, isOutside}
 use Rattle.assembly.specs.Book.{Book, find, isNumbered, blockGraph, bookOf}
 use Rattle.assembly.specs.declared.BlockAt.{BlockAt}
-use Rattle.products.specs.Library.{mostSites, mostCandidates, libraryKind, coreNumber, siteCount, siteHead, siteAt, candidateBytes, candidateNumber, candidateAtom, siteEnd, isTaken, isFullIn, orElse, candidateFault, candidatesFault, siteFault, sitesFrom, sitesReply}
-use Rattle.products.specs.Products.{products}
+use Rattle.catalogue.specs.Library.{mostSites, mostCandidates, libraryKind, coreNumber, siteCount, siteHead, siteAt, candidateBytes, candidateNumber, candidateAtom, siteEnd, isTaken, isFullIn, orElse, candidateFault, candidatesFault, siteFault, sitesFrom, sitesReply}
+use Rattle.catalogue.specs.Products.{products}
 use Rattle.reply.specs.declared.Reply.the-variants.{Fine}
 use Rattle.catalogue.specs.Said.{noSite, siteTable, saidSites}
 use Rattle.catalogue.specs.Table.{sitesIn, sites-length}
 use Rattle.catalogue.specs.declared.sites.SitesRead.{SitesRead}
-use Rattle.products.specs.declared.Site.{Site}
+use Rattle.catalogue.specs.declared.Site.{Site}
 
 -- a block that was looked for
 module _ (d : List ℕ) (bs : List BlockAt) (number n : ℕ) (b : BlockAt) (e : n ≡ number) (f : b ≡ find bs n) where

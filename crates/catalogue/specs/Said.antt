@@ -7,9 +7,9 @@ use Rattle.reply.specs.declared.Reply.{Reply}
 use Rattle.reply.specs.declared.Reply.the-variants.{Fine, Refused}
 use Rattle.assembly.specs.declared.BlockAt.{BlockAt}
 use Rattle.deck.specs.Said.{blockTable}
-use Rattle.products.specs.Library.{mostSites, Library}
-use Rattle.products.specs.Products.{products}
-use Rattle.products.specs.declared.Site.{Site}
+use Rattle.catalogue.specs.Library.{mostSites, Library}
+use Rattle.catalogue.specs.Products.{products}
+use Rattle.catalogue.specs.declared.Site.{Site}
 use Rattle.catalogue.specs.declared.LibraryRead.{LibraryRead}
 use Rattle.catalogue.specs.declared.CountReply.{CountReply}
 use Rattle.catalogue.specs.declared.CountReply.the-variants as counted

@@ -3,8 +3,8 @@ use Prim.Native.Nat.{ℕ}
 use mathlib.Core.List.{List}
 use mathlib.Core.Path.{_≡_}
 use Rattle.reply.specs.Chain.{unique}
-use Rattle.products.specs.Library.{libraryReply}
-use Rattle.products.specs.Products.{countReply}
+use Rattle.catalogue.specs.Library.{libraryReply}
+use Rattle.catalogue.specs.Products.{countReply}
 use Rattle.catalogue.specs.Said.{saidLibrary, saidCount}
 use Rattle.catalogue.specs.declared.LibraryRead.{LibraryRead}
 use Rattle.catalogue.specs.declared.CountReply.{CountReply}

@@ -13,7 +13,7 @@ ghost use mathlib.Core.Path.{_≡_};
 ghost use Prim.Native.Nat.{_≤_};
 ghost use lib.ListN.{length, take};
 ghost use Rattle.assembly.specs.Book.{blockGraph, bookOf};
-ghost use Rattle.products.specs.Library.{isFullIn, candidateFault, candidatesFault};
+ghost use Rattle.catalogue.specs.Library.{isFullIn, candidateFault, candidatesFault};
 
 // The bytes of a candidate: block number (2), joining atom (1).
 pub(crate) const CANDIDATE: usize = 3;

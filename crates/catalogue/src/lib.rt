@@ -6,9 +6,7 @@ use assembly::BLOCKS;
 use assembly::BlockTable;
 use assembly::NO_BLOCK;
 use compose::open_deck;
-use products::LIBRARY;
-use products::SITES;
-use products::Site;
+use records::Kind;
 use records::payload_at;
 use reply::Refusal;
 use reply::Reply;
@@ -18,9 +16,30 @@ ghost use mathlib.Core.Path.{_≡_};
 ghost use Prim.Native.Nat.{_≤_};
 ghost use lib.ListN.{length, take};
 ghost use Rattle.records.specs.Records.{payloadAt};
-ghost use Rattle.products.specs.Library.{libraryKind, afterBlocks, libraryReply};
-ghost use Rattle.products.specs.Products.{countReply};
+ghost use Rattle.catalogue.specs.Library.{libraryKind, afterBlocks, libraryReply};
+ghost use Rattle.catalogue.specs.Products.{countReply};
 ghost use Rattle.catalogue.specs.Said.{refusedLibrary, tabledLibrary, saidLibrary, saidCount};
+
+// Kind 5, library: the core's block number (2), site count (2), then the sites, each with candidates of its own number.
+pub const LIBRARY: Kind = Kind {
+    number: 5,
+    fixed: 4,
+    count: 2,
+    item: 0,
+    loose: true,
+};
+
+// The most sites of a core, and the most candidates of a site.
+pub const SITES: usize = 4;
+
+pub const CANDIDATES: usize = 8;
+
+// A site: the core's atom, how many candidates it has, and where in the record's payload the first of them stands.
+pub struct Site {
+    pub atom: u8,
+    pub many: u8,
+    pub first: usize,
+}
 
 // An empty place in a table of sites: no site has no candidates.
 pub const NO_SITE: Site = Site {

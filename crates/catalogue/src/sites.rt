@@ -1,15 +1,15 @@
 // The sites of a library's record, one by one.
+use super::CANDIDATES;
+use super::LIBRARY;
 use super::NO_SITE;
+use super::SITES;
+use super::Site;
 use super::candidates::CANDIDATE;
 use super::candidates::candidates_fault;
 use assembly::BlockAt;
 use assembly::BlockTable;
 use assembly::find_block;
 use assembly::is_numbered;
-use products::CANDIDATES;
-use products::LIBRARY;
-use products::SITES;
-use products::Site;
 use records::byte_at;
 use records::le16_at;
 use reply::Refusal;
@@ -21,8 +21,8 @@ ghost use Prim.Native.Nat.{_≤_};
 ghost use lib.ListN.{length, take};
 ghost use Rattle.reply.specs.Read.{refused, refusal};
 ghost use Rattle.assembly.specs.Book.{blockGraph, bookOf};
-ghost use Rattle.products.specs.Library.{mostSites, libraryKind, siteAt, isTaken, siteFault, sitesFrom, sitesReply};
-ghost use Rattle.products.specs.Products.{products};
+ghost use Rattle.catalogue.specs.Library.{mostSites, libraryKind, siteAt, isTaken, siteFault, sitesFrom, sitesReply};
+ghost use Rattle.catalogue.specs.Products.{products};
 ghost use Rattle.catalogue.specs.Said.{saidSites};
 ghost use Rattle.catalogue.specs.Table.{sitesIn};
 

@@ -15,7 +15,7 @@ use Rattle.graph.specs.Bonds.{both}
 use Rattle.graph.specs.Distance.{not-true}
 use Rattle.reply.specs.Read.{read}
 use Rattle.records.specs.Bytes.{little, le16, part}
-use Rattle.storage.specs.Stored.{Outside, little-kept, little-put, little-part, part-kept, part-put, part-part}
+use Rattle.records.specs.Stored.{Outside, little-kept, little-put, little-part, part-kept, part-put, part-part}
 use Rattle.block.specs.Block.{graphOf, blockReply}
 use Rattle.block.specs.Told.{molecule}
 use Rattle.assembly.specs.Book.{Book, noBlock, find, used, isNumbered, bondBytes, blockGraph, bookOf}

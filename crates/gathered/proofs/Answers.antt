@@ -16,8 +16,8 @@ use Rattle.records.specs.Records.{assemblyKind, payloadAt, endAt, recordReply}
 use Rattle.records.specs.declared.Sheet.{Sheet}
 use Rattle.summary.specs.Layout.{summaryBytes}
 use Rattle.summaries.specs.Composing.{composedReply}
-use Rattle.storage.specs.Table.{tableBytes}
-use Rattle.storage.specs.declared.Queue.{Queue}
+use Rattle.queues.specs.Table.{tableBytes}
+use Rattle.queues.specs.declared.Queue.{Queue}
 use Rattle.queues.specs.Queues.{ownPlaces, composeTold}
 use Rattle.queues.proofs.Answers.{short-reply, long-reply}
 use Rattle.deck.specs.Deck.{longestDeck, moved, placementPlace, endReply}

@@ -14,8 +14,8 @@ use Rattle.assembly.proofs.Faults.{shelf-few}
 use Rattle.summary.specs.Layout.{summaryBytes}
 use Rattle.shelf.specs.Shelf.{shelfIn}
 use Rattle.summaries.specs.Composing.{composedReply}
-use Rattle.storage.specs.Table.{tableBytes}
-use Rattle.storage.specs.declared.Queue.{Queue}
+use Rattle.queues.specs.Table.{tableBytes}
+use Rattle.queues.specs.declared.Queue.{Queue}
 use Rattle.queues.specs.Queues.{ownPlaces, composeTold}
 
 composed-few : (b xs : List ℕ) (r : Refusal) → composedReply b xs ≡ refused r → r .place ≤ mostPlacements

@@ -20,13 +20,13 @@ use Rattle.summaries.specs.Composing.{composedReply}
 use Rattle.summaries.specs.Written.{writtenReply}
 use Rattle.assembly.specs.Placements.{assemblyReply}
 use Rattle.assembly.specs.Sound.{whole}
-use Rattle.storage.specs.Stored.{little-part}
-use Rattle.storage.specs.Table.{tableBytes, tableReply}
-use Rattle.storage.specs.Calls.{Sent}
-use Rattle.storage.specs.Model.{Entry, lookup, has}
-use Rattle.storage.specs.Entries.{has-positive, has-number}
-use Rattle.storage.specs.Keeps.{AllProper}
-use Rattle.storage.specs.declared.Queue.{Queue}
+use Rattle.records.specs.Stored.{little-part}
+use Rattle.queues.specs.Table.{tableBytes, tableReply}
+use Rattle.queues.specs.Calls.{Sent}
+use Rattle.queues.specs.Model.{Entry, lookup, has}
+use Rattle.queues.specs.Entries.{has-positive, has-number}
+use Rattle.queues.specs.Keeps.{AllProper}
+use Rattle.queues.specs.declared.Queue.{Queue}
 use Rattle.queues.specs.Queues.{ownPlaces}
 use Rattle.queues.specs.Blocks.{Block, noBlock, bookIn}
 use Rattle.deck.specs.Deck.{longestDeck, moved, placementPlace, endReply}

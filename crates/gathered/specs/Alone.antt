@@ -11,14 +11,14 @@ use Rattle.records.specs.declared.Sheet.{Sheet}
 use Rattle.summary.specs.Layout.{summaryBytes}
 use Rattle.summaries.specs.Composing.{composedReply}
 use Rattle.summaries.specs.Written.{writtenReply}
-use Rattle.storage.specs.Shelf.{places, numberIn}
-use Rattle.storage.specs.Table.{tableBytes, shelf, onTable, emptied}
-use Rattle.storage.specs.Calls.{Sent, compose, sheet, own, tableAnswer, answersTo}
-use Rattle.storage.specs.Model.{Entry, toldAll}
-use Rattle.storage.specs.Seeks.{taken-most}
-use Rattle.storage.specs.Keeps.{AllProper, KeepsQueue, HonestTrade}
-use Rattle.storage.specs.Alone.{own-calls-only, keeps-own}
-use Rattle.storage.specs.declared.Queue.{Queue}
+use Rattle.queues.specs.Shelf.{places, numberIn}
+use Rattle.queues.specs.Table.{tableBytes, shelf, onTable, emptied}
+use Rattle.queues.specs.Calls.{Sent, compose, sheet, own, tableAnswer, answersTo}
+use Rattle.queues.specs.Model.{Entry, toldAll}
+use Rattle.queues.specs.Seeks.{taken-most}
+use Rattle.queues.specs.Keeps.{AllProper, KeepsQueue, HonestTrade}
+use Rattle.queues.specs.OwnCalls.{own-calls-only, keeps-own}
+use Rattle.queues.specs.declared.Queue.{Queue}
 use Rattle.queues.specs.Blocks.{Block, bookIn, summaryTable, blocks}
 use Rattle.queues.specs.Alone.{tells-blocks}
 use Rattle.gathered.specs.Gathered.{overOutput, sheetTold}

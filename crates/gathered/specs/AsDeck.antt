@@ -27,10 +27,10 @@ use Rattle.deck.specs.Deck.{longestDeck, Deck, deckAt, blockAt, kindsAfter, mov
 use Rattle.deck.specs.Molecule.{placedIn, graphAt, joinAt, moleculeOf}
 use Rattle.deck.specs.declared.Form.the-variants.{Composed}
 use Rattle.compose.specs.Fields.{fieldsReply}
-use Rattle.storage.specs.Shelf.{places}
-use Rattle.storage.specs.Model.{Entry, lookup, has}
-use Rattle.storage.specs.Entries.{absent, Apart}
-use Rattle.storage.specs.Keeps.{Proper, AllProper}
+use Rattle.queues.specs.Shelf.{places}
+use Rattle.queues.specs.Model.{Entry, lookup, has}
+use Rattle.queues.specs.Entries.{absent, Apart}
+use Rattle.queues.specs.Keeps.{Proper, AllProper}
 use Rattle.summaries.specs.Written.{writtenReply}
 use Rattle.queues.specs.Blocks.{Block, noBlock, bookIn}
 use Rattle.gathered.specs.Gathered.{behindHead, overRecord}

@@ -11,8 +11,8 @@ use Rattle.records.specs.Records.{kindReply, isWrong, lengthReply, recordReply}
 use Rattle.records.specs.declared.Sheet.{Sheet}
 use Rattle.records.specs.declared.Sheet.the-variants.{Five, Six}
 use Rattle.summary.specs.Layout.{summaryBytes}
-use Rattle.storage.specs.Table.{tableBytes}
-use Rattle.storage.specs.declared.Queue.{Queue}
+use Rattle.queues.specs.Table.{tableBytes}
+use Rattle.queues.specs.declared.Queue.{Queue}
 use Rattle.deck.specs.Deck.{endReply}
 use Rattle.gathered.specs.Gathered.{behindHead, overRecord, overOutput, sheetTold}
 

@@ -9,8 +9,8 @@ use Rattle.records.specs.Records.{assemblyKind, payloadAt, endAt, recordReply}
 use Rattle.records.specs.declared.Sheet.{Sheet}
 use Rattle.summary.specs.Layout.{summaryBytes}
 use Rattle.summaries.specs.Composing.{composedReply}
-use Rattle.storage.specs.Table.{onTable}
-use Rattle.storage.specs.declared.Queue.{Queue}
+use Rattle.queues.specs.Table.{onTable}
+use Rattle.queues.specs.declared.Queue.{Queue}
 use Rattle.queues.specs.Queues.{ownPlaces}
 use Rattle.deck.specs.Deck.{longestDeck, moved, placementPlace, endReply}
 use Rattle.sheets.specs.Sheets.{sheetBytes}

@@ -9,10 +9,10 @@ use Rattle.records.specs.declared.Sheet.{Sheet}
 use Rattle.summary.specs.Layout.{summaryBytes}
 use Rattle.summaries.specs.Composing.{composedReply}
 use Rattle.summaries.specs.Written.{writtenReply}
-use Rattle.storage.specs.Table.{emptied}
-use Rattle.storage.specs.Calls.{Trade, Sent, own, tableAll}
-use Rattle.storage.specs.Model.{Entry, Meaning, leftAll}
-use Rattle.storage.specs.declared.Queue.{Queue}
+use Rattle.queues.specs.Table.{emptied}
+use Rattle.queues.specs.Calls.{Trade, Sent, own, tableAll}
+use Rattle.queues.specs.Model.{Entry, Meaning, leftAll}
+use Rattle.queues.specs.declared.Queue.{Queue}
 use Rattle.queues.specs.Blocks.{Block, bookIn, summaryTable, blocks}
 use Rattle.judging.specs.Judging.{saidSheetWritten, sheetOut}
 use Rattle.judging.specs.declared.SheetWritten.{SheetWritten}

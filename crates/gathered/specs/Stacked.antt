@@ -5,10 +5,10 @@ use lib.ListN.{length}
 use Rattle.reply.specs.Read.{Read}
 use Rattle.records.specs.Bytes.{littleBytes}
 use Rattle.deck.specs.Deck.{moved}
-use Rattle.storage.specs.Shelf.{places}
-use Rattle.storage.specs.Model.{Entry}
-use Rattle.storage.specs.Entries.{Apart}
-use Rattle.storage.specs.Keeps.{AllProper}
+use Rattle.queues.specs.Shelf.{places}
+use Rattle.queues.specs.Model.{Entry}
+use Rattle.queues.specs.Entries.{Apart}
+use Rattle.queues.specs.Keeps.{AllProper}
 use Rattle.queues.specs.Blocks.{Block, noBlock}
 use Rattle.gathered.specs.Orders.{recordTable, recordBlocks}
 

@@ -5,7 +5,7 @@ use mathlib.Core.Path.{_≡_}
 use lib.ListN.{length}
 use Rattle.reply.specs.Chain.{unique}
 use Rattle.records.specs.declared.Sheet.{Sheet}
-use Rattle.storage.specs.declared.Queue.{Queue}
+use Rattle.queues.specs.declared.Queue.{Queue}
 use Rattle.judging.specs.Judging.{saidSheetWritten, sheetOut}
 use Rattle.judging.specs.declared.SheetWritten.{SheetWritten}
 use Rattle.gathered.specs.Gathered.{sheetTold}

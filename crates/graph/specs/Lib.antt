@@ -10,6 +10,11 @@
 -- | `joined`, `written`         | two graphs joined by a bond; an assembly written out             | `written-molecule`, `wiener-joined` .. `polarity-joined` |
 -- | `atomOf`                    | a placed atom's number in the molecule written out               | `apart-later`, `apart-earlier`                           |
 -- | sets of atoms               | one number of 64 bits, atom v at the digit v - 1                 | SetLaws; a search's levels are the distances: Search     |
+-- | `shortestPaths g i j`       | the shortest paths from i to j as lists of atoms                 | `paths-once`: each once and nothing else; `repeats-none` |
+-- | `pathCount`, `pathsUsing`   | c(i,j) and c(i,j;e)                                              | Steps: both go by the last step                          |
+-- | `denominator`               | D, the least common multiple of all path counts                  | `denominator-dvd`                                        |
+-- | `share g e`                 | D times the contribution of bond e                               | `shares-total`: they add up to D times W                 |
+-- | `Plain n bs`                | bonds of 1 to n, none listed again                               | `over-pairs`: a sum over them is one over bonded pairs   |
 pub mod Graph
 pub mod Farthest
 pub mod Matching
@@ -34,3 +39,15 @@ pub mod Climb
 pub mod Bounds
 pub mod Parts
 pub mod Table
+pub mod Paths
+pub mod Notions
+pub mod Steps
+pub mod Lcm
+pub mod Choices
+pub mod Backwards
+pub mod Uses
+pub mod BondPairs
+pub mod Flow
+pub mod Listed
+pub mod Simple
+pub mod PathExamples

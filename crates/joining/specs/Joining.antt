@@ -1,6 +1,6 @@
 -- Definitions. Two parts joined by a bond, for any numbers: those that no assembly comes near count as the largest.
 use Prim.Native.Nat.{ℕ, min}
-use Rattle.tables.specs.Parts.{grow, joinSix}
+use Rattle.joining.specs.Parts.{grow, joinSix}
 use Rattle.block.specs.declared.Indices.{Indices}
 use Rattle.block.specs.declared.Vertex.{Vertex}
 

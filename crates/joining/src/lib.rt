@@ -4,7 +4,7 @@ use block::Vertex;
 ghost use mathlib.Core.Path.{_≡_};
 ghost use Prim.Native.Nat.{_+_, _*_, _^_, _<_, _≤_, max, min};
 ghost use Rattle.graph.specs.Graph.{isAt};
-ghost use Rattle.tables.specs.Parts.{beyond, both, joinSix};
+ghost use Rattle.joining.specs.Parts.{beyond, both, joinSix};
 ghost use Rattle.joining.specs.Joining.{mostCounted, mostField, cutCounts, cutFields, grownOf, joinedOf};
 ghost use Rattle.joining.specs.Small.{SmallCounts, Low, SmallFields};
 

@@ -5,8 +5,8 @@ use mathlib.Core.Path.{_≡_, refl, _∙_, ap₂}
 use native.Mathlib.Omega.{arith}
 use lib.ListN.{length, getD, set}
 use lib.Seq.{getD-set-same, getD-set-other}
-use Rattle.products.specs.Products.{choiceAt}
-use Rattle.products.specs.declared.Site.{Site}
+use Rattle.catalogue.specs.Products.{choiceAt}
+use Rattle.catalogue.specs.declared.Site.{Site}
 use Rattle.catalogue.specs.Said.{noSite}
 use Rattle.catalogue.specs.Table.{sitesIn}
 use Rattle.library.specs.Kept.{choiceIn}

@@ -10,8 +10,8 @@ use Rattle.reply.specs.declared.Refusal.{Refusal}
 use Rattle.block.specs.Tables.{length-table}
 use Rattle.block.specs.declared.Indices.{Indices}
 use Rattle.sheets.specs.Sheets.{allFields}
-use Rattle.products.specs.Library.{Library, libraryReply}
-use Rattle.products.specs.Products.{products, productAt}
+use Rattle.catalogue.specs.Library.{Library, libraryReply}
+use Rattle.catalogue.specs.Products.{products, productAt}
 use Rattle.catalogue.specs.declared.CountReply.the-variants as counted
 use Rattle.library.specs.Values.{mostFields, fieldAt, valueAt, valuesOf, valuesFrom, valuesReply, saidValues, valuesOut}
 use Rattle.library.specs.Filled.{Filled, filled-whole}

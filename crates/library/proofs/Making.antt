@@ -12,10 +12,10 @@ use Rattle.block.specs.declared.Indices.{Indices}
 use Rattle.records.specs.Records.{payloadAt}
 use Rattle.assembly.specs.Book.{find, bondBytes}
 use Rattle.assembly.specs.declared.BlockAt.{BlockAt}
-use Rattle.products.specs.Library.{mostSites, coreNumber, candidateNumber, candidateAtom, candidateAt, Library, libraryReply}
-use Rattle.products.specs.Products.{products, productAt, productReply}
-use Rattle.products.specs.Sound.{whole}
-use Rattle.products.specs.declared.Site.{Site}
+use Rattle.catalogue.specs.Library.{mostSites, coreNumber, candidateNumber, candidateAtom, candidateAt, Library, libraryReply}
+use Rattle.catalogue.specs.Products.{products, productAt, productReply}
+use Rattle.catalogue.specs.Sound.{whole}
+use Rattle.catalogue.specs.declared.Site.{Site}
 use Rattle.catalogue.specs.Said.{saidLibrary}
 use Rattle.catalogue.specs.Table.{sites-back, table-empty}
 use Rattle.catalogue.specs.declared.LibraryRead.{LibraryRead}

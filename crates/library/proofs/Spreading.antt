@@ -14,9 +14,9 @@ use Rattle.records.specs.declared.Sheet.{Sheet}
 use Rattle.assembly.specs.declared.BlockAt.{BlockAt}
 use Rattle.sheets.specs.Sheets.{fieldsOf, sheetRecord, sheetBytes, sheetPut}
 use Rattle.sheets.specs.Back.{length-sheet}
-use Rattle.products.specs.Library.{mostCandidates, Library, libraryReply}
-use Rattle.products.specs.Products.{products, productAt}
-use Rattle.products.specs.declared.Site.{Site}
+use Rattle.catalogue.specs.Library.{mostCandidates, Library, libraryReply}
+use Rattle.catalogue.specs.Products.{products, productAt}
+use Rattle.catalogue.specs.declared.Site.{Site}
 use Rattle.catalogue.specs.Said.{noSite}
 use Rattle.arms.specs.Arms.{noArm, rowArm}
 use Rattle.arms.specs.declared.Arm.{Arm}

@@ -10,9 +10,9 @@ use Rattle.reply.specs.Read.{Read, refused, read, ifElse}
 use Rattle.reply.specs.Chain.{then-read}
 use Rattle.reply.specs.declared.Refusal.{Refusal}
 use Rattle.block.specs.declared.Indices.{Indices}
-use Rattle.products.specs.Library.{Library, libraryReply}
-use Rattle.products.specs.Products.{products, productAt, Product, done, made, productReply}
-use Rattle.products.specs.Fine.{few-products}
+use Rattle.catalogue.specs.Library.{Library, libraryReply}
+use Rattle.catalogue.specs.Products.{products, productAt, Product, done, made, productReply}
+use Rattle.catalogue.specs.Fine.{few-products}
 use Rattle.library.specs.Said.{saidProduct}
 use Rattle.library.specs.declared.ProductReply.the-variants as product
 

@@ -11,10 +11,10 @@ use lib.ListN.{length, getD}
 use Rattle.reply.specs.Read.{read}
 use Rattle.records.specs.Records.{payloadAt}
 use Rattle.assembly.specs.declared.BlockAt.{BlockAt}
-use Rattle.products.specs.Library.{mostSites, mostCandidates, Library, libraryReply}
-use Rattle.products.specs.Products.{products, choiceAt, productAt}
-use Rattle.products.specs.Sound.{whole}
-use Rattle.products.specs.declared.Site.{Site}
+use Rattle.catalogue.specs.Library.{mostSites, mostCandidates, Library, libraryReply}
+use Rattle.catalogue.specs.Products.{products, choiceAt, productAt}
+use Rattle.catalogue.specs.Sound.{whole}
+use Rattle.catalogue.specs.declared.Site.{Site}
 use Rattle.catalogue.specs.Said.{noSite}
 use Rattle.catalogue.specs.Table.{sitesIn, sites-length}
 use Rattle.arms.specs.Arms.{noArm, sixOf, rowArm}

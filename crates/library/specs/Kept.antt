@@ -11,8 +11,8 @@ use Rattle.assembly.specs.declared.BlockAt.{BlockAt}
 use Rattle.arms.specs.Arms.{noArm, rowArm, armOf, coreOf}
 use Rattle.arms.specs.declared.Arm.{Arm}
 use Rattle.arms.specs.declared.Core.{Core}
-use Rattle.products.specs.Library.{mostSites, mostCandidates, coreNumber, candidateNumber, candidateAtom, candidateAt}
-use Rattle.products.specs.declared.Site.{Site}
+use Rattle.catalogue.specs.Library.{mostSites, mostCandidates, coreNumber, candidateNumber, candidateAtom, candidateAt}
+use Rattle.catalogue.specs.declared.Site.{Site}
 use Rattle.catalogue.specs.Said.{noSite}
 
 -- of a site's candidate, and of the core with the sites' atoms

@@ -21,12 +21,12 @@ use Rattle.arms.specs.Arms.{noArm, armOf, coreIn, opened, sixOf}
 use Rattle.arms.specs.Written.{ArmsOf, arms-written}
 use Rattle.arms.specs.declared.Arm.{Arm}
 use Rattle.arms.specs.declared.Core.{Core}
-use Rattle.products.specs.Library.{mostSites, libraryKind, coreNumber, candidateNumber, candidateAtom, candidateAt, Library, libraryReply}
-use Rattle.products.specs.Products.{joinBytes, placedBytes, productBytes, products, choiceAt, assemblyAt, moleculeOver, productAt}
-use Rattle.products.specs.Choices.{IsChoice, is-choice}
-use Rattle.products.specs.Sound.{SiteStands, SitesApart, whole}
-use Rattle.products.specs.Fine.{placedIn, joined, behind-count, placed-before, core-said, length-placed, last-said, count-is, product-fine}
-use Rattle.products.specs.declared.Site.{Site}
+use Rattle.catalogue.specs.Library.{mostSites, libraryKind, coreNumber, candidateNumber, candidateAtom, candidateAt, Library, libraryReply}
+use Rattle.catalogue.specs.Products.{joinBytes, placedBytes, productBytes, products, choiceAt, assemblyAt, moleculeOver, productAt}
+use Rattle.catalogue.specs.Choices.{IsChoice, is-choice}
+use Rattle.catalogue.specs.Sound.{SiteStands, SitesApart, whole}
+use Rattle.catalogue.specs.Fine.{placedIn, joined, behind-count, placed-before, core-said, length-placed, last-said, count-is, product-fine}
+use Rattle.catalogue.specs.declared.Site.{Site}
 use Rattle.catalogue.specs.Said.{noSite}
 use Rattle.catalogue.specs.Table.{sitesIn, sites-length}
 use Rattle.library.specs.Kept.{armAt, atomsOf, coreAt, choiceIn}

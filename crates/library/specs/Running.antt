@@ -9,9 +9,9 @@ use Rattle.reply.specs.declared.Refusal.{Refusal}
 use Rattle.records.specs.declared.Sheet.{Sheet}
 use Rattle.deck.specs.Deck.{longestDeck}
 use Rattle.sheets.specs.Sheets.{fieldsOf, sheetRecord, sheetBytes}
-use Rattle.products.specs.Library.{Library, libraryReply}
-use Rattle.products.specs.Products.{products, productAt, done, made, productReply}
-use Rattle.products.specs.Sound.{whole}
+use Rattle.catalogue.specs.Library.{Library, libraryReply}
+use Rattle.catalogue.specs.Products.{products, productAt, done, made, productReply}
+use Rattle.catalogue.specs.Sound.{whole}
 use Rattle.library.specs.Steps.{stepReply, behind, stepsFrom}
 
 module _ (s : Sheet) (d : List ℕ) (position n : ℕ) where

@@ -1,6 +1,6 @@
 -- Definitions. How the code says what comes of a library's product.
 use Rattle.reply.specs.Read.{Read, refused, read}
-use Rattle.products.specs.Products.{Product, done, made}
+use Rattle.catalogue.specs.Products.{Product, done, made}
 use Rattle.library.specs.declared.ProductReply.{ProductReply}
 use Rattle.library.specs.declared.ProductReply.the-variants as product
 

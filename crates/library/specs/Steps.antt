@@ -7,7 +7,7 @@ use Rattle.reply.specs.Read.{Read, refused, read, _then_, refuseIf}
 use Rattle.records.specs.declared.Sheet.{Sheet}
 use Rattle.deck.specs.Deck.{longestDeck}
 use Rattle.sheets.specs.Sheets.{fieldsOf, sheetRecord, sheetBytes, sheetPut}
-use Rattle.products.specs.Products.{Product, done, made, productReply}
+use Rattle.catalogue.specs.Products.{Product, done, made, productReply}
 use Rattle.library.specs.declared.StepReply.{StepReply}
 use Rattle.library.specs.declared.StepReply.the-variants as stepped
 

@@ -10,9 +10,9 @@ use lib.Seq.{getD-set-same, getD-set-other}
 use Rattle.reply.specs.Read.{read}
 use Rattle.records.specs.declared.Sheet.{Sheet}
 use Rattle.assembly.specs.declared.BlockAt.{BlockAt}
-use Rattle.products.specs.Library.{mostSites, mostCandidates, Library, libraryReply}
-use Rattle.products.specs.Products.{products, choiceAt, productAt}
-use Rattle.products.specs.declared.Site.{Site}
+use Rattle.catalogue.specs.Library.{mostSites, mostCandidates, Library, libraryReply}
+use Rattle.catalogue.specs.Products.{products, choiceAt, productAt}
+use Rattle.catalogue.specs.declared.Site.{Site}
 use Rattle.catalogue.specs.Said.{noSite}
 use Rattle.catalogue.specs.Table.{sitesIn}
 use Rattle.arms.specs.Arms.{noArm, stemOf, joinedTo, stem-joined, rowArm}

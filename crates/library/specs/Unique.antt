@@ -5,7 +5,7 @@ use mathlib.Core.Path.{_≡_}
 use lib.ListN.{length}
 use Rattle.reply.specs.Chain.{unique}
 use Rattle.records.specs.declared.Sheet.{Sheet}
-use Rattle.products.specs.Products.{productReply}
+use Rattle.catalogue.specs.Products.{productReply}
 use Rattle.catalogue.specs.declared.CountReply.{CountReply}
 use Rattle.library.specs.Said.{saidProduct}
 use Rattle.library.specs.Steps.{stepReply, stepOut, saidStep, runOf}

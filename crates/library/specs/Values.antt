@@ -6,8 +6,8 @@ use Rattle.reply.specs.Read.{Read, refused, read, _then_, refuseIf, isOutside}
 use Rattle.block.specs.Rows.{table}
 use Rattle.block.specs.declared.Indices.{Indices}
 use Rattle.sheets.specs.Sheets.{allFields}
-use Rattle.products.specs.Library.{Library, libraryReply}
-use Rattle.products.specs.Products.{products, productAt}
+use Rattle.catalogue.specs.Library.{Library, libraryReply}
+use Rattle.catalogue.specs.Products.{products, productAt}
 use Rattle.catalogue.specs.declared.CountReply.{CountReply}
 use Rattle.catalogue.specs.declared.CountReply.the-variants as counted
 

@@ -1,11 +1,11 @@
 // The choice at a position, site by site.
-use products::SITES;
-use products::Site;
+use catalogue::SITES;
+use catalogue::Site;
 ghost use mathlib.Core.Path.{_≡_};
 ghost use Prim.Native.Nat.{ℕ, _≤_, _<_};
 ghost use lib.ListN.{getD};
-ghost use Rattle.products.specs.Library.{mostSites};
-ghost use Rattle.products.specs.Products.{choiceAt};
+ghost use Rattle.catalogue.specs.Library.{mostSites};
+ghost use Rattle.catalogue.specs.Products.{choiceAt};
 ghost use Rattle.catalogue.specs.Said.{noSite};
 ghost use Rattle.catalogue.specs.Table.{sitesIn};
 ghost use Rattle.library.specs.Kept.{choiceIn};

@@ -7,15 +7,15 @@ use arms::core_of;
 use assembly::BlockTable;
 use assembly::bonds_part;
 use assembly::find_block;
-use products::SITES;
-use products::Site;
+use catalogue::SITES;
+use catalogue::Site;
 use records::byte_at;
 use records::le16_at;
 ghost use mathlib.Core.Path.{_≡_};
 ghost use Prim.Native.Nat.{ℕ, _≤_, _<_};
 ghost use lib.ListN.{length, take, getD};
 ghost use Rattle.arms.specs.Arms.{noArm};
-ghost use Rattle.products.specs.Library.{mostSites, mostCandidates};
+ghost use Rattle.catalogue.specs.Library.{mostSites, mostCandidates};
 ghost use Rattle.catalogue.specs.Said.{noSite};
 ghost use Rattle.library.specs.Kept.{armAt, atomsOf, coreAt};
 

@@ -9,7 +9,7 @@ use Rattle.reply.specs.Read.{Read, refused, read, refusal, _then_}
 use Rattle.reply.specs.declared.Refusal.{Refusal}
 use Rattle.records.specs.declared.Sheet.{Sheet}
 use Rattle.block.specs.declared.Indices.{Indices}
-use Rattle.products.specs.Products.{countReply, Product, done, made}
+use Rattle.catalogue.specs.Products.{countReply, Product, done, made}
 use Rattle.catalogue.specs.Said.{saidCount}
 use Rattle.catalogue.specs.declared.CountReply.{CountReply}
 use Rattle.catalogue.specs.declared.CountReply.the-variants as counted

@@ -5,7 +5,7 @@ use mathlib.Core.Path.{_≡_}
 use lib.Dec.{ltb}
 use lib.ListN.{length}
 use Rattle.reply.specs.Read.{Read, refused, read, _then_, refuseIf}
-use Rattle.products.specs.Products.{countReply, Product, done, made}
+use Rattle.catalogue.specs.Products.{countReply, Product, done, made}
 use Rattle.library.specs.declared.StepReply.{StepReply}
 use Rattle.library.specs.declared.StepReply.the-variants as stepped
 use Rattle.calls.specs.Convention.{code, over}

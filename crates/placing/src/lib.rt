@@ -11,8 +11,8 @@ use parts::put_in_parts;
 ghost use mathlib.Core.Path.{_≡_};
 ghost use Prim.Native.Nat.{min};
 ghost use lib.ListN.{length};
-ghost use Rattle.ranked.specs.Ranked.{coming};
-ghost use Rattle.ranked.specs.Entries.{laid, valueIn, rankedIn};
+ghost use Rattle.placing.specs.Ranked.{coming};
+ghost use Rattle.placing.specs.Entries.{laid, valueIn, rankedIn};
 
 // The smaller of two numbers: how many entries are held, of those that the caller says and those that there is room for.
 fn fewer(held: usize, room: usize) -> usize

@@ -13,8 +13,8 @@ use Rattle.records.specs.declared.Sheet.the-variants.{Six}
 use Rattle.judging.specs.Judging.{saidSheetWritten, sheetOut}
 use Rattle.judging.specs.declared.SheetWritten.{SheetWritten}
 use Rattle.sheets.specs.Sheets.{fieldsOf}
-use Rattle.storage.specs.declared.Queue.{Queue}
-use Rattle.storage.specs.declared.Queue.the-variants.{Day, Night}
+use Rattle.queues.specs.declared.Queue.{Queue}
+use Rattle.queues.specs.declared.Queue.the-variants.{Day, Night}
 use Rattle.queues.specs.Queues.{lookTold}
 use Rattle.calls.specs.Convention.{coded, replyCode}
 use Rattle.deck_calls.specs.Replies.{writtenCode}

@@ -6,8 +6,8 @@ use lib.Dec.{eqb}
 use Rattle.reply.specs.Read.{Read, read, _then_}
 use Rattle.records.specs.declared.Sheet.the-variants.{Six}
 use Rattle.sheets.specs.Sheets.{fieldsOf}
-use Rattle.storage.specs.declared.Queue.{Queue}
-use Rattle.storage.specs.declared.Queue.the-variants.{Day, Night}
+use Rattle.queues.specs.declared.Queue.{Queue}
+use Rattle.queues.specs.declared.Queue.the-variants.{Day, Night}
 use Rattle.queues.specs.Queues.{lookTold}
 
 -- 0 is the day queue, anything else counts as the night queue

@@ -2,7 +2,7 @@
 ghost use mathlib.Core.Path.{_≡_};
 ghost use lib.ListN.{length};
 ghost use Rattle.summary.specs.Layout.{summaryBytes};
-ghost use Rattle.storage.specs.Table.{tableReply, emptied};
+ghost use Rattle.queues.specs.Table.{tableReply, emptied};
 ghost use Rattle.queues.specs.Queues.{addTold, tableAdded, dropTold, tableDropped};
 ghost use Rattle.judging.specs.Judging.{sheetOut};
 ghost use Rattle.gathered.specs.Gathered.{sheetTold};
@@ -15,8 +15,8 @@ use calls::give_fields;
 use calls::reply_code;
 use calls::sheet_for;
 use deck_calls::written_code;
+use queues::Queue;
 use records::Sheet;
-use storage::Queue;
 
 // The queue of a number: 0 is the day queue, anything else counts as the night queue.
 fn queue_for(which: usize) -> Queue

@@ -14,9 +14,9 @@ use Rattle.reply.specs.declared.Reply.{Reply}
 use Rattle.block.specs.Block.{graphOf, blockReply}
 use Rattle.filling.specs.Reply.{fillReply, filledSummary, fillBytes}
 use Rattle.reply.specs.Chain.{then-read, if-read}
-use Rattle.storage.specs.Shelf.{places, numberIn, placeHolding, isHeld, heldBy, holds, zeroNumber, unless, roomReply, addReply, added, lookReply, dropReply, dropped}
-use Rattle.storage.specs.Table.{shelfBytes, tableBytes, shelfStart, shelf, onTable, tableAfter, withShelf, tableReply, zeroed, emptied}
-use Rattle.storage.specs.declared.Queue.{Queue}
+use Rattle.queues.specs.Shelf.{places, numberIn, placeHolding, isHeld, heldBy, holds, zeroNumber, unless, roomReply, addReply, added, lookReply, dropReply, dropped}
+use Rattle.queues.specs.Table.{shelfBytes, tableBytes, shelfStart, shelf, onTable, tableAfter, withShelf, tableReply, zeroed, emptied}
+use Rattle.queues.specs.declared.Queue.{Queue}
 use Rattle.summary.specs.Layout.{summaryBytes}
 use Rattle.summary.specs.Back.{summary-fits}
 use Rattle.queues.specs.Queues.{storedBlock}

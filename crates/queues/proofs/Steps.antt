@@ -7,7 +7,7 @@ use native.Mathlib.Omega.{arith}
 use borrow.Author.Tests.{eq-eqb, ne-eqb}
 use lib.ListN.{set, replicate}
 use lib.Seq.{sets}
-use Rattle.storage.specs.Shelf.{seek}
+use Rattle.queues.specs.Shelf.{seek}
 
 -- what is left to store
 pub clear-one : (s : List ℕ) (k len : ℕ) → k < len → sets s k (replicate (len - k) 0) ≡ sets (set s k 0) (k + 1) (replicate (len - (k + 1)) 0)

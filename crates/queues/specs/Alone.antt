@@ -20,15 +20,15 @@ use Rattle.summary.specs.Back.{length-summary, summary-fits, fields-told, summa
 use Rattle.shelf.specs.Shelf.{summaryAt, placeFrom, shelfIn, placeOf as placeIn}
 use Rattle.summaries.specs.Composing.{composedReply}
 use Rattle.summaries.specs.Written.{writtenReply, composed-written, HonestBook}
-use Rattle.storage.specs.Shelf.{places, numberIn, seek, heldBy, holds, placeHolding, lookReply}
-use Rattle.storage.specs.Table.{tableBytes, shelf, emptied}
-use Rattle.storage.specs.Calls.{Sent, own, answersTo, tableAll}
-use Rattle.storage.specs.Model.{Entry, lookup, has, toldLook, toldAll, leftAll}
-use Rattle.storage.specs.Entries.{has-positive}
-use Rattle.storage.specs.Keeps.{KeepsQueue, HonestTrade}
-use Rattle.storage.specs.Kept.{KeptPlaces, proper-at, stands, same-look}
-use Rattle.storage.specs.Alone.{own-calls-only, keeps-own}
-use Rattle.storage.specs.declared.Queue.{Queue}
+use Rattle.queues.specs.Shelf.{places, numberIn, seek, heldBy, holds, placeHolding, lookReply}
+use Rattle.queues.specs.Table.{tableBytes, shelf, emptied}
+use Rattle.queues.specs.Calls.{Sent, own, answersTo, tableAll}
+use Rattle.queues.specs.Model.{Entry, lookup, has, toldLook, toldAll, leftAll}
+use Rattle.queues.specs.Entries.{has-positive}
+use Rattle.queues.specs.Keeps.{KeepsQueue, HonestTrade}
+use Rattle.queues.specs.Kept.{KeptPlaces, proper-at, stands, same-look}
+use Rattle.queues.specs.OwnCalls.{own-calls-only, keeps-own}
+use Rattle.queues.specs.declared.Queue.{Queue}
 use Rattle.queues.specs.Queues.{storedBlock}
 use Rattle.queues.specs.Blocks.{Block, noBlock, blockIn, bookIn, summaryTable, blocks}
 

@@ -10,8 +10,8 @@ use Rattle.assembly.specs.Book.{Book}
 use Rattle.summary.specs.Layout.{summaryBytes, storedFields}
 use Rattle.summaries.specs.Composing.{composedReply}
 use Rattle.summaries.specs.Written.{writtenReply}
-use Rattle.storage.specs.Calls.{Trade}
-use Rattle.storage.specs.Model.{Entry, lookup, has, Meaning}
+use Rattle.queues.specs.Calls.{Trade}
+use Rattle.queues.specs.Model.{Entry, lookup, has, Meaning}
 use Rattle.queues.specs.Queues.{storedBlock}
 
 -- a block: its atom count and its bonds

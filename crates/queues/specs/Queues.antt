@@ -7,9 +7,9 @@ use Rattle.block.specs.declared.Indices.{Indices}
 use Rattle.summary.specs.Layout.{summaryBytes, storedFields}
 use Rattle.summary.specs.Summary.{summaryOf}
 use Rattle.summaries.specs.Composing.{composedReply}
-use Rattle.storage.specs.Shelf.{addReply, added, lookReply, dropReply, dropped}
-use Rattle.storage.specs.Table.{shelf, onTable, tableAfter}
-use Rattle.storage.specs.declared.Queue.{Queue}
+use Rattle.queues.specs.Shelf.{addReply, added, lookReply, dropReply, dropped}
+use Rattle.queues.specs.Table.{shelf, onTable, tableAfter}
+use Rattle.queues.specs.declared.Queue.{Queue}
 
 -- the summary of a block under a number
 abbrev pub storedBlock : ℕ → ℕ → List ℕ → List ℕ

@@ -2,8 +2,8 @@
 use Prim.Native.Nat.{ℕ}
 use mathlib.Core.List.{List}
 use mathlib.Core.Path.{_≡_, refl}
-use Rattle.storage.specs.Calls.{CallNumber, add, look, drop, compose, done, fields, sheet, tableAnswer, tableLeft}
-use Rattle.storage.specs.declared.Queue.{Queue}
+use Rattle.queues.specs.Calls.{CallNumber, add, look, drop, compose, done, fields, sheet, tableAnswer, tableLeft}
+use Rattle.queues.specs.declared.Queue.{Queue}
 use Rattle.queues.specs.Queues.{addTold, tableAdded, lookTold, dropTold, tableDropped, composeTold}
 use Rattle.queues.specs.Blocks.{Block, summaryTable}
 

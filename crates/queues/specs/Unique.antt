@@ -8,8 +8,8 @@ use Rattle.reply.specs.declared.Reply.{Reply}
 use Rattle.block.specs.Index.{saidIndices}
 use Rattle.block.specs.declared.IndicesReply.{IndicesReply}
 use Rattle.summary.specs.Layout.{summaryBytes}
-use Rattle.storage.specs.Table.{tableReply, emptied}
-use Rattle.storage.specs.declared.Queue.{Queue}
+use Rattle.queues.specs.Table.{tableReply, emptied}
+use Rattle.queues.specs.declared.Queue.{Queue}
 use Rattle.queues.specs.Queues.{addTold, tableAdded, lookTold, dropTold, tableDropped, composeTold}
 
 -- a reply and the table after the call

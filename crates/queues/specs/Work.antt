@@ -6,7 +6,7 @@ use Rattle.reply.specs.Read.{Read, refused, _then_}
 use Rattle.reply.specs.declared.Refusal.{Refusal}
 use Rattle.block.specs.Block.{blockReply}
 use Rattle.summary.specs.Layout.{summaryBytes}
-use Rattle.storage.specs.Shelf.{placeHolding, unless}
+use Rattle.queues.specs.Shelf.{placeHolding, unless}
 use Rattle.queues.specs.Queues.{storedBlock}
 
 -- a reply, and a refusal where it has none

@@ -10,14 +10,19 @@ use places::look_in;
 use places::refused;
 use reply::Refusal;
 use reply::Reply;
-use storage::Queue;
 ghost use mathlib.Core.Path.{_≡_};
 ghost use Prim.Native.Nat.{_≤_};
 ghost use Rattle.reply.specs.Read.{saidReply};
-ghost use Rattle.storage.specs.Table.{shelfBytes, shelfStart, tableReply, emptied};
+ghost use Rattle.queues.specs.Table.{shelfBytes, shelfStart, tableReply, emptied};
 ghost use Rattle.block.specs.Index.{saidIndices};
 ghost use Rattle.summary.specs.Layout.{summaryBytes};
 ghost use Rattle.queues.specs.Queues.{addTold, tableAdded, lookTold, dropTold, tableDropped, composeTold};
+
+// Whose call it is.
+pub enum Queue {
+    Day,
+    Night,
+}
 
 // The bytes of the table; later ones stay.
 pub const TABLE: usize = SHELF + SHELF;

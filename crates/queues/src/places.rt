@@ -14,8 +14,8 @@ ghost use Rattle.reply.specs.Read.{refusal, saidReply};
 ghost use Rattle.block.specs.Index.{saidIndices};
 ghost use Rattle.summary.specs.Layout.{summaryBytes, storedFields};
 ghost use Rattle.block.specs.Block.{blockReply};
-ghost use Rattle.storage.specs.Shelf.{places, isHeld, placeHolding, zeroNumber, roomReply, addReply, added, lookReply, dropReply, dropped};
-ghost use Rattle.storage.specs.Table.{shelfBytes, tableBytes, zeroed};
+ghost use Rattle.queues.specs.Shelf.{places, isHeld, placeHolding, zeroNumber, roomReply, addReply, added, lookReply, dropReply, dropped};
+ghost use Rattle.queues.specs.Table.{shelfBytes, tableBytes, zeroed};
 ghost use Rattle.queues.specs.Queues.{storedBlock};
 ghost use Rattle.queues.specs.Work.{firstOf, filledIn};
 

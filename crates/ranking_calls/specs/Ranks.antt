@@ -8,7 +8,7 @@ use lib.ListN.{length, getD}
 use Rattle.reply.specs.Read.{Read, refused, read}
 use Rattle.catalogue.specs.declared.CountReply.{CountReply}
 use Rattle.catalogue.specs.declared.CountReply.the-variants as counted
-use Rattle.ranked.specs.Ranked.{Entry}
+use Rattle.placing.specs.Ranked.{Entry}
 use Rattle.ranking.specs.Best.{bestReply, bestOut}
 use Rattle.calls.specs.Convention.{code, coded, over}
 

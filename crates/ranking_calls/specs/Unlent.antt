@@ -8,11 +8,11 @@ use borrow.Author.Tests.{eq-eqb, ne-eqb}
 use lib.ListN.{length, getD, set}
 use Rattle.reply.specs.Read.{Read, refused, read, refusal, isOutside}
 use Rattle.reply.specs.declared.Refusal.{Refusal}
-use Rattle.products.specs.Library.{Library, libraryReply}
+use Rattle.catalogue.specs.Library.{Library, libraryReply}
 use Rattle.catalogue.specs.declared.CountReply.{CountReply}
 use Rattle.catalogue.specs.declared.CountReply.the-variants as counted
 use Rattle.library.specs.Values.{mostFields, valuesReply, saidValues}
-use Rattle.ranked.specs.Ranked.{Entry}
+use Rattle.placing.specs.Ranked.{Entry}
 use Rattle.ranking.specs.Best.{bestReply, saidBest, bestOut}
 use Rattle.calls.specs.Convention.{code, coded, over, thenNine}
 use Rattle.ranking_calls.specs.Ranks.{wantsGreatest, lentFor, bestFor, heldOut, countedCode, countedOut, Ranks}

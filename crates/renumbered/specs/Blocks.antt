@@ -8,8 +8,8 @@ use native.Mathlib.Omega.{arith}
 use lib.ListN.{length, getD, drop, length-map, List·getD-append}
 use Rattle.graph.specs.Graph.{Graph, Bond, bond, Molecule, joins, anyJoins, bonded, isAt}
 use Rattle.graph.specs.Bonds.{one-of, any-none}
-use Rattle.paths.specs.Paths.{share}
-use Rattle.paths.specs.Notions.{Plain}
+use Rattle.graph.specs.Paths.{share}
+use Rattle.graph.specs.Notions.{Plain}
 use Rattle.reply.specs.Read.{Read, refused, read, refusal}
 use Rattle.block.specs.Block.{mostAtoms, bondsOf, graphOf}
 use Rattle.block.specs.Rows.{table}

@@ -10,12 +10,12 @@ use lib.Dec.{ltb}
 use lib.ListN.{length}
 use Rattle.graph.specs.Graph.{Graph, Bond, bond, Within, Molecule, anyJoins, bonded, itself, vertex, sumBonds}
 use Rattle.graph.specs.Bonds.{joins-out, anyJoins-sym}
-use Rattle.paths.specs.Notions.{Plain}
+use Rattle.graph.specs.Notions.{Plain}
 use Rattle.szeged.specs.Szeged.{closer, nearer, szegedTerm, szeged}
 use Rattle.balaban.specs.Balaban.{bound, largestRoot, term, divisor, reckoned}
 use Rattle.renumbered.specs.Renumbered.{Renumbered, Partners}
 use Rattle.graph.specs.Matched.{Mutual, sum-same, pairs-same}
-use Rattle.paths.specs.BondPairs.{ofEnds, over-pairs}
+use Rattle.graph.specs.BondPairs.{ofEnds, over-pairs}
 use Rattle.renumbered.specs.Distances.{same-bonded, same-atoms, same-distance, same-vertex}
 
 -- f gives for two atoms what k gives for their partners, whichever comes first

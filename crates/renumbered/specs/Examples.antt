@@ -8,7 +8,7 @@ use lib.ListN.{length, take, replicate}
 use Rattle.graph.specs.Graph.{Graph, joins, anyJoins, bonded, anyAtom, reaches, firstFrom, distance, allAtoms, connected, degree, sum, sumPairs, sumBonds, itself, evenOf, oddOf, isAt, total}
 use Rattle.graph.specs.Farthest.{most, mostPairs, largest}
 use Rattle.graph.specs.Assembly.{shifted, joined, startAt, written}
-use Rattle.paths.specs.Paths.{gather, walks, shortestPaths, uses, passingPaths, pathCount, pathsUsing, lcm, lcmOver, lcmPairs, denominator, share}
+use Rattle.graph.specs.Paths.{gather, walks, shortestPaths, uses, passingPaths, pathCount, pathsUsing, lcm, lcmOver, lcmPairs, denominator, share}
 use Rattle.reply.specs.Read.{read}
 use Rattle.block.specs.Block.{bondsOf, graphOf, bondFault, bondsReply, blockReply}
 use Rattle.block.specs.Told.{molecule}

@@ -9,8 +9,8 @@ use lib.Dec.{eqb}
 use lib.ListN.{length}
 use Rattle.graph.specs.Graph.{Graph, Bond, Within, Molecule, joins, bonded, distance}
 use Rattle.graph.specs.Bonds.{joins-out}
-use Rattle.paths.specs.Paths.{walks, shortestPaths, uses, passingPaths, pathCount, pathsUsing, denominator, share}
-use Rattle.paths.specs.Backwards.{power, walks-power, without, uses-power, count-sym, using-sym, count-dvd, denominator-dvd}
+use Rattle.graph.specs.Paths.{walks, shortestPaths, uses, passingPaths, pathCount, pathsUsing, denominator, share}
+use Rattle.graph.specs.Backwards.{power, walks-power, without, uses-power, count-sym, using-sym, count-dvd, denominator-dvd}
 use Rattle.graph.specs.Matching.{Matching}
 use Rattle.renumbered.specs.Renumbered.{Renumbered, Partners}
 use Rattle.graph.specs.Matched.{eqb-to, sum-same, pairs-same}

@@ -5,7 +5,7 @@ use mathlib.Core.Path.{_≡_, refl, sym, ap, _∙_}
 use native.Mathlib.Omega.{arith}
 use lib.ListN.{length, getD, replicate}
 use Rattle.graph.specs.Graph.{Within, distance, sum}
-use Rattle.paths.specs.Notions.{Plain, lcmStarts}
+use Rattle.graph.specs.Notions.{Plain, lcmStarts}
 use Rattle.reply.specs.Read.{Read, refused, read, _then_}
 use Rattle.half.specs.Half.{halfRow}
 use Rattle.block.specs.Block.{mostAtoms, mostBytes, bondsOf, graphOf, blockReply}

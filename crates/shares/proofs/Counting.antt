@@ -11,10 +11,10 @@ use Rattle.graph.specs.Graph.{Bond, Within, Molecule, bonded, distance}
 use Rattle.graph.specs.Bonds.{anyJoins-sym}
 use Rattle.graph.specs.Distance.{distance-below}
 use Rattle.graph.specs.Sums.{sum-cong}
-use Rattle.paths.specs.Paths.{pathCount}
-use Rattle.paths.specs.Notions.{near, gathered}
-use Rattle.paths.specs.Steps.{count-rule}
-use Rattle.paths.specs.Flow.{gathered-step}
+use Rattle.graph.specs.Paths.{pathCount}
+use Rattle.graph.specs.Notions.{near, gathered}
+use Rattle.graph.specs.Steps.{count-rule}
+use Rattle.graph.specs.Flow.{gathered-step}
 use Rattle.block.specs.Block.{mostAtoms}
 use Rattle.block.specs.Sums.{entry}
 use Rattle.shares.specs.Work.{ShowsRow, Levels, heights, Rule, graph, Start}

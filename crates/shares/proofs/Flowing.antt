@@ -10,13 +10,13 @@ use lib.Dec.{eqb}
 use lib.ListN.{length, getD}
 use Rattle.graph.specs.Graph.{Graph, Bond, Within, anyJoins, bonded, distance}
 use Rattle.graph.specs.Bonds.{anyJoins-sym}
-use Rattle.paths.specs.Paths.{pathCount}
-use Rattle.paths.specs.Notions.{near, BondInside, weight, gathered}
-use Rattle.paths.specs.Steps.{count-pos}
-use Rattle.paths.specs.Lcm.{starts-pos}
-use Rattle.paths.specs.Backwards.{pair-pos}
-use Rattle.paths.specs.Uses.{start-le}
-use Rattle.paths.specs.Flow.{through}
+use Rattle.graph.specs.Paths.{pathCount}
+use Rattle.graph.specs.Notions.{near, BondInside, weight, gathered}
+use Rattle.graph.specs.Steps.{count-pos}
+use Rattle.graph.specs.Lcm.{starts-pos}
+use Rattle.graph.specs.Backwards.{pair-pos}
+use Rattle.graph.specs.Uses.{start-le}
+use Rattle.graph.specs.Flow.{through}
 use Rattle.block.specs.Block.{mostAtoms, bondsOf, graphOf}
 use Rattle.block.specs.Numbered.{bondAt}
 use Rattle.shares.specs.Reply.{mostDenominator}

@@ -8,7 +8,7 @@ use native.Mathlib.Omega.{arith}
 use lib.ListN.{length, getD}
 use Rattle.graph.specs.Graph.{Bond, bond, anyJoins}
 use Rattle.graph.specs.Bonds.{any-head, any-tail}
-use Rattle.paths.specs.Notions.{BondInside, Plain}
+use Rattle.graph.specs.Notions.{BondInside, Plain}
 use Rattle.block.specs.Block.{bondsOf}
 use Rattle.block.specs.Numbered.{bondAt, bonds-length, bonds-at}
 

@@ -9,8 +9,8 @@ use lib.ListN.{length, take, drop, length-map}
 use lib.Seq.{take-at}
 use Rattle.graph.specs.Graph.{wiener}
 use Rattle.graph.specs.BondSums.{added, added-map}
-use Rattle.paths.specs.Paths.{denominator, share}
-use Rattle.paths.specs.Uses.{shares-total}
+use Rattle.graph.specs.Paths.{denominator, share}
+use Rattle.graph.specs.Uses.{shares-total}
 use Rattle.reply.specs.Read.{refused, read, refuseIf, refusal}
 use Rattle.reply.specs.Chain.{then-read}
 use Rattle.block.specs.Block.{bondsOf, graphOf, blockReply}

@@ -8,11 +8,11 @@ use borrow.Author.Tests.{ltb-true, ltb-false}
 use lib.Dec.{ltb}
 use Rattle.graph.specs.Graph.{Graph, Bond, Within, Molecule, sum}
 use Rattle.graph.specs.Sums.{sum-cong, sum-scale}
-use Rattle.paths.specs.Paths.{pathCount, pathsUsing}
-use Rattle.paths.specs.Notions.{AtomPair, weight, lcmStarts}
-use Rattle.paths.specs.Lcm.{starts-dvd}
-use Rattle.paths.specs.Steps.{count-pos, count-self}
-use Rattle.paths.specs.Backwards.{count-sym, pair-pos}
+use Rattle.graph.specs.Paths.{pathCount, pathsUsing}
+use Rattle.graph.specs.Notions.{AtomPair, weight, lcmStarts}
+use Rattle.graph.specs.Lcm.{starts-dvd}
+use Rattle.graph.specs.Steps.{count-pos, count-self}
+use Rattle.graph.specs.Backwards.{count-sym, pair-pos}
 use Rattle.shares.specs.Work.{carried}
 
 div-scaled : (f d c : ℕ) → 0 < c → c ∣ d → f * d / c ≡ f * (d / c)

@@ -10,12 +10,12 @@ use lib.Dec.{ltb}
 use lib.ListN.{length, getD}
 use Rattle.graph.specs.Graph.{Within, sum}
 use Rattle.graph.specs.Sums.{sum-le}
-use Rattle.paths.specs.Paths.{pathCount, denominator, share}
-use Rattle.paths.specs.Notions.{weight, gathered, lcmStarts}
-use Rattle.paths.specs.Lcm.{starts-pos, starts-all}
-use Rattle.paths.specs.Steps.{count-pos}
-use Rattle.paths.specs.Backwards.{pair-pos}
-use Rattle.paths.specs.Uses.{share-rows}
+use Rattle.graph.specs.Paths.{pathCount, denominator, share}
+use Rattle.graph.specs.Notions.{weight, gathered, lcmStarts}
+use Rattle.graph.specs.Lcm.{starts-pos, starts-all}
+use Rattle.graph.specs.Steps.{count-pos}
+use Rattle.graph.specs.Backwards.{pair-pos}
+use Rattle.graph.specs.Uses.{share-rows}
 use Rattle.block.specs.Block.{mostAtoms, bondsOf, graphOf}
 use Rattle.block.specs.Numbered.{bondAt}
 use Rattle.block.specs.Lent.{EntriesFilled}

@@ -12,11 +12,11 @@ use mir.Val.{Fits}
 use Rattle.graph.specs.Graph.{Bond, Within, Molecule, distance}
 use Rattle.graph.specs.Farthest.{farthest}
 use Rattle.graph.specs.Largest.{farthest-over, farthest-below}
-use Rattle.paths.specs.Paths.{pathCount, lcm, lcmOver, denominator}
-use Rattle.paths.specs.Notions.{Gcd, AtomPair, lcmStarts}
-use Rattle.paths.specs.Lcm.{over-pos, lcm-cap, starts-pos, starts-all, starts-le}
-use Rattle.paths.specs.Steps.{count-pos}
-use Rattle.paths.specs.Backwards.{pair-pos}
+use Rattle.graph.specs.Paths.{pathCount, lcm, lcmOver, denominator}
+use Rattle.graph.specs.Notions.{Gcd, AtomPair, lcmStarts}
+use Rattle.graph.specs.Lcm.{over-pos, lcm-cap, starts-pos, starts-all, starts-le}
+use Rattle.graph.specs.Steps.{count-pos}
+use Rattle.graph.specs.Backwards.{pair-pos}
 use Rattle.half.specs.Half.{halfRow}
 use Rattle.block.specs.Block.{mostAtoms}
 use Rattle.block.specs.Sums.{entry}

@@ -4,7 +4,7 @@ use mathlib.Core.List.{List, _++_, map}
 use lib.Dec.{ltb}
 use lib.ListN.{length, drop}
 use Rattle.graph.specs.Graph.{Graph}
-use Rattle.paths.specs.Paths.{denominator, share}
+use Rattle.graph.specs.Paths.{denominator, share}
 use Rattle.reply.specs.Read.{Read, refused, read, _then_, refuseIf}
 use Rattle.block.specs.Block.{bondsOf, graphOf, blockReply}
 use Rattle.shares.specs.declared.SharesReply.{SharesReply}

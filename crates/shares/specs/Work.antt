@@ -8,8 +8,8 @@ use lib.ListN.{length, getD}
 use Rattle.graph.specs.Graph.{Graph, Bond, bond, Within, Molecule, bonded, distance, sum}
 use Rattle.graph.specs.Farthest.{farthest}
 use Rattle.graph.specs.Sets.{has}
-use Rattle.paths.specs.Paths.{pathCount, pathsUsing}
-use Rattle.paths.specs.Notions.{Plain, weight, gathered, lcmStarts}
+use Rattle.graph.specs.Paths.{pathCount, pathsUsing}
+use Rattle.graph.specs.Notions.{Plain, weight, gathered, lcmStarts}
 use Rattle.half.specs.Half.{halfRow}
 use Rattle.block.specs.Block.{mostAtoms, bondsOf, graphOf}
 use Rattle.block.specs.Numbered.{bondAt}

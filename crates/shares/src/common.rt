@@ -3,8 +3,8 @@ use super::CAP;
 use super::SEATS;
 ghost use mathlib.Core.Path.{_≡_};
 ghost use Prim.Native.Nat.{ℕ, _+_, _-_, min, _<_, _≤_};
-ghost use Rattle.paths.specs.Paths.{lcm, lcmOver};
-ghost use Rattle.paths.specs.Notions.{Gcd};
+ghost use Rattle.graph.specs.Paths.{lcm, lcmOver};
+ghost use Rattle.graph.specs.Notions.{Gcd};
 ghost use Rattle.shares.specs.Work.{cap, Tally};
 
 // The greatest common divisor.

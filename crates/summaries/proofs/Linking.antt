@@ -15,9 +15,9 @@ use Rattle.reply.specs.declared.Refusal.{Refusal}
 use Rattle.block.specs.Faults.{inside}
 use Rattle.assembly.specs.Placements.{mostPlacements, placementCount, placementAt, Sites, joinOf, joinOn, sitesOn, placementsReply, shelfReply}
 use Rattle.assembly.specs.Sound.{Joined, PlacedRight, right}
-use Rattle.tables.specs.Parts.{Part, sixIn}
-use Rattle.tables.specs.Table.{Fits}
-use Rattle.tables.specs.Same.{six-alike}
+use Rattle.joining.specs.Parts.{Part, sixIn}
+use Rattle.joining.specs.Table.{Fits}
+use Rattle.joining.specs.Same.{six-alike}
 use Rattle.summary.specs.Layout.{storedAtoms, keptOf}
 use Rattle.shelf.specs.Shelf.{summaryAt, placeOf, sitesIn, shelfIn}
 use Rattle.summaries.specs.Composing.{keptOn, composedReply}

@@ -15,10 +15,10 @@ use Rattle.records.specs.Bytes.{little, part}
 use Rattle.assembly.specs.Placements.{mostPlacements}
 use Rattle.block.specs.declared.Indices.{Indices}
 use Rattle.block.specs.declared.Vertex.{Vertex}
-use Rattle.tables.specs.Parts.{farIn, sightIn, sixIn, grow, joinSix}
-use Rattle.tables.specs.Table.{Fits}
-use Rattle.tables.specs.Climb.{far-same, far-later, far-earlier, sight-here, sight-there, six-here}
-use Rattle.tables.specs.Bounds.{SmallSight, Bytes, SixHeld, SixBytes, SmallPart, far-most, sight-held, six-held, held-bytes}
+use Rattle.joining.specs.Parts.{farIn, sightIn, sixIn, grow, joinSix}
+use Rattle.joining.specs.Table.{Fits}
+use Rattle.joining.specs.Climb.{far-same, far-later, far-earlier, sight-here, sight-there, six-here}
+use Rattle.joining.specs.Bounds.{SmallSight, Bytes, SixHeld, SixBytes, SmallPart, far-most, sight-held, six-held, held-bytes}
 use Rattle.joining.specs.Small.{SmallCounts, SmallFields}
 use Rattle.summary.specs.Layout.{summaryBytes, storedAtoms, storedFields, vertexAt, farAt, keptOf}
 use Rattle.shelf.specs.Shelf.{summaryAt}

@@ -20,7 +20,7 @@ use Rattle.block.specs.Tables.{getD-table}
 use Rattle.sighted.specs.Sighted.{setsIn, told, countsIn, rowIn, seenIn, seenOf, stepsIn}
 use Rattle.sighted.specs.Steps.{told-most}
 use Rattle.summary.specs.Layout.{nearIn, storedAtoms, seenAt, vertexAt, farAt}
-use Rattle.tables.specs.Bounds.{Bytes}
+use Rattle.joining.specs.Bounds.{Bytes}
 
 one : (t : Bool) → cond {A = ℕ} t 1 0 ≤ 1
 one true = omega arith

@@ -5,7 +5,7 @@ use mathlib.Core.List.{List}
 use Rattle.reply.specs.Read.{Read, read, _then_}
 use Rattle.assembly.specs.Placements.{placementCount, placementAt, joinOn, shelfReply}
 use Rattle.block.specs.declared.Indices.{Indices}
-use Rattle.tables.specs.Parts.{Part, sixIn}
+use Rattle.joining.specs.Parts.{Part, sixIn}
 use Rattle.summary.specs.Layout.{keptOf}
 use Rattle.shelf.specs.Shelf.{summaryAt, placeOf, shelfIn}
 

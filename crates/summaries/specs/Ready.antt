@@ -8,8 +8,8 @@ use Rattle.graph.specs.Assembly.{Join}
 use Rattle.assembly.specs.Placements.{mostPlacements, placementAt}
 use Rattle.assembly.specs.declared.Placement.{Placement}
 use Rattle.block.specs.declared.Vertex.{Vertex}
-use Rattle.tables.specs.Parts.{Part, farIn, sightIn}
-use Rattle.tables.specs.Table.{Fits}
+use Rattle.joining.specs.Parts.{Part, farIn, sightIn}
+use Rattle.joining.specs.Table.{Fits}
 use Rattle.summary.specs.Layout.{storedAtoms, seenAt, keptOf}
 use Rattle.sighted.specs.declared.Seen.{Seen}
 use Rattle.shelf.specs.Shelf.{summaryAt, placeOf}

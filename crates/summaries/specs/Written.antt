@@ -22,9 +22,9 @@ use Rattle.assembly.specs.Book.{Book}
 use Rattle.assembly.specs.Placements.{placementCount, placementAt, Sites, atomSite, Shelf, shelfOf, sitesOf, graphOn, joinOf, joinOn, joinsOn, firstFault, parentFault, joinFault, sitesOn, laterFault, fault, placementsReply, shelfReply, assemblyReply}
 use Rattle.assembly.specs.Sound.{WholeAssembly, whole, assembled}
 use Rattle.assembly.specs.declared.Placement.{Placement}
-use Rattle.tables.specs.Parts.{sixIn}
-use Rattle.tables.specs.Table.{tableOf, sixOf, Told}
-use Rattle.tables.specs.Written.{fields-written}
+use Rattle.joining.specs.Parts.{sixIn}
+use Rattle.joining.specs.Table.{tableOf, sixOf, Told}
+use Rattle.joining.specs.Written.{fields-written}
 use Rattle.summary.specs.Layout.{summaryBytes, storedFields, storedDegree, keptOf}
 use Rattle.summary.specs.Summary.{summaryOf}
 use Rattle.summary.specs.Back.{summary-told, ends-told}

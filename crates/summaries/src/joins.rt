@@ -15,7 +15,7 @@ use joining::grown;
 ghost use mathlib.Core.Path.{_≡_};
 ghost use Prim.Native.Nat.{ℕ, _-_};
 ghost use Rattle.graph.specs.Graph.{Within};
-ghost use Rattle.tables.specs.Parts.{sixIn};
+ghost use Rattle.joining.specs.Parts.{sixIn};
 ghost use Rattle.joining.specs.Joining.{joinedOf};
 ghost use Rattle.summaries.specs.Ready.{keptIn, joinsIn, between, sightFrom, ReadyShelf, StepsKnown, Counted};
 

@@ -20,7 +20,7 @@ ghost use mathlib.Core.Path.{_≡_};
 ghost use Prim.Native.Nat.{_*_, _-_, _≤_};
 ghost use lib.ListN.{length};
 ghost use Rattle.block.specs.Index.{saidIndices};
-ghost use Rattle.tables.specs.Parts.{sixIn};
+ghost use Rattle.joining.specs.Parts.{sixIn};
 ghost use Rattle.summaries.specs.Composing.{composedReply};
 ghost use Rattle.summaries.specs.Ready.{keptIn, joinsIn, ReadyShelf};
 

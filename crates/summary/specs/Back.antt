@@ -28,9 +28,9 @@ use Rattle.records.specs.Bytes.{byteAt, little, le16, littleBytes}
 use Rattle.sighted.specs.Sighted.{setAt, setsIn, countsIn, stepsTo, seenIn, seenOf}
 use Rattle.sighted.specs.Blocks.{steps-distance, counts-vertex}
 use Rattle.sighted.specs.Unique.{seen-steps}
-use Rattle.tables.specs.Table.{tableOf, totalBy, Told}
-use Rattle.tables.specs.Grow.{same-six, total-parts}
-use Rattle.tables.specs.Written.{six-is, sight-is, alone-molecule}
+use Rattle.joining.specs.Table.{tableOf, totalBy, Told}
+use Rattle.joining.specs.Grow.{same-six, total-parts}
+use Rattle.joining.specs.Written.{six-is, sight-is, alone-molecule}
 use Rattle.summary.specs.Layout.{summaryHead, atomBytes, summaryBytes, storedNumber, storedAtoms, storedFields, nearIn, setIn, seenAt, vertexAt, storedDegree, farAt, keptOf}
 use Rattle.summary.specs.Summary.{headOf, atomsFrom, summaryOf}
 use Rattle.summary.specs.Ones.{bonds-are-ends}

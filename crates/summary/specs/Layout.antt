@@ -11,7 +11,7 @@ use Rattle.sighted.specs.Sighted.{setAt, setsIn, seenOf, stepsIn}
 use Rattle.sighted.specs.declared.Seen.{Seen}
 use Rattle.block.specs.declared.Indices.{Indices}
 use Rattle.block.specs.declared.Vertex.{Vertex}
-use Rattle.tables.specs.Parts.{Part}
+use Rattle.joining.specs.Parts.{Part}
 
 -- the bytes that a summary opens with, those of an atom, and those of a place
 abbrev pub summaryHead : ℕ

@@ -20,9 +20,9 @@ use Rattle.assembly.specs.Book.{Book, bookOf}
 use Rattle.assembly.specs.declared.BlockAt.{BlockAt}
 use Rattle.deck.specs.Deck.{longestDeck, Deck, openReply, endReply}
 use Rattle.deck.specs.Kept.{kept}
-use Rattle.products.specs.Library.{mostSites, mostCandidates, libraryKind, coreNumber, siteCount, siteHead, siteAt, siteEnd, candidateBytes, candidateNumber, candidateAtom, isTaken, isFullIn, orElse, candidateFault, candidatesFault, siteFault, sitesFrom, sitesReply, Library, afterBlocks, libraryReply}
-use Rattle.products.specs.Products.{products, productAt, countReply, Product, done, made, productReply}
-use Rattle.products.specs.declared.Site.{Site}
+use Rattle.catalogue.specs.Library.{mostSites, mostCandidates, libraryKind, coreNumber, siteCount, siteHead, siteAt, siteEnd, candidateBytes, candidateNumber, candidateAtom, isTaken, isFullIn, orElse, candidateFault, candidatesFault, siteFault, sitesFrom, sitesReply, Library, afterBlocks, libraryReply}
+use Rattle.catalogue.specs.Products.{products, productAt, countReply, Product, done, made, productReply}
+use Rattle.catalogue.specs.declared.Site.{Site}
 use Rattle.library.specs.Steps.{stepReply}
 use Rattle.calls.specs.Convention.{mostPlace, fitting}
 use Rattle.library_calls.specs.Libraries.{countList, withNext, stepCode}

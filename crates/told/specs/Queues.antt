@@ -21,9 +21,9 @@ use Rattle.shelf.specs.Shelf.{shelfIn}
 use Rattle.summaries.specs.Composing.{composedReply}
 use Rattle.deck.specs.Deck.{longestDeck, moved, placementPlace, endReply}
 use Rattle.summary.specs.Layout.{summaryBytes, storedFields as storedFields}
-use Rattle.storage.specs.Shelf.{places as eight, holds, placeHolding, placeAt, roomReply, addReply, lookReply, dropReply}
-use Rattle.storage.specs.Table.{tableBytes, tableReply, onTable}
-use Rattle.storage.specs.declared.Queue.{Queue}
+use Rattle.queues.specs.Shelf.{places as eight, holds, placeHolding, placeAt, roomReply, addReply, lookReply, dropReply}
+use Rattle.queues.specs.Table.{tableBytes, tableReply, onTable}
+use Rattle.queues.specs.declared.Queue.{Queue}
 use Rattle.queues.specs.Queues.{ownPlaces, addTold, lookTold, dropTold}
 use Rattle.gathered.specs.Gathered.{behindHead, overRecord, overOutput, sheetTold}
 use Rattle.calls.specs.Convention.{mostPlace, fitting}

@@ -6,9 +6,9 @@ use native.Mathlib.Omega.{arith}
 use lib.Dec.{eqb}
 use lib.ListN.{getD}
 use Rattle.reply.specs.Read.{Read, read, _then_, refuseIf, isOutside}
-use Rattle.products.specs.Library.{libraryReply}
+use Rattle.catalogue.specs.Library.{libraryReply}
 use Rattle.library.specs.Values.{mostFields}
-use Rattle.ranked.specs.Entries.{room}
+use Rattle.placing.specs.Entries.{room}
 use Rattle.ranking.specs.Best.{bestReply}
 use Rattle.calls.specs.Convention.{mostPlace}
 use Rattle.ranking_calls.specs.Ranks.{wantsGreatest, lentFor, bestFor}

@@ -11,7 +11,7 @@ use lib.Ieee.{Float}
 use lib.ListN.{length}
 use Rattle.reply.specs.Read.{Read, refused, read, _then_, refuseIf, isOutside}
 use Rattle.reply.specs.declared.Refusal.{Refusal}
-use Rattle.paths.specs.Paths.{denominator}
+use Rattle.graph.specs.Paths.{denominator}
 use Rattle.block.specs.Block.{mostBytes, bondsOf, graphOf, blockReply}
 use Rattle.graph.specs.Farthest.{farthest}
 use Rattle.block.specs.Rows.{rowOf, rowReply}

@@ -20,18 +20,18 @@ use Rattle.wholefile.specs.Said.{wholeNumbers}
 use Rattle.molwriter.specs.Written.{molfileWriteReply, filledText, writtenBytes}
 use Rattle.adjacency.specs.Neighbours.{bytesAfter}
 use Rattle.adjacency.specs.Written.{textAfter}
-use Rattle.storage.specs.Shelf.{unless, addReply, added, dropReply, dropped}
-use Rattle.storage.specs.Table.{shelfBytes, shelf, withShelf, tableReply, tableAfter, zeroed, emptied}
-use Rattle.storage.specs.declared.Queue.{Queue}
-use Rattle.storage.specs.declared.Queue.the-variants.{Day, Night}
+use Rattle.queues.specs.Shelf.{unless, addReply, added, dropReply, dropped}
+use Rattle.queues.specs.Table.{shelfBytes, shelf, withShelf, tableReply, tableAfter, zeroed, emptied}
+use Rattle.queues.specs.declared.Queue.{Queue}
+use Rattle.queues.specs.declared.Queue.the-variants.{Day, Night}
 use Rattle.summary.specs.Layout.{summaryBytes}
 use Rattle.queues.specs.Queues.{storedBlock, ownPlaces, addTold, tableAdded, dropTold, tableDropped}
 use Rattle.judging.specs.Judging.{sheetOut}
 use Rattle.whole.specs.Whole.{numbersAfter}
-use Rattle.products.specs.Products.{Product, done, made}
+use Rattle.catalogue.specs.Products.{Product, done, made}
 use Rattle.library.specs.Steps.{stepOut}
 use Rattle.library.specs.Values.{valuesOut}
-use Rattle.ranked.specs.Ranked.{Entry}
+use Rattle.placing.specs.Ranked.{Entry}
 use Rattle.ranking.specs.Best.{bestOut}
 use Rattle.calls.specs.Convention.{coded, fitting, outAfter, Lent}
 use Rattle.calls.specs.Beside.{Beside}

@@ -7,7 +7,7 @@ ghost use Rattle.gathered.specs.Gathered.{sheetTold};
 ghost use Rattle.judging.specs.Judging.{sheetOut};
 ghost use Rattle.queue_calls.specs.TwoQueues.{lookList, queueFor};
 ghost use Rattle.queues.specs.Queues.{addTold, dropTold, tableAdded, tableDropped};
-ghost use Rattle.storage.specs.Table.{emptied, tableReply};
+ghost use Rattle.queues.specs.Table.{emptied, tableReply};
 ghost use Rattle.summary.specs.Layout.{summaryBytes};
 
 #[no_mangle]

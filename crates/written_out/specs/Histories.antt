@@ -10,17 +10,17 @@ use lib.Dec.{leb}
 use lib.ListN.{length, replicate}
 use lib.Seq.{length-sets}
 use Rattle.reply.specs.Read.{Read, refused, read, _then_, refuseIf}
-use Rattle.storage.specs.Shelf.{places, numberIn, placeHolding, unless, dropped, dropReply}
-use Rattle.storage.specs.Table.{tableBytes, shelf, zeroed, emptied}
-use Rattle.storage.specs.Calls.{CallNumber, Trade, Call, add, look, drop, compose, Answer, done, Sent, own, answer, after, tableAnswer, tableLeft, tableAll}
-use Rattle.storage.specs.Model.{Entry, has, without, Meaning, toldAdd, toldDrop, told, left, leftAll}
-use Rattle.storage.specs.Seeks.{taken-less}
-use Rattle.storage.specs.Entries.{has-positive, has-number, without-length}
-use Rattle.storage.specs.Room.{same-place-again}
-use Rattle.storage.specs.Keeps.{HonestTrade}
-use Rattle.storage.specs.Kept.{KeptPlaces, at-most-eight, same-answer, same-left}
-use Rattle.storage.specs.Alone.{table-answer, own-after, left-length, keeps-own}
-use Rattle.storage.specs.declared.Queue.{Queue}
+use Rattle.queues.specs.Shelf.{places, numberIn, placeHolding, unless, dropped, dropReply}
+use Rattle.queues.specs.Table.{tableBytes, shelf, zeroed, emptied}
+use Rattle.queues.specs.Calls.{CallNumber, Trade, Call, add, look, drop, compose, Answer, done, Sent, own, answer, after, tableAnswer, tableLeft, tableAll}
+use Rattle.queues.specs.Model.{Entry, has, without, Meaning, toldAdd, toldDrop, told, left, leftAll}
+use Rattle.queues.specs.Seeks.{taken-less}
+use Rattle.queues.specs.Entries.{has-positive, has-number, without-length}
+use Rattle.queues.specs.Room.{same-place-again}
+use Rattle.queues.specs.Keeps.{HonestTrade}
+use Rattle.queues.specs.Kept.{KeptPlaces, at-most-eight, same-answer, same-left}
+use Rattle.queues.specs.OwnCalls.{table-answer, own-after, left-length, keeps-own}
+use Rattle.queues.specs.declared.Queue.{Queue}
 
 emptied-length : (w : ℕ) (t : List ℕ) → tableBytes w ≤ length t → length (emptied w t) ≡ length t
 unfolding zeroed

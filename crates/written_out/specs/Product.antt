@@ -21,10 +21,10 @@ use Rattle.compose.specs.Fields.{fieldsReply}
 use Rattle.judging.specs.Judging.{judgeReply, saidVerdict, sheetWriteReply, saidSheetWritten, sheetOut}
 use Rattle.judging.specs.Theorems.{written-accepted}
 use Rattle.judging.specs.declared.Verdict.the-variants as verdict
-use Rattle.products.specs.Library.{Library, libraryReply}
-use Rattle.products.specs.Products.{Product, products, productAt}
-use Rattle.products.specs.Sound.{whole}
-use Rattle.products.specs.Written.{productDeck, product-deck}
+use Rattle.catalogue.specs.Library.{Library, libraryReply}
+use Rattle.catalogue.specs.Products.{Product, products, productAt}
+use Rattle.catalogue.specs.Sound.{whole}
+use Rattle.catalogue.specs.Written.{productDeck, product-deck}
 use Rattle.library.specs.Steps.{stepReply, stepOut}
 use Rattle.library.specs.Running.{step-short, made-step}
 

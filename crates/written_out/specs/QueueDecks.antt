@@ -20,11 +20,11 @@ use Rattle.records.specs.declared.Sheet.the-variants.{Five, Six}
 use Rattle.assembly.specs.Book.{Book}
 use Rattle.summary.specs.Layout.{summaryBytes}
 use Rattle.summaries.specs.Written.{writtenReply}
-use Rattle.storage.specs.Shelf.{places}
-use Rattle.storage.specs.Table.{tableBytes, tableReply, onTable}
-use Rattle.storage.specs.Calls.{CallNumber, add, look, drop, Answer, done, fields, sheet, Sent}
-use Rattle.storage.specs.Model.{Entry, lookup, has, without, toldAdd, toldLook, toldDrop}
-use Rattle.storage.specs.declared.Queue.{Queue}
+use Rattle.queues.specs.Shelf.{places}
+use Rattle.queues.specs.Table.{tableBytes, tableReply, onTable}
+use Rattle.queues.specs.Calls.{CallNumber, add, look, drop, Answer, done, fields, sheet, Sent}
+use Rattle.queues.specs.Model.{Entry, lookup, has, without, toldAdd, toldLook, toldDrop}
+use Rattle.queues.specs.declared.Queue.{Queue}
 use Rattle.queues.specs.Queues.{addTold, lookTold, dropTold, tableDropped}
 use Rattle.queues.specs.Blocks.{Block, noBlock, blockIn, bookIn}
 use Rattle.deck.specs.Deck.{longestDeck, Deck, deckReply}

@@ -4,8 +4,8 @@ use mathlib.Core.List.{List, [], _∷_, _++_}
 use lib.ListN.{length, take}
 use Rattle.records.specs.declared.Sheet.{Sheet}
 use Rattle.sheets.specs.Sheets.{fieldsOf, sheetRecord, sheetBytes}
-use Rattle.products.specs.Library.{Library}
-use Rattle.products.specs.Products.{productAt}
+use Rattle.catalogue.specs.Library.{Library}
+use Rattle.catalogue.specs.Products.{productAt}
 use Rattle.library.specs.Steps.{stepReply, stepOut, saidStep}
 use Rattle.library.specs.declared.StepReply.{StepReply}
 use Rattle.library.specs.declared.StepReply.the-variants as stepped

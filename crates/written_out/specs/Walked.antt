@@ -17,8 +17,8 @@ use Rattle.block.specs.declared.Indices.{Indices}
 use Rattle.deck.specs.Deck.{longestDeck}
 use Rattle.sheets.specs.Sheets.{fieldsOf, sheetRecord, sheetBytes, sheetPut}
 use Rattle.sheets.specs.Back.{length-sheet}
-use Rattle.products.specs.Library.{Library, libraryReply}
-use Rattle.products.specs.Products.{Product, done, made, products, productAt}
+use Rattle.catalogue.specs.Library.{Library, libraryReply}
+use Rattle.catalogue.specs.Products.{Product, done, made, products, productAt}
 use Rattle.library.specs.Steps.{Ran, behind, afterStep, stepReply, stepOut, saidStep, stepsFrom, runOf}
 use Rattle.library.specs.Running.{step-long, step-short, run-stops, made-step, done-step, run-next, run-done, run-full}
 use Rattle.library.specs.declared.StepReply.{StepReply}

@@ -11,7 +11,7 @@ use Rattle.deck.specs.Said.{saidDeck}
 use Rattle.deck.specs.declared.DeckRead.{DeckRead}
 use Rattle.deck.proofs.Parts.{deck-stopped, deck-ended, table-blocks}
 use Rattle.assembly.specs.declared.BlockAt.{BlockAt}
-use Rattle.products.specs.Library.{libraryKind, afterBlocks}
+use Rattle.catalogue.specs.Library.{libraryKind, afterBlocks}
 use Rattle.catalogue.specs.Said.{refusedLibrary, tabledLibrary, saidLibrary}
 use Rattle.catalogue.proofs.Reading.{said-tabled, library-stopped, library-after, payload-long}
 use Rattle.catalogue.proofs.read_library.Statement.{statement}

@@ -8,8 +8,8 @@ use borrow.Author.Needs.{needs}
 use Rattle.reply.specs.Read.{read}
 use Rattle.records.specs.Records.{payloadAt}
 use Rattle.assembly.specs.Book.{bookOf}
-use Rattle.products.specs.Library.{libraryKind, sitesReply}
-use Rattle.products.specs.declared.Site.{Site}
+use Rattle.catalogue.specs.Library.{libraryKind, sitesReply}
+use Rattle.catalogue.specs.declared.Site.{Site}
 use Rattle.catalogue.specs.Said.{siteTable, saidSites, refusedLibrary, tabledLibrary}
 use Rattle.catalogue.proofs.Reading.{sites-stopped, sites-ended, after-refused, after-more, after-fine, few-sites, count-table, tabled-is}
 use Rattle.catalogue.proofs.read_record.Statement.{statement}

@@ -1,7 +1,7 @@
 -- `joining::added` meets its contract. Assumes nothing.
 use native.Mathlib.Omega.{arith}
 use mathlib.Core.Path.{refl}
-use Rattle.tables.specs.Parts.{evenAcross, oddAcross, joinSix}
+use Rattle.joining.specs.Parts.{evenAcross, oddAcross, joinSix}
 use borrow.Author.Needs.{needs}
 use Rattle.joining.proofs.added.Statement.{statement}
 use Rattle.joining.proofs.added.Tie as tie

@@ -2,7 +2,7 @@
 use native.Mathlib.Omega.{arith}
 use mathlib.Core.Path.{refl}
 use borrow.Author.Tests.{eq-eqb, ne-eqb}
-use Rattle.tables.specs.Parts.{beyond, evenBeyond, oddBeyond}
+use Rattle.joining.specs.Parts.{beyond, evenBeyond, oddBeyond}
 use borrow.Author.Needs.{needs}
 use Rattle.joining.proofs.farther.Statement.{statement}
 use Rattle.joining.proofs.farther.Tie as tie

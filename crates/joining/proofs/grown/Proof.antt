@@ -1,6 +1,6 @@
 -- `joining::grown` meets its contract. Assumes nothing.
 use mathlib.Core.Path.{_≡_, refl}
-use Rattle.tables.specs.Parts.{grow}
+use Rattle.joining.specs.Parts.{grow}
 use Rattle.joining.specs.Joining.{grownOf}
 use borrow.Author.Needs.{needs}
 use Rattle.joining.proofs.grown.Statement.{statement}

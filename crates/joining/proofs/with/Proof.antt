@@ -1,6 +1,6 @@
 -- `joining::with` meets its contract. Assumes nothing.
 use native.Mathlib.Omega.{arith}
-use Rattle.tables.specs.Parts.{both}
+use Rattle.joining.specs.Parts.{both}
 use borrow.Author.Needs.{needs}
 use Rattle.joining.proofs.with.Statement.{statement}
 use Rattle.joining.proofs.with.Tie as tie

@@ -7,8 +7,8 @@ use lib.ListN.{length}
 use borrow.Author.Needs.{needs}
 use Rattle.assembly.specs.declared.BlockAt.{BlockAt}
 use Rattle.sheets.specs.Sheets.{sheetBytes}
-use Rattle.products.specs.Library.{Library}
-use Rattle.products.specs.Products.{products}
+use Rattle.catalogue.specs.Library.{Library}
+use Rattle.catalogue.specs.Products.{products}
 use Rattle.library.specs.Held.{Spread}
 use Rattle.library.specs.Steps.{Ran, stepsFrom}
 use Rattle.library.specs.Turning.{Going}

@@ -6,7 +6,7 @@ use lib.ListN.{length, take, getD}
 use Rattle.records.specs.Records.{payloadAt}
 use Rattle.catalogue.specs.Said.{noSite}
 use Rattle.catalogue.specs.declared.LibraryRead.{LibraryRead}
-use Rattle.products.specs.Products.{products}
+use Rattle.catalogue.specs.Products.{products}
 use Rattle.library.specs.Held.{Spread, first}
 use Rattle.library.proofs.Making.{held-read, spread-read}
 use borrow.Author.Needs.{needs}

@@ -6,8 +6,8 @@ use lib.ListN.{length}
 use borrow.Author.Needs.{needs}
 use Rattle.reply.specs.Read.{read}
 use Rattle.block.specs.Faults.{inside}
-use Rattle.products.specs.Library.{Library, libraryReply}
-use Rattle.products.specs.Products.{products}
+use Rattle.catalogue.specs.Library.{Library, libraryReply}
+use Rattle.catalogue.specs.Products.{products}
 use Rattle.catalogue.specs.Said.{saidLibrary}
 use Rattle.catalogue.specs.declared.LibraryRead.{LibraryRead}
 use Rattle.catalogue.proofs.Reading.{library-stops, library-ends}

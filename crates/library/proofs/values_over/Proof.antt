@@ -6,9 +6,9 @@ use native.Mathlib.Omega.{arith}
 use lib.ListN.{length}
 use borrow.Author.Needs.{needs}
 use Rattle.assembly.specs.declared.BlockAt.{BlockAt}
-use Rattle.products.specs.Library.{Library}
-use Rattle.products.specs.Products.{products}
-use Rattle.products.specs.Fine.{few-products}
+use Rattle.catalogue.specs.Library.{Library}
+use Rattle.catalogue.specs.Products.{products}
+use Rattle.catalogue.specs.Fine.{few-products}
 use Rattle.library.specs.Held.{Spread}
 use Rattle.library.specs.Values.{valuesOf}
 use Rattle.library.specs.Filled.{Filled, filled-start}

@@ -5,7 +5,7 @@ use mathlib.Core.Path.{sym, _∙_, ap}
 use denote.Ref.{now}
 use borrow.Author.Needs.{needs}
 use Rattle.reply.specs.Read.{Read, read, _then_}
-use Rattle.products.specs.Products.{countReply}
+use Rattle.catalogue.specs.Products.{countReply}
 use Rattle.calls.proofs.Laws.{lent-refused, lent-read}
 use Rattle.library_calls.proofs.Walking.{toldCount, count-told}
 use Rattle.library_calls.proofs.count.Statement.{statement}

@@ -3,7 +3,7 @@ use mathlib.Core.Path.{sym, _∙_, ap}
 use native.Mathlib.Omega.{arith}
 use borrow.Author.Needs.{needs}
 use Rattle.reply.specs.Read.{Read}
-use Rattle.products.specs.Products.{Product}
+use Rattle.catalogue.specs.Products.{Product}
 use Rattle.library.specs.Running.{step-long, step-short, step-product}
 use Rattle.library.proofs.Stepping.{said-refused, said-done, said-of}
 use Rattle.library_calls.specs.Libraries.{withNext, stepCode}

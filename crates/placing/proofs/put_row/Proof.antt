@@ -3,8 +3,8 @@ use mathlib.Core.List.{List}
 use mathlib.Core.Path.{_∙_, ap}
 use native.Mathlib.Omega.{arith}
 use lib.ListN.{length}
-use Rattle.ranked.specs.Ranked.{Entry, putAll, coming}
-use Rattle.ranked.specs.Entries.{entriesIn, room, laid, valueIn}
+use Rattle.placing.specs.Ranked.{Entry, putAll, coming}
+use Rattle.placing.specs.Entries.{entriesIn, room, laid, valueIn}
 use Rattle.placing.proofs.Rows.{all-said}
 use Rattle.placing.proofs.Coming.{from-first}
 use borrow.Author.Needs.{needs}

@@ -1,7 +1,7 @@
 -- `queue_calls::add` meets its contract. Assumes nothing.
 use denote.Ref.{now}
 use borrow.Author.Needs.{needs}
-use Rattle.storage.specs.declared.Queue.{Queue}
+use Rattle.queues.specs.declared.Queue.{Queue}
 use Rattle.queues.specs.Queues.{addTold, tableAdded}
 use Rattle.queue_calls.specs.TwoQueues.{queueFor}
 use Rattle.queue_calls.proofs.QueueReplies.{queue-coded}

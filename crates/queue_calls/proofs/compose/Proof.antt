@@ -2,7 +2,7 @@
 use denote.Ref.{now}
 use lib.ListN.{length}
 use borrow.Author.Needs.{needs}
-use Rattle.storage.specs.declared.Queue.{Queue}
+use Rattle.queues.specs.declared.Queue.{Queue}
 use Rattle.records.specs.declared.Sheet.{Sheet}
 use Rattle.gathered.specs.Gathered.{sheetTold}
 use Rattle.calls.specs.Blocks.{sheetFor}

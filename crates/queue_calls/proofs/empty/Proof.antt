@@ -3,7 +3,7 @@ use mathlib.Core.Path.{_∙_}
 use denote.Ref.{now}
 use borrow.Author.Needs.{needs}
 use Rattle.summary.specs.Layout.{summaryBytes}
-use Rattle.storage.specs.Table.{tableReply}
+use Rattle.queues.specs.Table.{tableReply}
 use Rattle.calls.proofs.Laws.{reply-coded}
 use Rattle.queue_calls.proofs.empty.Statement.{statement}
 use Rattle.queue_calls.proofs.empty.Tie as tie

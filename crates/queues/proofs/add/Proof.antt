@@ -1,12 +1,12 @@
 -- `add` meets its contract.
 use Prim.Native.Nat.{ℕ}
 use mathlib.Core.List.{List}
-use Rattle.storage.specs.Shelf.{addReply, added}
+use Rattle.queues.specs.Shelf.{addReply, added}
 use mathlib.Core.Path.{sym, _∙_, ap}
 use native.Mathlib.Omega.{arith}
 use Rattle.reply.specs.Read.{saidReply}
 use Rattle.block.specs.Block.{blockReply}
-use Rattle.storage.specs.Table.{shelf}
+use Rattle.queues.specs.Table.{shelf}
 use Rattle.summary.specs.Layout.{summaryBytes}
 use Rattle.queues.specs.Queues.{storedBlock}
 use Rattle.queues.proofs.Answers.{short-reply, short-after, reply-on, after-on}

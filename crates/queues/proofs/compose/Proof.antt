@@ -5,7 +5,7 @@ use native.Mathlib.Omega.{arith}
 use Prim.Native.Nat.{ℕ}
 use Rattle.block.specs.Index.{saidIndices}
 use Rattle.summaries.specs.Composing.{composedReply}
-use Rattle.storage.specs.Table.{shelf}
+use Rattle.queues.specs.Table.{shelf}
 use Rattle.summary.specs.Layout.{summaryBytes}
 use Rattle.queues.proofs.Answers.{short-reply, reply-on}
 use borrow.Author.Needs.{needs}

@@ -1,11 +1,11 @@
 -- `drop` meets its contract.
 use Prim.Native.Nat.{ℕ}
 use mathlib.Core.List.{List}
-use Rattle.storage.specs.Shelf.{dropReply, dropped}
+use Rattle.queues.specs.Shelf.{dropReply, dropped}
 use mathlib.Core.Path.{sym, _∙_, ap}
 use native.Mathlib.Omega.{arith}
 use Rattle.reply.specs.Read.{saidReply}
-use Rattle.storage.specs.Table.{shelf}
+use Rattle.queues.specs.Table.{shelf}
 use Rattle.summary.specs.Layout.{summaryBytes}
 use Rattle.queues.proofs.Answers.{short-reply, short-after, reply-on, after-on}
 use borrow.Author.Needs.{needs}

@@ -4,8 +4,8 @@ use mathlib.Core.Path.{sym, ap}
 use native.Mathlib.Omega.{arith}
 use Prim.Native.Nat.{ℕ}
 use Rattle.block.specs.Index.{saidIndices}
-use Rattle.storage.specs.Shelf.{lookReply}
-use Rattle.storage.specs.Table.{shelf}
+use Rattle.queues.specs.Shelf.{lookReply}
+use Rattle.queues.specs.Table.{shelf}
 use Rattle.summary.specs.Layout.{summaryBytes, storedFields}
 use Rattle.queues.proofs.Answers.{short-reply, reply-on}
 use borrow.Author.Needs.{needs}

@@ -3,7 +3,7 @@ use Prim.Native.Nat.{_≤_}
 use mathlib.Core.Path.{_≡_, sym, _∙_, ap}
 use native.Mathlib.Omega.{arith}
 use borrow.Author.Needs.{needs}
-use Rattle.paths.specs.Paths.{denominator}
+use Rattle.graph.specs.Paths.{denominator}
 use Rattle.block.specs.Block.{graphOf}
 use Rattle.shares.specs.Reply.{mostDenominator, saidShares}
 use Rattle.shares.specs.declared.SharesReply.the-variants.{Denominator}

@@ -7,7 +7,7 @@ use lib.ListN.{length, take}
 use Rattle.graph.specs.Graph.{Graph}
 use Rattle.reply.specs.Read.{isOutside}
 use Rattle.assembly.specs.Book.{Book, blockGraph, bookOf}
-use Rattle.products.specs.Library.{candidateBytes, candidateNumber, candidateAtom, isFullIn}
+use Rattle.catalogue.specs.Library.{candidateBytes, candidateNumber, candidateAtom, isFullIn}
 use Rattle.catalogue.proofs.Turns.{has-is, graph-is, candidate-cut, candidate-none, candidate-outside, core-full, candidate-full, candidate-well}
 use borrow.Author.Needs.{needs}
 use Rattle.catalogue.proofs.candidates.candidate_fault.Statement.{statement}

@@ -6,8 +6,8 @@ use lib.ListN.{length, take}
 use borrow.Author.Needs.{needs}
 use Rattle.graph.specs.Graph.{Graph}
 use Rattle.assembly.specs.Book.{Book, blockGraph, bookOf}
-use Rattle.products.specs.Library.{candidatesFault}
-use Rattle.products.specs.Sound.{joins}
+use Rattle.catalogue.specs.Library.{candidatesFault}
+use Rattle.catalogue.specs.Sound.{joins}
 use Rattle.catalogue.proofs.Turns.{no-candidates, wrong-candidate, next-candidate}
 use Rattle.catalogue.proofs.candidates.candidates_fault.Statement.{statement}
 use Rattle.catalogue.proofs.candidates.candidates_fault.Tie as tie

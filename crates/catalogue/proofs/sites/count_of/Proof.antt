@@ -4,7 +4,7 @@ use mathlib.Core.Path.{_≡_, sym, _∙_, ap, ap₂}
 use native.Mathlib.Numerals.{add-one}
 use native.Mathlib.Omega.{arith}
 use borrow.Author.Needs.{needs}
-use Rattle.products.specs.Products.{products}
+use Rattle.catalogue.specs.Products.{products}
 use Rattle.catalogue.specs.Table.{sitesIn}
 use Rattle.catalogue.proofs.Turns.{products-grow, one-product, byte-more, four-bytes}
 use Rattle.catalogue.proofs.sites.count_of.Statement.{statement}

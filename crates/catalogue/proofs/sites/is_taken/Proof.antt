@@ -3,7 +3,7 @@ use Prim.Native.Nat.{ℕ, suc, _-_, _≤_}
 use mathlib.Core.Path.{_≡_, refl, sym, _∙_, ap}
 use native.Mathlib.Omega.{arith}
 use borrow.Author.Needs.{needs}
-use Rattle.products.specs.Library.{isTaken}
+use Rattle.catalogue.specs.Library.{isTaken}
 use Rattle.catalogue.specs.Table.{sitesIn}
 use Rattle.catalogue.proofs.Turns.{taken-here, taken-before, none-taken}
 use Rattle.catalogue.proofs.sites.is_taken.Statement.{statement}

@@ -10,7 +10,7 @@ use Rattle.graph.specs.Graph.{Graph}
 use Rattle.reply.specs.Read.{isOutside}
 use Rattle.block.specs.Faults.{inside}
 use Rattle.assembly.specs.Book.{Book, bookOf}
-use Rattle.products.specs.Library.{mostSites, libraryKind, coreNumber, siteCount, sitesFrom}
+use Rattle.catalogue.specs.Library.{mostSites, libraryKind, coreNumber, siteCount, sitesFrom}
 use Rattle.catalogue.specs.Said.{saidSites}
 use Rattle.catalogue.proofs.Turns.{has-is, graph-is, count-outside, no-core, with-core}
 use Rattle.catalogue.proofs.sites.read_sites.Statement.{statement}

@@ -1,7 +1,7 @@
 -- `catalogue::sites::site_at` meets its contract. Assumes nothing.
 use Prim.Native.Nat.{ℕ, _+_}
 use mathlib.Core.Path.{ap₂}
-use Rattle.products.specs.declared.Site.{Site}
+use Rattle.catalogue.specs.declared.Site.{Site}
 use borrow.Author.Needs.{needs}
 use Rattle.catalogue.proofs.sites.site_at.Statement.{statement}
 use Rattle.catalogue.proofs.sites.site_at.Tie as tie

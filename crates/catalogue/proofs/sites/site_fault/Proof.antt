@@ -9,9 +9,9 @@ use borrow.Author.Needs.{needs}
 use Rattle.graph.specs.Graph.{Graph}
 use Rattle.reply.specs.Read.{isOutside}
 use Rattle.assembly.specs.Book.{Book, blockGraph, bookOf}
-use Rattle.products.specs.Library.{mostCandidates, siteHead, siteAt, isTaken, candidatesFault}
+use Rattle.catalogue.specs.Library.{mostCandidates, siteHead, siteAt, isTaken, candidatesFault}
 use Rattle.catalogue.specs.Table.{sitesIn}
-use Rattle.products.specs.declared.Site.{Site}
+use Rattle.catalogue.specs.declared.Site.{Site}
 use Rattle.catalogue.proofs.Turns.{site-cut, site-many, site-outside, site-taken, site-free}
 use Rattle.catalogue.proofs.sites.site_fault.Statement.{statement}
 use Rattle.catalogue.proofs.sites.site_fault.Tie as tie

@@ -8,11 +8,11 @@ use borrow.Author.Needs.{needs}
 use Rattle.graph.specs.Graph.{Graph}
 use Rattle.reply.specs.Read.{refused, refusal}
 use Rattle.assembly.specs.Book.{Book, blockGraph, bookOf}
-use Rattle.products.specs.Library.{mostSites, libraryKind, siteAt, siteEnd, siteFault, sitesFrom}
+use Rattle.catalogue.specs.Library.{mostSites, libraryKind, siteAt, siteEnd, siteFault, sitesFrom}
 use Rattle.catalogue.specs.Said.{noSite, siteTable, saidSites}
 use Rattle.catalogue.specs.Table.{sitesIn, sites-grow, table-none, table-grow}
-use Rattle.products.specs.Sound.{stands}
-use Rattle.products.specs.declared.Site.{Site}
+use Rattle.catalogue.specs.Sound.{stands}
+use Rattle.catalogue.specs.declared.Site.{Site}
 use Rattle.catalogue.proofs.Turns.{left-over, none-over, wrong-site, next-site, sites-said}
 use Rattle.catalogue.proofs.sites.sites_from.Statement.{statement}
 use Rattle.catalogue.proofs.sites.sites_from.Tie as tie

@@ -4,7 +4,7 @@ use mathlib.Core.Path.{_≡_, refl, _∙_, subst}
 use native.Mathlib.Omega.{arith}
 use lib.ListN.{length, length-set}
 use borrow.Author.Needs.{needs}
-use Rattle.products.specs.Library.{mostSites}
+use Rattle.catalogue.specs.Library.{mostSites}
 use Rattle.library.proofs.Choosing.{Chosen, choose-next, choose-end}
 use Rattle.library.proofs.choice.choose.Statement.{statement}
 use Rattle.library.proofs.choice.choose.Tie as tie

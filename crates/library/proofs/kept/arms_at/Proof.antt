@@ -6,7 +6,7 @@ use lib.ListN.{length, take, getD, length-set}
 use borrow.Author.Needs.{needs}
 use Rattle.arms.specs.Arms.{noArm}
 use Rattle.arms.proofs.Keeping.{put-next}
-use Rattle.products.specs.Library.{mostSites}
+use Rattle.catalogue.specs.Library.{mostSites}
 use Rattle.catalogue.specs.Said.{noSite}
 use Rattle.library.specs.Kept.{armAt}
 use Rattle.library.proofs.kept.arms_at.Statement.{statement}

@@ -5,7 +5,7 @@ use native.Mathlib.Omega.{arith}
 use lib.ListN.{length, getD, length-set}
 use borrow.Author.Needs.{needs}
 use Rattle.arms.proofs.Keeping.{put-next, put-all}
-use Rattle.products.specs.Library.{mostSites}
+use Rattle.catalogue.specs.Library.{mostSites}
 use Rattle.catalogue.specs.Said.{noSite}
 use Rattle.library.specs.Kept.{atomsOf}
 use Rattle.library.proofs.kept.atoms_of.Statement.{statement}

@@ -4,7 +4,7 @@ use mathlib.Core.Path.{_≡_, _∙_, ap}
 use native.Mathlib.Omega.{arith}
 use lib.ListN.{length, getD}
 use Rattle.arms.specs.Arms.{stemOf}
-use Rattle.products.specs.Library.{mostSites, mostCandidates}
+use Rattle.catalogue.specs.Library.{mostSites, mostCandidates}
 use Rattle.catalogue.specs.Said.{noSite}
 use Rattle.library.specs.Held.{few, one, many, digits-low}
 use Rattle.library.specs.Turning.{staying}

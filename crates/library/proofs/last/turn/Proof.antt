@@ -7,9 +7,9 @@ use lib.ListN.{length, take, drop}
 use borrow.Author.Needs.{needs}
 use Rattle.arms.specs.Arms.{joinedTo}
 use Rattle.sheets.specs.Sheets.{sheetBytes}
-use Rattle.products.specs.Library.{Library}
-use Rattle.products.specs.Products.{products, productAt}
-use Rattle.products.specs.Fine.{few-products}
+use Rattle.catalogue.specs.Library.{Library}
+use Rattle.catalogue.specs.Products.{products, productAt}
+use Rattle.catalogue.specs.Fine.{few-products}
 use Rattle.library.specs.Steps.{Ran}
 use Rattle.library.specs.Turning.{Going, Turns}
 use Rattle.arms.specs.declared.Arm.{Arm}

@@ -6,8 +6,8 @@ use native.Mathlib.Omega.{arith}
 use lib.ListN.{length, set, length-set}
 use borrow.Author.Needs.{needs}
 use Rattle.arms.specs.Arms.{joinedTo}
-use Rattle.products.specs.Library.{Library}
-use Rattle.products.specs.Products.{productAt}
+use Rattle.catalogue.specs.Library.{Library}
+use Rattle.catalogue.specs.Products.{productAt}
 use Rattle.library.specs.Turning.{Turns}
 use Rattle.library.specs.Values.{valuesOf}
 use Rattle.library.specs.Filled.{Filled, filled-next}

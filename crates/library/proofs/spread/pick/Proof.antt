@@ -7,7 +7,7 @@ use lib.ListN.{length, getD, length-set}
 use borrow.Author.Needs.{needs}
 use Rattle.arms.specs.Arms.{noArm, rowArm}
 use Rattle.arms.proofs.Keeping.{put-next}
-use Rattle.products.specs.Library.{mostSites, mostCandidates}
+use Rattle.catalogue.specs.Library.{mostSites, mostCandidates}
 use Rattle.library.proofs.spread.pick.Statement.{statement}
 use Rattle.library.proofs.spread.pick.Tie as tie
 

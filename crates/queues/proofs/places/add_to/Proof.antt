@@ -3,7 +3,7 @@ use mathlib.Core.Path.{sym, _∙_, ap}
 use native.Mathlib.Omega.{arith}
 use Rattle.reply.specs.Read.{saidReply}
 use Rattle.reply.specs.Chain.{fine-read, refused-read}
-use Rattle.storage.specs.Shelf.{roomReply}
+use Rattle.queues.specs.Shelf.{roomReply}
 use Rattle.summary.specs.Layout.{summaryBytes}
 use Rattle.queues.proofs.Answers.{add-unroomed, added-unroomed, add-roomed, added-roomed, room-place}
 use borrow.Author.Needs.{needs}

@@ -6,7 +6,7 @@ use denote.Ref.{now}
 use lib.ListN.{length, length-set, replicate}
 use lib.Seq.{sets}
 use Rattle.queues.proofs.Steps.{clear-start, clear-one, clear-none}
-use Rattle.storage.specs.Table.{tableBytes, zeroed}
+use Rattle.queues.specs.Table.{tableBytes, zeroed}
 use Rattle.summary.specs.Layout.{summaryBytes}
 use borrow.Author.Needs.{needs}
 use Rattle.queues.proofs.places.clear.Statement.{statement}

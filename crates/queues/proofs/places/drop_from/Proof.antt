@@ -4,8 +4,8 @@ use mathlib.Core.Path.{sym, _∙_, ap}
 use native.Mathlib.Omega.{arith}
 use lib.Seq.{sets}
 use Rattle.reply.specs.Read.{saidReply}
-use Rattle.storage.specs.Shelf.{numberIn, zeroNumber}
-use Rattle.storage.specs.Storage.{held-place}
+use Rattle.queues.specs.Shelf.{numberIn, zeroNumber}
+use Rattle.queues.specs.Storage.{held-place}
 use Rattle.summary.specs.Layout.{summaryBytes}
 use Rattle.queues.proofs.Answers.{held-is, drop-none, drop-held, dropped-none, dropped-held}
 use borrow.Author.Needs.{needs}

@@ -3,8 +3,8 @@ use mathlib.Core.Path.{sym, _∙_, ap}
 use native.Mathlib.Omega.{arith}
 use Rattle.block.specs.Index.{saidIndices}
 use Rattle.block.specs.declared.IndicesReply.the-variants as measured
-use Rattle.storage.specs.Shelf.{numberIn}
-use Rattle.storage.specs.Storage.{held-place}
+use Rattle.queues.specs.Shelf.{numberIn}
+use Rattle.queues.specs.Storage.{held-place}
 use Rattle.summary.specs.Layout.{summaryBytes, storedFields}
 use Rattle.queues.proofs.Answers.{held-is, look-none, look-held}
 use borrow.Author.Needs.{needs}

@@ -2,7 +2,7 @@
 use Prim.Native.Nat.{_-_, _≤_}
 use mathlib.Core.Path.{_≡_, refl, sym, _∙_}
 use native.Mathlib.Omega.{arith}
-use Rattle.storage.specs.Shelf.{places, numberIn, placeHolding, seek}
+use Rattle.queues.specs.Shelf.{places, numberIn, placeHolding, seek}
 use Rattle.summary.specs.Layout.{summaryBytes}
 use Rattle.queues.proofs.Steps.{seek-here, seek-on, seek-over}
 use borrow.Author.Needs.{needs}

@@ -3,8 +3,8 @@ use Prim.Native.Nat.{_*_, _/_}
 use mathlib.Core.Path.{_≡_, _∙_}
 use native.Mathlib.Nat.{div-le-self, div-mul-cancel, dvd-of-mod-eq-zero}
 use native.Mathlib.Omega.{arith}
-use Rattle.paths.specs.Paths.{lcm}
-use Rattle.paths.specs.Lcm.{lcm-gcd, gcd-step, gcd-end}
+use Rattle.graph.specs.Paths.{lcm}
+use Rattle.graph.specs.Lcm.{lcm-gcd, gcd-step, gcd-end}
 use Rattle.shares.proofs.Tallying.{divisor-pos, product-fits}
 use Rattle.shares.proofs.common.common.Statement.{statement}
 use Rattle.shares.proofs.common.common.Tie as tie

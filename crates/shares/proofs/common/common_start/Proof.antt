@@ -2,7 +2,7 @@
 use Prim.Native.Nat.{ℕ, _+_, _-_, min, _≤_}
 use mathlib.Core.Path.{_≡_}
 use native.Mathlib.Omega.{arith}
-use Rattle.paths.specs.Paths.{lcmOver}
+use Rattle.graph.specs.Paths.{lcmOver}
 use Rattle.shares.specs.Work.{cap, Tally}
 use Rattle.shares.proofs.Tallying.{none-yet, taken-fits, taken-in}
 use Rattle.shares.proofs.common.common_start.Statement.{statement}

@@ -2,8 +2,8 @@
 use Prim.Native.Nat.{ℕ}
 use native.Mathlib.Nat.{mod-lt}
 use native.Mathlib.Omega.{arith}
-use Rattle.paths.specs.Notions.{Gcd}
-use Rattle.paths.specs.Lcm.{gcd-step, gcd-end}
+use Rattle.graph.specs.Notions.{Gcd}
+use Rattle.graph.specs.Lcm.{gcd-step, gcd-end}
 use Rattle.shares.proofs.common.gcd.Statement.{statement}
 use Rattle.shares.proofs.common.gcd.Tie as tie
 

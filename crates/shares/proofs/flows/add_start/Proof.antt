@@ -4,8 +4,8 @@ use mathlib.Core.List.{List}
 use mathlib.Core.Path.{_≡_, _∙_}
 use native.Mathlib.Omega.{arith}
 use Rattle.graph.specs.Graph.{Within}
-use Rattle.paths.specs.Paths.{pathCount}
-use Rattle.paths.specs.Notions.{weight, gathered, lcmStarts}
+use Rattle.graph.specs.Paths.{pathCount}
+use Rattle.graph.specs.Notions.{weight, gathered, lcmStarts}
 use Rattle.block.specs.Block.{graphOf}
 use Rattle.shares.specs.Work.{cap, full, at, CappedRow, Tally, WholeBlock, StartRows}
 use Rattle.shares.proofs.Tallying.{tally-of, start-next}

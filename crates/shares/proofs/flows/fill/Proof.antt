@@ -4,8 +4,8 @@ use mathlib.Core.Path.{_≡_, refl}
 use native.Mathlib.Omega.{arith}
 use borrow.Author.Needs.{needs}
 use lib.ListN.{length}
-use Rattle.paths.specs.Paths.{pathCount}
-use Rattle.paths.specs.Notions.{lcmStarts}
+use Rattle.graph.specs.Paths.{pathCount}
+use Rattle.graph.specs.Notions.{lcmStarts}
 use Rattle.block.specs.Block.{graphOf}
 use Rattle.shares.specs.Reply.{mostDenominator}
 use Rattle.shares.specs.Work.{cap, Sofar}

@@ -8,7 +8,7 @@ use lib.Dec.{lit<}
 use lib.ListN.{length, length-set}
 use Rattle.graph.specs.Graph.{Within}
 use Rattle.assembly.specs.Placements.{mostPlacements}
-use Rattle.tables.specs.Parts.{sixIn}
+use Rattle.joining.specs.Parts.{sixIn}
 use Rattle.joining.specs.Small.{SmallCounts, joined-small}
 use Rattle.summaries.specs.Ready.{placeIn, keptIn, joinsIn, sightOfRow, Counted}
 use Rattle.summaries.proofs.Ports.{row-at, small, own-small, block-room, six-room, from-small, six-next}
