@@ -20,6 +20,8 @@ pub mod Farthest
 pub mod Matching
 pub mod Assembly
 pub mod Sets
+pub mod Paths
+pub mod Notions
 pub mod Examples
 pub mod Bonds
 pub mod SetLaws
@@ -39,8 +41,6 @@ pub mod Climb
 pub mod Bounds
 pub mod Parts
 pub mod Table
-pub mod Paths
-pub mod Notions
 pub mod Steps
 pub mod Lcm
 pub mod Choices

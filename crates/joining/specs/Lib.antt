@@ -9,8 +9,10 @@
 -- | `grownOf`, `joinedOf`        | the joining rules, large numbers cut down                                  | `grown-small`, `joined-small`          |
 -- | `SmallCounts`, `SmallFields` | numbers that are not cut down                                              | `counted-small`, `held-room`           |
 pub mod Parts
+pub mod Joining
 pub mod Table
 pub mod Examples
+pub mod Small
 pub mod Rules
 pub mod Grow
 pub mod Whole
@@ -18,6 +20,4 @@ pub mod Written
 pub mod Climb
 pub mod Bounds
 pub mod Same
-pub mod Joining
-pub mod Small
 pub mod Unique

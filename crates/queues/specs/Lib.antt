@@ -19,7 +19,10 @@ pub mod Shelf
 pub mod Table
 pub mod Calls
 pub mod Model
+pub mod Queues
+pub mod Blocks
 pub mod Keeps
+pub mod Work
 pub mod Seeks
 pub mod Entries
 pub mod Storage
@@ -27,9 +30,6 @@ pub mod Room
 pub mod Kept
 pub mod OwnCalls
 pub mod Examples
-pub mod Queues
-pub mod Blocks
-pub mod Work
 pub mod Told
 pub mod Alone
 pub mod Unique

@@ -7,8 +7,8 @@
 -- | `Sheet`, `sheetKind`       | a sheet of five fields or of six, and the kind of its record                  | `sheet-stands`, `sheet-told`                  |
 -- | `recordReply kinds d at`   | refusals 11, 12, 13 of the record at a place                                  | `taken`: what holds of a record that is taken |
 pub mod Bytes
-pub mod Stored
 pub mod Records
+pub mod Stored
 pub mod Taken
 pub mod Longer
 pub mod Unique
