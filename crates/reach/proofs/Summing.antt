@@ -135,8 +135,12 @@ module _ (g : Graph) where
         near m i j w v = elim (decLt d (distance g i j)) [
           | yes q ↦
               let (u, a, z) = on-the-way s w j (distance-below m w v) (suc d) q in
-              absurd (omega (arith, tight (λ i j. short each d (distance g i j)) (λ i j. short each (suc d) (distance g i j)) (λ i j. more d (distance g i j)) e i u w a,
-              short-out each d (distance g i u) (omega arith), short-in each (suc d) (distance g i u) (omega arith)))
+              absurd (omega (
+                arith,
+                tight (λ i j. short each d (distance g i j)) (λ i j. short each (suc d) (distance g i j)) (λ i j. more d (distance g i j)) e i u w a,
+                short-out each d (distance g i u) (omega arith),
+                short-in each (suc d) (distance g i u) (omega arith),
+              ))
           | no q ↦ omega arith
         ]
 
@@ -144,9 +148,12 @@ module _ (g : Graph) where
     pub room : (d : ℕ) → d < n → Deep d → upTo g each d < n * n → suc d < n
     room d l deep h = elim (decLt (suc d) n) [
       | yes q ↦ q
-      | no q ↦ absurd (deep (λ i j w v e. omega (arith, all-met d (λ a b x y.
-        let to : (c : ℕ) → Within n c → distance g i c < n = all-on-the-way s w j (omega arith) in
-        omega (arith, walked s x (concat (reverse (walk-of-distance g i a (to a x))) (walk-of-distance g i b (to b y))) .1)))))
+      | no q ↦ absurd (deep (λ i j w v e. omega (
+        arith,
+        all-met d (λ a b x y.
+            let to : (c : ℕ) → Within n c → distance g i c < n = all-on-the-way s w j (omega arith) in
+            omega (arith, walked s x (concat (reverse (walk-of-distance g i a (to a x))) (walk-of-distance g i b (to b y))) .1)),
+      )))
     ]
 
     pub all-connected : (d : ℕ) → d < n → All d → connected g ≡ true
