@@ -4,7 +4,6 @@ use mathlib.Core.List.{List}
 use mathlib.Core.Path.{_≡_, refl, sym, ap, _∙_}
 use native.Mathlib.Numerals.{add-one}
 use native.Mathlib.Omega.{arith}
-use lib.ListN.{getD}
 use Rattle.graph.specs.Graph.{Within, sum, sumPairs, evenOf, oddOf}
 use Rattle.graph.specs.Sums.{sum-add, sum-cong}
 use Rattle.graph.specs.Parts.{parts-of}

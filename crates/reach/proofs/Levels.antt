@@ -18,7 +18,7 @@ use Rattle.graph.specs.Distance.{distance-self}
 use Rattle.graph.specs.Sums.{sum-cong, sum-const, sum-none, sumPairs-add, sumPairs-cong}
 use Rattle.reply.specs.Read.{read, refusal}
 use Rattle.reply.specs.declared.Refusal.{Refusal}
-use Rattle.block.specs.Block.{mostAtoms, graphOf, drawnReply, blockReply}
+use Rattle.block.specs.Block.{mostAtoms, graphOf, drawnReply}
 use Rattle.block.specs.Index.{indicesOf, indicesReply, saidIndices}
 use Rattle.block.specs.Near.{around}
 use Rattle.block.specs.Told.{block-drawn, drawn-atoms, drawn-sound}

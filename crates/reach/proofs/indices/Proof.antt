@@ -1,9 +1,7 @@
-use mathlib.Core.Path.{_≡_, refl, sym, _∙_}
+use mathlib.Core.Path.{sym, _∙_}
 use native.Mathlib.Omega.{arith}
 use borrow.Author.Needs.{needs}
-use Rattle.reply.specs.Read.{read}
 use Rattle.reply.specs.Chain.{fine-read, refused-read}
-use Rattle.block.specs.Block.{drawnReply}
 use Rattle.reach.proofs.Reply.{refused-reply}
 use Rattle.reach.proofs.indices.Statement.{statement}
 use Rattle.reach.proofs.indices.Tie as tie

@@ -68,7 +68,7 @@ same-length : tie.Need-same-length Inv-loop μ-loop
 same-length c = omega arith
 
 returns : tie.Need-returns Inv-loop μ-loop
-returns c = let t = c .before .before .before .before .before .before .before .before .before in (stuck _ _ (drawn-in t) (t .before .loop .inv .2) (more-in t) (found (c .before)) (c .if1 .taken), λ x e. absurd (not-of e))
+returns c = let t = c .before .before .before .before .before .before .before .before .before in (stuck _ _ (drawn-in t) (t .before .loop .inv .2) (more-in t) (found (c .before)) (omega (arith, c .if1 .taken)), λ x e. absurd (not-of e))
 
 count-requires : tie.Need-count-requires Inv-loop μ-loop
 count-requires c κs =
@@ -102,7 +102,7 @@ loop-again c =
     let p = t .before .before .before .before .before .pre in
     let l = t .before .loop .inv in
     let A = c .before .before .before .count .ensures in
-    (refl, omega (arith, A .size, l .1), rw (c .farther .ensures) (level-next _ _ (p .0) (l .2) (more-in t) (found (c .before .before .before .before .before .before .before)) (p .1) (c .before .before .before .before .before .before .if1 .left) _ A))
+    (refl, omega (arith, A .size, l .1), rw (c .farther .ensures) (level-next _ _ (p .0) (l .2) (more-in t) (found (c .before .before .before .before .before .before .before)) (p .1) (λ e. omega (arith, c .before .before .before .before .before .before .if1 .left)) _ A))
 
 -- in the end: no pair is left
 over : (c : tie.After-loop Inv-loop μ-loop) → let n = c .before .before .before .before .before .args .n in n * n ≤ c .before .loop .met
