@@ -20,7 +20,7 @@ use Rattle.reply.specs.declared.Reply.the-variants as reply
 use Rattle.block.specs.Block.{mostAtoms, graphOf, drawnReply, blockReply}
 use Rattle.block.specs.Index.{indicesOf, indicesReply, saidIndices}
 use Rattle.block.specs.Near.{around}
-use Rattle.block.specs.Opened.{neighboursOf, openedReply, saidOpened, drawnNear}
+use Rattle.block.specs.Opened.{neighboursOf, openedReply, saidOpened, nearAfter, drawnNear}
 use Rattle.block.specs.Rows.{noRow}
 use Rattle.block.specs.Told.{few-atoms, molecule, fine-drawn, drawn-refused}
 use Rattle.block.specs.declared.Indices.{Indices}
@@ -50,11 +50,11 @@ module _ (n : ℕ) (xs : List ℕ) where
       none : noRow ≡ saidOpened (blockReply n xs then λ _. read (neighboursOf (graphOf n xs))) .near
       none = rw (indices-refused n xs r (sym e))
 
-  pub open-fine : (x : Indices) → measured.Of x ≡ saidIndices (indicesReply n xs) → (near : List ℕ) → near ≡ drawnNear n xs → _≡_ {A = Taken} (record { reply = measured.Of x; near = near }) (takenOf n xs)
+  pub open-fine : (x : Indices) → measured.Of x ≡ saidIndices (indicesReply n xs) → (near old : List ℕ) → near ≡ drawnNear n xs old → _≡_ {A = Taken} (record { reply = measured.Of x; near = near }) (takenOf n xs)
   unfolding takenOf openedReply drawnNear
-  open-fine x e near q = λ i. record { reply = e i; near = (q ∙ same) i }
+  open-fine x e near old q = λ i. record { reply = e i; near = (q ∙ same) i }
     where
-      same : saidOpened (drawnReply n xs then λ _. read (neighboursOf (graphOf n xs))) .near ≡ saidOpened (blockReply n xs then λ _. read (neighboursOf (graphOf n xs))) .near
+      same : nearAfter (drawnReply n xs then λ _. read (neighboursOf (graphOf n xs))) old ≡ saidOpened (blockReply n xs then λ _. read (neighboursOf (graphOf n xs))) .near
       same = let f = indices-fine n xs x (sym e) .0 in rw (fine-drawn n xs f, f)
 
   module _ (fine : blockReply n xs ≡ read tt) where

@@ -186,7 +186,7 @@ fn summed(n: usize, bonds: &[u8], k: usize, reached: &mut [u64]) -> IndicesReply
 // The indices of a block, or its refusal; and lent what `block::drawn` says.
 fn indices(n: usize, bonds: &[u8], near: &mut Neighbours) -> IndicesReply
     ensures reply { λ r. ⌜ r ≡ saidIndices (indicesReply n (now (bonds .entry))) ⌝ }
-    ensures near { λ _. ⌜ now (near .exit) ≡ drawnNear n (now (bonds .entry)) ⌝ }
+    ensures near { λ _. ⌜ now (near .exit) ≡ drawnNear n (now (bonds .entry)) (now (near .entry)) ⌝ }
 {
     let reply = block::drawn(n, bonds, near);
     match reply {

@@ -17,7 +17,7 @@ returns : tie.Need-returns
 returns c = open-refused _ _ _ (sym (c .before .reply .given .1) ∙ c .before .before .before .indices .ensures .0)
 
 returns-2 : tie.Need-returns-2
-returns-2 c = let e = c .before .before .before .indices .ensures in open-fine _ _ _ (sym (c .before .reply2 .given .1) ∙ e .0) _ (e .1)
+returns-2 c = let e = c .before .before .before .indices .ensures in open-fine _ _ _ (sym (c .before .reply2 .given .1) ∙ e .0) _ _ (e .1)
 
 pub opened-spec : {M : Type 1} → statement M
 opened-spec = tie.close (tie.spec indices-requires enum-known-reply enum-known-reply-2 returns returns-2)
