@@ -129,6 +129,14 @@ fn fill_at(d: &[u8], b: BlockAt, book: &mut [u8], i: usize) -> Reply
     filling::fill(b.number, b.atoms as usize, bonds, &mut book[start..end])
 }
 
+// The block's refusal, with no summary.
+fn check_at(d: &[u8], b: BlockAt) -> Reply
+    ensures { λ r. ⌜ r ≡ saidReply (blockReply (b .atoms) (bondBytes (now (d .entry)) b)) ⌝ }
+{
+    let bonds = assembly::bonds_part(d, b);
+    block::check(b.atoms as usize, bonds)
+}
+
 // A block's reply at its place in the deck.
 fn block_moved(at: usize, reply: Reply) -> Reply
     requires { ⌜ (at ≤ longestDeck) × ((r : Refusal) → reply ≡ Refused r → r .place ≤ longestDeck) ⌝ }
@@ -163,6 +171,20 @@ fn block_reply(
         });
     }
     block_moved(at, fill_at(d, b, book, count))
+}
+
+// The same where the block is only checked.
+fn check_reply(d: &[u8], at: usize, b: BlockAt, blocks: BlockTable, count: usize) -> Reply
+    requires { ⌜ (count ≤ mostBlocks) × (b ≡ blockAt (now d) at) × (at ≤ longestDeck) × (length (now d) ≤ longestDeck) ⌝ }
+    ensures { λ r. ⌜ r ≡ saidReply (blockReplyAt (now (d .entry)) at (take count blocks)) ⌝ }
+{
+    if is_unfit(blocks, count, b.number as usize) {
+        return Reply::Refused(Refusal {
+            number: 14,
+            place: at,
+        });
+    }
+    block_moved(at, check_at(d, b))
 }
 
 // The second kind that may stand after `count` blocks.
@@ -227,6 +249,33 @@ fn read_blocks(d: &[u8], last: Kind, book: &mut [u8]) -> DeckRead
         }
         let b = block_at(d, next);
         let s = block_reply(d, next, b, blocks, count, book);
+        let Reply::Fine = s else {
+            return deck_refused(s);
+        };
+        blocks[count] = b;
+        count += 1;
+        next = next + HEAD + (le16_at(d, next) as usize);
+    }
+}
+
+// The same without a book: each block is only checked, which takes less stack than to open it.
+fn check_blocks(d: &[u8], last: Kind) -> DeckRead
+    requires { ⌜ length (now d) ≤ longestDeck ⌝ }
+    ensures { λ r. ⌜ r ≡ saidDeck (blocksReply last (now (d .entry))) ⌝ }
+{
+    let mut blocks = [NO_BLOCK; BLOCKS];
+    let mut count = 0;
+    let mut next = 0;
+    loop {
+        let r = record_at(d, next, BLOCK, second_kind(count, last));
+        let Reply::Fine = r else {
+            return deck_refused(r);
+        };
+        if le16_at(d, next + 2) != BLOCK.number {
+            return deck_at(d, blocks, count, next);
+        }
+        let b = block_at(d, next);
+        let s = check_reply(d, next, b, blocks, count);
         let Reply::Fine = s else {
             return deck_refused(s);
         };
@@ -326,7 +375,13 @@ pub fn open_book(d: &[u8], last: Kind, book: &mut [u8]) -> DeckRead
 pub fn open_deck(d: &[u8], last: Kind) -> DeckRead
     ensures { λ r. ⌜ r ≡ saidDeck (openReply last (now (d .entry))) ⌝ }
 {
-    open_book(d, last, &mut [0u8; 1])
+    if LONGEST < d.len() {
+        return deck_refused(Reply::Refused(Refusal {
+            number: 20,
+            place: 0,
+        }));
+    }
+    check_blocks(d, last)
 }
 
 // The payload of the block of a number among the first `count`, and nothing where there is no such block.

@@ -1,0 +1,77 @@
+-- `deck::check_reply` meets its contract. Assumes nothing.
+use mathlib.Core.Bool.{_||_}
+use mathlib.Core.List.{List}
+use mathlib.Core.Path.{_≡_, sym, ap, _∙_}
+use native.Mathlib.Omega.{arith}
+use lib.Dec.{eqb, leb}
+use lib.ListN.{length, take}
+use lib.Seq.{length-take-le}
+use borrow.Author.Needs.{needs}
+use Rattle.reply.specs.Read.{saidReply}
+use Rattle.reply.specs.Chain.{refused-read}
+use Rattle.block.specs.Block.{blockReply}
+use Rattle.assembly.specs.Book.{used, bondBytes, mostBlocks}
+use Rattle.assembly.specs.declared.BlockAt.{BlockAt}
+use Rattle.deck.specs.Deck.{blockAt, blockPlace}
+use Rattle.deck.specs.Said.{movedReply}
+use Rattle.deck.proofs.Turns.{unfit, number-unfit, number-fit, moved-said, place-low}
+use Rattle.deck.proofs.check_reply.Statement.{statement}
+use Rattle.deck.proofs.check_reply.Tie as tie
+
+abbrev done : tie.Start → List BlockAt
+done s = take (s .args .count) (s .args .blocks)
+
+counted : (s : tie.Start) → length (done s) ≡ s .args .count
+counted s = let n : length (s .args .blocks) ≡ mostBlocks = search needs in length-take-le (s .args .count) (s .args .blocks) (omega (arith, n, s .pre .0))
+
+unfit-is : (c : tie.After-is-unfit) → let s = c .before .before .before in c .is-unfit .result ≡ unfit (s .args .d .now) (s .args .at) (done s)
+unfit-is c = let s = c .before .before .before in
+    c .is-unfit .ensures ∙ ap (λ (b : BlockAt). eqb (b .number) 0 || used (done s) (b .number) || leb mostBlocks (length (done s))) (s .pre .1)
+
+-- what the block is told
+told-is : (c : tie.After-check-at) → let s = c .before .before .before .before .before in let b = blockAt (s .args .d .now) (s .args .at) in
+    c .check-at .result ≡ saidReply (blockReply (b .atoms) (bondBytes (s .args .d .now) b))
+told-is c = let s = c .before .before .before .before .before in
+    c .check-at .ensures ∙ ap (λ (b : BlockAt). saidReply (blockReply (b .atoms) (bondBytes (s .args .d .now) b))) (s .pre .1)
+
+cast-is-unfit : tie.Need-cast-is-unfit
+cast-is-unfit c = search needs
+
+is-unfit-requires : tie.Need-is-unfit-requires
+is-unfit-requires c κs = search needs
+
+returns : tie.Need-returns
+returns c = let s = c .before .before .before .before in
+    let e = number-unfit (s .args .d .now) (s .args .at) (done s) (sym (unfit-is (c .before)) ∙ c .if1 .taken) in
+    ap saidReply (sym e)
+
+check-at-requires : tie.Need-check-at-requires
+check-at-requires c κs = search needs
+
+block-moved-requires : tie.Need-block-moved-requires
+block-moved-requires c κs = let s = c .before .before .before .before .before in
+    (s .pre .2, λ r q. omega (arith, s .pre .3, place-low (s .args .d .now) (blockAt (s .args .d .now) (s .args .at)) r (refused-read _ r (sym (told-is c) ∙ q))))
+
+returns-2 : tie.Need-returns-2
+returns-2 c =
+    let k = c .before in
+    let s = k .before .before .before .before .before in
+    let d = s .args .d .now in
+    let at = s .args .at in
+    let b = blockAt d at in
+    let fit = sym (unfit-is (k .before .before)) ∙ k .before .if1 .left in
+    c .block-moved .ensures
+    ∙ ap (movedReply (blockPlace at)) (told-is k)
+    ∙ moved-said (blockPlace at) (blockReply (b .atoms) (bondBytes d b))
+    ∙ ap saidReply (sym (number-fit d at (done s) fit))
+
+pub check-reply-spec : {M : Type 1} → statement M
+check-reply-spec =
+    tie.close
+    (tie.spec
+    cast-is-unfit
+    is-unfit-requires
+    returns
+    check-at-requires
+    block-moved-requires
+    returns-2)
