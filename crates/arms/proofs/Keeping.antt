@@ -1,7 +1,7 @@
 -- A row that is filled place by place, and one arm more. Assumes nothing.
 use Prim.Native.Nat.{ℕ, _+_, _<_}
 use mathlib.Core.Bool.{Bool, true, false}
-use mathlib.Core.List.{List}
+use mathlib.Core.List.{List, [], _∷_}
 use mathlib.Core.Path.{_≡_, refl, sym, _∙_}
 use native.Mathlib.Numerals.{add-one}
 use native.Mathlib.Omega.{arith}
@@ -17,9 +17,10 @@ use Rattle.sighted.specs.Sighted.{stepsIn}
 use Rattle.sighted.specs.declared.Seen.{Seen}
 use Rattle.summary.specs.Layout.{storedFields, seenAt}
 use Rattle.joining.specs.Joining.{grownOf, joinedOf}
-use Rattle.arms.specs.Arms.{mostArms, noSeen, noArm, armIn, coreIn, sightFrom, sightOf, sixOf, stemOf}
+use Rattle.arms.specs.Arms.{mostArms, noPort, noArm, armIn, portIn, coreIn, sightFrom, sightOf, sixOf, stemOf}
 use Rattle.arms.specs.declared.Arm.{Arm}
 use Rattle.arms.specs.declared.Core.{Core}
+use Rattle.arms.specs.declared.Port.{Port}
 
 module _ {A : Type 0} (none : A) (f : ℕ → A) (l : List A) where
   pub put-next : (k : ℕ) (x : A) → k < length l → x ≡ f k → ((j : ℕ) → j < k → getD l j none ≡ f j) → (j : ℕ) → j < k + 1 → getD (set l k x) j none ≡ f j
@@ -35,18 +36,24 @@ module _ {A : Type 0} (none : A) (f : ℕ → A) (l : List A) where
 pub arm-kept : (s : List ℕ) (a : ℕ) (x : Indices) (y : Seen) → x ≡ storedFields s → y ≡ seenAt s a → record { six = x; end = y .counts } ≡ armIn s a
 arm-kept s a x y e q = rw (e, q)
 
-pub core-kept : (s atoms : List ℕ) (x : Indices) (ends : List Seen) → x ≡ storedFields s → length ends ≡ mostArms → ((j : ℕ) → j < mostArms → getD ends j noSeen ≡ seenAt s (getD atoms j 0))
-    → record { six = x; atoms = atoms; ends = ends } ≡ coreIn s atoms
+pub port-kept : (s atoms : List ℕ) (a : ℕ) (x : Seen) (d₀ d₁ d₂ d₃ : ℕ) → x ≡ seenAt s a
+    → d₀ ≡ stepsIn (x .row) (getD atoms 0 0) → d₁ ≡ stepsIn (x .row) (getD atoms 1 0) → d₂ ≡ stepsIn (x .row) (getD atoms 2 0) → d₃ ≡ stepsIn (x .row) (getD atoms 3 0)
+    → record { counts = x .counts; near = d₀ ∷ d₁ ∷ d₂ ∷ d₃ ∷ [] } ≡ portIn s atoms a
+unfolding portIn table
+port-kept s atoms a x d₀ d₁ d₂ d₃ e e₀ e₁ e₂ e₃ = rw (e₀, e₁, e₂, e₃) (rw e refl)
+
+pub core-kept : (s atoms : List ℕ) (x : Indices) (ends : List Port) → x ≡ storedFields s → length ends ≡ mostArms → ((j : ℕ) → j < mostArms → getD ends j noPort ≡ portIn s atoms (getD atoms j 0))
+    → record { six = x; ends = ends } ≡ coreIn s atoms
 unfolding coreIn
-core-kept s atoms x ends e n h = rw (e, put-all noSeen (λ k. seenAt s (getD atoms k 0)) ends mostArms n h)
+core-kept s atoms x ends e n h = rw (e, put-all noPort (λ k. portIn s atoms (getD atoms k 0)) ends mostArms n h)
 
 -- one arm more
-module _ (ends : List Seen) (arms : List Arm) (b : ℕ) (v₀ : Vertex) where
+module _ (ends : List Port) (arms : List Arm) (b : ℕ) (v₀ : Vertex) where
   pub sight-start : v₀ ≡ sightFrom ends arms b v₀ 0
   unfolding sightFrom
   sight-start = refl
 
-  pub sight-next : (m : ℕ) (v w : Vertex) (d : ℕ) → v ≡ sightFrom ends arms b v₀ m → d ≡ stepsIn (getD ends m noSeen .row) b → w ≡ grownOf v d (getD arms m noArm .end) → w ≡ sightFrom ends arms b v₀ (m + 1)
+  pub sight-next : (m : ℕ) (v w : Vertex) (d : ℕ) → v ≡ sightFrom ends arms b v₀ m → d ≡ getD (getD ends m noPort .near) b 0 → w ≡ grownOf v d (getD arms m noArm .end) → w ≡ sightFrom ends arms b v₀ (m + 1)
   unfolding sightFrom
   sight-next m v w d e q h = rw (add-one m) (h ∙ rw (e, q) refl)
 
@@ -55,9 +62,13 @@ module _ (core : Core) (arms : List Arm) where
   unfolding sixOf
   six-start = refl
 
+  pub sight-first : getD (core .ends) 0 noPort .counts ≡ sightOf core arms 0 0
+  unfolding sightFrom
+  sight-first = refl
+
   pub six-next : (k : ℕ) (x y : Indices) (v : Vertex) → x ≡ sixOf core arms k → v ≡ sightOf core arms k k → y ≡ joinedOf x (getD arms k noArm .six) v (getD arms k noArm .end) → y ≡ sixOf core arms (k + 1)
   unfolding sixOf
   six-next k x y v e q h = rw (add-one k) (h ∙ rw (e, q) refl)
 
-  pub stem-end : (k n m : ℕ) (x : Indices) (v : Vertex) → k ≡ n → n ≡ m → x ≡ sixOf core arms k → v ≡ sightOf core arms n n → record { six = x; from = v } ≡ stemOf core arms m
-  stem-end k n m x v e q h i = rw (h, i, e, q)
+  pub stem-end : (k m : ℕ) (x : Indices) (v : Vertex) → k ≡ m → x ≡ sixOf core arms k → v ≡ sightOf core arms k k → record { six = x; from = v } ≡ stemOf core arms m
+  stem-end k m x v e h i = rw (h, i, e)

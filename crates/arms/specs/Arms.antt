@@ -7,13 +7,12 @@ use lib.ListN.{getD, replicate}
 use Rattle.block.specs.Rows.{table}
 use Rattle.block.specs.declared.Indices.{Indices}
 use Rattle.block.specs.declared.Vertex.{Vertex}
-use Rattle.sighted.specs.Sighted.{stepsIn}
-use Rattle.sighted.specs.declared.Seen.{Seen}
-use Rattle.summary.specs.Layout.{summaryBytes, storedFields, seenAt, vertexAt}
+use Rattle.summary.specs.Layout.{summaryBytes, storedFields, vertexAt, farAt}
 use Rattle.filling.specs.Reply.{fillBytes}
 use Rattle.joining.specs.Joining.{grownOf, joinedOf}
 use Rattle.arms.specs.declared.Arm.{Arm}
 use Rattle.arms.specs.declared.Core.{Core}
+use Rattle.arms.specs.declared.Port.{Port}
 use Rattle.arms.specs.declared.Stem.{Stem}
 
 abbrev pub mostArms : ℕ
@@ -25,8 +24,8 @@ noVertex = record { sum = 0; even = 0; odd = 0; evens = 0; odds = 0; ones = 0; t
 abbrev pub noArm : Arm
 noArm = record { six = record { atoms = 0; w = 0; even = 0; odd = 0; polarity = 0; largest = 0 }; end = noVertex }
 
-abbrev pub noSeen : Seen
-noSeen = record { counts = noVertex; row = [] }
+abbrev pub noPort : Port
+noPort = record { counts = noVertex; near = [] }
 
 -- an arm in a row of numbers, and back
 abbrev pub armRow : Arm → List ℕ
@@ -52,8 +51,12 @@ rowArm r = record {
 abbrev pub armIn : List ℕ → ℕ → Arm
 armIn s a = record { six = storedFields s; end = vertexAt s a }
 
+-- one of the atoms where arms join: what is counted from it, and the numbers of steps to all of them
+unfoldable pub portIn : List ℕ → List ℕ → ℕ → Port
+portIn s atoms a = record { counts = vertexAt s a; near = table mostArms (λ j. farAt s a (getD atoms j 0)) }
+
 unfoldable pub coreIn : List ℕ → List ℕ → Core
-coreIn s atoms = record { six = storedFields s; atoms = atoms; ends = table mostArms (λ k. seenAt s (getD atoms k 0)) }
+coreIn s atoms = record { six = storedFields s; ends = table mostArms (λ k. portIn s atoms (getD atoms k 0)) }
 
 -- a block opened into an empty place, which stays empty where the block is refused
 unfoldable pub opened : ℕ → List ℕ → List ℕ
@@ -65,15 +68,18 @@ armOf n bonds a = armIn (opened n bonds) a
 abbrev pub coreOf : ℕ → List ℕ → List ℕ → Core
 coreOf n bonds atoms = coreIn (opened n bonds) atoms
 
--- what is counted from atom b of the core once the first m arms are joined, v being counted before
-unfoldable pub sightFrom : List Seen → List Arm → ℕ → Vertex → ℕ → Vertex
-sightFrom ends arms b v zero = v
-sightFrom ends arms b v (suc m) = grownOf (sightFrom ends arms b v m) (stepsIn (getD ends m noSeen .row) b) (getD arms m noArm .end)
+-- what is counted from the atom of arm k once the first m arms are joined, v being counted before
+unfoldable pub sightFrom : List Port → List Arm → ℕ → Vertex → ℕ → Vertex
+sightFrom ends arms k v zero = v
+sightFrom ends arms k v (suc m) = grownOf (sightFrom ends arms k v m) (getD (getD ends m noPort .near) k 0) (getD arms m noArm .end)
+
+abbrev pub sightAt : List Port → List Arm → ℕ → ℕ → Vertex
+sightAt ends arms m k = sightFrom ends arms k (getD ends k noPort .counts) m
 
 -- Of a core with its first m arms: what is counted from the atom of arm k, and the six fields.
 module _ (core : Core) (arms : List Arm) where
   abbrev pub sightOf : ℕ → ℕ → Vertex
-  sightOf m k = sightFrom (core .ends) arms (getD (core .atoms) k 0) (getD (core .ends) k noSeen .counts) m
+  sightOf m k = sightAt (core .ends) arms m k
 
   unfoldable pub sixOf : ℕ → Indices
   sixOf zero = core .six
@@ -87,7 +93,7 @@ abbrev pub joinedTo : Stem → Arm → Indices
 joinedTo s a = joinedOf (s .six) (a .six) (s .from) (a .end)
 
 -- The first arms alone say what the core with them is.
-pub sight-kept : (ends : List Seen) (as' bs : List Arm) (b : ℕ) (v : Vertex) (m : ℕ) → ((i : ℕ) → i < m → getD as' i noArm ≡ getD bs i noArm) → sightFrom ends as' b v m ≡ sightFrom ends bs b v m
+pub sight-kept : (ends : List Port) (as' bs : List Arm) (b : ℕ) (v : Vertex) (m : ℕ) → ((i : ℕ) → i < m → getD as' i noArm ≡ getD bs i noArm) → sightFrom ends as' b v m ≡ sightFrom ends bs b v m
 unfolding sightFrom
 sight-kept ends as' bs b v zero h = refl
 sight-kept ends as' bs b v (suc m) h = rw (sight-kept ends as' bs b v m (λ i l. h i (omega arith)), h m (omega arith))
@@ -96,10 +102,10 @@ pub six-kept : (c : Core) (as' bs : List Arm) (m : ℕ) → ((i : ℕ) → i < m
 unfolding sixOf
 six-kept c as' bs zero h = refl
 six-kept c as' bs (suc m) h =
-    rw (six-kept c as' bs m (λ i l. h i (omega arith)), sight-kept (c .ends) as' bs (getD (c .atoms) m 0) (getD (c .ends) m noSeen .counts) m (λ i l. h i (omega arith)), h m (omega arith))
+    rw (six-kept c as' bs m (λ i l. h i (omega arith)), sight-kept (c .ends) as' bs m (getD (c .ends) m noPort .counts) m (λ i l. h i (omega arith)), h m (omega arith))
 
 -- ONE ARM MORE: what the first m arms are joined to, with any arm
 pub stem-joined : (c : Core) (as' bs : List Arm) (m : ℕ) → ((i : ℕ) → i < m → getD as' i noArm ≡ getD bs i noArm) → joinedTo (stemOf c as' m) (getD bs m noArm) ≡ sixOf c bs (suc m)
 unfolding sixOf
 stem-joined c as' bs m h =
-    rw (six-kept c as' bs m h, sight-kept (c .ends) as' bs (getD (c .atoms) m 0) (getD (c .ends) m noSeen .counts) m h)
+    rw (six-kept c as' bs m h, sight-kept (c .ends) as' bs m (getD (c .ends) m noPort .counts) m h)

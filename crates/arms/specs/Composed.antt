@@ -1,23 +1,21 @@
 -- Laws. Arms joined one by one to a core give what composing gives for placements that are all joined to the first. Assumes nothing.
 use Prim.Native.Nat.{ℕ, zero, suc, _-_, _≤_, _<_}
 use mathlib.Core.List.{List}
-use mathlib.Core.Path.{_≡_, refl, sym, _∙_, ap, ap₂}
+use mathlib.Core.Path.{_≡_, refl, sym, _∙_, ap}
 use native.Mathlib.Omega.{arith}
 use lib.ListN.{getD}
 use Rattle.graph.specs.Assembly.{Join}
 use Rattle.block.specs.declared.Indices.{Indices}
 use Rattle.block.specs.declared.Vertex.{Vertex}
-use Rattle.sighted.specs.Sighted.{stepsIn}
-use Rattle.sighted.specs.declared.Seen.{Seen}
 use Rattle.joining.specs.Parts.{Part, grow, joinSix, farIn, sightIn, sixIn}
 use Rattle.joining.specs.Whole.{far-old, sight-old}
 use Rattle.joining.specs.Bounds.{SmallPart, SixBytes, held-bytes, sight-held, six-held}
 use Rattle.joining.specs.Joining.{grownOf, joinedOf}
 use Rattle.joining.specs.Small.{SmallCounts, grown-small, joined-small}
-use Rattle.summary.specs.Layout.{storedFields, seenAt, keptOf}
+use Rattle.summary.specs.Layout.{storedFields, vertexAt, farAt, keptOf}
 use Rattle.summaries.proofs.Small.{vertex-bytes, far-few}
 use Rattle.summaries.proofs.Ports.{small-held, room-held, room-bytes}
-use Rattle.arms.specs.Arms.{mostArms, noSeen, noArm, armIn, sightFrom, sightOf, sixOf}
+use Rattle.arms.specs.Arms.{mostArms, noPort, noArm, armIn, sightFrom, sightOf, sixOf}
 use Rattle.arms.specs.declared.Arm.{Arm}
 use Rattle.arms.specs.declared.Core.{Core}
 
@@ -27,8 +25,8 @@ pub record Keeps (s : ℕ → List ℕ) (joins : ℕ → Join) (n : ℕ) (core :
   pub small : (k : ℕ) → SixBytes (storedFields (s k))
   pub first : (k : ℕ) → k < n → joins (suc k) .parent ≡ 1
   pub six : core .six ≡ storedFields (s 0)
-  pub seen : (k : ℕ) → k < n → getD (core .ends) k noSeen ≡ seenAt (s 0) (joins (suc k) .site)
-  pub sites : (k : ℕ) → k < n → getD (core .atoms) k 0 ≡ joins (suc k) .site
+  pub sights : (k : ℕ) → k < n → getD (core .ends) k noPort .counts ≡ vertexAt (s 0) (joins (suc k) .site)
+  pub near : (m k : ℕ) → m < n → k < n → getD (getD (core .ends) m noPort .near) k 0 ≡ farAt (s 0) (joins (suc m) .site) (joins (suc k) .site)
   pub ends : (k : ℕ) → k < n → getD arms k noArm ≡ armIn (s (suc k)) (joins (suc k) .own)
 
 grown-same : {v w o p : Vertex} {d e : ℕ} → v ≡ w → d ≡ e → o ≡ p → grownOf v d o ≡ grownOf w e p
@@ -65,9 +63,9 @@ module _ {s : ℕ → List ℕ} {joins : ℕ → Join} {n : ℕ} {core : Core} {
 
   pub sight-composed : (m : ℕ) → m ≤ n → (k : ℕ) → k < n → sightOf core arms m k ≡ sightIn parts joins m 0 (joins (suc k) .site)
   unfolding sightFrom sightIn
-  sight-composed zero h k l = ap (λ (x : Seen). x .counts) (t .seen k l)
+  sight-composed zero h k l = t .sights k l
   sight-composed (suc m) h k l =
-      grown-same (sight-composed m (omega arith) k l) (ap₂ (λ (x : Seen) (b : ℕ). stepsIn (x .row) b) (t .seen m (omega arith)) (t .sites k l)) (ap (λ (x : Arm). x .end) (t .ends m (omega arith)))
+      grown-same (sight-composed m (omega arith) k l) (t .near m k (omega arith) l) (ap (λ (x : Arm). x .end) (t .ends m (omega arith)))
       ∙ (grown-small (counts m (joins (suc k) .site) (omega arith)) (omega (arith, far-few (s 0) (joins (suc m) .site) (joins (suc k) .site))) (own-counts (suc m) (joins (suc m) .own))
       ∙ sight-next m (joins (suc k) .site) (omega arith))
 

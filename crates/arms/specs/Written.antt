@@ -3,7 +3,7 @@
 use Prim.Native.Nat.{ℕ, suc, _+_, _-_, _≤_, _<_}
 use mathlib.Core.Bool.{true}
 use mathlib.Core.List.{List}
-use mathlib.Core.Path.{_≡_, refl, _∙_, ap}
+use mathlib.Core.Path.{_≡_, refl, _∙_, ap, ap₂}
 use native.Mathlib.Decide.{decLt}
 use native.Mathlib.Nat.{mul-le-mul}
 use native.Mathlib.Omega.{arith}
@@ -26,16 +26,17 @@ use Rattle.assembly.specs.declared.BlockAt.{BlockAt}
 use Rattle.joining.specs.Bounds.{SixBytes}
 use Rattle.joining.specs.Table.{tableOf, Told}
 use Rattle.joining.specs.Written.{fields-written}
-use Rattle.summary.specs.Layout.{summaryBytes, storedFields, seenAt, keptOf}
+use Rattle.summary.specs.Layout.{summaryBytes, storedFields, vertexAt, farAt, keptOf}
 use Rattle.summary.specs.Summary.{summaryOf}
 use Rattle.summary.specs.Back.{summary-fits, fields-told, summary-told}
 use Rattle.summaries.specs.Ready.{LentBytes}
 use Rattle.summaries.proofs.Ports.{fields-bytes}
 use Rattle.filling.specs.Reply.{fillReply, filledSummary, fillBytes}
-use Rattle.arms.specs.Arms.{mostArms, noSeen, noArm, coreIn, opened, armOf, sixOf}
+use Rattle.arms.specs.Arms.{mostArms, noPort, noArm, portIn, coreIn, opened, armOf, sixOf}
 use Rattle.arms.specs.Composed.{Keeps, six-composed}
 use Rattle.arms.specs.declared.Arm.{Arm}
 use Rattle.arms.specs.declared.Core.{Core}
+use Rattle.arms.specs.declared.Port.{Port}
 
 -- a block opened into a place
 module _ (n : ℕ) (bonds : List ℕ) where
@@ -103,18 +104,22 @@ pub record ArmsOf (d : List ℕ) (bs : List BlockAt) (xs atoms : List ℕ) (n : 
   pub ends : (k : ℕ) → k < n → let b = find bs (placementAt xs (suc k) .block) in getD arms k noArm ≡ armOf (b .atoms) (bondBytes d b) (placementAt xs (suc k) .own)
 
 module _ {d : List ℕ} {bs : List BlockAt} {xs atoms : List ℕ} {n : ℕ} {core : Core} {arms : List Arm} (t : ArmsOf d bs xs atoms n core arms) where
+  port : (k : ℕ) → k < mostArms → getD (core .ends) k noPort ≡ portIn (openedAt d bs xs 0) atoms (getD atoms k 0)
+  unfolding coreIn
+  port k h = ap (λ (c : Core). getD (c .ends) k noPort) (t .kept) ∙ getD-table mostArms (λ i. portIn (openedAt d bs xs 0) atoms (getD atoms i 0)) k noPort h
+
   keeps : Keeps (openedAt d bs xs) (joinOn (placementAt xs)) n core arms
-  unfolding coreIn joinOf
+  unfolding coreIn portIn joinOf
   keeps = record {
     few = t .few;
     small = λ k. let b = find bs (placementAt xs k .block) in opened-small (b .atoms) (bondBytes d b);
     first = t .first;
     six = ap (λ (c : Core). c .six) (t .kept);
-    seen = λ k h.
-        ap (λ (c : Core). getD (c .ends) k noSeen) (t .kept)
-        ∙ getD-table mostArms (λ i. seenAt (openedAt d bs xs 0) (getD atoms i 0)) k noSeen (omega (arith, t .few))
-        ∙ ap (seenAt (openedAt d bs xs 0)) (t .sites k h);
-    sites = λ k h. ap (λ (c : Core). getD (c .atoms) k 0) (t .kept) ∙ t .sites k h;
+    sights = λ k h. ap (λ (x : Port). x .counts) (port k (omega (arith, t .few))) ∙ ap (vertexAt (openedAt d bs xs 0)) (t .sites k h);
+    near = λ m k i h.
+        ap (λ (x : Port). getD (x .near) k 0) (port m (omega (arith, t .few)))
+        ∙ getD-table mostArms (λ j. farAt (openedAt d bs xs 0) (getD atoms m 0) (getD atoms j 0)) k 0 (omega (arith, t .few))
+        ∙ ap₂ (farAt (openedAt d bs xs 0)) (t .sites m i) (t .sites k h);
     ends = t .ends;
   }
 

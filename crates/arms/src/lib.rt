@@ -1,18 +1,20 @@
 // A core and arms, each joined by a bond to an atom of the core: composed arm by arm, so that the first arms can stay while the last one turns.
 use block::ATOMS;
+use block::DistanceRow;
 use block::Indices;
 use block::Vertex;
 use filling::fill;
 use joining::grown;
-use sighted::Seen;
-use sighted::steps;
+use reply::is_outside;
+use reply::wide;
 use summary::SUMMARY;
 use summary::fields;
 use summary::seen;
 ghost use mathlib.Core.Path.{_≡_};
 ghost use Prim.Native.Nat.{_<_, min};
+ghost use Rattle.sighted.specs.Sighted.{stepsIn};
 ghost use Rattle.filling.specs.Reply.{fillBytes};
-ghost use Rattle.arms.specs.Arms.{mostArms, armRow, rowArm, armIn, armOf, coreIn, coreOf, sightOf, stemOf, joinedTo};
+ghost use Rattle.arms.specs.Arms.{mostArms, armRow, rowArm, armIn, armOf, portIn, coreIn, coreOf, sightAt, stemOf, joinedTo};
 
 // The most arms of a core.
 pub const ARMS: usize = 4;
@@ -35,11 +37,6 @@ const NO_VERTEX: Vertex = Vertex {
     ones: 0,
     twos: 0,
     farthest: 0,
-};
-
-const NO_SEEN: Seen = Seen {
-    counts: NO_VERTEX,
-    row: [0u8; ATOMS],
 };
 
 // What is kept of a block as an arm: its fields, and what is counted from the atom where it joins.
@@ -103,11 +100,21 @@ pub fn row_arm(row: ArmRow) -> Arm
     Arm { six, end }
 }
 
-// What is kept of a block as the core: its fields, the atoms where arms join, and what is seen from each of them.
+// What is kept of an atom of the core where an arm joins: what is counted from it, and the number of steps to the atom of each arm.
+pub struct Port {
+    pub counts: Vertex,
+    pub near: [u8; ARMS],
+}
+
+const NO_PORT: Port = Port {
+    counts: NO_VERTEX,
+    near: [0u8; ARMS],
+};
+
+// What is kept of a block as the core: its fields, and the atoms where arms join.
 pub struct Core {
     pub six: Indices,
-    pub atoms: [u8; ARMS],
-    pub ends: [Seen; ARMS],
+    pub ends: [Port; ARMS],
 }
 
 // The running summary of a core with its first arms: the fields, and what is counted from the atom where the next arm joins.
@@ -148,17 +155,43 @@ pub fn arm_of(n: usize, bonds: &[u8], a: usize) -> Arm
     opened_arm(n, bonds, a, &mut [0u8; SUMMARY])
 }
 
+// The number of steps to atom b that a row says, as it stands there; 0 where there is no such atom.
+fn step_to(row: &DistanceRow, b: usize) -> u8
+    ensures { λ r. ⌜ r ≡ stepsIn (now (row .entry)) b ⌝ }
+{
+    if is_outside(ATOMS, b) {
+        return 0;
+    }
+    row[b - 1]
+}
+
+// Of the four atoms where arms join, what is kept of one: all from one search.
+fn port_in(s: &[u8], atoms: [u8; ARMS], a: usize) -> Port
+    ensures { λ r. ⌜ r ≡ portIn (now (s .entry)) atoms a ⌝ }
+{
+    let all = seen(s, a);
+    let row = all.row;
+    let near = [
+        step_to(&row, atoms[0] as usize),
+        step_to(&row, atoms[1] as usize),
+        step_to(&row, atoms[2] as usize),
+        step_to(&row, atoms[3] as usize),
+    ];
+    let counts = all.counts;
+    Port { counts, near }
+}
+
 fn core_in(s: &[u8], atoms: [u8; ARMS]) -> Core
     ensures { λ r. ⌜ r ≡ coreIn (now (s .entry)) atoms ⌝ }
 {
     let six = fields(s);
-    let mut ends = [NO_SEEN; ARMS];
+    let mut ends = [NO_PORT; ARMS];
     let mut k: usize = 0;
     while k < ARMS {
-        ends[k] = seen(s, atoms[k] as usize);
+        ends[k] = port_in(s, atoms, atoms[k] as usize);
         k += 1;
     }
-    Core { six, atoms, ends }
+    Core { six, ends }
 }
 
 fn opened_core(n: usize, bonds: &[u8], atoms: [u8; ARMS], place: &mut [u8]) -> Core
@@ -176,21 +209,18 @@ pub fn core_of(n: usize, bonds: &[u8], atoms: [u8; ARMS]) -> Core
 }
 
 // What is counted from the atom of arm k once the arms before it are joined.
-fn sight(core: Core, arms: [Arm; ARMS], k: usize) -> Vertex
+fn sight(ends: [Port; ARMS], arms: [Arm; ARMS], k: usize) -> Vertex
     requires { ⌜ k < mostArms ⌝ }
-    ensures { λ r. ⌜ r ≡ sightOf core arms k k ⌝ }
+    ensures { λ r. ⌜ r ≡ sightAt ends arms k k ⌝ }
 {
-    let ends = core.ends;
-    let atoms = core.atoms;
-    let b = atoms[k] as usize;
     let own = ends[k];
     let mut v = own.counts;
     let mut m: usize = 0;
     while m < k {
         let end = ends[m];
         let arm = arms[m];
-        let row = end.row;
-        let d = steps(&row, b);
+        let near = end.near;
+        let d = wide(near[k]);
         let next = grown(v, d, arm.end);
         v = next;
         m += 1;
@@ -212,15 +242,18 @@ pub fn stem_of(core: Core, arms: [Arm; ARMS], m: usize) -> Stem
     ensures { λ r. ⌜ r ≡ stemOf core arms (min m 3) ⌝ }
 {
     let n = within(m);
+    let ends = core.ends;
+    let first = ends[0];
+    let mut from = first.counts;
     let mut six = core.six;
     let mut k: usize = 0;
     while k < n {
         let arm = arms[k];
-        let from = sight(core, arms, k);
         let next = joining::joined(six, arm.six, from, arm.end);
         six = next;
         k += 1;
+        let turned = sight(ends, arms, k);
+        from = turned;
     }
-    let from = sight(core, arms, n);
     Stem { six, from }
 }

@@ -167,8 +167,9 @@ pub fn degree_of(bonds: &[u8], a: u8) -> usize
     let mut total = 0;
     let mut i = 0;
     while 2 <= bonds.len() - i {
-        total = total
-            + (one_if(true, byte_at(bonds, i) == a) + one_if(true, byte_at(bonds, i + 1) == a));
+        let first = bonds[i];
+        let second = bonds[i + 1];
+        total = total + (one_if(true, first == a) + one_if(true, second == a));
         i += 2;
     }
     total

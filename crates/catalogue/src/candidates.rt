@@ -10,8 +10,9 @@ use records::byte_at;
 use records::le16_at;
 use reply::is_outside;
 ghost use mathlib.Core.Path.{_≡_};
-ghost use Prim.Native.Nat.{_≤_};
+ghost use Prim.Native.Nat.{ℕ, _≤_};
 ghost use lib.ListN.{length, take};
+ghost use Rattle.graph.specs.Graph.{Graph};
 ghost use Rattle.assembly.specs.Book.{blockGraph, bookOf};
 ghost use Rattle.catalogue.specs.Library.{isFullIn, candidateFault, candidatesFault};
 
@@ -26,19 +27,19 @@ fn is_full(d: &[u8], b: BlockAt, a: u8) -> bool
     LIMIT <= degree_of(bonds, a)
 }
 
-// What is wrong with the candidate at a place, for the site at an atom of the core: 13, 16, 18, 19, or 0.
+// What is wrong with the candidate at a place, for a site at an atom of the core that is full or not: 13, 16, 18, 19, or 0.
 fn candidate_fault(
     d: &[u8],
     blocks: BlockTable,
     count: usize,
-    core: BlockAt,
-    atom: u8,
+    full: bool,
     xs: &[u8],
     p: usize,
 ) -> usize
     requires { ⌜ p ≤ length (now xs) ⌝ }
     ensures { λ r. ⌜
-        r ≡ candidateFault (bookOf (now (d .entry)) (take count blocks)) (blockGraph (now (d .entry)) core) (now (xs .entry)) atom p
+        ((core : Graph) (atom : ℕ) → full ≡ isFullIn core atom
+        → r ≡ candidateFault (bookOf (now (d .entry)) (take count blocks)) core (now (xs .entry)) atom p)
         ⌝ }
 {
     if xs.len() < p + CANDIDATE {
@@ -53,7 +54,7 @@ fn candidate_fault(
     if is_outside(b.atoms as usize, own as usize) {
         return 18;
     }
-    if is_full(d, core, atom) {
+    if full {
         return 19;
     }
     if is_full(d, b, own) {
@@ -62,7 +63,7 @@ fn candidate_fault(
     0
 }
 
-// What is wrong with the first wrong one of some candidates from a place on, or 0.
+// What is wrong with the first wrong one of some candidates from a place on, or 0. The site's own atom is looked at once for all of them.
 pub(crate) fn candidates_fault(
     d: &[u8],
     blocks: BlockTable,
@@ -79,10 +80,11 @@ pub(crate) fn candidates_fault(
         (now (xs .entry)) atom many first
         ⌝ }
 {
+    let full = is_full(d, core, atom);
     let mut left = many;
     let mut p = first;
     while 0 < left {
-        let f = candidate_fault(d, blocks, count, core, atom, xs, p);
+        let f = candidate_fault(d, blocks, count, full, xs, p);
         if f != 0 {
             return f;
         }

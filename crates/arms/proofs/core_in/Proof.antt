@@ -4,14 +4,13 @@ use mathlib.Core.Path.{_≡_, refl, _∙_}
 use native.Mathlib.Omega.{arith}
 use lib.ListN.{length, getD, length-set}
 use borrow.Author.Needs.{needs}
-use Rattle.summary.specs.Layout.{seenAt}
-use Rattle.arms.specs.Arms.{mostArms, noSeen}
+use Rattle.arms.specs.Arms.{mostArms, noPort, portIn}
 use Rattle.arms.proofs.Keeping.{put-next, core-kept}
 use Rattle.arms.proofs.core_in.Statement.{statement}
 use Rattle.arms.proofs.core_in.Tie as tie
 
 abbrev Inv-loop : tie.InvT-loop
-Inv-loop s atoms six ends₀ k₀ ends k = (length ends ≡ mostArms) × (k ≤ mostArms) × ((j : ℕ) → j < k → getD ends j noSeen ≡ seenAt s (getD atoms j 0))
+Inv-loop s atoms six ends₀ k₀ ends k = (length ends ≡ mostArms) × (k ≤ mostArms) × ((j : ℕ) → j < k → getD ends j noPort ≡ portIn s atoms (getD atoms j 0))
 
 abbrev μ-loop : tie.MeasureT-loop
 μ-loop s atoms six ends₀ k₀ ends k = mostArms - k
@@ -22,14 +21,14 @@ fields-requires c κs = search needs
 loop-holds : tie.Need-loop-holds Inv-loop μ-loop
 loop-holds c = (refl, omega arith, λ j h. absurd (omega arith))
 
-array-read-seen : tie.Need-array-read-seen Inv-loop μ-loop
-array-read-seen c = search needs
+array-read-port-in : tie.Need-array-read-port-in Inv-loop μ-loop
+array-read-port-in c = search needs
 
-cast-seen : tie.Need-cast-seen Inv-loop μ-loop
-cast-seen c = search needs
+cast-port-in : tie.Need-cast-port-in Inv-loop μ-loop
+cast-port-in c = search needs
 
-seen-requires : tie.Need-seen-requires Inv-loop μ-loop
-seen-requires c κs = search needs
+port-in-requires : tie.Need-port-in-requires Inv-loop μ-loop
+port-in-requires c κs = search needs
 
 mul-ends : tie.Need-mul-ends Inv-loop μ-loop
 mul-ends c = search needs
@@ -49,7 +48,7 @@ loop-again c =
     let a = c .before .before .before .before .before .args in (
       length-set (l .ends) (l .k) _ ∙ l .inv .0,
       omega arith,
-      put-next noSeen (λ (j : ℕ). seenAt (a .s .now) (getD (a .t2) j 0)) (l .ends) (l .k) _ (omega (arith, l .inv .0)) (c .seen .ensures) (l .inv .2),
+      put-next noPort (λ (j : ℕ). portIn (a .s .now) (a .t2) (getD (a .t2) j 0)) (l .ends) (l .k) _ (omega (arith, l .inv .0)) (c .port-in .ensures) (l .inv .2),
     )
 
 returns : tie.Need-returns Inv-loop μ-loop
@@ -65,9 +64,9 @@ core-in-spec =
     μ-loop
     fields-requires
     loop-holds
-    array-read-seen
-    cast-seen
-    seen-requires
+    array-read-port-in
+    cast-port-in
+    port-in-requires
     mul-ends
     array-set-from-ends
     add-k

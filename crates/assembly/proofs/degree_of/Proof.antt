@@ -1,9 +1,7 @@
 -- `assembly::degree_of` meets its contract. The loop's invariant: the total and the ends among the bytes that are left are all ends. Assumes nothing.
-use Prim.Native.Nat.{ℕ, _+_, _-_, _≤_}
-use mathlib.Core.Bool.{cond}
-use mathlib.Core.Path.{_≡_, ap, _∙_}
+use Prim.Native.Nat.{_+_, _-_, _≤_}
+use mathlib.Core.Path.{_≡_}
 use native.Mathlib.Omega.{arith}
-use lib.Dec.{eqb}
 use lib.ListN.{length, drop}
 use borrow.Author.Needs.{needs}
 use Rattle.graph.specs.Graph.{degree}
@@ -24,17 +22,17 @@ loop-holds c = (omega arith, omega arith, omega arith)
 sub-loop : tie.Need-sub-loop Inv-loop μ-loop
 sub-loop c = search needs
 
-byte-at-requires : tie.Need-byte-at-requires Inv-loop μ-loop
-byte-at-requires c κs = search needs
+shared-slice-read-first : tie.Need-shared-slice-read-first Inv-loop μ-loop
+shared-slice-read-first c = search needs
+
+add-second : tie.Need-add-second Inv-loop μ-loop
+add-second c = search needs
+
+shared-slice-read-second : tie.Need-shared-slice-read-second Inv-loop μ-loop
+shared-slice-read-second c = search needs
 
 one-if-requires : tie.Need-one-if-requires Inv-loop μ-loop
 one-if-requires c κs = search needs
-
-add-byte-at : tie.Need-add-byte-at Inv-loop μ-loop
-add-byte-at c = search needs
-
-byte-at-requires-2 : tie.Need-byte-at-requires-2 Inv-loop μ-loop
-byte-at-requires-2 c κs = search needs
 
 one-if-requires-2 : tie.Need-one-if-requires-2 Inv-loop μ-loop
 one-if-requires-2 c κs = search needs
@@ -54,9 +52,7 @@ loop-less c = search needs
 loop-again : tie.Need-loop-again Inv-loop μ-loop
 loop-again c = let l = c .before .before .before .before .before in
     let a = l .before .before .args in
-    let one = c .before .before .one-if .ensures .0 ∙ ap (λ (x : ℕ). cond {A = ℕ} (eqb x (a .a)) 1 0) (c .before .before .before .byte-at .ensures) in
-    let two = c .one-if2 .ensures .0 ∙ ap (λ (x : ℕ). cond {A = ℕ} (eqb x (a .a)) 1 0) (c .before .byte-at2 .ensures) in
-    (omega (arith, one, two, degree-next (a .bonds .now) (l .loop .i) (a .a) (omega arith)), omega arith, omega arith)
+    (omega (arith, c .before .one-if .ensures .0, c .one-if2 .ensures .0, degree-next (a .bonds .now) (l .loop .i) (a .a) (omega arith)), omega arith, omega arith)
 
 returns : tie.Need-returns Inv-loop μ-loop
 returns c = let l = c .before in
@@ -71,10 +67,10 @@ degree-of-spec =
     μ-loop
     loop-holds
     sub-loop
-    byte-at-requires
+    shared-slice-read-first
+    add-second
+    shared-slice-read-second
     one-if-requires
-    add-byte-at
-    byte-at-requires-2
     one-if-requires-2
     add-total
     add-total-2

@@ -1,5 +1,5 @@
 -- `catalogue::candidates::candidate_fault` meets its contract. Assumes nothing.
-use Prim.Native.Nat.{_+_, _≤_}
+use Prim.Native.Nat.{ℕ, _+_, _≤_}
 use mathlib.Core.Bool.{true, false}
 use mathlib.Core.Path.{_≡_, sym, _∙_, ap, ap₂}
 use borrow.Author.Tests.{not-true, not-false}
@@ -15,9 +15,6 @@ use Rattle.catalogue.proofs.candidates.candidate_fault.Tie as tie
 
 abbrev book : tie.Start → Book
 book s = bookOf (s .args .d .now) (take (s .args .count) (s .args .blocks))
-
-abbrev core : tie.Start → Graph
-core s = blockGraph (s .args .d .now) (s .args .core)
 
 whole : (c : tie.Else1) → let a = c .before .before .before .args in a .p + candidateBytes ≤ length (a .xs .now)
 whole c = c .if1 .left
@@ -39,15 +36,15 @@ inside : (c : tie.Else3) → let s = c .before .before .before .before .before .
     isOutside (book s .graph n .atoms) (candidateAtom (s .args .xs .now) (s .args .p)) ≡ false
 inside c = sym (outside (c .before)) ∙ c .if3 .left
 
-own-full : (c : tie.After-is-full2) → let s = c .before .before .before .before .before .before .before .before .before .before .before .before .before .before in let n = candidateNumber (s .args .xs .now) (s .args .p) in
-    c .is-full2 .result ≡ isFullIn (book s .graph n) (candidateAtom (s .args .xs .now) (s .args .p))
-own-full c = c .is-full2 .ensures ∙ ap₂ isFullIn (block (c .before .before .before .before .before .before .before .before .before)) (c .before .before .before .before .before .before .byte-at .ensures)
+own-full : (c : tie.After-is-full) → let s = c .before .before .before .before .before .before .before .before .before .before .before .before .before in let n = candidateNumber (s .args .xs .now) (s .args .p) in
+    c .is-full .result ≡ isFullIn (book s .graph n) (candidateAtom (s .args .xs .now) (s .args .p))
+own-full c = c .is-full .ensures ∙ ap₂ isFullIn (block (c .before .before .before .before .before .before .before .before)) (c .before .before .before .before .before .byte-at .ensures)
 
 add-if1 : tie.Need-add-if1
 add-if1 c = search needs
 
 returns : tie.Need-returns
-returns c = let s = c .before .before .before in let a = s .args in sym (candidate-cut (book s) (core s) (a .xs .now) (a .atom) (a .p) (c .if1 .taken))
+returns c = let s = c .before .before .before in let a = s .args in λ core atom e. sym (candidate-cut (book s) core (a .xs .now) atom (a .p) (c .if1 .taken))
 
 le16-at-requires : tie.Need-le16-at-requires
 le16-at-requires c κs = search needs
@@ -62,7 +59,7 @@ is-numbered-requires : tie.Need-is-numbered-requires
 is-numbered-requires c κs = search needs
 
 returns-2 : tie.Need-returns-2
-returns-2 c = let s = c .before .before .before .before .before .before .before in let a = s .args in sym (candidate-none (book s) (core s) (a .xs .now) (a .atom) (a .p) (whole (c .before .before .before .before)) (sym (has (c .before)) ∙ not-true (c .before .is-numbered .result) (c .if2 .taken)))
+returns-2 c = let s = c .before .before .before .before .before .before .before in let a = s .args in λ core atom e. sym (candidate-none (book s) core (a .xs .now) atom (a .p) (whole (c .before .before .before .before)) (sym (has (c .before)) ∙ not-true (c .before .is-numbered .result) (c .if2 .taken)))
 
 add-byte-at : tie.Need-add-byte-at
 add-byte-at c = search needs
@@ -80,22 +77,19 @@ is-outside-requires : tie.Need-is-outside-requires
 is-outside-requires c κs = search needs
 
 returns-3 : tie.Need-returns-3
-returns-3 c = let s = c .before .before .before .before .before .before .before .before .before .before .before in let a = s .args in sym (candidate-outside (book s) (core s) (a .xs .now) (a .atom) (a .p) (whole (c .before .before .before .before .before .before .before .before)) (found (c .before .before .before .before)) (sym (outside (c .before)) ∙ c .if3 .taken))
+returns-3 c = let s = c .before .before .before .before .before .before .before .before .before .before .before in let a = s .args in λ core atom e. sym (candidate-outside (book s) core (a .xs .now) atom (a .p) (whole (c .before .before .before .before .before .before .before .before)) (found (c .before .before .before .before)) (sym (outside (c .before)) ∙ c .if3 .taken))
+
+returns-4 : tie.Need-returns-4
+returns-4 c = let s = c .before .before .before .before .before .before .before .before .before .before .before .before in let a = s .args in λ core atom e. sym (core-full (book s) core (a .xs .now) atom (a .p) (whole (c .before .before .before .before .before .before .before .before .before)) (found (c .before .before .before .before .before)) (inside (c .before)) (sym e ∙ c .if4 .taken))
 
 is-full-requires : tie.Need-is-full-requires
 is-full-requires c κs = search needs
 
-returns-4 : tie.Need-returns-4
-returns-4 c = let s = c .before .before .before .before .before .before .before .before .before .before .before .before .before in let a = s .args in sym (core-full (book s) (core s) (a .xs .now) (a .atom) (a .p) (whole (c .before .before .before .before .before .before .before .before .before .before)) (found (c .before .before .before .before .before .before)) (inside (c .before .before)) (sym (c .before .is-full .ensures) ∙ c .if4 .taken))
-
-is-full-requires-2 : tie.Need-is-full-requires-2
-is-full-requires-2 c κs = search needs
-
 returns-5 : tie.Need-returns-5
-returns-5 c = let s = c .before .before .before .before .before .before .before .before .before .before .before .before .before .before .before in let a = s .args in sym (candidate-full (book s) (core s) (a .xs .now) (a .atom) (a .p) (whole (c .before .before .before .before .before .before .before .before .before .before .before .before)) (found (c .before .before .before .before .before .before .before .before)) (inside (c .before .before .before .before)) (sym (c .before .before .before .is-full .ensures) ∙ c .before .before .if4 .left) (sym (own-full (c .before)) ∙ c .if5 .taken))
+returns-5 c = let s = c .before .before .before .before .before .before .before .before .before .before .before .before .before .before in let a = s .args in λ core atom e. sym (candidate-full (book s) core (a .xs .now) atom (a .p) (whole (c .before .before .before .before .before .before .before .before .before .before .before)) (found (c .before .before .before .before .before .before .before)) (inside (c .before .before .before)) (sym e ∙ c .before .before .if4 .left) (sym (own-full (c .before)) ∙ c .if5 .taken))
 
 returns-6 : tie.Need-returns-6
-returns-6 c = let s = c .before .before .before .before .before .before .before .before .before .before .before .before .before .before .before in let a = s .args in sym (candidate-well (book s) (core s) (a .xs .now) (a .atom) (a .p) (whole (c .before .before .before .before .before .before .before .before .before .before .before .before)) (found (c .before .before .before .before .before .before .before .before)) (inside (c .before .before .before .before)) (sym (c .before .before .before .is-full .ensures) ∙ c .before .before .if4 .left) (sym (own-full (c .before)) ∙ c .if5 .left))
+returns-6 c = let s = c .before .before .before .before .before .before .before .before .before .before .before .before .before .before in let a = s .args in λ core atom e. sym (candidate-well (book s) core (a .xs .now) atom (a .p) (whole (c .before .before .before .before .before .before .before .before .before .before .before)) (found (c .before .before .before .before .before .before .before)) (inside (c .before .before .before)) (sym e ∙ c .before .before .if4 .left) (sym (own-full (c .before)) ∙ c .if5 .left))
 
 pub candidate-fault-spec : {M : Type 1} → statement M
 candidate-fault-spec =
@@ -114,8 +108,7 @@ candidate-fault-spec =
     cast-is-outside-2
     is-outside-requires
     returns-3
-    is-full-requires
     returns-4
-    is-full-requires-2
+    is-full-requires
     returns-5
     returns-6)

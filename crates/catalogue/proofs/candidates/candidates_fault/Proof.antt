@@ -6,17 +6,19 @@ use lib.ListN.{length, take}
 use borrow.Author.Needs.{needs}
 use Rattle.graph.specs.Graph.{Graph}
 use Rattle.assembly.specs.Book.{Book, blockGraph, bookOf}
-use Rattle.catalogue.specs.Library.{candidatesFault}
+use Rattle.catalogue.specs.Library.{isFullIn, candidatesFault}
 use Rattle.catalogue.specs.Sound.{joins}
 use Rattle.catalogue.proofs.Turns.{no-candidates, wrong-candidate, next-candidate}
 use Rattle.catalogue.proofs.candidates.candidates_fault.Statement.{statement}
 use Rattle.catalogue.proofs.candidates.candidates_fault.Tie as tie
 
+-- the core and the atom, of which the loop keeps only whether it is full
 abbrev Inv-loop : tie.InvT-loop
-Inv-loop d blocks count core atom many xs first left₀ p₀ left p = (p ≤ length xs) × (candidatesFault (bookOf d (take count blocks)) (blockGraph d core) xs atom many first ≡ candidatesFault (bookOf d (take count blocks)) (blockGraph d core) xs atom left p)
+Inv-loop d blocks count atom many xs first full left₀ p₀ left p =
+    (p ≤ length xs) × ((g : Graph) (a : ℕ) → full ≡ isFullIn g a → candidatesFault (bookOf d (take count blocks)) g xs a many first ≡ candidatesFault (bookOf d (take count blocks)) g xs a left p)
 
 abbrev μ-loop : tie.MeasureT-loop
-μ-loop d blocks count core atom many xs first left₀ p₀ left p = left
+μ-loop d blocks count atom many xs first full left₀ p₀ left p = left
 
 abbrev book : tie.Start Inv-loop μ-loop → Book
 book s = bookOf (s .args .d .now) (take (s .args .count) (s .args .blocks))
@@ -24,21 +26,41 @@ book s = bookOf (s .args .d .now) (take (s .args .count) (s .args .blocks))
 abbrev core : tie.Start Inv-loop μ-loop → Graph
 core s = blockGraph (s .args .d .now) (s .args .core)
 
--- what is left to do, one candidate at least
-left : (c : tie.In-loop Inv-loop μ-loop) → let s = c .before .before .before .before in let a = s .args in
-    candidatesFault (book s) (core s) (a .xs .now) (a .atom) (a .many) (a .first) ≡ candidatesFault (book s) (core s) (a .xs .now) (a .atom) (suc (c .before .loop .left - 1)) (c .before .loop .p)
-left c = let s = c .before .before .before .before in let a = s .args in
-    let e : c .before .loop .left ≡ suc (c .before .loop .left - 1) = omega arith in
-    c .before .loop .inv .1 ∙ ap (λ (n : ℕ). candidatesFault (book s) (core s) (a .xs .now) (a .atom) n (c .before .loop .p)) e
+-- what is left to do
+left : (c : tie.At-loop Inv-loop μ-loop) → let s = c .before .before .before .before in let a = s .args in
+    candidatesFault (book s) (core s) (a .xs .now) (a .atom) (a .many) (a .first) ≡ candidatesFault (book s) (core s) (a .xs .now) (a .atom) (c .loop .left) (c .loop .p)
+left c = let s = c .before .before .before .before in c .loop .inv .1 (core s) (s .args .atom) (c .before .is-full .ensures)
+
+-- and one candidate at least
+turned : (c : tie.In-loop Inv-loop μ-loop) → let l = c .before in let s = l .before .before .before .before in let a = s .args in
+    (g : Graph) (b : ℕ) → l .before .is-full .result ≡ isFullIn g b → candidatesFault (book s) g (a .xs .now) b (a .many) (a .first) ≡ candidatesFault (book s) g (a .xs .now) b (suc (l .loop .left - 1)) (l .loop .p)
+turned c g b e =
+    let l = c .before in
+    let s = l .before .before .before .before in
+    let a = s .args in
+    let one : l .loop .left ≡ suc (l .loop .left - 1) = omega arith in
+    l .loop .inv .1 g b e ∙ ap (λ (n : ℕ). candidatesFault (book s) g (a .xs .now) b n (l .loop .p)) one
+
+left-one : (c : tie.In-loop Inv-loop μ-loop) → let l = c .before in let s = l .before .before .before .before in let a = s .args in
+    candidatesFault (book s) (core s) (a .xs .now) (a .atom) (a .many) (a .first) ≡ candidatesFault (book s) (core s) (a .xs .now) (a .atom) (suc (l .loop .left - 1)) (l .loop .p)
+left-one c = let s = c .before .before .before .before .before in turned c (core s) (s .args .atom) (c .before .before .is-full .ensures)
+
+is-full-requires : tie.Need-is-full-requires Inv-loop μ-loop
+is-full-requires c κs = search needs
 
 loop-holds : tie.Need-loop-holds Inv-loop μ-loop
-loop-holds c = (c .before .before .pre, refl)
+loop-holds c = (c .before .before .before .pre, λ g a e. refl)
 
 candidate-fault-requires : tie.Need-candidate-fault-requires Inv-loop μ-loop
 candidate-fault-requires c κs = c .before .loop .inv .0
 
 returns : tie.Need-returns Inv-loop μ-loop
-returns c = let s = c .before .before .before .before .before .before in let a = s .args in let f = c .before .candidate-fault .ensures in f ∙ sym (left (c .before .before) ∙ wrong-candidate (book s) (core s) (a .xs .now) (a .atom) (c .before .before .before .loop .p) (c .before .before .before .loop .left - 1) (λ e. c .if1 .taken (f ∙ e)))
+returns c =
+    let l = c .before .before .before in
+    let s = l .before .before .before .before in
+    let a = s .args in
+    let f = c .before .candidate-fault .ensures (core s) (a .atom) (l .before .is-full .ensures) in
+    f ∙ sym (left-one (c .before .before) ∙ wrong-candidate (book s) (core s) (a .xs .now) (a .atom) (l .loop .p) (l .loop .left - 1) (λ e. c .if1 .taken (f ∙ e)))
 
 add-p : tie.Need-add-p Inv-loop μ-loop
 add-p c = search needs
@@ -50,10 +72,21 @@ loop-less : tie.Need-loop-less Inv-loop μ-loop
 loop-less c = search needs
 
 loop-again : tie.Need-loop-again Inv-loop μ-loop
-loop-again c = let s = c .before .before .before .before .before .before in let a = s .args in let z = sym (c .before .candidate-fault .ensures) ∙ c .if1 .left in (joins (book s) (core s) (a .xs .now) (a .atom) (c .before .before .before .loop .p) z .within, left (c .before .before) ∙ next-candidate (book s) (core s) (a .xs .now) (a .atom) (c .before .before .before .loop .p) (c .before .before .before .loop .left - 1) z)
+loop-again c =
+    let l = c .before .before .before in
+    let s = l .before .before .before .before in
+    let a = s .args in (
+      joins (book s) (core s) (a .xs .now) (a .atom) (l .loop .p) (sym (c .before .candidate-fault .ensures (core s) (a .atom) (l .before .is-full .ensures)) ∙ c .if1 .left) .within,
+      λ g b e. turned (c .before .before) g b e ∙ next-candidate (book s) g (a .xs .now) b (l .loop .p) (l .loop .left - 1) (sym (c .before .candidate-fault .ensures g b e) ∙ c .if1 .left),
+    )
 
 returns-2 : tie.Need-returns-2 Inv-loop μ-loop
-returns-2 c = let s = c .before .before .before .before in let a = s .args in let e : c .before .loop .left ≡ 0 = omega arith in sym (c .before .loop .inv .1 ∙ ap (λ (n : ℕ). candidatesFault (book s) (core s) (a .xs .now) (a .atom) n (c .before .loop .p)) e ∙ no-candidates (book s) (core s) (a .xs .now) (a .atom) (c .before .loop .p))
+returns-2 c =
+    let l = c .before in
+    let s = l .before .before .before .before in
+    let a = s .args in
+    let e : l .loop .left ≡ 0 = omega arith in
+    sym (left l ∙ ap (λ (n : ℕ). candidatesFault (book s) (core s) (a .xs .now) (a .atom) n (l .loop .p)) e ∙ no-candidates (book s) (core s) (a .xs .now) (a .atom) (l .loop .p))
 
 pub candidates-fault-spec : {M : Type 1} → statement M
 candidates-fault-spec =
@@ -61,6 +94,7 @@ candidates-fault-spec =
     (tie.spec
     Inv-loop
     μ-loop
+    is-full-requires
     loop-holds
     candidate-fault-requires
     returns
