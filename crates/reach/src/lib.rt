@@ -138,8 +138,8 @@ fn farther(s: Both, d: u64, pairs: u64) -> Both
     }
 }
 
-// The indices of a block that 1 to 6 do not refuse, or 7: a level that adds nothing comes before all pairs are met. And lent, from 1 for each of the
-// first k atoms on, how many atoms were within its reach, all levels together.
+// The indices of a block that 1 to 6 do not refuse, or 7 where a level adds nothing before all pairs are met. And lent, from 1 for each of the first k
+// atoms on, how many atoms were within its reach, all levels together.
 fn summed(n: usize, bonds: &[u8], k: usize, reached: &mut [u64]) -> IndicesReply
     requires { ⌜ (drawnReply n (now bonds) ≡ read tt) × (k ≤ n) × (k ≤ length (now reached))
         × ((v : ℕ) → Within k v → around (now reached) v ≡ 1) ⌝ }
