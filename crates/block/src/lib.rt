@@ -182,7 +182,7 @@ fn fill(n: usize, bonds: &[u8], out: &mut [u8], far: &mut Farthest)
 }
 
 // Half of the distances of a block, all 0 where it is refused, and in what is lent how far the farthest is from each atom, 0 beyond them. A refused
-// block changes nothing that is lent. No other crate calls it: `table` lends the same.
+// block changes nothing that is lent.
 pub fn distances(n: usize, bonds: &[u8], far: &mut Farthest) -> Half
     ensures half { λ r. ⌜ r ≡ halfTable n (now (bonds .entry)) ⌝ }
     ensures far { λ _. ⌜ now (far .exit) ≡ farAfter n (now (bonds .entry)) (now (far .entry)) ⌝ }
@@ -292,7 +292,7 @@ pub fn around_row(row: &DistanceRow, n: usize, farthest: u8) -> Vertex
     }
 }
 
-// The indices of a block by half of its distances, or its refusal. No other crate calls it: `reach` tells the same and stores no distance.
+// The indices of a block, or its refusal.
 pub fn measure(n: usize, bonds: &[u8]) -> IndicesReply
     ensures { λ r. ⌜ r ≡ saidIndices (indicesReply n (now (bonds .entry))) ⌝ }
 {
