@@ -12,12 +12,12 @@ pub fn sheet_line(measurer: &mut Measurer, deck: &[u8]) -> String {
     fields_line(compose(measurer, deck, 5))
 }
 
-/// What `measure` prints for a molfile.
+/// What `desk measure` prints for a molfile.
 pub fn measure_line(file: &[u8]) -> String {
     measured_line(file, molfile::read)
 }
 
-/// What `measure_neighbours` prints for a neighbour text.
+/// What `desk neighbours` prints for a neighbour text.
 pub fn neighbours_line(file: &[u8]) -> String {
     measured_line(file, neighbours::read)
 }
@@ -44,7 +44,7 @@ fn fields_line(fields: Result<[u64; 5], Refusal>) -> String {
     }
 }
 
-/// What `judge` prints for a deck with a sheet.
+/// What `desk judge` prints for a deck with a sheet.
 pub fn judge_line(measurer: &mut Measurer, deck: &[u8]) -> String {
     match judge(measurer, deck) {
         Verdict::Accepted => String::from("accepted"),

@@ -1,148 +1,133 @@
 // Of a block.
+ghost use Prim.Native.Nat.{_≤_};
+ghost use lib.ListN.{length};
+use crate::values;
 use balaban::BalabanReply;
-use block::IndicesReply;
+use block::DistanceReply;
+use block::OneRow;
+use block::VertexReply;
 use lines::row::FAR;
 use lines::row::Row;
 use lines::row::STAYS;
 use lines::told;
-use lines::told::Told;
-use molwriter::MolWritten;
-use neighbours::NeighboursWritten;
-use queues::Queue;
-use queues::TABLE;
 use reply::Reply;
+use reply::wide;
 use sets::SetsReply;
 use shares::BONDS;
+use shares::SharesReply;
 use szeged::SzegedReply;
 
-// Room for a text of a small block.
-const TEXT: usize = 1024;
+// Nothing, or refused.
+pub(crate) fn of_reply(reply: Reply) -> Row {
+    match reply {
+        Reply::Refused(r) => told::refusal(r),
+        Reply::Fine => told::nothing(),
+    }
+}
+
+fn around(a: VertexReply) -> Row {
+    match a {
+        VertexReply::Refused(r) => told::refusal(r),
+        VertexReply::Of(x) => {
+            told::entries(&[x.sum, x.even, x.odd, x.evens, x.odds, x.ones, x.twos])
+        }
+    }
+}
+
+fn farthest(seen: OneRow) -> Row {
+    let reply = seen.reply;
+    match reply {
+        Reply::Refused(r) => told::refusal(r),
+        Reply::Fine => told::one(wide(seen.largest)),
+    }
+}
+
+fn apart(a: DistanceReply) -> Row {
+    match a {
+        DistanceReply::Refused(r) => told::refusal(r),
+        DistanceReply::Of(d) => told::one(d),
+    }
+}
+
+// The first entries of a buffer are lent.
+fn contributed(n: usize, bonds: &[u8], out: &mut [u64], lent: usize) -> SharesReply
+    requires { ⌜ lent ≤ length (now out) ⌝ }
+{
+    shares::contributions(n, bonds, &mut out[..lent])
+}
+
+// D or a refusal, or what stands in the buffer after that.
+fn shared(letter: u8, n: usize, bonds: &[u8], lent: usize) -> Row
+    requires { ⌜ lent ≤ 192 ⌝ }
+{
+    let mut out = [STAYS; BONDS];
+    let reply = contributed(n, bonds, &mut out, lent);
+    if letter == b'e' {
+        return told::entries(&out);
+    }
+    match reply {
+        SharesReply::Refused(r) => told::refusal(r),
+        SharesReply::Denominator(d) => told::one(d),
+    }
+}
 
 // The Szeged index, or the terms of the bonds in the lent entries.
-fn szeged(letter: u8, n: usize, bonds: &[u8], row: Row) -> bool {
+fn szeged(letter: u8, n: usize, bonds: &[u8]) -> Row {
     let mut out = [STAYS; BONDS];
     let reply = szeged::terms(n, bonds, &mut out);
     if letter == b'u' {
-        return told::entries_are(&out, row, 0);
+        return told::entries(&out);
     }
     match reply {
-        SzegedReply::Refused(r) => told::refusal(r).is(row, 0),
-        SzegedReply::Index(x) => told::one(x).is(row, 0),
+        SzegedReply::Refused(r) => told::refusal(r),
+        SzegedReply::Index(x) => told::one(x),
     }
 }
 
-fn balaban(n: usize, bonds: &[u8], row: Row) -> bool {
-    let reply = balaban::index(n, bonds);
+fn balaban(reply: BalabanReply) -> Row {
     match reply {
-        BalabanReply::Refused(r) => told::refusal(r).is(row, 0),
-        BalabanReply::Of(x) => told::one(x).is(row, 0),
+        BalabanReply::Refused(r) => told::refusal(r),
+        BalabanReply::Of(x) => told::one(x),
     }
 }
 
-fn two(x: u64, y: u64) -> Told {
-    Told {
-        refused: false,
-        count: 2,
-        values: [x, y, STAYS, STAYS, STAYS, STAYS, STAYS, STAYS],
-    }
-}
-
-// A root; both numbers of a tree, by the recursion from it.
-fn sets(n: usize, bonds: &[u8], row: Row) -> bool {
-    let reply = sets::count_from(n, bonds, row.first(0, FAR));
+// Both numbers of a tree, by the recursion from a root.
+fn sets(reply: SetsReply) -> Row {
     match reply {
-        SetsReply::Refused(r) => told::refusal(r).is(row, 1),
-        SetsReply::Of(x) => two(x.bonds, x.atoms).is(row, 1),
+        SetsReply::Refused(r) => told::refusal(r),
+        SetsReply::Of(x) => told::two(x.bonds, x.atoms),
     }
 }
 
-// Whether a reply is a refusal of this number.
-fn refuses(reply: IndicesReply, number: usize) -> bool {
-    match reply {
-        IndicesReply::Refused(r) => r.number as usize == number,
-        IndicesReply::Of(_) => false,
+fn reply_to(letter: u8, n: usize, bonds: &[u8], row: Row) -> Row {
+    match letter {
+        b'c' => of_reply(block::check(n, bonds)),
+        b'v' => around(block::vertex_sums(n, bonds, row.first(0, FAR))),
+        b'r' => farthest(block::row(n, bonds, row.first(0, FAR))),
+        b'a' => apart(block::distance(n, bonds, row.first(0, FAR), row.first(1, FAR))),
+        b'd' | b'e' => shared(letter, n, bonds, row.first(0, BONDS)),
+        b's' | b'u' => szeged(letter, n, bonds),
+        b'j' => balaban(balaban::index(n, bonds)),
+        b'h' => sets(sets::count_from(n, bonds, row.first(0, FAR))),
+        _ => told::unknown(),
     }
 }
 
-// The payload of an assembly that places one block.
-fn alone(number: u16) -> [u8; 8] {
-    [1, 0, (number % 256) as u8, (number / 256) as u8, 0, 0, 0, 0]
-}
-
-// What a queue that holds the block under a number is told: its six fields when it looks, the same when it composes the block alone, and 30 once it is dropped. The
-// other queue holds nothing under that number.
-fn held(table: &mut [u8], number: u16, row: Row) -> bool {
-    let seen = queues::look(table, Queue::Day, number);
-    let other = queues::look(table, Queue::Night, number);
-    let xs = alone(number);
-    let composed = queues::compose(table, Queue::Day, &xs);
-    let dropped = queues::drop(table, Queue::Day, number);
-    let gone = queues::look(table, Queue::Day, number);
-    told::of_six(seen).is(row, 1)
-        && told::of_six(composed).is(row, 1)
-        && refuses(other, 30)
-        && refuses(gone, 30)
-}
-
-// A number; what the day queue is told when it adds the block under it, and then of the block.
-fn queued(n: usize, bonds: &[u8], row: Row) -> bool {
-    let mut table = [STAYS as u8; TABLE];
-    let number = row.first(0, FAR) as u16;
-    let made = queues::empty(&mut table);
-    let added = queues::add(&mut table, Queue::Day, number, n, bonds);
-    match added {
-        Reply::Refused(r) => told::refusal(r).is(row, 1),
-        Reply::Fine => held(&mut table, number, row),
-    }
-}
-
-// The length of the block's molfile, which is measured as the block is.
-fn molfile(n: usize, bonds: &[u8], row: Row) -> bool {
-    let mut text = [0u8; TEXT];
-    let reply = molwriter::write(n, bonds, &mut text);
-    match reply {
-        MolWritten::Refused(r) => told::refusal(r).is(row, 0),
-        MolWritten::Bytes(k) => {
-            let again = measuring::measure(records::part(&text, 0, k));
-            told::one(k as u64).is(row, 0) && same(again, n, bonds)
-        }
-    }
-}
-
-// The length of its neighbour text.
-fn neighbours(n: usize, bonds: &[u8], row: Row) -> bool {
-    let mut text = [0u8; TEXT];
-    let reply = neighbours::write(n, bonds, &mut text);
-    match reply {
-        NeighboursWritten::Refused(r) => told::refusal(r).is(row, 0),
-        NeighboursWritten::Bytes(k) => {
-            let again = measuring::measure_neighbours(records::part(&text, 0, k));
-            told::one(k as u64).is(row, 0) && same(again, n, bonds)
-        }
-    }
-}
-
-// Whether a reply has the block's own W.
-fn same(again: IndicesReply, n: usize, bonds: &[u8]) -> bool {
-    let own = reach::measure(n, bonds);
-    match again {
-        IndicesReply::Refused(_) => false,
-        IndicesReply::Of(x) => match own {
-            IndicesReply::Refused(_) => false,
-            IndicesReply::Of(y) => x.w == y.w && x.atoms == y.atoms && x.largest == y.largest,
-        },
-    }
+// By two ways: level by level with no distance stored, and the plain one, by the matrix. Both have to say what the line says.
+fn measured(letter: u8, n: usize, bonds: &[u8], row: Row) -> bool {
+    let reply = reach::measure(n, bonds);
+    let plain = matrix::measure(n, bonds);
+    row.says(told::indices(letter, reply)) && row.says(told::indices(letter, plain))
 }
 
 // Whether the reply to a question, which is known by its first letter, is that of its line.
 pub fn of_block(letter: u8, n: usize, bonds: &[u8], row: Row) -> bool {
     match letter {
-        b's' | b'u' => szeged(letter, n, bonds, row),
-        b'j' => balaban(n, bonds, row),
-        b'h' => sets(n, bonds, row),
-        b'q' => queued(n, bonds, row),
-        b'w' => molfile(n, bonds, row),
-        b'k' => neighbours(n, bonds, row),
-        _ => false,
+        b'i' | b'l' => measured(letter, n, bonds, row),
+        b'p' | b'm' | b'n' => values::right(letter, n, bonds, row),
+        b'q' => crate::queue::right(n, bonds, row),
+        b'w' => crate::written::molfile(n, bonds, row),
+        b'k' => crate::written::neighbours(n, bonds, row),
+        _ => row.says(reply_to(letter, n, bonds, row)),
     }
 }

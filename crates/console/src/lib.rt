@@ -1,4 +1,4 @@
-// What the programs share: a deck, a molfile or a neighbour text from standard input or from each file that is named, and one line for it.
+// The programs: a deck, a molfile or a neighbour text from standard input or from each file that is named, and one line for it.
 ghost use mathlib.Core.Path.{_≡_};
 ghost use Prim.Native.Nat.{_≤_};
 ghost use lib.ListN.{length};
@@ -20,10 +20,19 @@ const TEXT_ROOM: usize = LONGEST_TEXT + 1;
 // The longest argument that Linux hands over, and behind it `: ` and the longest line.
 const WIDTH: usize = 131072 + 2 + line::LONGEST;
 
+// The longest first word.
+const WORD: usize = 10;
+
 // What is asked of each input.
 enum Asked {
     Deck(Form),
     Text(Kind),
+}
+
+// What a first word asks for.
+enum Word {
+    Known(Asked),
+    Other,
 }
 
 // What a text that is measured is.
@@ -163,43 +172,59 @@ fn answer_input(asked: Asked) -> bool {
     print(&text[..len])
 }
 
-// Prints the lines of the files that the arguments from 1 on name, as long as lines can be printed.
-fn answer_files(asked: Asked, count: usize) {
-    let mut i = 1;
+// Prints the lines of the files that the arguments from one on name, as long as lines can be printed.
+fn answer_files(asked: Asked, from: usize, count: usize) {
+    let mut i = from;
     while i < count && print_named(i, file_line(asked, i)) {
         i += 1;
     }
 }
 
-// One line for each file that is named, or for standard input where none is. What is read and written no promise can say.
-fn serve_each(asked: Asked)
-    ensures { λ r. ⌜ r ≡ tt ⌝ }
-{
+// One line for each file that the arguments from one on name, or for standard input where there are none.
+fn serve(asked: Asked, from: usize) {
     let count = os::arg_count();
-    if count < 2 {
+    if count <= from {
         answer_input(asked);
     } else {
-        answer_files(asked, count);
+        answer_files(asked, from, count);
     }
 }
 
-// The line of each deck.
-pub fn serve(form: Form)
-    ensures { λ r. ⌜ r ≡ tt ⌝ }
-{
-    serve_each(Asked::Deck(form))
+fn is(word: &[u8], name: &[u8]) -> bool {
+    word.len() == name.len() && text::starts_with(word, name)
 }
 
-// The line of each molfile.
-pub fn serve_molfiles()
-    ensures { λ r. ⌜ r ≡ tt ⌝ }
-{
-    serve_each(Asked::Text(Kind::Molfile))
+fn asked_by(word: &[u8]) -> Word {
+    if is(word, b"judge") {
+        return Word::Known(Asked::Deck(Form::Judged));
+    }
+    if is(word, b"measure") {
+        return Word::Known(Asked::Text(Kind::Molfile));
+    }
+    if is(word, b"neighbours") {
+        return Word::Known(Asked::Text(Kind::Neighbours));
+    }
+    Word::Other
 }
 
-// The line of each neighbour text.
-pub fn serve_neighbours()
+// The program `sheet`: the sheet of each deck that has none. What is read and written no promise can say.
+pub fn serve_sheets()
     ensures { λ r. ⌜ r ≡ tt ⌝ }
 {
-    serve_each(Asked::Text(Kind::Neighbours))
+    serve(Asked::Deck(Form::Composed), 1)
+}
+
+// The program `desk`: the first word says what is asked of each input, and any other word or none is told so.
+pub fn serve_by_word()
+    ensures { λ r. ⌜ r ≡ tt ⌝ }
+{
+    let mut room = [0u8; WORD];
+    let n = os::arg(1, &mut room);
+    let word = asked_by(&room[..n]);
+    match word {
+        Word::Known(asked) => serve(asked, 2),
+        Word::Other => {
+            print(b"the first word is judge, measure or neighbours\n");
+        }
+    }
 }

@@ -1,14 +1,14 @@
-// A line of the table: words, a colon, and numbers.
+// A line of the table: words, a colon, and numbers. Those before the last comma are asked, those behind it are the reply. A reply of the library is such a row too.
 ghost use Prim.Native.Nat.{_≤_};
 
 // The most numbers that a line keeps: a deck of the largest block and its sheet has 446.
 pub const MOST: usize = 480;
 
 // The longest deck and one byte more.
-pub const ROOM: usize = deck::LONGEST + 1;
+pub const ROOM: usize = 32769;
 
-// What stands in a lent buffer before it is written to, and behind the numbers of a line.
-pub const STAYS: u64 = 7;
+// What stands in a lent buffer before it is written to, and behind the numbers of a row.
+pub const STAYS: u64 = 199;
 
 // Numbers of bytes, entries, atoms and placements are handed on up to here.
 pub const FAR: usize = 255;
@@ -16,17 +16,19 @@ pub const FAR: usize = 255;
 // A number from here on takes no more digits.
 const LONG: u64 = 1000000000000000;
 
-// The numbers behind a line's colon, and whether the word "refused" stands among them, which is told by its r.
+// The numbers behind a line's colon, how many of them are asked, and whether the word "refused" stands among them, which is told by its r.
 pub struct Row {
     pub refused: bool,
+    pub asked: usize,
     pub count: usize,
     pub values: [u64; MOST],
 }
 
-// How far a line is read: so many numbers are whole, and while open, the next is still being read.
+// How far a line is read: so many numbers are whole, so many stood before a comma, and while open, the next is still being read.
 struct Reading {
     refused: bool,
     open: bool,
+    asked: usize,
     count: usize,
     number: u64,
 }
@@ -54,14 +56,8 @@ fn after(count: usize) -> usize {
     if count < MOST { count + 1 } else { count }
 }
 
-// The place that is so many behind another; that of no number where either is too far.
-fn place(asked: usize, i: usize) -> usize {
-    if asked < MOST {
-        if i < MOST {
-            return asked + i;
-        }
-    }
-    MOST
+fn either(test: bool, x: usize, y: usize) -> usize {
+    if test { x } else { y }
 }
 
 impl Reading {
@@ -70,6 +66,7 @@ impl Reading {
         Reading {
             refused: self.refused,
             open: true,
+            asked: self.asked,
             count: self.count,
             number: longer(before, digit, hex),
         }
@@ -77,14 +74,11 @@ impl Reading {
 
     // A byte that is no digit ends a number.
     fn with_mark(self, byte: u8) -> Reading {
-        let count = if self.open {
-            after(self.count)
-        } else {
-            self.count
-        };
+        let count = either(self.open, after(self.count), self.count);
         Reading {
             refused: self.refused || byte == b'r',
             open: false,
+            asked: either(byte == b',', count, self.asked),
             count,
             number: 0,
         }
@@ -100,40 +94,51 @@ impl Reading {
     }
 }
 
+// The number at a place of a row that has so many.
+fn entry(values: &[u64], count: usize, i: usize) -> u64 {
+    if count <= i {
+        return STAYS;
+    }
+    if values.len() <= i {
+        return STAYS;
+    }
+    values[i]
+}
+
+// Whether the numbers of a line behind those that are asked are those of a reply.
+fn same(line: &[u64], asked: usize, count: usize, told: &[u64], n: usize) -> bool {
+    let mut i = 0;
+    let mut k = asked;
+    while k < MOST {
+        if entry(line, count, k) != entry(told, n, i) {
+            return false;
+        }
+        i += 1;
+        k += 1;
+    }
+    true
+}
+
 impl Row {
     pub fn none() -> Row {
         Row {
             refused: false,
+            asked: 0,
             count: 0,
             values: [0; MOST],
         }
     }
 
-    // The number at a place behind the first few, which are what is asked.
-    pub fn at(self, asked: usize, i: usize) -> u64 {
-        let at = place(asked, i);
-        if at < MOST {
-            if at < self.count {
-                return self.values[at];
-            }
-        }
-        STAYS
-    }
-
-    // How many numbers stand behind the first few.
-    pub fn left(self, asked: usize) -> usize {
-        if asked < self.count {
-            self.count - asked
-        } else {
-            0
-        }
+    pub fn at(self, i: usize) -> u64 {
+        let values = self.values;
+        entry(&values, self.count, i)
     }
 
     // One of the first numbers, as a number of bytes, entries, atoms or placements.
     pub fn first(self, i: usize, most: usize) -> usize
         ensures { λ r. ⌜ r ≤ most ⌝ }
     {
-        let value = self.at(0, i);
+        let value = self.at(i);
         if value < most as u64 {
             value as usize
         } else {
@@ -148,6 +153,14 @@ impl Row {
             next.values[at] = value;
         }
         next
+    }
+
+    // Whether the line says what a reply does.
+    pub fn says(self, reply: Row) -> bool {
+        let line = self.values;
+        let told = reply.values;
+        self.refused == reply.refused
+            && same(&line, self.asked, self.count, &told, reply.count)
     }
 }
 
@@ -191,6 +204,7 @@ pub fn row_of(line: &[u8], letter: u8) -> Row {
     let mut seen = Reading {
         refused: false,
         open: false,
+        asked: 0,
         count: 0,
         number: 0,
     };
@@ -209,6 +223,7 @@ pub fn row_of(line: &[u8], letter: u8) -> Row {
     let last = seen.with_mark(b' ');
     Row {
         refused: last.refused,
+        asked: last.asked,
         count: last.count,
         values,
     }

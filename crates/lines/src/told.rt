@@ -1,157 +1,83 @@
-// Replies as lists of numbers, and whether they are the numbers of a line.
+// Replies as rows of numbers.
+use crate::row::MOST;
 use crate::row::Row;
-use crate::row::STAYS;
-use block::DistanceReply;
+use block::Indices;
 use block::IndicesReply;
-use block::OneRow;
-use block::VertexReply;
 use reply::Refusal;
-use reply::Reply;
-use reply::wide;
-use shares::SharesReply;
 
-// A refusal's number and place, or so many values; behind them the entries that stay.
-pub struct Told {
-    pub refused: bool,
-    pub count: usize,
-    pub values: [u64; 8],
+pub fn nothing() -> Row {
+    Row::none()
 }
 
-pub fn refusal(r: Refusal) -> Told {
-    Told {
-        refused: true,
-        count: 2,
-        values: [
-            r.number as u64,
-            r.place as u64,
-            STAYS,
-            STAYS,
-            STAYS,
-            STAYS,
-            STAYS,
-            STAYS,
-        ],
-    }
-}
-
-pub fn one(x: u64) -> Told {
-    Told {
-        refused: false,
-        count: 1,
-        values: [x, STAYS, STAYS, STAYS, STAYS, STAYS, STAYS, STAYS],
-    }
-}
-
-pub fn nothing() -> Told {
-    Told {
-        refused: false,
-        count: 0,
-        values: [STAYS; 8],
-    }
-}
-
-pub fn of_measured(m: IndicesReply) -> Told {
-    match m {
-        IndicesReply::Refused(r) => refusal(r),
-        IndicesReply::Of(x) => Told {
-            refused: false,
-            count: 5,
-            values: [x.atoms, x.w, x.even, x.odd, x.polarity, STAYS, STAYS, STAYS],
-        },
-    }
-}
-
-// The largest distance alone: of a molecule, and of a row.
-pub fn of_largest(m: IndicesReply) -> Told {
-    match m {
-        IndicesReply::Refused(r) => refusal(r),
-        IndicesReply::Of(x) => one(x.largest),
-    }
-}
-
-pub fn of_row(seen: OneRow) -> Told {
-    let reply = seen.reply;
-    match reply {
-        Reply::Refused(r) => refusal(r),
-        Reply::Fine => one(wide(seen.largest)),
-    }
-}
-
-pub fn of_six(m: IndicesReply) -> Told {
-    match m {
-        IndicesReply::Refused(r) => refusal(r),
-        IndicesReply::Of(x) => Told {
-            refused: false,
-            count: 6,
-            values: [
-                x.atoms,
-                x.w,
-                x.even,
-                x.odd,
-                x.polarity,
-                x.largest,
-                STAYS,
-                STAYS,
-            ],
-        },
-    }
-}
-
-pub fn of_around(a: VertexReply) -> Told {
-    match a {
-        VertexReply::Refused(r) => refusal(r),
-        VertexReply::Of(x) => Told {
-            refused: false,
-            count: 7,
-            values: [x.sum, x.even, x.odd, x.evens, x.odds, x.ones, x.twos, STAYS],
-        },
-    }
-}
-
-pub fn of_apart(a: DistanceReply) -> Told {
-    match a {
-        DistanceReply::Refused(r) => refusal(r),
-        DistanceReply::Of(d) => one(d),
-    }
-}
-
-pub fn of_shares(s: SharesReply) -> Told {
-    match s {
-        SharesReply::Refused(r) => refusal(r),
-        SharesReply::Denominator(d) => one(d),
-    }
-}
-
-impl Told {
-    // Whether these are the line's numbers behind what it asks, and all of them.
-    pub fn is(self, row: Row, asked: usize) -> bool {
-        let values = self.values;
-        row.refused == self.refused
-            && row.left(asked) == self.count
-            && entries_are(&values, row, asked)
-    }
-}
-
-// Whether a buffer has the line's numbers at its front, and later entries stayed.
-pub fn entries_are(out: &[u64], row: Row, asked: usize) -> bool {
+// The numbers of a lent buffer.
+pub fn entries(xs: &[u64]) -> Row {
+    let mut values = [0u64; MOST];
     let mut i = 0;
-    while i < out.len() {
-        if out[i] != row.at(asked, i) {
-            return false;
-        }
+    while i < xs.len() && i < MOST {
+        values[i] = xs[i];
         i += 1;
     }
-    row.left(asked) <= out.len()
+    Row {
+        refused: false,
+        asked: 0,
+        count: i,
+        values,
+    }
 }
 
-// The same of bytes, where one number is what is asked.
-pub fn bytes_are(out: &[u8], row: Row) -> bool {
+// The same of bytes.
+pub fn bytes(xs: &[u8]) -> Row {
+    let mut values = [0u64; MOST];
     let mut i = 0;
-    while i < out.len() {
-        if reply::wide(out[i]) != row.at(1, i) {
-            return false;
-        }
+    while i < xs.len() && i < MOST {
+        values[i] = reply::wide(xs[i]);
         i += 1;
     }
-    row.left(1) <= out.len()
+    Row {
+        refused: false,
+        asked: 0,
+        count: i,
+        values,
+    }
+}
+
+pub fn one(x: u64) -> Row {
+    entries(&[x])
+}
+
+// Two numbers, as of atoms and of bonds.
+pub fn two(x: u64, y: u64) -> Row {
+    entries(&[x, y])
+}
+
+pub fn refusal(r: Refusal) -> Row {
+    let mut row = two(r.number as u64, r.place as u64);
+    row.refused = true;
+    row
+}
+
+// What no line says: the reply to a question that nobody knows.
+pub fn unknown() -> Row {
+    refusal(Refusal {
+        number: 0,
+        place: 0,
+    })
+}
+
+// Six fields, or the first five, or the sixth alone.
+fn of_fields(letter: u8, x: Indices) -> Row {
+    let fields = [x.atoms, x.w, x.even, x.odd, x.polarity, x.largest];
+    match letter {
+        b'l' => one(x.largest),
+        b's' | b'p' | b'q' => entries(&fields),
+        _ => entries(&fields[..5]),
+    }
+}
+
+// The fields that a question asks for, which is known by its first letter.
+pub fn indices(letter: u8, m: IndicesReply) -> Row {
+    match m {
+        IndicesReply::Refused(r) => refusal(r),
+        IndicesReply::Of(x) => of_fields(letter, x),
+    }
 }

@@ -2,16 +2,15 @@
 ghost use Prim.Native.Nat.{_<_, _≤_};
 ghost use lib.ListN.{length};
 
-mod blocks;
 mod decks;
-mod subject;
+mod products;
 mod typed;
 
 use libc::STDIN_FILENO;
 use lines::row;
 use lines::row::Row;
+use lines::subject::Subject;
 use lines::tally::Tally;
-use subject::Subject;
 
 // The tally, and what the next lines ask about.
 struct Table {
@@ -19,10 +18,31 @@ struct Table {
     subject: Subject,
 }
 
+// Of a block: the first byte is how many atoms it has.
+fn block_right(letter: u8, bytes: &[u8], row: Row) -> bool {
+    let n = records::byte_at(bytes, 0) as usize;
+    let bonds = records::part(bytes, 1, bytes.len());
+    if letter == b't' {
+        return row.says(typed::of_block(n, bonds, row));
+    }
+    asked::of_block(letter, n, bonds, row)
+}
+
+// Whether the reply to a question, which is known by its first letter, is that of its line.
+fn right(subject: Subject, letter: u8, row: Row) -> bool {
+    let changed = subject.changed;
+    let bytes = row::bytes_of(changed);
+    let given = records::part(&bytes, 0, changed.count);
+    if subject.deck {
+        return row.says(decks::reply_to(letter, given, row));
+    }
+    block_right(letter, given, row)
+}
+
 impl Table {
     fn asked(self, text: &[u8], line: &[u8], letter: u8, row: Row) -> Table {
         let subject = self.subject;
-        let ok = subject.right(letter, row);
+        let ok = right(subject, letter, row);
         let name = records::part(text, subject.from, subject.len);
         let tally = self.tally;
         Table {

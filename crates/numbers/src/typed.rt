@@ -25,25 +25,20 @@ fn claim(row: Row) -> [u8; 5] {
 }
 
 // The first field or claim that differs, 0 for none.
-pub(crate) fn verdict_is(reply: Verdict, row: Row, asked: usize) -> bool {
-    let first = match reply {
-        Verdict::Refused(r) => {
-            return told::refusal(r).is(row, asked);
-        }
-        Verdict::Accepted => 0,
-        Verdict::Differs(k) => k,
-    };
-    told::one(first as u64).is(row, asked)
+pub(crate) fn of_verdict(reply: Verdict) -> Row {
+    match reply {
+        Verdict::Refused(r) => told::refusal(r),
+        Verdict::Accepted => told::one(0),
+        Verdict::Differs(k) => told::one(k as u64),
+    }
 }
 
-pub(crate) fn of_block(n: usize, bonds: &[u8], row: Row) -> bool {
+pub(crate) fn of_block(n: usize, bonds: &[u8], row: Row) -> Row {
     let bytes = claim(row);
-    let reply = claims::of_block(n, bonds, &bytes);
-    verdict_is(reply, row, 2)
+    of_verdict(claims::of_block(n, bonds, &bytes))
 }
 
-pub(crate) fn of_deck(deck: &[u8], row: Row) -> bool {
+pub(crate) fn of_deck(deck: &[u8], row: Row) -> Row {
     let bytes = claim(row);
-    let reply = claims::of_deck(deck, &bytes);
-    verdict_is(reply, row, 2)
+    of_verdict(claims::of_deck(deck, &bytes))
 }

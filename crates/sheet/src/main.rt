@@ -1,4 +1,4 @@
 // Prints the sheet of a deck that has none.
 fn main() {
-    console::serve(deck::Form::Composed);
+    console::serve_sheets();
 }

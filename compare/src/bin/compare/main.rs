@@ -7,7 +7,7 @@
 //! With --printed, so many random cases of claims and of SDFs, and not as many as of all else. With --parts, random cases of these parts
 //! alone: random (decks and blocks), molfiles, neighbours, relisted, libraries, queues, claims, sdf, whole.
 //! With --real, the molecules that compare/real_large.py puts into a folder and nothing else, each matching damaged so many times.
-//! With a folder, the programs `sheet`, `judge` and `measure` in it are run and their lines compared too.
+//! With a folder, the programs `sheet` and `desk` in it are run and their lines compared too.
 
 #[path = "../../archive.rs"]
 mod archive;

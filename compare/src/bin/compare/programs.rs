@@ -1,4 +1,4 @@
-//! The programs `sheet` and `judge`, run on decks, `measure`, run on molfiles, and `measure_neighbours`, run on neighbour texts: from standard input in pieces, and from files.
+//! The programs `sheet` and `desk`, which is told by its first word what to do: run on decks, molfiles and neighbour texts, from standard input in pieces, and from files.
 
 use crate::checker::Checker;
 use opinion::documents::FORTY;
@@ -25,36 +25,49 @@ pub fn run(checker: &mut Checker, folder: &Path, seed: u64) {
     let (decks, files) = (decks(seed), molfiles(seed));
     let measurer = &mut Measurer::default();
     let sheets = decks.iter().map(|deck| sheet_line(measurer, deck)).collect();
-    program(checker, &folder.join("sheet"), &room, &decks, sheets);
+    program(checker, &folder.join("sheet"), &[], &room, &decks, sheets);
+    let desk = &folder.join("desk");
     let verdicts = decks.iter().map(|deck| judge_line(measurer, deck)).collect();
-    program(checker, &folder.join("judge"), &room, &decks, verdicts);
+    program(checker, desk, &["judge"], &room, &decks, verdicts);
     let measured = files.iter().map(|file| measure_line(file)).collect();
-    program(checker, &folder.join("measure"), &room, &files, measured);
+    program(checker, desk, &["measure"], &room, &files, measured);
     let texts = texts(seed);
     let measured = texts.iter().map(|text| neighbours_line(text)).collect();
-    program(checker, &folder.join("measure_neighbours"), &room, &texts, measured);
+    program(checker, desk, &["neighbours"], &room, &texts, measured);
+    other_words(checker, desk);
     fs::remove_dir_all(&room).expect("the folder is ours");
 }
 
-/// One program on inputs, each with the line that is right.
-fn program(checker: &mut Checker, program: &Path, room: &Path, inputs: &[Vec<u8>], lines: Vec<String>) {
-    let name = program.file_name().expect("a program has a name").to_string_lossy();
+/// One program with its first words, on inputs, each with the line that is right.
+fn program(checker: &mut Checker, program: &Path, words: &[&str], room: &Path, inputs: &[Vec<u8>], lines: Vec<String>) {
+    let name = format!("{} {}", program.file_name().expect("a program has a name").to_string_lossy(), words.join(" "));
     if !program.is_file() {
         checker.case(&name, |checker| checker.holds(false, format!("{} is not there", program.display())));
         return;
     }
     for (at, input) in inputs.iter().enumerate().filter(|(at, _)| at % 8 == 0) {
         checker.case(format!("{name} reads input {at} from standard input"), |checker| {
-            let said = from_standard_input(program, input, at % 64 == 0);
+            let said = from_standard_input(Command::new(program).args(words), input, at % 64 == 0);
             checker.holds(said == format!("{}\n", lines[at]), format!("printed {said:?}, right is {:?}", lines[at]));
         });
     }
-    from_files(checker, program, room, inputs, &lines);
+    from_files(checker, Command::new(program).args(words), room, inputs, &lines);
     checker.case(format!("{name} on an input that cannot be read"), |checker| {
-        let said = command_says(Command::new(program).stdin(File::open(room).expect("a folder")));
+        let said = command_says(Command::new(program).args(words).stdin(File::open(room).expect("a folder")));
         let good = said.contains("accepted") || said.contains("atoms");
         checker.holds(!good, format!("printed {said:?}"));
     });
+}
+
+/// A word that `desk` does not know, or none, is told so, and no file is looked at.
+fn other_words(checker: &mut Checker, desk: &Path) {
+    let right = "the first word is judge, measure or neighbours\n";
+    for words in [&[][..], &[""], &["sheet"], &["Judge"], &["judge "], &["judges", "file"], &["neighbourss"]] {
+        checker.case(format!("desk {words:?}"), |checker| {
+            let said = command_says(Command::new(desk).args(words).stdin(Stdio::null()));
+            checker.holds(said == right, format!("printed {said:?}"));
+        });
+    }
 }
 
 /// Files whose length is about the most that is read, and random ones, some damaged.
@@ -123,9 +136,8 @@ fn command_says(command: &mut Command) -> String {
     printed(command.stderr(Stdio::null()).output())
 }
 
-/// Writes the deck to the program in two pieces, with a pause between them where it is to be slow.
-fn from_standard_input(program: &Path, deck: &[u8], slow: bool) -> String {
-    let mut command = Command::new(program);
+/// Writes the deck to a program in two pieces, with a pause between them where it is to be slow.
+fn from_standard_input(command: &mut Command, deck: &[u8], slow: bool) -> String {
     let mut child = match command.stdin(Stdio::piped()).stdout(Stdio::piped()).spawn() {
         Ok(child) => child,
         Err(fault) => return printed(Err(fault)),
@@ -143,7 +155,7 @@ fn from_standard_input(program: &Path, deck: &[u8], slow: bool) -> String {
 }
 
 /// All decks as files in one call, among them a file that is not there and a folder.
-fn from_files(checker: &mut Checker, program: &Path, room: &Path, decks: &[Vec<u8>], lines: &[String]) {
+fn from_files(checker: &mut Checker, command: &mut Command, room: &Path, decks: &[Vec<u8>], lines: &[String]) {
     let mut files: Vec<PathBuf> = Vec::new();
     let mut right = Vec::new();
     for (at, (deck, line)) in decks.iter().zip(lines).enumerate() {
@@ -156,7 +168,7 @@ fn from_files(checker: &mut Checker, program: &Path, room: &Path, decks: &[Vec<u
         right.insert(at, format!("{}: cannot be read", unreadable.display()));
         files.insert(at, unreadable);
     }
-    let said = command_says(Command::new(program).args(&files).stdin(Stdio::null()));
+    let said = command_says(command.args(&files).stdin(Stdio::null()));
     let said: Vec<&str> = said.lines().collect();
     for (at, line) in right.iter().enumerate() {
         checker.case(line, |checker| {

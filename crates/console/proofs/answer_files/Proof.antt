@@ -5,10 +5,10 @@ use Rattle.console.proofs.answer_files.Statement.{statement}
 use Rattle.console.proofs.answer_files.Tie as tie
 
 abbrev Inv-loop : tie.InvT-loop
-Inv-loop asked count i₀ i = Unit {0}
+Inv-loop asked from count i₀ i = Unit {0}
 
 abbrev μ-loop : tie.MeasureT-loop
-μ-loop asked count i₀ i = count - i
+μ-loop asked from count i₀ i = count - i
 
 loop-holds : tie.Need-loop-holds Inv-loop μ-loop
 loop-holds c = tt

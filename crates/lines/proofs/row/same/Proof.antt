@@ -1,30 +1,32 @@
--- `begins` is safe and ends: i is at most the row's length, and what is left of that falls.
+-- `same` is safe and ends: i is at most k, and 480 - k falls.
 use Prim.Native.Nat.{_≤_, _-_}
-use lib.ListN.{length}
 use borrow.Author.Needs.{needs}
-use Rattle.asked.proofs.texts.begins.Statement.{statement}
-use Rattle.asked.proofs.texts.begins.Tie as tie
+use Rattle.lines.proofs.row.same.Statement.{statement}
+use Rattle.lines.proofs.row.same.Tie as tie
 
 abbrev Inv-loop : tie.InvT-loop
-Inv-loop one two i₀ i = i ≤ length one
+Inv-loop line asked count told n i₀ k₀ i k = i ≤ k
 
 abbrev μ-loop : tie.MeasureT-loop
-μ-loop one two i₀ i = length one - i
+μ-loop line asked count told n i₀ k₀ i k = 480 - k
 
 loop-holds : tie.Need-loop-holds Inv-loop μ-loop
 loop-holds c = search needs
 
-shared-slice-read-if1 : tie.Need-shared-slice-read-if1 Inv-loop μ-loop
-shared-slice-read-if1 c = search needs
+entry-requires : tie.Need-entry-requires Inv-loop μ-loop
+entry-requires c κs = search needs
 
-byte-at-requires : tie.Need-byte-at-requires Inv-loop μ-loop
-byte-at-requires c κs = search needs
+entry-requires-2 : tie.Need-entry-requires-2 Inv-loop μ-loop
+entry-requires-2 c κs = search needs
 
 returns : tie.Need-returns Inv-loop μ-loop
 returns c = search needs
 
 add-i : tie.Need-add-i Inv-loop μ-loop
 add-i c = search needs
+
+add-k : tie.Need-add-k Inv-loop μ-loop
+add-k c = search needs
 
 loop-less : tie.Need-loop-less Inv-loop μ-loop
 loop-less c = search needs
@@ -35,17 +37,18 @@ loop-again c = search needs
 returns-2 : tie.Need-returns-2 Inv-loop μ-loop
 returns-2 c = search needs
 
-pub begins-spec : {M : Type 1} → statement M
-begins-spec =
+pub same-spec : {M : Type 1} → statement M
+same-spec =
     tie.close
     (tie.spec
     Inv-loop
     μ-loop
     loop-holds
-    shared-slice-read-if1
-    byte-at-requires
+    entry-requires
+    entry-requires-2
     returns
     add-i
+    add-k
     loop-less
     loop-again
     returns-2)

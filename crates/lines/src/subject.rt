@@ -1,26 +1,23 @@
 // What the lines ask about: a block or a deck.
-use crate::blocks;
-use crate::decks;
-use lines::row;
-use lines::row::ROOM;
-use lines::row::Row;
+use crate::row::ROOM;
+use crate::row::Row;
 
 // As its own line gives it, as later lines change it, and where its line stands.
-pub(crate) struct Subject {
-    pub(crate) deck: bool,
-    pub(crate) given: Row,
-    pub(crate) changed: Row,
-    pub(crate) from: usize,
-    pub(crate) len: usize,
+pub struct Subject {
+    pub deck: bool,
+    pub given: Row,
+    pub changed: Row,
+    pub from: usize,
+    pub len: usize,
 }
 
 // One or two bytes changed: place and value of each.
 fn with_bytes(given: Row, row: Row) -> Row {
-    let once = given.with(row.first(0, ROOM), row.at(1, 0));
+    let once = given.with(row.first(0, ROOM), row.at(1));
     if row.count < 4 {
         return once;
     }
-    once.with(row.first(2, ROOM), row.at(3, 0))
+    once.with(row.first(2, ROOM), row.at(3))
 }
 
 // The first bytes only, or zeros behind them.
@@ -31,7 +28,7 @@ fn first_bytes(changed: Row, row: Row) -> Row {
 }
 
 impl Subject {
-    pub(crate) fn none() -> Subject {
+    pub fn none() -> Subject {
         Subject {
             deck: false,
             given: Row::none(),
@@ -42,7 +39,7 @@ impl Subject {
     }
 
     // After a line that starts with a capital, which stands at a place.
-    pub(crate) fn next(self, letter: u8, row: Row, from: usize, len: usize) -> Subject {
+    pub fn next(self, letter: u8, row: Row, from: usize, len: usize) -> Subject {
         let given = self.given;
         let changed = self.changed;
         match letter {
@@ -69,20 +66,4 @@ impl Subject {
             },
         }
     }
-
-    // Whether the reply to a question is the one of its line.
-    pub(crate) fn right(self, letter: u8, row: Row) -> bool {
-        let changed = self.changed;
-        let bytes = row::bytes_of(changed);
-        if self.deck {
-            return decks::right(letter, records::part(&bytes, 0, changed.count), row);
-        }
-        block_right(letter, &bytes, changed.left(1), row)
-    }
-}
-
-// Of a block: the first byte is how many atoms it has.
-fn block_right(letter: u8, bytes: &[u8], len: usize, row: Row) -> bool {
-    let n = records::byte_at(bytes, 0) as usize;
-    blocks::right(letter, n, records::part(bytes, 1, len), row)
 }

@@ -1,15 +1,16 @@
--- `bytes_are` is safe and ends: i is at most the buffer's length, and what is left of that falls.
-use Prim.Native.Nat.{_≤_, _-_}
+-- `bytes` is safe and ends: the list keeps its length, and what is left of the buffer falls.
+use Prim.Native.Nat.{_-_}
+use mathlib.Core.Path.{_≡_}
 use lib.ListN.{length}
 use borrow.Author.Needs.{needs}
-use Rattle.lines.proofs.told.bytes_are.Statement.{statement}
-use Rattle.lines.proofs.told.bytes_are.Tie as tie
+use Rattle.lines.proofs.told.bytes.Statement.{statement}
+use Rattle.lines.proofs.told.bytes.Tie as tie
 
 abbrev Inv-loop : tie.InvT-loop
-Inv-loop out row i₀ i = i ≤ length out
+Inv-loop xs values₀ i₀ values i = length values ≡ 480
 
 abbrev μ-loop : tie.MeasureT-loop
-μ-loop out row i₀ i = length out - i
+μ-loop xs values₀ i₀ values i = length xs - i
 
 loop-holds : tie.Need-loop-holds Inv-loop μ-loop
 loop-holds c = search needs
@@ -20,11 +21,11 @@ shared-slice-read-wide c = search needs
 wide-requires : tie.Need-wide-requires Inv-loop μ-loop
 wide-requires c κs = search needs
 
-at-requires : tie.Need-at-requires Inv-loop μ-loop
-at-requires c κs = search needs
+mul-values : tie.Need-mul-values Inv-loop μ-loop
+mul-values c = search needs
 
-returns : tie.Need-returns Inv-loop μ-loop
-returns c = search needs
+array-write-values : tie.Need-array-write-values Inv-loop μ-loop
+array-write-values c = search needs
 
 add-i : tie.Need-add-i Inv-loop μ-loop
 add-i c = search needs
@@ -35,14 +36,14 @@ loop-less c = search needs
 loop-again : tie.Need-loop-again Inv-loop μ-loop
 loop-again c = search needs
 
-left-requires : tie.Need-left-requires Inv-loop μ-loop
-left-requires c κs = search needs
+returns : tie.Need-returns Inv-loop μ-loop
+returns c = search needs
 
 returns-2 : tie.Need-returns-2 Inv-loop μ-loop
 returns-2 c = search needs
 
-pub bytes-are-spec : {M : Type 1} → statement M
-bytes-are-spec =
+pub bytes-spec : {M : Type 1} → statement M
+bytes-spec =
     tie.close
     (tie.spec
     Inv-loop
@@ -50,10 +51,10 @@ bytes-are-spec =
     loop-holds
     shared-slice-read-wide
     wide-requires
-    at-requires
-    returns
+    mul-values
+    array-write-values
     add-i
     loop-less
     loop-again
-    left-requires
+    returns
     returns-2)

@@ -1,4 +1,0 @@
-// Judges the sheet of a deck.
-fn main() {
-    console::serve(deck::Form::Judged);
-}
