@@ -5,9 +5,9 @@ use lines::row::FAR;
 use lines::row::Row;
 use lines::row::STAYS;
 use lines::told;
+use queues::Queue;
 use queues::TABLE;
 use reply::Reply;
-use queues::Queue;
 
 // Whether a reply is refusal 30: nothing is held under that number.
 fn is_missing(reply: IndicesReply) -> bool {
