@@ -9,7 +9,7 @@ use native.Mathlib.Omega.{arith}
 use borrow.Author.Tests.{eq-eqb, ne-eqb, eqb-true, eqb-false, lt-ltb, le-ltb}
 use lib.Dec.{eqb, ltb}
 use lib.ListN.{length, getD, take, drop, length-take, length-drop, take-append-drop}
-use lib.Seq.{sets, length-sets, sets-eq, getD-take, drop-drop}
+use lib.Seq.{sets, length-sets, sets-eq, take-length, getD-take, drop-drop}
 use Rattle.graph.specs.Graph.{Graph, Within, degree}
 use Rattle.graph.specs.Bonds.{both}
 use Rattle.graph.specs.Distance.{not-true}
@@ -50,11 +50,7 @@ module _ (d : List ℕ) (bs : List BlockAt) (b : List ℕ) (k : ℕ) (fine : blo
       let z : summaryBytes * k + 0 ≡ summaryBytes * k = omega arith in
       part-part (sets b (summaryBytes * k) s) (summaryBytes * k) summaryBytes 0 (length s) (omega (arith, fits))
       ∙ part-put s b (summaryBytes * k) 0 (length s) (omega (arith, fits)) (omega arith)
-      ∙ whole s
-    where
-      whole : (l : List ℕ) → take (length l) l ≡ l
-      whole [] = refl
-      whole (x ∷ l) = ap (λ (m : List ℕ). x ∷ m) (whole l)
+      ∙ take-length s
 
   pub booked-more : Booked d bs b k → Booked d bs (sets b (summaryBytes * k) (summaryIn d (blockIn bs k))) (k + 1)
   booked-more B = record {

@@ -19,7 +19,7 @@ use Rattle.assembly.specs.declared.BlockAt.{BlockAt}
 use Rattle.summary.specs.Layout.{summaryBytes}
 use Rattle.deck.specs.Deck.{kindsAfter, Deck, blockAt, deckAt, blockReplyAt, blocksFrom, blocksReply}
 use Rattle.deck.specs.Filled.{withBlock, bookFrom, blocksBook}
-use Rattle.deck.specs.Kept.{Each, Standing, kept, fit, chosen}
+use Rattle.deck.specs.Kept.{Each, Standing, along, kept, fit, chosen}
 use Rattle.deck.proofs.Filled.{reply-puts, book-no-block, book-one-block}
 use Rattle.block.specs.declared.Indices.{Indices}
 use Rattle.assembly.specs.Placements.{shelfReply, assemblyReply}
@@ -42,19 +42,9 @@ first-of (b ∷ bs) cs (suc i) l = first-of bs cs i (omega arith)
 
 module _ (last : Kind) (d : List ℕ) where
   grows : (fuel at : ℕ) (done : List BlockAt) {k : Deck} → blocksFrom fuel last d at done ≡ read k → length done ≤ length (k .blocks)
-  unfolding blocksFrom
-  grows zero at done e = absurd (not-read e)
-  grows (suc fuel) at done {k} e =
-      let (u, p, f) = then-read (recordReply (kindsAfter done last) d at) _ e in
-      ⊎-elim
-      (λ t.
-      let (v, q, g) = then-read (blockReplyAt d at done) _ (t .1) in
-      let n : length (done ++ blockAt d at ∷ []) ≡ length done + 1 = simp length-append in
-      omega (arith, n, grows fuel (endAt d at) (done ++ blockAt d at ∷ []) g))
-      (λ t.
-      let same : deckAt d done at ≡ k = cc (t .1) in
-      rw (← same) (omega arith))
-      (chosen (eqb (kindAt d at) (blockKind .number)) _ _ f)
+  grows fuel at done e =
+      let E = along last d (λ p bs. length done ≤ length bs) (λ p bs l r b f. let n : length (bs ++ blockAt d p ∷ []) ≡ length bs + 1 = simp length-append in omega (arith, n, l)) fuel at done (omega arith) e in
+      omega (arith, E .holds, ap (λ (y : Deck). length (y .blocks)) (E .same))
 
   module _ (bytes : (i : ℕ) → getD d i 0 < 256) where
     number-small : (at : ℕ) → blockAt d at .number < 65536

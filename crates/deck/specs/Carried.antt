@@ -18,9 +18,8 @@ use Rattle.records.specs.declared.Kind.{Kind}
 use Rattle.assembly.specs.declared.BlockAt.{BlockAt}
 use Rattle.assembly.specs.Book.{mostBlocks}
 use Rattle.deck.specs.Deck.{kindsAfter, Deck, blockAt, deckAt, blockReplyAt, blocksFrom, blocksReply}
-use Rattle.deck.specs.Kept.{Each, Standing, each-last, chosen, fit, stands}
+use Rattle.deck.specs.Kept.{Each, Standing, each-last, chosen, fit, record-long, stands, along}
 use Rattle.deck.specs.Followed.{bonds-same, block-same, reply-same}
-use Rattle.deck.specs.Sized.{record-long}
 
 -- a record of a block may stand after any blocks
 block-taken : (x : List ℕ) (at : ℕ) (done : List BlockAt) (last : Kind) → endAt x at ≤ length x → kindAt x at ≡ blockKind .number → lengthAt x at ≡ wanted blockKind x at
@@ -38,14 +37,9 @@ other-taken x y at (b ∷ bs) last last' p n m q = rw (ne-eqb (kindAt y at) (blo
 
 -- the blocks are read forwards
 reached : (last : Kind) (x : List ℕ) (fuel at : ℕ) (done : List BlockAt) {k : Deck} → blocksFrom fuel last x at done ≡ read k → at ≤ k .assembly
-unfolding blocksFrom
-reached last x zero at done e = absurd (not-read e)
-reached last x (suc fuel) at done {k} e =
-    let (u, p, f) = then-read (recordReply (kindsAfter done last) x at) _ e in
-    ⊎-elim
-    (λ t. let (v, g, h) = then-read (blockReplyAt x at done) _ (t .1) in omega (arith, reached last x fuel (endAt x at) (done ++ blockAt x at ∷ []) h))
-    (λ t. let same : deckAt x done at ≡ k = cc (t .1) in omega (arith, ap (λ (y : Deck). y .assembly) same))
-    (chosen (eqb (kindAt x at) (blockKind .number)) _ _ f)
+reached last x fuel at done e =
+    let E = along last x (λ p bs. at ≤ p) (λ p bs l r b f. omega (arith, l)) fuel at done (omega arith) e in
+    omega (arith, E .holds, ap (λ (y : Deck). y .assembly) (E .same))
 
 -- the same blocks with another tail, which begins with a record of another last kind
 module _ (a r s : List ℕ) (last last' : Kind) (next : recordReply (last' ∷ []) (a ++ s) (length a) ≡ read tt) (other : kindAt (a ++ s) (length a) ≡ blockKind .number → ⊥) where

@@ -79,40 +79,55 @@ fit d at done e =
     }
 
 module _ (last : Kind) (d : List ℕ) where
+  -- a block record is as long as its bonds ask
+  pub record-long : (at : ℕ) (done : List BlockAt) → recordReply (kindsAfter done last) d at ≡ read tt → kindAt d at ≡ blockKind .number → lengthAt d at ≡ wanted blockKind d at
+  record-long at [] e k = of-first d at blockKind [] e k refl
+  record-long at (b ∷ bs) e k = of-first d at blockKind (last ∷ []) e k refl
+
   -- a block that is taken stands in the deck
   pub stands : (at : ℕ) (done : List BlockAt) → recordReply (kindsAfter done last) d at ≡ read tt → kindAt d at ≡ blockKind .number → BlockFits d at done → Standing d (blockAt d at)
   stands at done e k f =
       let w = taken d at (kindsAfter done last) e .whole in
-      let n : lengthAt d at ≡ wanted blockKind d at = long done e in
-      record { numbered = f .numbered; within = omega arith; fine = f .fine }
-    where
-      long : (done : List BlockAt) → recordReply (kindsAfter done last) d at ≡ read tt → lengthAt d at ≡ wanted blockKind d at
-      long [] e = of-first d at blockKind [] e k refl
-      long (b ∷ bs) e = of-first d at blockKind (last ∷ []) e k refl
+      record { numbered = f .numbered; within = omega (arith, record-long at done e k); fine = f .fine }
 
   -- a record that is no block is not the first
   after-blocks : (at : ℕ) (done : List BlockAt) → recordReply (kindsAfter done last) d at ≡ read tt → (kindAt d at ≡ blockKind .number → ⊥) → recordReply (last ∷ []) d at ≡ read tt
   after-blocks at [] e n = absurd (n (of-one d at blockKind e))
   after-blocks at (b ∷ bs) e n = of-other d at blockKind (last ∷ []) e n
 
-  keeps : (fuel at : ℕ) (done : List BlockAt) {k : Deck} → Each (Standing d) done → length done ≤ mostBlocks → blocksFrom fuel last d at done ≡ read k → KeptDeck last d k
+  -- where the blocks end
+  pub record Ended (P : ℕ → List BlockAt → Type 0) (k : Deck) : Type 0 where
+    pub at : ℕ
+    pub done : List BlockAt
+    pub holds : P at done
+    pub next : recordReply (kindsAfter done last) d at ≡ read tt
+    pub other : kindAt d at ≡ blockKind .number → ⊥
+    pub same : deckAt d done at ≡ k
+
+  -- what holds at the first block, and behind a block where it holds before it, holds there
+  pub along : (P : ℕ → List BlockAt → Type 0)
+      → ((at : ℕ) (done : List BlockAt) → P at done → recordReply (kindsAfter done last) d at ≡ read tt → kindAt d at ≡ blockKind .number → BlockFits d at done → P (endAt d at) (done ++ blockAt d at ∷ []))
+      → (fuel at : ℕ) (done : List BlockAt) {k : Deck} → P at done → blocksFrom fuel last d at done ≡ read k → Ended P k
   unfolding blocksFrom
-  keeps zero at done s l e = absurd (not-read e)
-  keeps (suc fuel) at done {k} s l e =
-      let (u, p, f) = then-read (recordReply (kindsAfter done last) d at) _ e in
+  along P step zero at done p e = absurd (not-read e)
+  along P step (suc fuel) at done {k} p e =
+      let (u, r, f) = then-read (recordReply (kindsAfter done last) d at) _ e in
       ⊎-elim
       (λ t.
       let (v, q, g) = then-read (blockReplyAt d at done) _ (t .1) in
-      let h = fit d at done q in
-      keeps fuel (endAt d at) (done ++ blockAt d at ∷ []) (each-last (Standing d) done (blockAt d at) s (stands at done p (eqb-true _ _ (t .0)) h)) (simp length-append (omega (arith, h .room))) g)
+      along P step fuel (endAt d at) (done ++ blockAt d at ∷ []) (step at done p r (eqb-true (kindAt d at) (blockKind .number) (t .0)) (fit d at done q)) g)
       (λ t.
       let same : deckAt d done at ≡ k = cc (t .1) in
-      rw (← same) (record { places = refl; blocks = s; few = l; after = after-blocks at done p (eqb-false (kindAt d at) (blockKind .number) (t .0)) }))
+      record { at = at; done = done; holds = p; next = r; other = eqb-false (kindAt d at) (blockKind .number) (t .0); same = same })
       (chosen (eqb (kindAt d at) (blockKind .number)) _ _ f)
 
   pub kept : {k : Deck} → blocksReply last d ≡ read k → KeptDeck last d k
   unfolding blocksReply Each
-  kept e = keeps (suc mostBlocks) 0 [] tt (omega arith) e
+  kept e =
+      let E = along (λ at done. Each (Standing d) done × (length done ≤ mostBlocks))
+      (λ at done p r k f. (each-last (Standing d) done (blockAt d at) (p .0) (stands at done r k f), simp length-append (omega (arith, f .room))))
+      (suc mostBlocks) 0 [] (tt, omega arith) e in
+      rw (← (E .same)) (record { places = refl; blocks = E .holds .0; few = E .holds .1; after = after-blocks (E .at) (E .done) (E .next) (E .other) })
 
   -- each block uses up one place of sixteen, so the fuel lasts
   lasts : (fuel at : ℕ) (done : List BlockAt) → length done ≤ mostBlocks → mostBlocks < fuel + length done → blocksFrom (suc fuel) last d at done ≡ blocksFrom fuel last d at done

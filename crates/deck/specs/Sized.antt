@@ -1,33 +1,33 @@
 -- Laws. How large a deck that is read can be: no sum over its molecule needs more than 40 bits, and one that composes leaves room for a sheet. Assumes nothing.
-use Prim.Native.Nat.{ℕ, zero, suc, _+_, _*_, _-_, _%_, _^_, _≤_, _<_}
+use Prim.Native.Nat.{ℕ, suc, _+_, _*_, _-_, _%_, _^_, _≤_, _<_}
 use mathlib.Core.Bool.{not}
 use mathlib.Core.List.{List, [], _∷_, _++_}
-use mathlib.Core.Logic.{⊎-elim}
 use mathlib.Core.Path.{_≡_, refl, _∙_, ap}
 use native.Mathlib.Nat.{mul-le-mul}
 use native.Mathlib.Omega.{arith}
-use borrow.Author.Tests.{eqb-true, ltb-false}
+use borrow.Author.Tests.{ltb-false}
 use lib.Dec.{eqb, ltb}
-use lib.ListN.{length, take, drop, getD, length-append, length-drop}
-use lib.Seq.{length-take-le, getD-take, getD-drop}
+use lib.ListN.{length, drop, length-append, length-drop}
+use lib.Seq.{length-take-le}
 use Rattle.graph.specs.Graph.{Graph, Molecule, total}
 use Rattle.graph.specs.Farthest.{farthest, largest}
 use Rattle.graph.specs.Largest.{most-below, largest-is, farthest-below}
 use Rattle.graph.specs.Bounds.{Tame, total-most, atoms-most}
 use Rattle.graph.specs.Climb.{written-molecule}
-use Rattle.reply.specs.Read.{read, _then_}
-use Rattle.reply.specs.Chain.{not-read, then-read, if-read, neither}
+use Rattle.reply.specs.Read.{read}
+use Rattle.reply.specs.Chain.{if-read, neither}
 use Rattle.block.specs.Block.{mostAtoms, mostBytes}
 use Rattle.block.specs.Told as told
 use Rattle.records.specs.Records.{headBytes, blockKind, assemblyKind, lengthAt, kindAt, endAt, payloadAt, wanted, recordReply}
-use Rattle.records.specs.Bytes.{little, le16, part}
+use Rattle.records.specs.Bytes.{le16}
 use Rattle.records.specs.Taken.{of-first, of-one}
+use Rattle.queues.specs.Stored.{little-part}
 use Rattle.records.specs.declared.Kind.{Kind}
 use Rattle.assembly.specs.Book.{bondBytes, mostBlocks}
 use Rattle.assembly.specs.Placements.{mostPlacements, placementCount}
 use Rattle.assembly.specs.declared.BlockAt.{BlockAt}
-use Rattle.deck.specs.Deck.{kindsAfter, Deck, blockAt, blockReplyAt, deckAt, blocksFrom, blocksReply, sheetReply, endReply, deckReply}
-use Rattle.deck.specs.Kept.{Standing, BlockFits, fit, stands, kept, chosen}
+use Rattle.deck.specs.Deck.{kindsAfter, Deck, blockAt, blocksReply, sheetReply, endReply, deckReply}
+use Rattle.deck.specs.Kept.{Standing, BlockFits, record-long, stands, along, kept}
 use Rattle.deck.specs.Sound.{parts, whole}
 use Rattle.deck.specs.Molecule.{graphAt, joinAt, moleculeOf}
 use Rattle.deck.specs.declared.Form.{Form}
@@ -41,11 +41,7 @@ abbrev pub longestComposed : ℕ
 longestComposed = mostBlocks * longestBlock + headBytes + assemblyKind .fixed + assemblyKind .item * mostPlacements
 
 module _ (last : Kind) (d : List ℕ) where
-  -- a block record is as long as its bonds ask, and these are not too many
-  pub record-long : (at : ℕ) (done : List BlockAt) → recordReply (kindsAfter done last) d at ≡ read tt → kindAt d at ≡ blockKind .number → lengthAt d at ≡ wanted blockKind d at
-  record-long at [] e k = of-first d at blockKind [] e k refl
-  record-long at (b ∷ bs) e k = of-first d at blockKind (last ∷ []) e k refl
-
+  -- a block's bonds are not too many
   few-bytes : (b : BlockAt) → Standing d b → blockKind .item * b .bonds ≤ mostBytes
   few-bytes b s =
       let bytes = bondBytes d b in
@@ -53,37 +49,17 @@ module _ (last : Kind) (d : List ℕ) where
       omega (arith, s .within, ltb-false mostBytes (length bytes) (t .1), length-take-le (blockKind .item * b .bonds) (drop (b .start + blockKind .fixed) d) (omega (arith, s .within, length-drop (b .start + blockKind .fixed) d)))
 
   short : (at : ℕ) (done : List BlockAt) → recordReply (kindsAfter done last) d at ≡ read tt → kindAt d at ≡ blockKind .number → BlockFits d at done → endAt d at ≤ at + longestBlock
-  short at done e k f = omega (arith, record-long at done e k, few-bytes (blockAt d at) (stands last d at done e k f))
-
-  reach : (fuel at : ℕ) (done : List BlockAt) {k : Deck} → at ≤ length done * longestBlock → length done ≤ mostBlocks → blocksFrom fuel last d at done ≡ read k → k .assembly ≤ mostBlocks * longestBlock
-  unfolding blocksFrom
-  reach zero at done a l e = absurd (not-read e)
-  reach (suc fuel) at done {k} a l e =
-      let (u, p, f) = then-read (recordReply (kindsAfter done last) d at) _ e in
-      ⊎-elim
-      (λ t.
-      let (v, q, g) = then-read (blockReplyAt d at done) _ (t .1) in
-      let h = fit d at done q in
-      let n : length (done ++ blockAt d at ∷ []) ≡ length done + 1 = simp length-append in
-      reach fuel (endAt d at) (done ++ blockAt d at ∷ []) (omega (arith, n, short at done p (eqb-true _ _ (t .0)) h)) (omega (arith, n, h .room)) g)
-      (λ t.
-      let same : deckAt d done at ≡ k = cc (t .1) in
-      rw (← same) (omega (arith, a, l)))
-      (chosen (eqb (kindAt d at) (blockKind .number)) _ _ f)
+  short at done e k f = omega (arith, record-long last d at done e k, few-bytes (blockAt d at) (stands last d at done e k f))
 
 -- where the record after the blocks stands
 pub blocks-short : (last : Kind) (d : List ℕ) (k : Deck) → blocksReply last d ≡ read k → k .assembly ≤ mostBlocks * longestBlock
 unfolding blocksReply
-blocks-short last d k e = reach last d (suc mostBlocks) 0 [] (omega arith) (omega arith) e
-
--- a number that stands within a part of a list
-little-part : (k : ℕ) (d : List ℕ) (from len at : ℕ) → at + k ≤ len → little k (part d from len) at ≡ little k d (from + at)
-unfolding little
-little-part zero d from len at h = refl
-little-part (suc k) d from len at h =
-    let b : getD (take len (drop from d)) at 0 ≡ getD d (from + at) 0 = getD-take len (drop from d) at 0 (omega arith) ∙ getD-drop from d at 0 in
-    let e : from + at + 1 ≡ from + (at + 1) = omega arith in
-    rw e (omega (arith, b, little-part k d from len (at + 1) (omega arith)))
+blocks-short last d k e =
+    let E = along last d (λ at done. (at ≤ length done * longestBlock) × (length done ≤ mostBlocks))
+    (λ at done p r b f. let n : length (done ++ blockAt d at ∷ []) ≡ length done + 1 = simp length-append in
+    (omega (arith, n, p .0, short last d at done r b f), omega (arith, n, f .room)))
+    (suc mostBlocks) 0 [] (omega arith, omega arith) e in
+    rw (← (E .same)) (omega (arith, E .holds .0, E .holds .1))
 
 -- the length of a deck that composes
 pub composed-short : (d : List ℕ) (k : Deck) → deckReply Composed d ≡ read k → length d ≤ longestComposed

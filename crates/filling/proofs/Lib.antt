@@ -2,3 +2,4 @@
 pub mod Laws
 pub mod Putting
 pub mod Told
+pub mod Places

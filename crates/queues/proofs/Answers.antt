@@ -1,24 +1,24 @@
 -- Laws. The replies, test by test. Assumes nothing.
-use Prim.Native.Nat.{ℕ, zero, suc, _+_, _*_, _-_, _≤_, _<_}
+use Prim.Native.Nat.{ℕ, _+_, _*_, _-_, _≤_, _<_}
 use mathlib.Core.Bool.{Bool, true, false}
-use mathlib.Core.List.{List, [], _∷_, _++_, append-assoc}
+use mathlib.Core.List.{List, _++_}
 use mathlib.Core.Path.{_≡_, refl, sym, _∙_, ap}
 use borrow.Author.Tests.{eq-eqb, ne-eqb, lt-ltb, le-ltb, ltb-true, not-false}
 use native.Mathlib.Omega.{arith}
 use lib.Dec.{eqb, ltb}
-use lib.ListN.{length, take, drop, length-take, length-drop, take-append-drop}
-use lib.Seq.{sets, sets-eq, drop-drop}
+use lib.ListN.{length, take, drop}
+use lib.Seq.{sets}
 use Rattle.reply.specs.Read.{Read, refused, read, refusal, _then_, refuseIf, saidReply}
 use Rattle.reply.specs.declared.Refusal.{Refusal}
 use Rattle.reply.specs.declared.Reply.{Reply}
-use Rattle.block.specs.Block.{graphOf, blockReply}
-use Rattle.filling.specs.Reply.{fillReply, filledSummary, fillBytes}
+use Rattle.block.specs.Block.{blockReply}
+use Rattle.filling.specs.Reply.{fillReply, fillBytes}
+use Rattle.filling.proofs.Places.{place-told, place-stays, place-puts}
 use Rattle.reply.specs.Chain.{then-read, if-read}
 use Rattle.queues.specs.Shelf.{places, numberIn, placeHolding, isHeld, heldBy, holds, zeroNumber, unless, roomReply, addReply, added, lookReply, dropReply, dropped}
 use Rattle.queues.specs.Table.{shelfBytes, tableBytes, shelfStart, shelf, onTable, tableAfter, withShelf, tableReply, zeroed, emptied}
 use Rattle.queues.specs.declared.Queue.{Queue}
 use Rattle.summary.specs.Layout.{summaryBytes}
-use Rattle.summary.specs.Back.{summary-fits}
 use Rattle.queues.specs.Queues.{storedBlock}
 use Rattle.queues.specs.Work.{firstOf, filledIn}
 
@@ -142,60 +142,22 @@ module _ (q : Queue) (t : List ℕ) (a : ℕ) (e : a ≡ shelfStart summaryBytes
   after-on f s h = rw (long-after t q (f (shelf summaryBytes q t)) l, size, e, ← (rw (size, e) at h))
 
 -- what filling does with the part of a shelf that it is lent
-behind : (n w : ℕ) (d : List ℕ) → n ≤ w → drop n (take w d) ++ drop w d ≡ drop n d
-behind zero w d h = take-append-drop w d
-behind (suc n) zero d h = absurd (omega arith)
-behind (suc n) (suc w) [] h = refl
-behind (suc n) (suc w) (x ∷ d) h = behind n w d (omega arith)
-
-in-place : (w at : ℕ) (s v : List ℕ) → length v ≤ w → at + w ≤ length s → take at s ++ (sets (take w (drop at s)) 0 v ++ drop w (drop at s)) ≡ sets s at v
-in-place w at s v l h =
-    let d = drop at s in
-    let z : 0 + length v ≤ length (take w d) = omega (arith, length-take w d, length-drop at s) in
-    let n : 0 + length v ≡ length v = omega arith in
-    ap (λ (t : List ℕ). take at s ++ (t ++ drop w d)) (sets-eq v (take w d) 0 z ∙ ap (λ (k : ℕ). v ++ drop k (take w d)) n)
-    ∙ ap (λ (t : List ℕ). take at s ++ t) (append-assoc v (drop (length v) (take w d)) (drop w d) ∙ ap (λ (t : List ℕ). v ++ t) (behind (length v) w d l ∙ drop-drop (length v) at s))
-    ∙ sym (append-assoc (take at s) v (drop (at + length v) s))
-    ∙ sym (sets-eq v s at (omega arith))
-
-in-place-stays : (w at : ℕ) (s : List ℕ) → take at s ++ (take w (drop at s) ++ drop w (drop at s)) ≡ s
-in-place-stays w at s = ap (λ (t : List ℕ). take at s ++ t) (take-append-drop w (drop at s)) ∙ take-append-drop at s
-
 module _ (s : List ℕ) (x n : ℕ) (bs : List ℕ) (k : ℕ) (e : k ≡ placeHolding summaryBytes s 0) (size : length s ≡ shelfBytes summaryBytes) (l : k < places) where
-  abbrev lent : List ℕ
-  lent = take (summaryBytes * k + summaryBytes - summaryBytes * k) (drop (summaryBytes * k) s)
+  fits : summaryBytes * k + summaryBytes ≤ length s
+  fits = omega (arith, size, l)
 
-  width : summaryBytes * k + summaryBytes - summaryBytes * k ≡ summaryBytes
-  width = omega arith
+  pub lent-reply : (r : Reply) → r ≡ saidReply (fillReply n bs (length (take (summaryBytes * k + summaryBytes - summaryBytes * k) (drop (summaryBytes * k) s)))) → r ≡ saidReply (blockReply n bs)
+  lent-reply r q = q ∙ ap saidReply (place-told s k fits x n bs)
 
-  long : length lent ≡ summaryBytes
-  long = rw width (length-take summaryBytes (drop (summaryBytes * k) s) ∙ omega (arith, length-drop (summaryBytes * k) s, size, l))
-
-  fill-is : fillReply n bs (length lent) ≡ blockReply n bs
-  unfolding fillReply
-  fill-is = rw long (go (blockReply n bs))
-    where
-      go : (m : Read (Unit {0})) → (m then λ _. read tt) ≡ m
-      go (refused r) = refl
-      go (read u) = refl
-
-  pub lent-reply : (r : Reply) → r ≡ saidReply (fillReply n bs (length lent)) → r ≡ saidReply (blockReply n bs)
-  lent-reply r q = q ∙ ap saidReply fill-is
-
-  pub lent-bytes : (new : List ℕ) → new ≡ fillBytes x n bs lent
+  pub lent-bytes : (new : List ℕ) → new ≡ fillBytes x n bs (take (summaryBytes * k + summaryBytes - summaryBytes * k) (drop (summaryBytes * k) s))
       → take (summaryBytes * k) s ++ (new ++ drop (summaryBytes * k + summaryBytes - summaryBytes * k) (drop (summaryBytes * k) s)) ≡ filledIn s x n bs
-  unfolding filledIn filledSummary
-  lent-bytes new q = rw (q, fill-is, width) (go (blockReply n bs) refl)
+  unfolding filledIn
+  lent-bytes new q = go (blockReply n bs) refl
     where
-      fits : summaryBytes * k + summaryBytes ≤ length s
-      fits = omega (arith, size, l)
-
       go : (m : Read (Unit {0})) → blockReply n bs ≡ m
-          → take (summaryBytes * k) s ++ (filledSummary m x (graphOf n bs) (take summaryBytes (drop (summaryBytes * k) s)) ++ drop summaryBytes (drop (summaryBytes * k) s))
-          ≡ unless m s (sets s (summaryBytes * placeHolding summaryBytes s 0) (storedBlock x n bs))
-      go (refused r) f = in-place-stays summaryBytes (summaryBytes * k) s
-      go (read u) f =
-          in-place summaryBytes (summaryBytes * k) s (storedBlock x n bs) (summary-fits x n bs f) fits ∙ ap (λ (i : ℕ). sets s (summaryBytes * i) (storedBlock x n bs)) e
+          → take (summaryBytes * k) s ++ (new ++ drop (summaryBytes * k + summaryBytes - summaryBytes * k) (drop (summaryBytes * k) s)) ≡ unless m s (sets s (summaryBytes * placeHolding summaryBytes s 0) (storedBlock x n bs))
+      go (refused r) f = place-stays s k fits x n bs new q r f
+      go (read u) f = place-puts s k fits x n bs new q f ∙ ap (λ (i : ℕ). sets s (summaryBytes * i) (storedBlock x n bs)) e
 
 -- a refusal that comes first, or last
 pub first-refused : (m : Read (Unit {0})) (r q : Refusal) → m ≡ refused r → firstOf m q ≡ refused r
