@@ -1,7 +1,7 @@
 // What is asked of a deck, or of bytes that are a text.
 ghost use Prim.Native.Nat.{_≤_};
 ghost use lib.ListN.{length};
-use crate::products;
+use crate::libraries;
 use crate::typed;
 use block::DistanceReply;
 use judging::SheetWritten;
@@ -100,7 +100,7 @@ pub(crate) fn reply_to(letter: u8, deck: &[u8], row: Row) -> Row {
         b'w' | b'b' | b'k' | b'o' => of_sheet(letter, deck, row.first(0, 64)),
         b'y' => written_out(deck),
         b'x' => pair(deck, row.first(0, FAR)),
-        b'q' | b'p' | b'r' | b'e' => products::reply_to(letter, deck, row),
+        b'q' | b'p' | b'r' | b'e' => libraries::reply_to(letter, deck, row),
         _ => asked::of_text(letter, deck, row),
     }
 }

@@ -3,7 +3,7 @@ ghost use Prim.Native.Nat.{_<_, _≤_};
 ghost use lib.ListN.{length};
 
 mod decks;
-mod products;
+mod libraries;
 mod typed;
 
 use libc::STDIN_FILENO;
