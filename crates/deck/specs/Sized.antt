@@ -21,7 +21,7 @@ use Rattle.block.specs.Told as told
 use Rattle.records.specs.Records.{headBytes, blockKind, assemblyKind, lengthAt, kindAt, endAt, payloadAt, wanted, recordReply}
 use Rattle.records.specs.Bytes.{le16}
 use Rattle.records.specs.Taken.{of-first, of-one}
-use Rattle.queues.specs.Stored.{little-part}
+use Rattle.records.specs.Stored.{little-part}
 use Rattle.records.specs.declared.Kind.{Kind}
 use Rattle.assembly.specs.Book.{bondBytes, mostBlocks}
 use Rattle.assembly.specs.Placements.{mostPlacements, placementCount}
