@@ -159,8 +159,7 @@ impl Row {
     pub fn says(self, reply: Row) -> bool {
         let line = self.values;
         let told = reply.values;
-        self.refused == reply.refused
-            && same(&line, self.asked, self.count, &told, reply.count)
+        self.refused == reply.refused && same(&line, self.asked, self.count, &told, reply.count)
     }
 }
 
