@@ -98,6 +98,21 @@ pub fn tripling(threes: u8) -> BlockPlan {
     block(3 * threes as usize, bonds)
 }
 
+/// Bundles of so many paths of two bonds, each bundle's end bonded to the front of the next: the path counts multiply.
+pub fn bundles(sizes: &[u8]) -> BlockPlan {
+    let mut bonds = Vec::new();
+    let mut last = 0;
+    for size in sizes {
+        let (front, end) = (last + 1, last + size + 2);
+        if last > 0 {
+            bonds.push((last, front));
+        }
+        bonds.extend((front + 1..end).flat_map(|middle| [(front, middle), (middle, end)]));
+        last = end;
+    }
+    block(last as usize, bonds)
+}
+
 /// A deck of one block in one placement.
 pub fn alone(block: BlockPlan) -> DeckPlan {
     let number = block.number;

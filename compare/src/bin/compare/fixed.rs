@@ -64,6 +64,8 @@ fn documents(checker: &mut Checker) {
         shapes::doubling(32),
         shapes::tripling(21),
         shapes::grid(8, 8),
+        // D is 1,000,000, the most that it may be
+        shapes::bundles(&[4, 4, 4, 5, 5, 5, 5, 5, 5]),
     ]
     .into();
     for block in blocks.into_iter().chain(shapes) {
