@@ -336,6 +336,13 @@ fn named(checker: &mut Checker) {
         archive::queue_look(&table, 7, 1, &mut night);
         checker.holds(day == [6, 27, 12, 15, 3, 3] && night == [1, 0, 0, 0, 0, 0], "other fields");
     });
+    checker.case("both queues are full of the largest blocks", |checker| {
+        // two blocks of number x joined at their last atoms, of which every byte of a place tells
+        let two = |x: u8| vec![14, 0, 2, 0, 2, 0, x, 0, 0, 0, 0, 0, x, 0, 1, 0, 64, 64];
+        let filled = (1..=8).flat_map(|x| [(1, number(&shapes::grid(8, 8), x)), (0, number(&shapes::double_ring(64), x))]);
+        let asked = (1..=8u8).flat_map(|x| [0, 1].map(|which| (which, Call::Compose(SIX, two(x), 44))));
+        calls(checker, 0, &filled.chain(asked).collect::<Vec<_>>());
+    });
     checker.case("eight are held", |checker| {
         let mut table = vec![0; TABLE];
         let mut calls: Vec<(Queue, Call, u64)> = (1..=8).map(|x| (Day, number(&ring, 1000 + x), 0)).collect();
