@@ -66,6 +66,7 @@ fn named(checker: &mut Checker) {
         (format!("\n\n\n  0  1\n  1  1\n{rest}"), refused(27, 10)),
         (String::from("\n\n"), refused(25, 2)),
         (String::from("\r\n\r\n\r\n"), refused(25, 6)),
+        ("\n".repeat(40), refused(25, 3)),
     ];
     for (at, (file, right)) in cases.iter().enumerate() {
         checker.case(format!("molfile {at} by hand"), |checker| {
@@ -114,7 +115,6 @@ fn long(checker: &mut Checker) {
         ("999 atoms, 64 heavy", format!("\n\n\n999998\n{}{}{}M  END\n", c.repeat(64), h.repeat(935), bonds)),
         ("5,000 lines read over", format!("{few}{over}M  END\n")),
         ("5,000 lines read over, and no end", format!("{few}{over}")),
-        ("40 empty lines read over", format!("{few}{}M  END\n", "\n".repeat(40))),
         (
             "lines of 100,000 characters",
             format!("{blanks}\n{blanks}\n\n  1  0{blanks}\n{}{blanks}\nM  END{blanks}\n", c.trim_end()),
