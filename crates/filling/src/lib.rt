@@ -3,6 +3,7 @@ mod atoms;
 mod store;
 
 use atoms::put_atoms;
+use block::ATOMS;
 use block::IndicesReply;
 use reach::opened;
 use reply::Refusal;
@@ -20,9 +21,8 @@ pub fn fill(number: u16, n: usize, bonds: &[u8], out: &mut [u8]) -> Reply
     ensures reply { λ r. ⌜ r ≡ saidReply (fillReply n (now (bonds .entry)) (length (now (out .entry)))) ⌝ }
     ensures bytes { λ _. ⌜ now (out .exit) ≡ fillBytes number n (now (bonds .entry)) (now (out .entry)) ⌝ }
 {
-    let block = opened(n, bonds);
-    let reply = block.reply;
-    let near = block.near;
+    let mut near = [0u64; ATOMS];
+    let reply = opened(n, bonds, &mut near);
     match reply {
         IndicesReply::Refused(refusal) => Reply::Refused(refusal),
         IndicesReply::Of(indices) => {

@@ -26,7 +26,7 @@ use Rattle.block.specs.declared.Indices.{Indices}
 use Rattle.block.specs.declared.IndicesReply.the-variants.{Of, Refused}
 use Rattle.reach.specs.Reach.{Own, Reach, LowSums, Room, Added, Reached, LevelsUpTo, upTo, fartherOf}
 use Rattle.reach.specs.declared.Both.{Both}
-use Rattle.reach.proofs.Touching.{reach-none, reach-same}
+use Rattle.reach.proofs.Touching.{reach-none}
 use Rattle.reach.proofs.Summing.{up-next, up-none, up-most, up-more, up-all, met-all, deeper, apart, room, all-connected, last-is, count-reach, one-farther}
 
 pub record Level (n : ℕ) (xs : List ℕ) (k : ℕ) (near sets reached : List ℕ) (s : Both) (met d : ℕ) : Type 0 where
@@ -37,13 +37,13 @@ pub record Level (n : ℕ) (xs : List ℕ) (k : ℕ) (near sets reached : List �
   pub upto : LevelsUpTo (graphOf n xs) d met s
   pub counts : Reached (graphOf n xs) k d reached
 
--- what a turn finds: the sets one bond farther, copied, and how many atoms they have
+-- what a turn finds: the sets one bond farther, and how many atoms they have
 pub record Turned (n : ℕ) (xs : List ℕ) (d : ℕ) (near sets : List ℕ) (met : ℕ) : Type 0 where
   pub near-size : length near ≡ mostAtoms
   pub sets-size : length sets ≡ mostAtoms
+  pub reach : Reach (graphOf n xs) (suc d) near
   pub wide : Reach (graphOf n xs) (suc d) sets
-  pub copied : (v : ℕ) → Within n v → around near v ≡ around sets v
-  pub met-is : met ≡ sum n (λ v. ones (around sets v))
+  pub met-is : met ≡ sum n (λ v. ones (around near v))
 
 -- a set of one atom
 ones-alone : (p : ℕ) → ones (2 ^ p) ≡ 1
@@ -116,7 +116,7 @@ module _ (n : ℕ) (xs : List ℕ) (drawn : drawnReply n xs ≡ read tt) where
       -- one bond farther
       module _ {near′ sets′ : List ℕ} {met′ : ℕ} (T : Turned n xs d near′ sets′ met′) where
         here : met′ ≡ upTo g each (suc d)
-        here = T .met-is ∙ count-reach g (suc d) sets′ (T .wide)
+        here = T .met-is ∙ count-reach g (suc d) near′ (T .reach)
 
         pub grows : met ≤ met′
         grows = omega (arith, here, L .upto .met-is, up-more g d)
@@ -135,11 +135,11 @@ module _ (n : ℕ) (xs : List ℕ) (drawn : drawnReply n xs ≡ read tt) where
             gain (f (suc d)) u (upTo g f (suc d)) met (met′ - met)
             (ap (λ (m : ℕ). upTo g f (suc d) + f (suc d) * m) (L .upto .met-is) ∙ up-next g f d ∙ ap₂ (λ (x y : ℕ). x + f (suc d) * y) (sym e) (sym here ∙ k))
 
-        pub level-next : k ≤ n → (met′ ≡ met → ⊥) → (reached′ : List ℕ) → Added k sets′ reached reached′ → Level n xs k near′ sets′ reached′ (fartherOf s (d + 1) (met′ - met)) met′ (d + 1)
+        pub level-next : k ≤ n → (met′ ≡ met → ⊥) → (reached′ : List ℕ) → Added k near′ reached reached′ → Level n xs k near′ sets′ reached′ (fartherOf s (d + 1) (met′ - met)) met′ (d + 1)
         level-next h ne reached′ A = rw (add-one d) (record {
           near-size = T .near-size;
           sets-size = T .sets-size;
-          reach = reach-same g (suc d) sets′ near′ (T .copied) (T .wide);
+          reach = T .reach;
           wide = T .wide;
           upto = record {
             all-is = added itself (s .all) (L .upto .all-is);
@@ -149,7 +149,7 @@ module _ (n : ℕ) (xs : List ℕ) (drawn : drawnReply n xs ≡ read tt) where
             below = shallow;
             deep = deeper g d (omega (arith, here, L .upto .met-is, grows));
           };
-          counts = record { wanting = λ v w. omega (arith, A .added v w, L .counts .wanting v w, one-farther g (suc d) sets′ (T .wide) v (omega arith)) };
+          counts = record { wanting = λ v w. omega (arith, A .added v w, L .counts .wanting v w, one-farther g (suc d) near′ (T .reach) v (omega arith)) };
         })
 
     -- no pair is left

@@ -20,14 +20,10 @@ use Rattle.reply.specs.declared.Reply.the-variants as reply
 use Rattle.block.specs.Block.{mostAtoms, graphOf, drawnReply, blockReply}
 use Rattle.block.specs.Index.{indicesOf, indicesReply, saidIndices}
 use Rattle.block.specs.Near.{around}
-use Rattle.block.specs.Opened.{neighboursOf, openedReply, saidOpened, nearAfter, drawnNear}
 use Rattle.block.specs.Rows.{noRow}
-use Rattle.block.specs.Told.{few-atoms, molecule, fine-drawn, drawn-refused}
+use Rattle.block.specs.Told.{few-atoms, molecule, drawn-refused}
 use Rattle.block.specs.declared.Indices.{Indices}
 use Rattle.block.specs.declared.IndicesReply.the-variants as measured
-use Rattle.reach.specs.Told.{indices-refused, indices-fine}
-use Rattle.reach.specs.Taken.{takenOf}
-use Rattle.reach.specs.declared.Taken.{Taken}
 use Rattle.reach.specs.Reach.{Reached}
 use Rattle.reach.specs.Sums.{vertexSumsOf, sumsReply, saidSums}
 use Rattle.reach.proofs.Summing.{all-wanting}
@@ -42,20 +38,6 @@ module _ (n : ℕ) (xs : List ℕ) where
   pub sums-refused : (r : Refusal) → blockReply n xs ≡ refused r → (p : Reply) → p ≡ reply.Refused r → record { reply = p; at = noRow } ≡ saidSums (sumsReply n xs)
   unfolding sumsReply
   sums-refused r b p e = rw b (λ j. record { reply = e j; at = noRow })
-
-  pub open-refused : (r : Refusal) → measured.Refused r ≡ saidIndices (indicesReply n xs) → _≡_ {A = Taken} (record { reply = measured.Refused r; near = noRow }) (takenOf n xs)
-  unfolding takenOf openedReply
-  open-refused r e = λ i. record { reply = e i; near = none i }
-    where
-      none : noRow ≡ saidOpened (blockReply n xs then λ _. read (neighboursOf (graphOf n xs))) .near
-      none = rw (indices-refused n xs r (sym e))
-
-  pub open-fine : (x : Indices) → measured.Of x ≡ saidIndices (indicesReply n xs) → (near old : List ℕ) → near ≡ drawnNear n xs old → _≡_ {A = Taken} (record { reply = measured.Of x; near = near }) (takenOf n xs)
-  unfolding takenOf openedReply drawnNear
-  open-fine x e near old q = λ i. record { reply = e i; near = (q ∙ same) i }
-    where
-      same : nearAfter (drawnReply n xs then λ _. read (neighboursOf (graphOf n xs))) old ≡ saidOpened (blockReply n xs then λ _. read (neighboursOf (graphOf n xs))) .near
-      same = let f = indices-fine n xs x (sym e) .0 in rw (fine-drawn n xs f, f)
 
   module _ (fine : blockReply n xs ≡ read tt) where
     abbrev g : Graph

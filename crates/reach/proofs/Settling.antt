@@ -1,4 +1,4 @@
--- The sets of the first i atoms are copied, and their atoms counted. Assumes nothing.
+-- The sets of the first i atoms are taken in, and their atoms counted. Assumes nothing.
 use Prim.Native.Nat.{ℕ, suc, _+_, _-_, _*_, _≤_, _<_}
 use mathlib.Core.List.{List}
 use mathlib.Core.Path.{_≡_, refl, _∙_}
@@ -6,6 +6,7 @@ use native.Mathlib.Decide.{ℕ-discrete}
 use native.Mathlib.Nat.{le-refl}
 use native.Mathlib.Numerals.{add-one}
 use native.Mathlib.Omega.{arith}
+use lib.Bits.{bitOr}
 use lib.Count.{ones}
 use lib.ListN.{length, getD, set, length-set}
 use lib.Seq.{getD-set-same, getD-set-other}
@@ -14,28 +15,33 @@ use Rattle.block.specs.Block.{mostAtoms}
 use Rattle.block.specs.Near.{around}
 use Rattle.reach.specs.Reach.{Room}
 
-pub record Settling (sets near : List ℕ) (met i : ℕ) : Type 0 where
+pub record Settling (sets old near : List ℕ) (met i : ℕ) : Type 0 where
   pub size : length near ≡ mostAtoms
-  pub copied : (v : ℕ) → Within i v → around near v ≡ around sets v
-  pub met-is : met ≡ sum i (λ v. ones (around sets v))
+  pub joined : (v : ℕ) → Within i v → around near v ≡ bitOr (around old v) (around sets v)
+  pub rest : (p : ℕ) → i ≤ p → getD near p 0 ≡ getD old p 0
+  pub met-is : met ≡ sum i (λ v. ones (bitOr (around old v) (around sets v)))
   pub low : met ≤ mostAtoms * i
 
-pub settling-none : (sets near : List ℕ) → length near ≡ mostAtoms → Settling sets near 0 0
+pub settling-none : (sets old : List ℕ) → length old ≡ mostAtoms → Settling sets old old 0 0
 unfolding sum
-settling-none sets near e = record { size = e; copied = λ v w. absurd (omega arith); met-is = refl; low = omega arith }
+settling-none sets old e = record { size = e; joined = λ v w. absurd (omega arith); rest = λ p l. refl; met-is = refl; low = omega arith }
 
-pub settling-more : (sets near : List ℕ) (met i : ℕ) → i < mostAtoms → ones (getD sets i 0) ≤ mostAtoms → Settling sets near met i
-    → Settling sets (set near i (getD sets i 0)) (met + ones (getD sets i 0)) (i + 1)
+pub settling-more : (sets old near : List ℕ) (met i : ℕ) → i < mostAtoms → (few : ones (bitOr (getD near i 0) (getD sets i 0)) ≤ mostAtoms) → Settling sets old near met i
+    → Settling sets old (set near i (bitOr (getD near i 0) (getD sets i 0))) (met + ones (bitOr (getD near i 0) (getD sets i 0))) (i + 1)
 unfolding sum
-settling-more sets near met i l few S = record {
-  size = length-set near i (getD sets i 0) ∙ S .size;
-  copied = λ v w. elim (ℕ-discrete (v - 1) i) [
-    | yes e ↦ rw (e, getD-set-same near i (getD sets i 0) 0 (omega (arith, S .size))) refl
-    | no ne ↦ rw (getD-set-other near i (v - 1) (getD sets i 0) 0 ne) (S .copied v (omega arith))
+settling-more sets old near met i l few S = record {
+  size = length-set near i here ∙ S .size;
+  joined = λ v w. elim (ℕ-discrete (v - 1) i) [
+    | yes e ↦ rw (e, getD-set-same near i here 0 (omega (arith, S .size)), S .rest i (le-refl i)) refl
+    | no ne ↦ rw (getD-set-other near i (v - 1) here 0 ne) (S .joined v (omega arith))
   ];
-  met-is = let k : suc i - 1 ≡ i = omega arith in rw (add-one i, k, S .met-is);
+  rest = λ p h. getD-set-other near i p here 0 (omega arith) ∙ S .rest p (omega arith);
+  met-is = let k : suc i - 1 ≡ i = omega arith in rw (add-one i, k, S .met-is, S .rest i (le-refl i));
   low = omega (arith, S .low);
 }
+  where
+    here : ℕ
+    here = bitOr (getD near i 0) (getD sets i 0)
 
 -- how many atoms the sets of the first i atoms have is added to what they reached
 pub record Adding (sets old reached : List ℕ) (i : ℕ) : Type 0 where

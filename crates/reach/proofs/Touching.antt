@@ -153,9 +153,17 @@ module _ (n : ℕ) (xs : List ℕ) (drawn : drawnReply n xs ≡ read tt) (d : �
         ∙ reach-next (graphOf n xs) (drawn-sound n xs drawn) d v w shallow a b (λ u. has (around near u) w) (λ u h. N .holds u w h b);
   }
 
--- sets that are the same on the atoms
-pub reach-same : (g : Graph) (d : ℕ) (sets near : List ℕ) → ((v : ℕ) → Within (g .atoms) v → around near v ≡ around sets v) → Reach g d sets → Reach g d near
-reach-same g d sets near e R = record { fits = λ v a. rw (e v a) (R .fits v a); holds = λ v w a b. rw (e v a) (R .holds v w a b) }
+-- sets taken in by those that reach one bond less
+pub reach-joined : (g : Graph) (d : ℕ) (old sets near : List ℕ) → ((v : ℕ) → Within (g .atoms) v → around near v ≡ bitOr (around old v) (around sets v))
+    → Reach g d old → Reach g (suc d) sets → Reach g (suc d) near
+reach-joined g d old sets near e O R = record {
+  fits = λ v a. rw (e v a) (or-lt (g .atoms) (around old v) (around sets v) (O .fits v a) (R .fits v a));
+  holds = λ v w a b. rw (e v a) (has-or (around old v) (around sets v) w ∙ rw (O .holds v w a b, R .holds v w a b) (less (distance g v w) (leb (distance g v w) d) refl));
+}
+  where
+    less : (x : ℕ) (t : Bool) → leb x d ≡ t → (t || leb x (suc d)) ≡ leb x (suc d)
+    less x true h = sym (le-leb x (suc d) (omega (arith, leb-true x d h)))
+    less x false h = refl
 
 -- each atom alone: those no bond away
 pub reach-none : (g : Graph) → Sound g → (sets : List ℕ) → Own (g .atoms) sets → Reach g 0 sets

@@ -9,11 +9,10 @@ use Rattle.reply.specs.declared.Refusal.{Refusal}
 use Rattle.reply.specs.declared.Reply.the-variants.{Fine, Refused}
 use Rattle.block.specs.Block.{graphOf, blockReply}
 use Rattle.block.specs.Index.{indicesOf, indicesReply, saidIndices}
-use Rattle.block.specs.Opened.{neighboursOf, openedReply}
+use Rattle.block.specs.Opened.{neighboursOf, drawnNear}
+use Rattle.block.specs.Told.{fine-drawn}
 use Rattle.block.specs.declared.Indices.{Indices}
 use Rattle.block.specs.declared.IndicesReply.the-variants as measured
-use Rattle.reach.specs.Taken.{takenOf}
-use Rattle.reach.specs.declared.Taken.{Taken}
 use Rattle.reach.specs.Sums.{vertexSumsOf, sumsReply, saidSums}
 use Rattle.reach.specs.declared.VertexSums.{VertexSums}
 
@@ -63,14 +62,7 @@ module _ (n : ℕ) (xs : List ℕ) where
       go (refused s) f = absurd (not-refused x s (sym f))
       go (read tt) f = (refl, same (indicesOf (graphOf n xs)) f)
 
--- WHAT OPENING TELLS: the block's refusal, or its indices and its neighbours
-module _ (n : ℕ) (xs : List ℕ) (v : Taken) (e : v ≡ takenOf n xs) where
-  pub taken-refused : (r : Refusal) → v .reply ≡ measured.Refused r → blockReply n xs ≡ refused r
-  unfolding takenOf
-  taken-refused r q = indices-refused n xs r (sym (ap (λ (t : Taken). t .reply) e) ∙ q)
-
-  pub taken-fine : (x : Indices) → v .reply ≡ measured.Of x → (blockReply n xs ≡ read tt) × (x ≡ indicesOf (graphOf n xs)) × (v .near ≡ neighboursOf (graphOf n xs))
-  unfolding takenOf openedReply
-  taken-fine x q =
-      let (f, h) = indices-fine n xs x (sym (ap (λ (t : Taken). t .reply) e) ∙ q) in
-      (f, h, ap (λ (t : Taken). t .near) e ∙ rw f refl)
+  -- WHAT OPENING TELLS: with the indices come the block's neighbours
+  pub fine-near : blockReply n xs ≡ read tt → drawnNear n xs ≡ neighboursOf (graphOf n xs)
+  unfolding drawnNear
+  fine-near f = rw (fine-drawn n xs f, drawnNear)

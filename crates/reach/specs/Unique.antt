@@ -5,10 +5,9 @@ use mathlib.Core.Path.{_≡_}
 use lib.Count.{ones}
 use Rattle.reply.specs.Chain.{unique}
 use Rattle.block.specs.Index.{indicesReply, saidIndices}
+use Rattle.block.specs.Opened.{drawnNear}
 use Rattle.block.specs.declared.IndicesReply.{IndicesReply}
 use Rattle.reach.specs.Sums.{sumsReply, saidSums}
-use Rattle.reach.specs.Taken.{takenOf}
-use Rattle.reach.specs.declared.Taken.{Taken}
 use Rattle.reach.specs.declared.VertexSums.{VertexSums}
 
 pub unique-size : (m r s : ℕ) → r ≡ ones m → s ≡ ones m → r ≡ s
@@ -20,5 +19,6 @@ unique-measure n xs r s = unique
 pub unique-vertex-sums : (n : ℕ) (xs : List ℕ) (r s : VertexSums) → r ≡ saidSums (sumsReply n xs) → s ≡ saidSums (sumsReply n xs) → r ≡ s
 unique-vertex-sums n xs r s = unique
 
-pub unique-opened : (n : ℕ) (xs : List ℕ) (r s : Taken) → r ≡ takenOf n xs → s ≡ takenOf n xs → r ≡ s
-unique-opened n xs r s = unique
+pub unique-opened : (n : ℕ) (xs : List ℕ) (r s : IndicesReply) (p q : List ℕ) → (r ≡ saidIndices (indicesReply n xs)) × (p ≡ drawnNear n xs)
+    → (s ≡ saidIndices (indicesReply n xs)) × (q ≡ drawnNear n xs) → (r ≡ s) × (p ≡ q)
+unique-opened n xs r s p q x y = (unique (x .0) (y .0), unique (x .1) (y .1))

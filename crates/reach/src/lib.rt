@@ -6,6 +6,7 @@
 // of atoms and by no distance: that is why this is faster than a search from each atom.
 ghost use mathlib.Core.Path.{_≡_};
 ghost use Prim.Native.Nat.{ℕ, suc, _*_, _-_, _≤_, _<_};
+ghost use lib.Bits.{bitOr};
 ghost use lib.Count.{ones};
 ghost use lib.Dec.{ltb};
 ghost use lib.ListN.{length, getD};
@@ -18,7 +19,6 @@ ghost use Rattle.block.specs.Near.{around};
 ghost use Rattle.block.specs.Opened.{drawnNear};
 ghost use Rattle.half.specs.Half.{table};
 ghost use Rattle.reach.specs.Sums.{sumsReply, saidSums};
-ghost use Rattle.reach.specs.Taken.{takenOf};
 ghost use Rattle.reach.specs.Reach.{Own, Reach, LowSums, fartherOf, Room, Added, Reached};
 use block::ATOMS;
 use block::Indices;
@@ -41,12 +41,6 @@ struct Both {
 pub struct VertexSums {
     pub reply: Reply,
     pub at: [u64; ATOMS],
-}
-
-// The indices of a block or its refusal; and its neighbours, none where it is refused.
-pub struct Taken {
-    pub reply: IndicesReply,
-    pub near: Neighbours,
 }
 
 // Each of n atoms alone.
@@ -88,16 +82,17 @@ pub fn size(set: u64) -> u64
     u64::count_ones(set) as u64
 }
 
-// How many atoms the sets of the first n atoms have together. The sets are copied.
+// The sets of the first n atoms are taken in: how many atoms they have then together. What is taken in was there before, so this copies; as a copy it
+// would be a call for each level.
 fn settled(sets: &Sets, n: usize, near: &mut [u64]) -> u64
     requires { ⌜ (n ≤ mostAtoms) × (length (now near) ≡ mostAtoms) ⌝ }
-    ensures met { λ r. ⌜ r ≡ sum n (λ v. ones (around (now (sets .entry)) v)) ⌝ }
-    ensures copied { λ _. ⌜ ((v : ℕ) → Within n v → around (now (near .exit)) v ≡ around (now (sets .entry)) v) ⌝ }
+    ensures met { λ r. ⌜ r ≡ sum n (λ v. ones (around (now (near .exit)) v)) ⌝ }
+    ensures joined { λ _. ⌜ ((v : ℕ) → Within n v → around (now (near .exit)) v ≡ bitOr (around (now (near .entry)) v) (around (now (sets .entry)) v)) ⌝ }
 {
     let mut met: u64 = 0;
     let mut i = 0;
     while i < n {
-        let set = sets[i];
+        let set = near[i] | sets[i];
         let atoms = size(set);
         near[i] = set;
         met += atoms;
@@ -165,7 +160,7 @@ fn summed(n: usize, bonds: &[u8], k: usize, reached: &mut [u64]) -> IndicesReply
                 place: 0,
             });
         }
-        count(&sets, k, reached);
+        count(&near, k, reached);
         d += 1;
         s = farther(s, d, more - met);
         met = more;
@@ -183,10 +178,10 @@ fn summed(n: usize, bonds: &[u8], k: usize, reached: &mut [u64]) -> IndicesReply
     })
 }
 
-// The indices of a block, or its refusal; and lent what `block::drawn` says.
-fn indices(n: usize, bonds: &[u8], near: &mut Neighbours) -> IndicesReply
+// A block that is opened, its bonds read once: its indices or its refusal, and in what is lent what `block::drawn` says, its neighbours.
+pub fn opened(n: usize, bonds: &[u8], near: &mut Neighbours) -> IndicesReply
     ensures reply { λ r. ⌜ r ≡ saidIndices (indicesReply n (now (bonds .entry))) ⌝ }
-    ensures near { λ _. ⌜ now (near .exit) ≡ drawnNear n (now (bonds .entry)) (now (near .entry)) ⌝ }
+    ensures near { λ _. ⌜ now (near .exit) ≡ drawnNear n (now (bonds .entry)) ⌝ }
 {
     let reply = block::drawn(n, bonds, near);
     match reply {
@@ -203,25 +198,7 @@ pub fn measure(n: usize, bonds: &[u8]) -> IndicesReply
     ensures { λ r. ⌜ r ≡ saidIndices (indicesReply n (now (bonds .entry))) ⌝ }
 {
     let mut near = [0u64; ATOMS];
-    indices(n, bonds, &mut near)
-}
-
-// A block that is opened, its bonds read once: its indices or its refusal, and its neighbours, none where it is refused.
-pub fn opened(n: usize, bonds: &[u8]) -> Taken
-    ensures { λ r. ⌜ r ≡ takenOf n (now (bonds .entry)) ⌝ }
-{
-    let mut near = [0u64; ATOMS];
-    let reply = indices(n, bonds, &mut near);
-    match reply {
-        IndicesReply::Refused(refusal) => Taken {
-            reply: IndicesReply::Refused(refusal),
-            near: [0u64; ATOMS],
-        },
-        IndicesReply::Of(of) => Taken {
-            reply: IndicesReply::Of(of),
-            near,
-        },
-    }
+    opened(n, bonds, &mut near)
 }
 
 // What is left of so many levels of n atoms each, for each of the n atoms: a distance is how many levels an atom was not within reach.

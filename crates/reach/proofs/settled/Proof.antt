@@ -1,12 +1,14 @@
 use Prim.Native.Nat.{_-_, _≤_}
-use mathlib.Core.Path.{_≡_}
+use mathlib.Core.Path.{_≡_, sym, ap, _∙_}
 use native.Mathlib.Omega.{arith}
+use lib.Count.{ones}
+use Rattle.graph.specs.Sums.{sum-cong}
 use Rattle.reach.proofs.Settling.{Settling, settling-none, settling-more}
 use Rattle.reach.proofs.settled.Statement.{statement}
 use Rattle.reach.proofs.settled.Tie as tie
 
 abbrev Inv-loop : tie.InvT-loop
-Inv-loop sets n near₀ met₀ i₀ near met i = (i ≤ n) × Settling sets near met i
+Inv-loop sets n near₀ met₀ i₀ near met i = (i ≤ n) × Settling sets near₀ near met i
 
 abbrev μ-loop : tie.MeasureT-loop
 μ-loop sets n near₀ met₀ i₀ near met i = n - i
@@ -16,6 +18,12 @@ loop-holds c = (omega arith, settling-none _ _ (c .before .pre .1))
 
 mul-set : tie.Need-mul-set Inv-loop μ-loop
 mul-set c = omega arith
+
+slice-read-set : tie.Need-slice-read-set Inv-loop μ-loop
+slice-read-set c = omega (arith, c .before .before .loop .inv .1 .size)
+
+mul-set-2 : tie.Need-mul-set-2 Inv-loop μ-loop
+mul-set-2 c = omega arith
 
 element-copy-out-set : tie.Need-element-copy-out-set Inv-loop μ-loop
 element-copy-out-set c = omega arith
@@ -27,10 +35,10 @@ mul-near : tie.Need-mul-near Inv-loop μ-loop
 mul-near c = omega arith
 
 slice-write-near : tie.Need-slice-write-near Inv-loop μ-loop
-slice-write-near c = omega (arith, c .before .before .before .loop .inv .1 .size)
+slice-write-near c = omega (arith, c .before .before .before .before .loop .inv .1 .size)
 
 add-met : tie.Need-add-met Inv-loop μ-loop
-add-met c = omega (arith, c .size .ensures .1, c .before .before .before .loop .inv .1 .low)
+add-met c = omega (arith, c .size .ensures .1, c .before .before .before .before .loop .inv .1 .low)
 
 add-i : tie.Need-add-i Inv-loop μ-loop
 add-i c = omega arith
@@ -40,9 +48,9 @@ loop-less c = omega arith
 
 loop-again : tie.Need-loop-again Inv-loop μ-loop
 loop-again c =
-    let l = c .before .before .before .loop in
+    let l = c .before .before .before .before .loop in
     let z = c .size .ensures in
-    (omega arith, rw (z .0) (settling-more _ _ _ (l .i) (omega arith) (omega (arith, z .0, z .1)) (l .inv .1)))
+    (omega arith, rw (z .0) (settling-more _ _ _ _ (l .i) (omega arith) (omega (arith, z .0, z .1)) (l .inv .1)))
 
 same-length : tie.Need-same-length Inv-loop μ-loop
 same-length c = omega (arith, c .before .loop .inv .1 .size, c .before .before .before .pre .1)
@@ -51,7 +59,7 @@ returns : tie.Need-returns Inv-loop μ-loop
 returns c =
     let e : c .before .loop .i ≡ c .before .before .before .args .n = omega arith in
     let S = rw e at (c .before .loop .inv .1) in
-    (S .met-is, S .copied)
+    (S .met-is ∙ sum-cong _ (λ v w. ap ones (sym (S .joined v w))), S .joined)
 
 pub settled-spec : {M : Type 1} → statement M
 settled-spec =
@@ -61,6 +69,8 @@ settled-spec =
     μ-loop
     loop-holds
     mul-set
+    slice-read-set
+    mul-set-2
     element-copy-out-set
     size-requires
     mul-near

@@ -6,6 +6,7 @@ use lib.ListN.{length}
 use Rattle.reply.specs.Read.{read}
 use Rattle.block.specs.Block.{drawnReply}
 use Rattle.reach.proofs.Levels.{Level, Turned, few, level-start, shallow, low, spare, grows, fits, stuck, level-next, odd-less, level-end, not-of, of-reached}
+use Rattle.reach.proofs.Touching.{reach-joined}
 use Rattle.reach.proofs.summed.Statement.{statement}
 use Rattle.reach.proofs.summed.Tie as tie
 
@@ -56,11 +57,12 @@ found c =
     let t = c .before .before .before .before .before .before .before .before in
     let L = t .before .loop .inv .2 in
     let m = c .before .settled .ensures in
+    let wide = c .before .before .before .before .before .spread .ensures (t .before .loop .d) (shallow-in t) (L .reach) (L .wide) in
     record {
       near-size = c .near3 .given;
       sets-size = c .before .before .before .before .sets2 .given;
-      wide = c .before .before .before .before .before .spread .ensures (t .before .loop .d) (shallow-in t) (L .reach) (L .wide);
-      copied = m .1;
+      reach = reach-joined _ _ _ _ _ (m .1) (L .reach) wide;
+      wide = wide;
       met-is = m .0;
     }
 
