@@ -30,7 +30,7 @@ fn payload_of(d: &[u8], blocks: BlockTable, count: usize, number: usize) -> &[u8
     if !assembly::is_numbered(b, number) {
         return part(d, 0, 0);
     }
-    part(d, b.start, BLOCK_HEAD + BOND_BYTES * (b.bonds as usize))
+    part(d, b.start as usize, BLOCK_HEAD + BOND_BYTES * (b.bonds as usize))
 }
 
 // The part of a deck that holds the payload of a block: empty exactly where the deck is refused in both forms or has no such block.

@@ -49,15 +49,16 @@ fn block_place(at: usize, r: Refusal) -> usize
 
 // What the block record at a place says.
 fn block_at(d: &[u8], at: usize) -> BlockAt
-    requires { ⌜ at ≤ length (now d) ⌝ }
+    requires { ⌜ at ≤ longestDeck ⌝ }
     ensures { λ r. ⌜ r ≡ blockAt (now (d .entry)) at ⌝ }
 {
-    let start = at + HEAD;
+    let first = at + HEAD;
+    let start = first as u16;
     BlockAt {
-        number: le16_at(d, start),
+        number: le16_at(d, first),
         start,
-        atoms: le16_at(d, start + 2),
-        bonds: le16_at(d, start + COUNT),
+        atoms: le16_at(d, first + 2),
+        bonds: le16_at(d, first + COUNT),
     }
 }
 

@@ -37,6 +37,9 @@ returns c = let s = c .before .before .before .before .before in part-at (sym (n
 cast-part : tie.Need-cast-part
 cast-part c = search needs
 
+cast-part-2 : tie.Need-cast-part-2
+cast-part-2 c = search needs
+
 mul-part : tie.Need-mul-part
 mul-part c = search needs
 
@@ -47,8 +50,8 @@ part-requires-2 : tie.Need-part-requires-2
 part-requires-2 c κs = search needs
 
 returns-2 : tie.Need-returns-2
-returns-2 c = let s = c .before .before .before .before .before .before in
-    part-at (ap span (c .before .before .before .before .find-block .ensures) ∙ sym (has-payload (blocks s) (s .args .number) (used-is (c .before .before .before) ∙ not-false (c .before .before .before .is-numbered .result) (c .before .before .if1 .left)))) (c .part2 .ensures)
+returns-2 c = let s = c .before .before .before .before .before .before .before in
+    part-at (ap span (c .before .before .before .before .before .find-block .ensures) ∙ sym (has-payload (blocks s) (s .args .number) (used-is (c .before .before .before .before) ∙ not-false (c .before .before .before .before .is-numbered .result) (c .before .before .before .if1 .left)))) (c .part2 .ensures)
 
 pub payload-of-spec : {M : Type 1} → statement M
 payload-of-spec =
@@ -59,6 +62,7 @@ payload-of-spec =
     part-requires
     returns
     cast-part
+    cast-part-2
     mul-part
     add-part
     part-requires-2
