@@ -34,7 +34,7 @@ pub const PLACEMENT_BYTES: usize = ASSEMBLY.item as usize;
 // Where a block stands: its number, the first byte of its payload, its atoms and its bonds.
 pub struct BlockAt {
     pub number: u16,
-    pub start: usize,
+    pub start: u16,
     pub atoms: u16,
     pub bonds: u16,
 }
@@ -96,7 +96,7 @@ pub fn is_numbered(b: BlockAt, number: usize) -> bool
 pub fn bonds_part(d: &[u8], b: BlockAt) -> &[u8]
     ensures { λ r. ⌜ PartOf (d .entry) (b .start + blockKind .fixed) (blockKind .item * b .bonds) r ⌝ }
 {
-    let start = b.start;
+    let start = b.start as usize;
     if d.len() < start {
         return part(d, start, 0);
     }

@@ -1,9 +1,8 @@
--- The distance of two placed atoms of a deck.
+-- The number of two placed atoms over a book of summaries.
 --
--- | notion                | meaning                                                                  | the law that matters     |
--- | `placedDistanceReply` | the distance in the molecule written out, or the deck's refusal, then 18 | `unique-placed-distance` |
--- | `isMissing`           | no such placement, or no such atom of it                                 | `laid-out`               |
-pub mod Placed
-pub mod Pairs
+-- | notion      | meaning                                                             | the law that matters                                          |
+-- | `placedFar` | by the joining rules over what the summaries say, whatever they are | `far-written`: over honest summaries the molecule's distance |
+pub mod Far
+pub mod Steps
+pub mod Written
 pub mod Unique
-pub mod Examples

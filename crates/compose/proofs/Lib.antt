@@ -1,3 +1,3 @@
 -- The laws behind the proofs of composing.
 pub mod Replies
-pub mod Few
+pub mod Distances

@@ -2,9 +2,15 @@
 use Prim.Native.Nat.{ℕ}
 use mathlib.Core.List.{List}
 use mathlib.Core.Path.{_≡_}
+use denote.Ref.{RefT, ptr, now}
 use Rattle.reply.specs.Chain.{unique}
+use Rattle.records.specs.Bytes.{PartOf}
+use Rattle.records.specs.Unique.{unique-part}
 use Rattle.records.specs.declared.Kind.{Kind}
-use Rattle.deck.specs.Deck.{openReply, deckReply}
+use Rattle.block.specs.Index.{saidDistance}
+use Rattle.block.specs.declared.DistanceReply.{DistanceReply}
+use Rattle.deck.specs.Deck.{openReply, deckReply, blockSpan}
+use Rattle.deck.specs.Placed.{placedDistanceReply}
 use Rattle.deck.specs.Said.{saidDeck}
 use Rattle.deck.specs.declared.DeckRead.{DeckRead}
 use Rattle.deck.specs.declared.Form.{Form}
@@ -20,3 +26,9 @@ module _ (d : List ℕ) where
 
 pub unique-fields : (form : Form) (d : List ℕ) (r s : ComposeReply) → r ≡ saidComposed (composeReply form d) → s ≡ saidComposed (composeReply form d) → r ≡ s
 unique-fields form d r s = unique
+
+pub unique-placed-distance : (d : List ℕ) (k i l j : ℕ) (r s : DistanceReply) → r ≡ saidDistance (placedDistanceReply d k i l j) → s ≡ saidDistance (placedDistanceReply d k i l j) → r ≡ s
+unique-placed-distance d k i l j r s = unique
+
+pub unique-block-part : (s : RefT (List ℕ)) (x : ℕ) (q r : RefT (List ℕ)) → let p = blockSpan (now s) x in PartOf s (p .from) (p .len) q → PartOf s (p .from) (p .len) r → (now q ≡ now r) × (ptr q ≡ ptr r)
+unique-block-part s x q r = unique-part

@@ -1,17 +1,14 @@
 // The blocks of a deck, record by record, and their summaries in a lent book. A refusal leaves there what was filled before: no function here is public.
 ghost use mathlib.Core.Path.{_≡_};
-ghost use mathlib.Core.Bool.{_||_, cond};
 ghost use Prim.Native.Nat.{_≤_};
-ghost use lib.Dec.{eqb, leb};
 ghost use lib.ListN.{length, take};
 ghost use Rattle.reply.specs.Read.{saidReply};
 ghost use Rattle.reply.specs.declared.Refusal.{Refusal};
 ghost use Rattle.reply.specs.declared.Reply.the-variants.{Refused};
 ghost use Rattle.block.specs.Block.{blockReply};
-ghost use Rattle.records.specs.Records.{blockKind};
-ghost use Rattle.assembly.specs.Book.{used, bondBytes, mostBlocks};
+ghost use Rattle.assembly.specs.Book.{bondBytes, mostBlocks};
 ghost use Rattle.deck.specs.Deck.{longestDeck, blockAt, blockPlace, blockReplyAt, blocksReply, openReply};
-ghost use Rattle.deck.specs.Said.{refusedDeck, tabledDeck, saidDeck, movedReply};
+ghost use Rattle.deck.specs.Said.{tabledDeck, saidDeck, movedReply};
 ghost use Rattle.deck.specs.Filled.{blocksBook, openBook};
 ghost use Rattle.deck.specs.Filling.{filledBook, replyBook};
 use assembly::BLOCK_HEAD;
@@ -23,6 +20,9 @@ use assembly::NO_BLOCK;
 use deck::DeckRead;
 use deck::LONGEST;
 use deck::Layout;
+use deck::deck_refused;
+use deck::is_unfit;
+use deck::second_kind;
 use records::BLOCK;
 use records::HEAD;
 use records::Kind;
@@ -49,30 +49,17 @@ fn block_place(at: usize, r: Refusal) -> usize
 
 // What the block record at a place says.
 fn block_at(d: &[u8], at: usize) -> BlockAt
-    requires { ⌜ at ≤ length (now d) ⌝ }
+    requires { ⌜ at ≤ longestDeck ⌝ }
     ensures { λ r. ⌜ r ≡ blockAt (now (d .entry)) at ⌝ }
 {
-    let start = at + HEAD;
+    let first = at + HEAD;
+    let start = first as u16;
     BlockAt {
-        number: le16_at(d, start),
+        number: le16_at(d, first),
         start,
-        atoms: le16_at(d, start + 2),
-        bonds: le16_at(d, start + COUNT),
+        atoms: le16_at(d, first + 2),
+        bonds: le16_at(d, first + COUNT),
     }
-}
-
-// Whether a block's number is 0 or was used before, or there is no room for a block.
-fn is_unfit(blocks: BlockTable, count: usize, number: usize) -> bool
-    requires { ⌜ count ≤ mostBlocks ⌝ }
-    ensures { λ r. ⌜ r ≡ (eqb number 0 || used (take count blocks) number || leb mostBlocks (length (take count blocks))) ⌝ }
-{
-    if number == 0 {
-        return true;
-    }
-    if assembly::is_numbered(assembly::find_block(blocks, count, number), number) {
-        return true;
-    }
-    BLOCKS <= count
 }
 
 // The summary of a block put at place i of a book, or the block's refusal. Where the book has no such place the block is only checked.
@@ -124,30 +111,6 @@ fn block_reply(
         });
     }
     block_moved(at, fill_at(d, b, book, count))
-}
-
-// The second kind that may stand after `count` blocks.
-fn second_kind(count: usize, last: Kind) -> Kind
-    ensures { λ r. ⌜ r ≡ cond (eqb count 0) blockKind last ⌝ }
-{
-    if count == 0 {
-        return BLOCK;
-    }
-    last
-}
-
-pub(super) fn deck_refused(reply: Reply) -> DeckRead
-    ensures { λ r. ⌜ r ≡ refusedDeck reply ⌝ }
-{
-    let blocks = [NO_BLOCK; BLOCKS];
-    let layout = Layout {
-        count: 0,
-        blocks,
-        assembly: 0,
-        placements: 0,
-        sheet: 0,
-    };
-    DeckRead { reply, layout }
 }
 
 // A deck whose first `count` blocks end before the record at a place.

@@ -1,5 +1,6 @@
 // Reading a deck, and composing it: the six fields of the molecule that it describes, over a book that is filled while its blocks are read.
 mod blocks;
+mod distance;
 mod reading;
 
 use assembly::BLOCKS;
@@ -8,13 +9,13 @@ use block::Indices;
 use block::IndicesReply;
 use blocks::open_book;
 use deck::Form;
+use deck::heads;
 use deck::sheet_reply;
+pub use distance::placed_distance;
+pub use reading::block_part;
 pub use reading::open_deck;
 pub use reading::read_deck;
 use records::ASSEMBLY;
-use records::BLOCK;
-use records::HEAD;
-use records::le16_at;
 use records::payload_at;
 use reply::Refusal;
 use reply::Reply;
@@ -26,7 +27,7 @@ ghost use Rattle.reply.specs.Read.{refused, refusal};
 ghost use Rattle.assembly.specs.Book.{mostBlocks};
 ghost use Rattle.assembly.specs.Placements.{mostPlacements};
 ghost use Rattle.deck.specs.Deck.{longestDeck, placementPlace};
-ghost use Rattle.compose.specs.Unfilled.{headsFrom, Unfilled};
+ghost use Rattle.deck.specs.Unfilled.{headsFrom, Unfilled};
 ghost use Rattle.compose.specs.Fields.{composeReply, behindReply, saidComposed};
 
 // The blocks of a small deck and of a middling one, for which a shorter book is cleared.
@@ -44,22 +45,6 @@ pub struct Composed {
 pub enum ComposeReply {
     Refused(Refusal),
     Composed(Composed),
-}
-
-// How many records of blocks a deck begins with, by their heads alone, at most as many as a deck may have: no more of them are read.
-fn heads(d: &[u8]) -> usize
-    ensures { λ r. ⌜ (r ≡ headsFrom mostBlocks (now (d .entry)) 0) × (r ≤ mostBlocks) ⌝ }
-{
-    let mut i: usize = 0;
-    let mut at: usize = 0;
-    while i < BLOCKS {
-        if le16_at(d, at + 2) != BLOCK.number {
-            return i;
-        }
-        at = at + HEAD + (le16_at(d, at) as usize);
-        i += 1;
-    }
-    i
 }
 
 // A refusal of the assembly at a place.

@@ -3,22 +3,26 @@ ghost use mathlib.Core.Path.{_≡_};
 ghost use Prim.Native.Nat.{ℕ, _*_, _≤_};
 ghost use lib.ListN.{length, getD};
 ghost use Rattle.reply.specs.Read.{saidReply};
-ghost use Rattle.records.specs.Records.{payloadAt};
+ghost use Rattle.records.specs.Records.{payloadAt, assemblyKind};
 ghost use Rattle.assembly.specs.Book.{mostBlocks};
 ghost use Rattle.assembly.specs.Placements.{mostPlacements, shelfReply};
 ghost use Rattle.summary.specs.Layout.{summaryBytes};
 ghost use Rattle.shelf.specs.Shelf.{shelfIn};
-ghost use Rattle.deck.specs.Deck.{longestDeck, placementPlace, moved, openReply, deckReply};
+ghost use Rattle.records.specs.Bytes.{PartOf};
+ghost use Rattle.deck.specs.Deck.{longestDeck, placementPlace, moved, openReply, deckReply, blockSpan};
+ghost use Rattle.deck.specs.Filled.{openBook};
 ghost use Rattle.deck.specs.Said.{saidDeck};
-use super::blocks::deck_refused;
 use super::blocks::open_book;
 use assembly::BLOCKS;
 use assembly::PLACEMENT_BYTES;
 use deck::DeckRead;
 use deck::Form;
+use deck::deck_refused;
+use deck::payload_of;
 use deck::sheet_reply;
 use records::ASSEMBLY;
 use records::Kind;
+use records::part;
 use records::payload_at;
 use reply::Refusal;
 use reply::Reply;
@@ -48,9 +52,10 @@ fn assembly_reply(d: &[u8], at: usize, book: &[u8]) -> Reply
 }
 
 // What a deck says, by a lent book that is all 0 and has a place for each block that it can have.
-fn read_in(d: &[u8], form: Form, book: &mut [u8]) -> DeckRead
+pub(super) fn read_in(d: &[u8], form: Form, book: &mut [u8]) -> DeckRead
     requires { ⌜ (summaryBytes * mostBlocks ≤ length (now book)) × ((p : ℕ) → getD (now book) p 0 ≡ 0) ⌝ }
-    ensures { λ r. ⌜ r ≡ saidDeck (deckReply form (now (d .entry))) ⌝ }
+    ensures reply { λ r. ⌜ r ≡ saidDeck (deckReply form (now (d .entry))) ⌝ }
+    ensures bytes { λ _. ⌜ now (book .exit) ≡ openBook assemblyKind (now (d .entry)) (now (book .entry)) ⌝ }
 {
     let k = open_book(d, ASSEMBLY, book);
     let first = k.reply;
@@ -81,4 +86,25 @@ pub fn open_deck(d: &[u8], last: Kind) -> DeckRead
     ensures { λ r. ⌜ r ≡ saidDeck (openReply last (now (d .entry))) ⌝ }
 {
     open_book(d, last, &mut [0u8; 1])
+}
+
+// The part of a deck that holds the payload of a block: empty exactly where the deck is refused in both forms or has no such block.
+pub fn block_part(d: &[u8], number: usize) -> &[u8]
+    ensures { λ r. ⌜ PartOf (d .entry) (blockSpan (now (d .entry)) number .from) (blockSpan (now (d .entry)) number .len) r ⌝ }
+{
+    let k = read_deck(d, Form::Composed);
+    let composed = k.reply;
+    let Reply::Fine = composed else {
+        let j = read_deck(d, Form::Judged);
+        let judged = j.reply;
+        let Reply::Fine = judged else {
+            return part(d, 0, 0);
+        };
+        let layout = j.layout;
+        let blocks = layout.blocks;
+        return payload_of(d, blocks, layout.count, number);
+    };
+    let layout = k.layout;
+    let blocks = layout.blocks;
+    payload_of(d, blocks, layout.count, number)
 }

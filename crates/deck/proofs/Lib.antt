@@ -4,3 +4,5 @@ pub mod Parts
 pub mod Filled
 pub mod Booking
 pub mod Honest
+pub mod Few
+pub mod Reading

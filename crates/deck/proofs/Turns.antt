@@ -18,7 +18,7 @@ use Rattle.records.specs.Records.{blockKind, kindAt, endAt, kindReply, recordRe
 use Rattle.records.specs.declared.Kind.{Kind}
 use Rattle.assembly.specs.Book.{noBlock, used, bondBytes, mostBlocks}
 use Rattle.assembly.specs.declared.BlockAt.{BlockAt}
-use Rattle.deck.specs.Deck.{kindsAfter, blockAt, moved, blockPlace, blockReplyAt, deckAt, blocksFrom}
+use Rattle.deck.specs.Deck.{kindsAfter, blockAt, moved, blockPlace, unfitAfter, blockReplyAt, deckAt, blocksFrom}
 use Rattle.deck.specs.Said.{blockTable, tabledDeck, movedReply, saidDeck}
 
 -- a kind that is named twice
@@ -60,7 +60,7 @@ place-low d b r e =
 
 -- 14 and the block's own
 abbrev pub unfit : List ℕ → ℕ → List BlockAt → Bool
-unfit d at done = eqb (blockAt d at .number) 0 || used done (blockAt d at .number) || leb mostBlocks (length done)
+unfit d at done = unfitAfter done (blockAt d at .number)
 
 module _ (d : List ℕ) (at : ℕ) (done : List BlockAt) where
   pub number-unfit : unfit d at done ≡ true → blockReplyAt d at done ≡ refused (refusal 14 at)

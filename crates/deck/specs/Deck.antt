@@ -63,11 +63,15 @@ placementPlace at r = at + assemblyKind .item * r .place
 pub head-and-count : headBytes + assemblyKind .fixed ≡ assemblyKind .item
 head-and-count = refl
 
+-- a number is 0 or was used before, or there is no room for a block
+abbrev pub unfitAfter : List BlockAt → ℕ → Bool
+unfitAfter done x = eqb x 0 || used done x || leb mostBlocks (length done)
+
 -- 14 and the block's own of the block record at a place, after the blocks of `done`
 unfoldable pub blockReplyAt : List ℕ → ℕ → List BlockAt → Read (Unit {0})
 blockReplyAt d at done =
     let b = blockAt d at in
-    refuseIf (eqb (b .number) 0 || used done (b .number) || leb mostBlocks (length done)) 14 at then λ _.
+    refuseIf (unfitAfter done (b .number)) 14 at then λ _.
     moved (blockPlace at) (blockReply (b .atoms) (bondBytes d b))
 
 -- a deck whose blocks end before the record at a place

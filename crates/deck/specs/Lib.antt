@@ -7,9 +7,13 @@
 -- | `moleculeOf`             | the molecule of a deck, with every atom and bond written out | `same-molecule`: whatever stands behind the deck               |
 -- | `blockSpan`, `blockPart` | the lookup of a block's payload                              | `empty-exactly`                                                |
 -- | `Deck`, `Span`           | where the parts stand                                        | `composed-short`: a deck that composes leaves room for a sheet |
+-- | `placedDistanceReply`    | the distance in the molecule written out, or a refusal       | `isMissing`; `present`                                         |
+-- | `headsFrom`, `Unfilled`  | how many blocks a deck can have, and a book with room        | `few-heads`                                                    |
 pub mod Deck
 pub mod Molecule
 pub mod Said
+pub mod Placed
+pub mod Unfilled
 pub mod Filled
 pub mod Filling
 pub mod Booked
@@ -19,5 +23,7 @@ pub mod Sized
 pub mod Followed
 pub mod Carried
 pub mod Lookup
+pub mod Present
 pub mod Unique
 pub mod Examples
+pub mod Distances

@@ -6,7 +6,7 @@ use Rattle.records.specs.declared.Sheet.{Sheet}
 use Rattle.sheets.specs.Sheets.{fieldsOf}
 use Rattle.deck.specs.declared.Form.the-variants.{Composed}
 use Rattle.compose.specs.Fields.{fieldsReply}
-use Rattle.climb.specs.Placed.{placedDistanceReply}
+use Rattle.deck.specs.Placed.{placedDistanceReply}
 use Rattle.judging.specs.declared.SheetWritten.{SheetWritten}
 use Rattle.judging.specs.declared.SheetWritten.the-variants as written
 use Rattle.judging.specs.declared.Verdict.{Verdict}

@@ -81,7 +81,7 @@ pub fn placed_distance(
 ) -> u64
     ensures { λ r. ⌜ Lent (placedList (now (deck .entry)) k i l j) (now (distance .entry)) r (now (distance .exit)) ⌝ }
 {
-    let answer = climb::placed_distance(deck, k, i, l, j);
+    let answer = compose::placed_distance(deck, k, i, l, j);
     match answer {
         DistanceReply::Refused(r) => code_of(r),
         DistanceReply::Of(n) => {

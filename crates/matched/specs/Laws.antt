@@ -17,8 +17,8 @@ use Rattle.block.specs.Numbered.{bonds-short}
 use Rattle.deck.specs.Deck.{Deck}
 use Rattle.deck.specs.Molecule.{graphAt}
 use Rattle.deck.specs.Sound.{WholeDeck}
-use Rattle.climb.specs.Placed.{isMissing}
-use Rattle.climb.specs.Pairs.{present}
+use Rattle.deck.specs.Placed.{isMissing}
+use Rattle.deck.specs.Present.{present}
 use Rattle.whole.specs.Work.{mostStart}
 use Rattle.whole.specs.Joins.{start-few}
 use Rattle.matched.specs.Matched.{placedNumber, partners, partner, isLost, isLoose, carried, isUnlisted, firstAtom, firstBond, _orElse_, matchPlace}

@@ -11,7 +11,7 @@ use Rattle.block.specs.Block.{graphOf}
 use Rattle.deck.specs.Deck.{Deck, deckReply}
 use Rattle.deck.specs.Molecule.{graphAt, moleculeOf}
 use Rattle.deck.specs.declared.Form.the-variants.{Composed}
-use Rattle.climb.specs.Placed.{isMissing}
+use Rattle.deck.specs.Placed.{isMissing}
 
 -- the number that atom a of placement number p has in the whole molecule; 0 where there is no such atom
 unfoldable pub placedNumber : List ℕ → Deck → ℕ → ℕ → ℕ

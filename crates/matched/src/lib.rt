@@ -12,7 +12,7 @@ ghost use Rattle.deck.specs.Deck.{deckReply};
 ghost use Rattle.deck.specs.Molecule.{moleculeOf};
 ghost use Rattle.deck.specs.Sound.{WholeDeck};
 ghost use Rattle.deck.specs.declared.Form.the-variants.{Composed};
-ghost use Rattle.climb.specs.Pairs.{deckOf};
+ghost use Rattle.deck.specs.Placed.{deckOf};
 ghost use Rattle.whole.specs.Work.{mostStart, mostNumbers};
 ghost use Rattle.matched.specs.Matched.{placedNumber, partners, partner, isLost, isLoose, carried, isUnlisted, firstAtom, firstBond, matchPlace, answerAt, matchAnswer, matchReply};
 ghost use Rattle.matched.specs.Work.{isTaken};
@@ -46,7 +46,7 @@ fn wide(x: u16) -> usize
 fn number_in(d: &[u8], deck: Layout, p: u16, a: u16) -> usize
     ensures { λ r. ⌜ r ≡ placedNumber (now (d .entry)) (deckOf deck) p a ⌝ }
 {
-    if climb::is_missing(d, deck, p as usize, a as usize) {
+    if deck::is_missing(d, deck, p as usize, a as usize) {
         return 0;
     }
     whole::start_of(d, deck, p - 1) + a as usize

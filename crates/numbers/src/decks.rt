@@ -22,7 +22,7 @@ fn apart(deck: &[u8], row: Row) -> Row {
     let i = row.first(1, FAR);
     let l = row.first(2, FAR);
     let j = row.first(3, FAR);
-    let reply = climb::placed_distance(deck, k, i, l, j);
+    let reply = compose::placed_distance(deck, k, i, l, j);
     match reply {
         DistanceReply::Refused(r) => told::refusal(r),
         DistanceReply::Of(d) => told::one(d),
@@ -96,7 +96,7 @@ pub(crate) fn reply_to(letter: u8, deck: &[u8], row: Row) -> Row {
         b'j' => typed::of_verdict(judging::judge(deck)),
         b't' => typed::of_deck(deck, row),
         b'a' => apart(deck, row),
-        b'f' => told::bytes(climb::block_part(deck, row.first(0, FAR))),
+        b'f' => told::bytes(compose::block_part(deck, row.first(0, FAR))),
         b'w' | b'b' | b'k' | b'o' => of_sheet(letter, deck, row.first(0, 64)),
         b'y' => written_out(deck),
         b'x' => pair(deck, row.first(0, FAR)),

@@ -15,7 +15,7 @@ use Rattle.assembly.specs.Placements.{placementAt, joinOf, joinEnds, joinsOn, b
 use Rattle.deck.specs.Deck.{blockReplyAt, assemblyReplyAt, blocksFrom, blocksReply, endReply, sheetReply, deckReply}
 use Rattle.deck.specs.Examples.{document}
 use Rattle.deck.specs.Molecule.{placedIn, graphAt, joinAt, moleculeOf}
-use Rattle.climb.specs.Placed.{isMissing}
+use Rattle.deck.specs.Placed.{isMissing}
 use Rattle.matched.specs.Matched.{placedNumber, partners, partner, isLost, isLoose, carried, isUnlisted, firstAtom, firstBond, matchPlace, Answer, yes, no, matchAnswer, matchReply}
 use Rattle.same_molecule.specs.Same.{Same, matched-renumbered}
 

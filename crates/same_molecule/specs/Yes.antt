@@ -19,8 +19,8 @@ use Rattle.block.specs.Block.{graphOf}
 use Rattle.deck.specs.Deck.{Deck, deckReply}
 use Rattle.deck.specs.Molecule.{graphAt, joinAt, moleculeOf}
 use Rattle.deck.specs.declared.Form.the-variants.{Composed}
-use Rattle.climb.specs.Placed.{isMissing}
-use Rattle.climb.specs.Pairs.{present}
+use Rattle.deck.specs.Placed.{isMissing}
+use Rattle.deck.specs.Present.{present}
 use Rattle.matched.specs.Matched.{placedNumber, partners, partner, isLost, isLoose, carried, isUnlisted, firstAtom, firstBond, _orElse_, matchPlace, yes, no, answerAt, matchAnswer, matchReply}
 use Rattle.matched.specs.Laws.{partners-length, first-yes, first-no}
 

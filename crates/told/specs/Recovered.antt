@@ -32,7 +32,7 @@ use Rattle.deck.specs.declared.Form.{Form}
 use Rattle.deck.specs.declared.Form.the-variants.{Composed, Judged}
 use Rattle.sheets.specs.Sheets.{allFields, fieldsOf, sheetOf, claimedAt, sheetBytes, firstWrong}
 use Rattle.compose.specs.Fields.{fieldsReply}
-use Rattle.climb.specs.Placed.{isMissing, placedDistanceReply}
+use Rattle.deck.specs.Placed.{isMissing, placedDistanceReply}
 use Rattle.judging.specs.Judging.{judgeReply, saidVerdict, sheetWriteReply}
 use Rattle.calls.specs.Convention.{mostPlace, code, coded, fitting}
 use Rattle.text_calls.specs.Molfiles.{writtenReply}

@@ -9,7 +9,7 @@ ghost use Rattle.graph.specs.Assembly.{startAt};
 ghost use Rattle.block.specs.Block.{mostBytes};
 ghost use Rattle.deck.specs.Molecule.{graphAt, joinAt};
 ghost use Rattle.deck.specs.Sound.{WholeDeck};
-ghost use Rattle.climb.specs.Pairs.{deckOf};
+ghost use Rattle.deck.specs.Placed.{deckOf};
 ghost use Rattle.whole.specs.Whole.{pairNumbers, wholeReply, numbersAfter};
 ghost use Rattle.whole.specs.Said.{saidMolecule};
 ghost use Rattle.whole.specs.Work.{mostStart, mostBrought, mostNumbers, overAtoms, overNumbers, blockNumbers, joinsOf, joining, brought, bondsBefore};
@@ -71,7 +71,7 @@ pub fn start_of(d: &[u8], deck: Layout, k: u16) -> usize
     let mut start = 0;
     let mut i: usize = 0;
     while i < end {
-        let b = climb::block_at(d, deck, i);
+        let b = deck::block_at(d, deck, i);
         start += b.atoms as usize;
         i += 1;
     }
@@ -111,7 +111,7 @@ fn put_placed(d: &[u8], deck: Layout, k: usize, out: &mut [u16], at: usize) -> u
         (r ≡ at + 2 * length (brought (graphAt (now (d .entry)) (deckOf deck)) (joinAt (now (d .entry)) (deckOf deck)) k)) × (r ≤ at + mostBrought)
         ⌝ }
 {
-    let b = climb::block_at(d, deck, k);
+    let b = deck::block_at(d, deck, k);
     let bonds = assembly::bonds_part(d, b);
     let start = start_of(d, deck, k as u16);
     put_block(bonds, start, out, at);
@@ -139,7 +139,7 @@ fn bond_count(d: &[u8], deck: Layout) -> usize
     let mut m = 0;
     let mut k: usize = 0;
     while k < deck.placements {
-        let b = climb::block_at(d, deck, k);
+        let b = deck::block_at(d, deck, k);
         let bonds = assembly::bonds_part(d, b);
         m += bonds.len() / 2 + joins_of(k);
         k += 1;

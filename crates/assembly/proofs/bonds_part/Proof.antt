@@ -6,11 +6,14 @@ use borrow.Author.Needs.{needs}
 use Rattle.assembly.proofs.bonds_part.Statement.{statement}
 use Rattle.assembly.proofs.bonds_part.Tie as tie
 
+cast-start : tie.Need-cast-start
+cast-start c = search needs
+
 part-requires : tie.Need-part-requires
 part-requires c κs = search needs
 
 returns : tie.Need-returns
-returns c = let a = c .before .before .before .args in past-end (a .b .start + 6) (2 * a .b .bonds) (omega arith) (omega arith) (c .part .ensures)
+returns c = let a = c .before .before .before .before .args in past-end (a .b .start + 6) (2 * a .b .bonds) (omega arith) (omega arith) (c .part .ensures)
 
 add-part : tie.Need-add-part
 add-part c = search needs
@@ -30,4 +33,4 @@ returns-2 c = search needs
 pub bonds-part-spec : {M : Type 1} → statement M
 bonds-part-spec =
     tie.close
-    (tie.spec part-requires returns add-part cast-part mul-part part-requires-2 returns-2)
+    (tie.spec cast-start part-requires returns add-part cast-part mul-part part-requires-2 returns-2)

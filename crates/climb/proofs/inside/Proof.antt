@@ -1,69 +1,58 @@
--- `climb::inside` meets its contract: the block is fine and has both atoms, so there is a distance.
-use Prim.Native.Nat.{ℕ, _-_}
-use mathlib.Core.Path.{_≡_, _∙_, ap}
+-- `climb::inside` meets its contract. Assumes nothing.
+use Prim.Native.Nat.{ℕ}
 use mathlib.Core.List.{List}
+use mathlib.Core.Path.{_≡_, _∙_, ap}
 use native.Mathlib.Omega.{arith}
 use borrow.Author.Needs.{needs}
-use denote.Ref.{now}
-use Rattle.graph.specs.Graph.{distance}
-use Rattle.block.specs.Index.{distanceReply, saidDistance}
-use Rattle.block.specs.declared.DistanceReply.the-variants as apart
-use Rattle.deck.specs.Molecule.{graphAt}
-use Rattle.climb.specs.Pairs.{deckOf}
-use Rattle.climb.proofs.Reading.{told-inside}
+use Rattle.assembly.specs.Placements.{placementAt}
+use Rattle.assembly.specs.declared.Placement.{Placement}
+use Rattle.sighted.specs.Sighted.{stepsIn}
+use Rattle.sighted.specs.declared.Seen.{Seen}
+use Rattle.summary.specs.Layout.{farAt}
+use Rattle.shelf.specs.Shelf.{summaryAt, placeOf}
+use Rattle.summaries.specs.Composing.{keptOn}
+use Rattle.summaries.proofs.Small.{far-few}
 use Rattle.climb.proofs.inside.Statement.{statement}
 use Rattle.climb.proofs.inside.Tie as tie
 
-sub-block-at : tie.Need-sub-block-at
-sub-block-at c = search needs
+placement-at-requires : tie.Need-placement-at-requires
+placement-at-requires c κs = search needs
 
-block-at-requires : tie.Need-block-at-requires
-block-at-requires c κs = search needs
+cast-place-of : tie.Need-cast-place-of
+cast-place-of c = search needs
 
-bonds-part-requires : tie.Need-bonds-part-requires
-bonds-part-requires c κs = search needs
+place-of-requires : tie.Need-place-of-requires
+place-of-requires c κs = search needs
 
-cast-distance : tie.Need-cast-distance
-cast-distance c = search needs
+summary-at-requires : tie.Need-summary-at-requires
+summary-at-requires c κs = search needs
 
-distance-requires : tie.Need-distance-requires
-distance-requires c κs = search needs
+seen-requires : tie.Need-seen-requires
+seen-requires c κs = search needs
 
-enum-known-reply : tie.Need-enum-known-reply
-enum-known-reply c = search needs
-
-enum-known-reply-2 : tie.Need-enum-known-reply-2
-enum-known-reply-2 c = search needs
-
--- the block is fine and has the atoms, so there is a distance
-told : (c : tie.After-distance)
-    → let a = c .before .before .before .before .before .args in c .distance .result ≡ apart.Of (distance (graphAt (now (a .d)) (deckOf (a .deck)) (a .k - 1)) (a .i) (a .j))
-told c =
-    let s = c .before .before .before .before .before in
-    let b = c .before .before .before .block-at in
-    told-inside (s .pre) (b .result) (b .ensures) (c .distance .result)
-    (c .distance .ensures ∙ ap (λ (xs : List ℕ). saidDistance (distanceReply (b .result .atoms) xs (s .args .i) (s .args .j))) (c .before .before .bonds-part .ensures .bytes))
+steps-requires : tie.Need-steps-requires
+steps-requires c κs = search needs
 
 returns : tie.Need-returns
-returns c = let is = told (c .before .before .before) in let e = c .before .reply .given .1 in cc
-
-returns-2 : tie.Need-returns-2
-returns-2 c =
-    let is = told (c .before .before .before) in
-    let e = c .before .reply2 .given .1 in
-    let z : _≡_ {A = ℕ} 0 1 = cc in
-    absurd (omega arith)
+returns c =
+    let a = c .before .before .before .before .before .before .before .before .before .before .args in
+    let b = a .book .now in
+    let e : (c .steps .result ≡ keptOn b (a .xs .now) (a .k) .far (a .i) (a .j)) =
+    c .steps .ensures
+    ∙ ap (λ (s : Seen). stepsIn (s .row) (a .j)) (c .before .before .before .seen .ensures)
+    ∙ ap (λ (s : List ℕ). farAt s (a .i) (a .j)) (c .before .before .before .before .summary-at .ensures .bytes)
+    ∙ ap (λ (x : ℕ). farAt (summaryAt b x) (a .i) (a .j)) (c .before .before .before .before .before .place-of .ensures)
+    ∙ ap (λ (q : Placement). farAt (summaryAt b (placeOf b (q .block))) (a .i) (a .j)) (c .before .before .before .before .before .before .before .placement-at .ensures) in
+    (e, omega (arith, e, far-few (summaryAt b (placeOf b (placementAt (a .xs .now) (a .k) .block))) (a .i) (a .j)))
 
 pub inside-spec : {M : Type 1} → statement M
 inside-spec =
     tie.close
     (tie.spec
-    sub-block-at
-    block-at-requires
-    bonds-part-requires
-    cast-distance
-    distance-requires
-    enum-known-reply
-    enum-known-reply-2
-    returns
-    returns-2)
+    placement-at-requires
+    cast-place-of
+    place-of-requires
+    summary-at-requires
+    seen-requires
+    steps-requires
+    returns)

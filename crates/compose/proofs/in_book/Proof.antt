@@ -19,7 +19,7 @@ use Rattle.deck.proofs.Filled.{book-short}
 use Rattle.deck.proofs.Honest.{honest-read}
 use Rattle.summaries.specs.Written.{HonestBook}
 use Rattle.compose.specs.Fields.{behindReply, saidComposed}
-use Rattle.compose.proofs.Few.{few-heads}
+use Rattle.deck.proofs.Few.{few-heads}
 use Rattle.compose.proofs.Replies.{fields-refused, is-refused, placed-badly, placed-well}
 use Rattle.compose.proofs.in_book.Statement.{statement}
 use Rattle.compose.proofs.in_book.Tie as tie

@@ -1,7 +1,7 @@
 -- `deck_calls::placed_distance` meets its contract.
 use Prim.Native.Nat.{ℕ}
 use mathlib.Core.List.{[], _∷_}
-use Rattle.climb.specs.Placed.{placedDistanceReply}
+use Rattle.deck.specs.Placed.{placedDistanceReply}
 use mathlib.Core.Path.{sym, _∙_, ap}
 use denote.Ref.{now}
 use borrow.Author.Needs.{needs}

@@ -14,7 +14,7 @@ use Rattle.deck.specs.Molecule.{moleculeOf}
 use Rattle.deck.specs.Sound.{whole}
 use Rattle.deck.specs.Sized.{atoms-few}
 use Rattle.deck.specs.declared.Form.the-variants.{Composed}
-use Rattle.climb.specs.Pairs.{deckOf}
+use Rattle.deck.specs.Placed.{deckOf}
 use Rattle.matched.specs.Matched.{partners, matchPlace, answerAt}
 use Rattle.matched.specs.Said.{saidWhether}
 use Rattle.whole.specs.Whole.{wholeReply, numbersAfter}

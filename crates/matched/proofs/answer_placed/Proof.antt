@@ -9,7 +9,7 @@ use lib.ListN.{length}
 use lib.Seq.{length-take-le, take-at}
 use Rattle.block.specs.Block.{graphOf}
 use Rattle.deck.specs.Sound.{whole}
-use Rattle.climb.specs.Pairs.{deckOf}
+use Rattle.deck.specs.Placed.{deckOf}
 use Rattle.matched.specs.Matched.{partners, matchPlace, answerAt}
 use Rattle.matched.specs.Said.{saidWhether}
 use Rattle.matched.specs.Laws.{partners-length}

@@ -6,9 +6,9 @@ use denote.Ref.{now}
 use Rattle.reply.specs.Read.{read}
 use Rattle.deck.specs.Deck.{deckReply}
 use Rattle.deck.specs.declared.Form.the-variants.{Composed}
-use Rattle.climb.specs.Pairs.{deckOf}
+use Rattle.deck.specs.Placed.{deckOf}
 use Rattle.deck.proofs.Parts.{deck-stopped}
-use Rattle.climb.proofs.Reading.{deck-read}
+use Rattle.deck.proofs.Reading.{deck-read}
 use Rattle.matched.specs.Replies.{match-refused, match-short, match-answered}
 use Rattle.matched.proofs.check.Statement.{statement}
 use Rattle.matched.proofs.check.Tie as tie

@@ -4,8 +4,8 @@ use mathlib.Core.Path.{sym, _∙_, ap}
 use native.Mathlib.Omega.{arith}
 use borrow.Author.Needs.{needs}
 use denote.Ref.{now}
-use Rattle.climb.specs.Pairs.{deckOf}
-use Rattle.climb.specs.Pairs.{present}
+use Rattle.deck.specs.Placed.{deckOf}
+use Rattle.deck.specs.Present.{present}
 use Rattle.matched.specs.Matched.{placedNumber}
 use Rattle.matched.proofs.number_in.Statement.{statement}
 use Rattle.matched.proofs.number_in.Tie as tie

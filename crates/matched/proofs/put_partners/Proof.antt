@@ -6,7 +6,7 @@ use borrow.Author.Needs.{needs}
 use denote.Ref.{now}
 use lib.ListN.{length, take, getD, length-set}
 use lib.Seq.{take-all}
-use Rattle.climb.specs.Pairs.{deckOf}
+use Rattle.deck.specs.Placed.{deckOf}
 use Rattle.matched.specs.Matched.{partners}
 use Rattle.matched.specs.Laws.{number-few, partners-next}
 use Rattle.matched.proofs.put_partners.Statement.{statement}

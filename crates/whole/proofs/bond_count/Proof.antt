@@ -7,7 +7,7 @@ use denote.Ref.{now}
 use lib.ListN.{length}
 use Rattle.block.specs.Block.{mostBytes, bondsOf}
 use Rattle.deck.specs.Molecule.{graphAt, joinAt}
-use Rattle.climb.specs.Pairs.{deckOf}
+use Rattle.deck.specs.Placed.{deckOf}
 use Rattle.whole.specs.Work.{mostBrought, bondsBefore}
 use Rattle.whole.specs.Joins.{bonds-few, bonds-are, brought-length, joining-length, before-none, before-length}
 use Rattle.whole.proofs.bond_count.Statement.{statement}

@@ -13,8 +13,8 @@ use Rattle.deck.specs.Deck.{deckReply}
 use Rattle.deck.specs.Sound.{whole}
 use Rattle.deck.specs.declared.Form.the-variants.{Composed}
 use Rattle.deck.proofs.Parts.{deck-stopped}
-use Rattle.climb.specs.Pairs.{deckOf}
-use Rattle.climb.proofs.Reading.{deck-read}
+use Rattle.deck.specs.Placed.{deckOf}
+use Rattle.deck.proofs.Reading.{deck-read}
 use Rattle.whole.specs.Whole.{pairNumbers, numbersAfter}
 use Rattle.whole.specs.Said.{saidMolecule}
 use Rattle.whole.specs.declared.MoleculeReply.the-variants as told

@@ -7,7 +7,7 @@ use denote.Ref.{now}
 use lib.ListN.{length}
 use lib.Seq.{sets, length-sets}
 use Rattle.deck.specs.Molecule.{graphAt, joinAt}
-use Rattle.climb.specs.Pairs.{deckOf}
+use Rattle.deck.specs.Placed.{deckOf}
 use Rattle.whole.specs.Whole.{pairNumbers}
 use Rattle.whole.specs.Work.{mostBrought, brought, bondsBefore}
 use Rattle.whole.specs.Joins.{before-none, before-length, before-numbers}

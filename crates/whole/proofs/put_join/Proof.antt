@@ -7,7 +7,7 @@ use borrow.Author.Needs.{needs}
 use denote.Ref.{now}
 use lib.Seq.{sets}
 use Rattle.graph.specs.Graph.{Within}
-use Rattle.climb.specs.Pairs.{deckOf}
+use Rattle.deck.specs.Placed.{deckOf}
 use Rattle.whole.specs.Whole.{pairNumbers}
 use Rattle.whole.specs.Joins.{start-few, parent-earlier, joining-is, joining-none}
 use Rattle.whole.proofs.put_join.Statement.{statement}

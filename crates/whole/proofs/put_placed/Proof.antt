@@ -8,7 +8,7 @@ use lib.ListN.{length}
 use lib.Seq.{sets}
 use Rattle.block.specs.Block.{bondsOf}
 use Rattle.deck.specs.Molecule.{graphAt, joinAt}
-use Rattle.climb.specs.Pairs.{deckOf}
+use Rattle.deck.specs.Placed.{deckOf}
 use Rattle.whole.specs.Work.{blockNumbers}
 use Rattle.whole.specs.Joins.{start-few, bonds-few, bonds-are, brought-numbers, brought-length, joining-few}
 use Rattle.whole.proofs.put_placed.Statement.{statement}

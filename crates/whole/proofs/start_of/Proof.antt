@@ -6,8 +6,8 @@ use borrow.Author.Needs.{needs}
 use denote.Ref.{now}
 use Rattle.graph.specs.Assembly.{startAt}
 use Rattle.deck.specs.Molecule.{graphAt}
-use Rattle.climb.specs.Pairs.{deckOf}
-use Rattle.climb.proofs.Reading.{block-atoms}
+use Rattle.deck.specs.Placed.{deckOf}
+use Rattle.deck.proofs.Reading.{block-atoms}
 use Rattle.whole.specs.Laws.{start-none, start-more}
 use Rattle.whole.proofs.start_of.Statement.{statement}
 use Rattle.whole.proofs.start_of.Tie as tie

@@ -3,8 +3,11 @@ use borrow.Author.Needs.{needs}
 use Rattle.compose.proofs.blocks.block_at.Statement.{statement}
 use Rattle.compose.proofs.blocks.block_at.Tie as tie
 
-add-start : tie.Need-add-start
-add-start c = search needs
+add-first : tie.Need-add-first
+add-first c = search needs
+
+cast-start : tie.Need-cast-start
+cast-start c = search needs
 
 le16-at-requires : tie.Need-le16-at-requires
 le16-at-requires c κs = search needs
@@ -28,7 +31,8 @@ pub block-at-spec : {M : Type 1} → statement M
 block-at-spec =
     tie.close
     (tie.spec
-    add-start
+    add-first
+    cast-start
     le16-at-requires
     add-le16-at
     le16-at-requires-2

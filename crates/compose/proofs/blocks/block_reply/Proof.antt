@@ -1,19 +1,17 @@
 -- `compose::blocks::block_reply` meets its contract. Assumes nothing.
 use Prim.Native.Nat.{ℕ}
-use mathlib.Core.Bool.{_||_}
 use mathlib.Core.List.{List}
 use mathlib.Core.Path.{_≡_, sym, ap, _∙_}
 use native.Mathlib.Omega.{arith}
-use lib.Dec.{eqb, leb}
 use lib.ListN.{length, take}
 use lib.Seq.{length-take-le}
 use borrow.Author.Needs.{needs}
 use Rattle.reply.specs.Read.{saidReply}
 use Rattle.reply.specs.Chain.{refused-read}
 use Rattle.block.specs.Block.{blockReply}
-use Rattle.assembly.specs.Book.{used, bondBytes, mostBlocks}
+use Rattle.assembly.specs.Book.{bondBytes, mostBlocks}
 use Rattle.assembly.specs.declared.BlockAt.{BlockAt}
-use Rattle.deck.specs.Deck.{blockAt, blockPlace}
+use Rattle.deck.specs.Deck.{blockAt, blockPlace, unfitAfter}
 use Rattle.deck.specs.Filling.{filledBook}
 use Rattle.deck.specs.Said.{movedReply}
 use Rattle.deck.proofs.Turns.{unfit, number-unfit, number-fit, moved-said, place-low}
@@ -29,7 +27,7 @@ counted s = let n : length (s .args .blocks) ≡ mostBlocks = search needs in le
 
 unfit-is : (c : tie.After-is-unfit) → let s = c .before .before .before .before in c .is-unfit .result ≡ unfit (s .args .d .now) (s .args .at) (done s)
 unfit-is c = let s = c .before .before .before .before in
-    c .is-unfit .ensures ∙ ap (λ (b : BlockAt). eqb (b .number) 0 || used (done s) (b .number) || leb mostBlocks (length (done s))) (s .pre .1)
+    c .is-unfit .ensures ∙ ap (λ (b : BlockAt). unfitAfter (done s) (b .number)) (s .pre .1)
 
 -- what the block is told
 told-is : (c : tie.After-fill-at) → let s = c .before .before .before .before .before .before .before in let b = blockAt (s .args .d .now) (s .args .at) in

@@ -139,7 +139,7 @@ returns-2 c = let l = c .before .before .before .before .before .before .before 
     )
 
 block-at-requires : tie.Need-block-at-requires Inv-loop μ-loop
-block-at-requires c κs = c .before .before .before .before .before .before .before .loop .inv .0
+block-at-requires c κs = let l = c .before .before .before .before .before .before .before in omega (arith, l .loop .inv .0, l .before .before .before .pre)
 
 block-reply-requires : tie.Need-block-reply-requires Inv-loop μ-loop
 block-reply-requires c κs = let l = c .before .before .before .before .before .before .before .before .before in

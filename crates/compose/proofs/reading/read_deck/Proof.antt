@@ -12,7 +12,7 @@ read-in-requires : tie.Need-read-in-requires
 read-in-requires c κs = (omega arith, zeros 8448)
 
 returns : tie.Need-returns
-returns c = search needs
+returns c = c .before .read-in .ensures .0
 
 pub read-deck-spec : {M : Type 1} → statement M
 read-deck-spec = tie.close (tie.spec slice-aggregate-read-in read-in-requires returns)

@@ -14,6 +14,7 @@ use Rattle.assembly.specs.Placements.{shelfReply}
 use Rattle.shelf.specs.Shelf.{shelfIn}
 use Rattle.summaries.specs.Written.{HonestBook}
 use Rattle.deck.specs.Deck.{Deck, moved, placementPlace, openReply, assemblyReplyAt, sheetReply}
+use Rattle.deck.specs.Filled.{openBook}
 use Rattle.deck.specs.Said.{refusedDeck, saidDeck}
 use Rattle.deck.specs.Kept.{kept}
 use Rattle.deck.specs.declared.DeckRead.{DeckRead}
@@ -29,6 +30,9 @@ deck s = s .args .d .now
 -- the blocks, read
 blocks : (c : tie.After-enum-told) → let d = deck (c .before .before .before .before .before .before .before .before) in (k : Deck) × (openReply assemblyKind d ≡ read k) × (c .before .before .before .before .open-book .result ≡ saidDeck (read k))
 blocks c = let r = c .before .before .before .before .open-book in deck-ended (openReply assemblyKind (deck (c .before .before .before .before .before .before .before .before))) (r .result) (r .ensures .0) (c .enum-told .given .1)
+
+filled : (c : tie.After-enum-told) → let s = c .before .before .before .before .before .before .before .before in c .before .before .before .before .open-book .last .1 .1 .0 ≡ openBook assemblyKind (deck s) (s .args .book .now)
+filled c = c .before .before .before .before .open-book .ensures .1
 
 -- and their book
 book : (c : tie.After-enum-told) → HonestBook (c .before .before .before .before .open-book .last .1 .1 .0) (bookOf (deck (c .before .before .before .before .before .before .before .before)) (blocks c .0 .blocks))
@@ -76,7 +80,7 @@ returns c = let s = c .before .before .before .before .before .before .before .b
     let r = c .before .before .before .before .open-book in
     let q = c .enum-told2 .given in
     let e = deck-stopped (openReply assemblyKind (deck s)) (r .result) (q .0 .0) (r .ensures .0) (q .1) in
-    r .ensures .0 ∙ ap saidDeck (e ∙ sym (bad-blocks (s .args .form) (deck s) (q .0 .0) e))
+    (r .ensures .0 ∙ ap saidDeck (e ∙ sym (bad-blocks (s .args .form) (deck s) (q .0 .0) e)), r .ensures .1)
 
 assembly-reply-requires : tie.Need-assembly-reply-requires
 assembly-reply-requires c κs = let (k, e, r) = blocks (c .before .before) in
@@ -101,7 +105,7 @@ returns-2 c = let s = c .before .before .before .before .before .before .before 
     let (k, e, r) = blocks (c .before .before .before .before .before .before) in
     let q = c .before .enum-told4 .given in
     let f = refused-read _ (q .0 .0) (sym (assembly-is (c .before .before .before)) ∙ q .1) in
-    c .deck-refused .ensures ∙ ap refusedDeck (q .1) ∙ ap saidDeck (sym (bad-assembly (s .args .form) (deck s) k e (q .0 .0) f))
+    (c .deck-refused .ensures ∙ ap refusedDeck (q .1) ∙ ap saidDeck (sym (bad-assembly (s .args .form) (deck s) k e (q .0 .0) f)), filled (c .before .before .before .before .before .before))
 
 sheet-reply-requires : tie.Need-sheet-reply-requires
 sheet-reply-requires c κs = search needs
@@ -123,7 +127,7 @@ returns-3 c = let s = c .before .before .before .before .before .before .before 
     let (k, e, r) = blocks (c .before .before .before .before .before .before .before .before .before) in
     let q = c .before .enum-told6 .given in
     let f = refused-read _ (q .0 .0) (sym (sheet-is (c .before .before .before)) ∙ q .1) in
-    c .deck-refused2 .ensures ∙ ap refusedDeck (q .1) ∙ ap saidDeck (sym (bad-sheet (s .args .form) (deck s) k e (assembly-fine (c .before .before .before .before)) (q .0 .0) f))
+    (c .deck-refused2 .ensures ∙ ap refusedDeck (q .1) ∙ ap saidDeck (sym (bad-sheet (s .args .form) (deck s) k e (assembly-fine (c .before .before .before .before)) (q .0 .0) f)), filled (c .before .before .before .before .before .before .before .before .before))
 
 same-length-4 : tie.Need-same-length-4
 same-length-4 c = search needs
@@ -132,7 +136,7 @@ returns-4 : tie.Need-returns-4
 returns-4 c = let s = c .before .before .before .before .before .before .before .before .before .before .before .before .before .before .before .before in
     let (k, e, r) = blocks (c .before .before .before .before .before .before .before .before) in
     let f = fine-read _ (sym (sheet-is (c .before .before)) ∙ c .enum-told5 .given .1) in
-    r ∙ ap saidDeck (sym (whole-deck (s .args .form) (deck s) k e (assembly-fine (c .before .before .before)) f))
+    (r ∙ ap saidDeck (sym (whole-deck (s .args .form) (deck s) k e (assembly-fine (c .before .before .before)) f)), filled (c .before .before .before .before .before .before .before .before))
 
 pub read-in-spec : {M : Type 1} → statement M
 read-in-spec =

@@ -1,2 +1,0 @@
--- Laws of reading a deck's blocks.
-pub mod Reading

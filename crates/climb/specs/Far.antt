@@ -1,0 +1,20 @@
+-- Definitions. The number of two placed atoms over a book of summaries and an assembly's payload, whatever their bytes: by the joining rules over what the summaries say.
+use Prim.Native.Nat.{ℕ, _-_}
+use mathlib.Core.Bool.{_||_, cond}
+use mathlib.Core.List.{List}
+use Rattle.reply.specs.Read.{isOutside}
+use Rattle.assembly.specs.Placements.{mostPlacements, placementAt, joinOn}
+use Rattle.joining.specs.Parts.{farIn}
+use Rattle.summaries.specs.Composing.{keptOn}
+
+-- of atom i of the placement at index k and atom j of the one at index l
+abbrev pub farBy : List ℕ → List ℕ → ℕ → ℕ → ℕ → ℕ → ℕ
+farBy b xs k i l j = farIn (keptOn b xs) (joinOn (placementAt xs)) (mostPlacements - 1) k i l j
+
+-- the index that a join at index k leads to: a parent that is none of the earlier placements counts as the first, as it does in `farIn`
+abbrev pub earlierOf : ℕ → ℕ → ℕ
+earlierOf parent k = cond (isOutside k parent) 0 (parent - 1)
+
+-- of atom i of placement number k and atom j of placement number l; 0 where one of the two is none of 32
+unfoldable pub placedFar : List ℕ → List ℕ → ℕ → ℕ → ℕ → ℕ → ℕ
+placedFar b xs k i l j = cond (isOutside mostPlacements k || isOutside mostPlacements l) 0 (farBy b xs (k - 1) i (l - 1) j)

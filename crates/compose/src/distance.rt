@@ -1,0 +1,46 @@
+// The distance of two placed atoms of a deck, over the book that is filled while its blocks are read.
+ghost use mathlib.Core.Path.{_≡_};
+ghost use Prim.Native.Nat.{ℕ, _*_, _≤_};
+ghost use lib.ListN.{length, getD};
+ghost use Rattle.block.specs.Index.{saidDistance};
+ghost use Rattle.assembly.specs.Book.{mostBlocks};
+ghost use Rattle.summary.specs.Layout.{summaryBytes};
+ghost use Rattle.deck.specs.Placed.{placedDistanceReply};
+use super::reading::read_in;
+use assembly::BLOCKS;
+use block::DistanceReply;
+use deck::Form;
+use deck::is_missing;
+use records::payload_at;
+use reply::Refusal;
+use reply::Reply;
+use summary::SUMMARY;
+
+// By a lent book that is all 0 and has a place for each block that a deck can have.
+fn distance_in(d: &[u8], k: usize, i: usize, l: usize, j: usize, book: &mut [u8]) -> DistanceReply
+    requires { ⌜ (summaryBytes * mostBlocks ≤ length (now book)) × ((p : ℕ) → getD (now book) p 0 ≡ 0) ⌝ }
+    ensures { λ r. ⌜ r ≡ saidDistance (placedDistanceReply (now (d .entry)) k i l j) ⌝ }
+{
+    let read = read_in(d, Form::Composed, book);
+    let reply = read.reply;
+    match reply {
+        Reply::Refused(r) => DistanceReply::Refused(r),
+        Reply::Fine => {
+            let deck = read.layout;
+            if is_missing(d, deck, k, i) || is_missing(d, deck, l, j) {
+                return DistanceReply::Refused(Refusal {
+                    number: 18,
+                    place: 0,
+                });
+            }
+            DistanceReply::Of(climb::far(book, payload_at(d, deck.assembly), k, i, l, j))
+        }
+    }
+}
+
+// The distance of atom i of placement number k and atom j of placement number l of a deck without a sheet, or its refusal; 18 at place 0 where one does not exist.
+pub fn placed_distance(d: &[u8], k: usize, i: usize, l: usize, j: usize) -> DistanceReply
+    ensures { λ r. ⌜ r ≡ saidDistance (placedDistanceReply (now (d .entry)) k i l j) ⌝ }
+{
+    distance_in(d, k, i, l, j, &mut [0u8; SUMMARY * BLOCKS])
+}

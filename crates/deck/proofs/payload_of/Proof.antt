@@ -1,0 +1,69 @@
+-- `deck::payload_of` meets its contract. Assumes nothing.
+use Prim.Native.Nat.{_+_, _*_}
+use mathlib.Core.List.{List}
+use mathlib.Core.Path.{_≡_, sym, ap, _∙_}
+use lib.ListN.{take}
+use borrow.Author.Tests.{not-true, not-false}
+use borrow.Author.Needs.{needs}
+use Rattle.records.specs.Records.{blockKind}
+use Rattle.assembly.specs.Book.{isNumbered, used}
+use Rattle.assembly.specs.declared.BlockAt.{BlockAt}
+use Rattle.deck.specs.Deck.{Span}
+use Rattle.deck.proofs.Parts.{no-payload, has-payload, part-at}
+use Rattle.deck.proofs.payload_of.Statement.{statement}
+use Rattle.deck.proofs.payload_of.Tie as tie
+
+abbrev blocks : tie.Start → List BlockAt
+blocks s = take (s .args .count) (s .args .blocks)
+
+abbrev span : BlockAt → Span
+span b = record { from = b .start; len = blockKind .fixed + blockKind .item * b .bonds }
+
+used-is : (c : tie.After-is-numbered) → let s = c .before .before .before in used (blocks s) (s .args .number) ≡ c .is-numbered .result
+used-is c = let s = c .before .before .before in sym (c .is-numbered .ensures ∙ ap (λ (b : BlockAt). isNumbered b (s .args .number)) (c .before .find-block .ensures))
+
+find-block-requires : tie.Need-find-block-requires
+find-block-requires c κs = search needs
+
+is-numbered-requires : tie.Need-is-numbered-requires
+is-numbered-requires c κs = search needs
+
+part-requires : tie.Need-part-requires
+part-requires c κs = search needs
+
+returns : tie.Need-returns
+returns c = let s = c .before .before .before .before .before in part-at (sym (no-payload (blocks s) (s .args .number) (used-is (c .before .before) ∙ not-true (c .before .before .is-numbered .result) (c .before .if1 .taken)))) (c .part .ensures)
+
+cast-part : tie.Need-cast-part
+cast-part c = search needs
+
+cast-part-2 : tie.Need-cast-part-2
+cast-part-2 c = search needs
+
+mul-part : tie.Need-mul-part
+mul-part c = search needs
+
+add-part : tie.Need-add-part
+add-part c = search needs
+
+part-requires-2 : tie.Need-part-requires-2
+part-requires-2 c κs = search needs
+
+returns-2 : tie.Need-returns-2
+returns-2 c = let s = c .before .before .before .before .before .before .before in
+    part-at (ap span (c .before .before .before .before .before .find-block .ensures) ∙ sym (has-payload (blocks s) (s .args .number) (used-is (c .before .before .before .before) ∙ not-false (c .before .before .before .before .is-numbered .result) (c .before .before .before .if1 .left)))) (c .part2 .ensures)
+
+pub payload-of-spec : {M : Type 1} → statement M
+payload-of-spec =
+    tie.close
+    (tie.spec
+    find-block-requires
+    is-numbered-requires
+    part-requires
+    returns
+    cast-part
+    cast-part-2
+    mul-part
+    add-part
+    part-requires-2
+    returns-2)
