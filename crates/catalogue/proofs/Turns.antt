@@ -1,15 +1,17 @@
 -- What a library's record is told, test by test. Assumes nothing.
-use Prim.Native.Nat.{ℕ, zero, suc, _+_, _*_, _^_, _≤_, _<_}
-use mathlib.Core.Bool.{Bool, true, false}
+use Prim.Native.Nat.{ℕ, zero, suc, _+_, _*_, _-_, _^_, _≤_, _<_}
+use mathlib.Core.Bool.{Bool, true, false, cond}
 use mathlib.Core.List.{List, [], _∷_}
 use mathlib.Core.Path.{_≡_, refl}
 use native.Mathlib.Nat.{le-trans, mul-le-mul, pow-suc, pow-le-pow-right}
 use native.Mathlib.Numerals.{add-one}
 use native.Mathlib.Omega.{arith}
 use borrow.Author.Tests.{eq-eqb, ne-eqb, lt-ltb, le-ltb}
-use lib.Dec.{lit<}
-use lib.ListN.{length, getD}
-use Rattle.graph.specs.Graph.{Graph}
+use lib.Dec.{eqb, lit<}
+use lib.ListN.{length, getD, drop, drop-of-length-le}
+use lib.Seq.{drop-cons}
+use Rattle.graph.specs.Graph.{Graph, degree}
+use Rattle.block.specs.Block.{bondsOf}
 use Rattle.reply.specs.Read.{refused, read, refusal, refuseFor, isOutside}
 use Rattle.assembly.specs.Book.{Book, find, isNumbered, blockGraph, bookOf}
 use Rattle.assembly.specs.declared.BlockAt.{BlockAt}
@@ -30,6 +32,27 @@ module _ (d : List ℕ) (bs : List BlockAt) (number n : ℕ) (b : BlockAt) (e : 
   pub graph-is : blockGraph d b ≡ bookOf d bs .graph number
   unfolding bookOf
   graph-is = rw (← e) (rw f refl)
+
+-- the ends of bonds, byte by byte
+unfoldable pub endsIn : List ℕ → ℕ → ℕ
+endsIn [] a = 0
+endsIn (x ∷ xs) a = cond (eqb x a) 1 0 + endsIn xs a
+
+module _ (xs : List ℕ) (a i : ℕ) where
+  pub ends-next : i < length xs → endsIn (drop i xs) a ≡ cond (eqb (getD xs i 0) a) 1 0 + endsIn (drop (i + 1) xs) a
+  unfolding endsIn
+  ends-next h = rw (drop-cons xs i 0 h, add-one i)
+
+  pub ends-over : length xs ≤ i → endsIn (drop i xs) a ≡ 0
+  unfolding endsIn
+  ends-over h = rw (drop-of-length-le xs h)
+
+-- two bytes are one bond
+pub ends-degree : (xs : List ℕ) (a k : ℕ) → length xs ≡ 2 * k → endsIn xs a ≡ degree (bondsOf xs) a
+unfolding endsIn bondsOf degree
+ends-degree [] a k h = refl
+ends-degree (x ∷ []) a k h = absurd (omega (arith, h))
+ends-degree (x ∷ (y ∷ xs)) a k h = omega (arith, ends-degree xs a (k - 1) (omega (arith, h)))
 
 module _ (book : Book) (core : Graph) (xs : List ℕ) (atom p : ℕ) where
   abbrev block : Graph

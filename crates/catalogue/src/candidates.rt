@@ -10,21 +10,56 @@ use records::byte_at;
 use records::le16_at;
 use reply::is_outside;
 ghost use mathlib.Core.Path.{_≡_};
-ghost use Prim.Native.Nat.{ℕ, _≤_};
+ghost use mathlib.Core.Bool.{cond};
+ghost use Prim.Native.Nat.{ℕ, _%_, _≤_};
 ghost use lib.ListN.{length, take};
-ghost use Rattle.graph.specs.Graph.{Graph};
+ghost use Rattle.graph.specs.Graph.{Graph, degree};
+ghost use Rattle.block.specs.Block.{bondsOf};
 ghost use Rattle.assembly.specs.Book.{blockGraph, bookOf};
 ghost use Rattle.catalogue.specs.Library.{isFullIn, candidateFault, candidatesFault};
 
 // The bytes of a candidate: block number (2), joining atom (1).
 pub(crate) const CANDIDATE: usize = 3;
 
+fn one_if(x: bool) -> u8
+    ensures { λ r. ⌜ (r ≡ cond x 1 0) × (r ≤ 1) ⌝ }
+{
+    if x { 1 } else { 0 }
+}
+
+// How many ends of bonds are at an atom, of bytes so few that the number fits a byte: many of them are held against the atom at a time.
+fn ends_in(bonds: &[u8], a: u8) -> u8
+    requires { ⌜ (length (now bonds) ≤ 255) × (length (now bonds) % 2 ≡ 0) ⌝ }
+    ensures { λ r. ⌜ r ≡ degree (bondsOf (now (bonds .entry))) a ⌝ }
+{
+    let mut total: u8 = 0;
+    let mut i = 0;
+    while i < bonds.len() {
+        total = total + one_if(bonds[i] == a);
+        i += 1;
+    }
+    total
+}
+
+// The same of any bytes.
+fn ends_at(bonds: &[u8], a: u8) -> usize
+    ensures { λ r. ⌜ r ≡ degree (bondsOf (now (bonds .entry))) a ⌝ }
+{
+    let bytes = bonds.len();
+    if bytes <= 255 {
+        if bytes % 2 == 0 {
+            return ends_in(bonds, a) as usize;
+        }
+    }
+    degree_of(bonds, a)
+}
+
 // Whether an atom of a block has as many bonds as it may.
 fn is_full(d: &[u8], b: BlockAt, a: u8) -> bool
     ensures { λ r. ⌜ r ≡ isFullIn (blockGraph (now (d .entry)) b) a ⌝ }
 {
     let bonds = bonds_part(d, b);
-    LIMIT <= degree_of(bonds, a)
+    LIMIT <= ends_at(bonds, a)
 }
 
 // What is wrong with the candidate at a place, for a site at an atom of the core that is full or not: 13, 16, 18, 19, or 0.

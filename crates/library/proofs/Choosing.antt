@@ -9,7 +9,7 @@ use Rattle.catalogue.specs.Products.{choiceAt}
 use Rattle.catalogue.specs.declared.Site.{Site}
 use Rattle.catalogue.specs.Said.{noSite}
 use Rattle.catalogue.specs.Table.{sitesIn}
-use Rattle.library.specs.Kept.{choiceIn}
+use Rattle.library.specs.Chosen.{choiceIn}
 
 -- two tables have the same digits from an index on
 abbrev pub Agree : List ℕ → List ℕ → ℕ → Type 0

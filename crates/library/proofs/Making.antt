@@ -1,6 +1,6 @@
 -- From a library that is read to its products. Assumes nothing.
 use Prim.Native.Nat.{ℕ, suc, _-_, _≤_, _<_, min}
-use mathlib.Core.List.{List, []}
+use mathlib.Core.List.{List}
 use mathlib.Core.Path.{_≡_, refl, _∙_, ap}
 use native.Mathlib.Omega.{arith}
 use borrow.Author.Tests.{lt-ltb, le-ltb}
@@ -10,22 +10,19 @@ use Rattle.reply.specs.Read.{refused, read}
 use Rattle.reply.specs.declared.Refusal.{Refusal}
 use Rattle.block.specs.declared.Indices.{Indices}
 use Rattle.records.specs.Records.{payloadAt}
-use Rattle.assembly.specs.Book.{find, bondBytes}
-use Rattle.assembly.specs.declared.BlockAt.{BlockAt}
-use Rattle.catalogue.specs.Library.{mostSites, coreNumber, candidateNumber, candidateAtom, candidateAt, Library, libraryReply}
+use Rattle.catalogue.specs.Library.{mostSites, Library, libraryReply}
 use Rattle.catalogue.specs.Products.{products, productAt, productReply}
 use Rattle.catalogue.specs.Sound.{whole}
-use Rattle.catalogue.specs.declared.Site.{Site}
 use Rattle.catalogue.specs.Said.{saidLibrary}
 use Rattle.catalogue.specs.Table.{sites-back, table-empty}
 use Rattle.catalogue.specs.declared.LibraryRead.{LibraryRead}
 use Rattle.library.specs.Said.{saidProduct}
 use Rattle.library.specs.Held.{Held, Spread}
-use Rattle.arms.specs.Arms.{noArm, armOf, coreOf, sixOf, stemOf, joinedTo, stem-joined, rowArm}
+use Rattle.arms.specs.Arms.{noArm, sixOf, stemOf, joinedTo, stem-joined}
 use Rattle.arms.specs.declared.Arm.{Arm}
 use Rattle.arms.specs.declared.Core.{Core}
 use Rattle.arms.specs.declared.Stem.{Stem}
-use Rattle.library.specs.Kept.{armAt, atomsOf, coreAt, allPlaces, armFor}
+use Rattle.stock.specs.Stock.{coreAt, allArms}
 use Rattle.library.specs.declared.ProductReply.the-variants as product
 
 -- what the code has of a library that is read
@@ -39,27 +36,15 @@ held-read d l r e f = rw f (record {
 })
 
 pub spread-read : (d : List ℕ) (l : Library) (r : LibraryRead) → libraryReply d ≡ read l → r ≡ saidLibrary (read l) → (ys : List ℕ) (c : Core) (all : List (List ℕ)) → let bs = take (r .count) (r .blocks) in
-    ys ≡ payloadAt d (r .at) → c ≡ coreAt d bs ys (r .sites) → ((i : ℕ) → i < allPlaces → rowArm (getD all i []) ≡ armFor d bs ys (r .sites) i)
+    ys ≡ payloadAt d (r .at) → c ≡ coreAt d bs ys (r .sites) → all ≡ allArms d bs ys (r .sites)
     → Spread d l bs (payloadAt d (r .at)) (r .sites) (r .n) c all
 spread-read d l r e f ys c all y q all-are =
     let bs = take (r .count) (r .blocks) in
     record {
       held = held-read d l r e f;
       core = q ∙ ap (λ (xs : List ℕ). coreAt d bs xs (r .sites)) y;
-      arms = λ i h. all-are i h ∙ ap (λ (xs : List ℕ). armFor d bs xs (r .sites) i) y;
+      arms = all-are ∙ ap (λ (xs : List ℕ). allArms d bs xs (r .sites)) y;
     }
-
--- a candidate, and the core, by what is found
-module _ (d : List ℕ) (bs : List BlockAt) (xs : List ℕ) where
-  pub arm-said : (s : Site) (j number a : ℕ) (b : BlockAt) (bonds : List ℕ) (r : Arm) → number ≡ candidateNumber xs (candidateAt s j) → a ≡ candidateAtom xs (candidateAt s j)
-      → b ≡ find bs number → bonds ≡ bondBytes d b → r ≡ armOf (b .atoms) bonds a → r ≡ armAt d bs xs s j
-  unfolding armAt
-  arm-said s j number a b bonds r e f g h i = i ∙ rw (h, g, f, e) refl
-
-  pub core-said : (sites : List Site) (number : ℕ) (b : BlockAt) (bonds atoms : List ℕ) (r : Core) → number ≡ coreNumber xs → b ≡ find bs number → bonds ≡ bondBytes d b → atoms ≡ atomsOf sites
-      → r ≡ coreOf (b .atoms) bonds atoms → r ≡ coreAt d bs xs sites
-  unfolding coreAt
-  core-said sites number b bonds atoms r e g h f i = i ∙ rw (h, g, f, e) refl
 
 -- the last arm is joined to the core with the others
 pub made-said : (c : Core) (arms : List Arm) (n : ℕ) (s : Stem) (x : Indices) → 1 ≤ n → n ≤ mostSites → s ≡ stemOf c arms (min (n - 1) 3) → x ≡ joinedTo s (getD arms (n - 1) noArm) → x ≡ sixOf c arms n

@@ -1,48 +1,23 @@
--- All arms one by one, and the buffer of a run sheet by sheet. Assumes nothing.
-use Prim.Native.Nat.{ℕ, suc, _+_, _-_, _/_, _%_, _≤_, _<_}
+-- The buffer of a run, sheet by sheet. Assumes nothing.
+use Prim.Native.Nat.{ℕ, suc, _+_, _-_, _≤_, _<_}
 use mathlib.Core.Bool.{Bool, true, false, cond}
-use mathlib.Core.List.{List, [], _++_, append-assoc, append-nil}
+use mathlib.Core.List.{List, _++_, append-assoc, append-nil}
 use mathlib.Core.Path.{_≡_, refl, sym, _∙_, ap, ap₂}
 use native.Mathlib.Omega.{arith}
-use borrow.Author.Tests.{eqb-true, eqb-false, lt-ltb, le-ltb, ltb-true, ltb-false}
-use lib.Dec.{eqb, ltb}
-use lib.ListN.{length, getD, set, take, drop, length-append, length-drop, take-append-drop, drop-of-length-le}
-use lib.Seq.{getD-set-same, getD-set-other, take-at, take-all, drop-at, length-take-le}
+use borrow.Author.Tests.{le-ltb, ltb-true, ltb-false}
+use lib.Dec.{ltb}
+use lib.ListN.{length, take, drop, length-append, length-drop, take-append-drop, drop-of-length-le}
+use lib.Seq.{take-at, take-all, drop-at, length-take-le}
 use Rattle.reply.specs.Read.{read}
 use Rattle.block.specs.declared.Indices.{Indices}
 use Rattle.records.specs.declared.Sheet.{Sheet}
-use Rattle.assembly.specs.declared.BlockAt.{BlockAt}
 use Rattle.sheets.specs.Sheets.{fieldsOf, sheetRecord, sheetBytes, sheetPut}
 use Rattle.sheets.specs.Back.{length-sheet}
-use Rattle.catalogue.specs.Library.{mostCandidates, Library, libraryReply}
+use Rattle.catalogue.specs.Library.{Library, libraryReply}
 use Rattle.catalogue.specs.Products.{products, productAt}
-use Rattle.catalogue.specs.declared.Site.{Site}
-use Rattle.catalogue.specs.Said.{noSite}
-use Rattle.arms.specs.Arms.{noArm, rowArm}
-use Rattle.arms.specs.declared.Arm.{Arm}
-use Rattle.library.specs.Kept.{armAt, armFor}
 use Rattle.library.specs.Steps.{Ran, behind, stepsFrom}
 use Rattle.library.specs.Running.{run-next, run-done, run-full}
 use Rattle.library.specs.Turning.{Going}
-
--- the arm for a place
-module _ (d : List ℕ) (bs : List BlockAt) (xs : List ℕ) (sites : List Site) (i : ℕ) where
-  pub arm-here : i % mostCandidates < getD sites (i / mostCandidates) noSite .many → armAt d bs xs (getD sites (i / mostCandidates) noSite) (i % mostCandidates) ≡ armFor d bs xs sites i
-  unfolding armFor
-  arm-here h = rw (lt-ltb (i % mostCandidates) (getD sites (i / mostCandidates) noSite .many) h)
-
-  pub arm-past : getD sites (i / mostCandidates) noSite .many ≤ i % mostCandidates → noArm ≡ armFor d bs xs sites i
-  unfolding armFor
-  arm-past h = rw (le-ltb (i % mostCandidates) (getD sites (i / mostCandidates) noSite .many) h)
-
--- one row more
-pub rows-next : (all : List (List ℕ)) (i : ℕ) (row : List ℕ) (f : ℕ → Arm) → i < length all → rowArm row ≡ f i → ((j : ℕ) → j < i → rowArm (getD all j []) ≡ f j)
-    → (j : ℕ) → j < i + 1 → rowArm (getD (set all i row) j []) ≡ f j
-rows-next all i row f h e old j l = go (eqb j i) refl
-  where
-    go : (t : Bool) → eqb j i ≡ t → rowArm (getD (set all i row) j []) ≡ f j
-    go true q = let z : j ≡ i = eqb-true j i q in rw z (ap rowArm (getD-set-same all i row [] h) ∙ e)
-    go false q = let z = eqb-false j i q in ap rowArm (getD-set-other all i j row [] z) ∙ old j (omega (arith, z))
 
 -- how far a run has come
 pub going-start : (s : Sheet) (d : List ℕ) (p : ℕ) (out : List ℕ) → Going s d (stepsFrom (length out) s d p out) out p 0

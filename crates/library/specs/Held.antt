@@ -1,17 +1,16 @@
 -- Work. What is lent of a library that is read, and what it gives: the fields of each product.
-use Prim.Native.Nat.{ℕ, _+_, _*_, _/_, _%_, _≤_, _<_}
-use mathlib.Core.Bool.{Bool, true, false, cond}
+use Prim.Native.Nat.{ℕ, _+_, _*_, _≤_, _<_}
+use mathlib.Core.Bool.{Bool, true, false}
 use mathlib.Core.List.{List, []}
 use mathlib.Core.Path.{_≡_, refl, _∙_, ap, ap₂}
-use native.Mathlib.Nat.{mul-add-div-right, mul-add-mod-self-right, div-eq-of-lt, mod-eq-of-lt}
 use native.Mathlib.Omega.{arith}
-use borrow.Author.Tests.{lt-ltb, ltb-true, ltb-false}
-use lib.Dec.{ltb, lit<}
+use borrow.Author.Tests.{ltb-true, ltb-false}
+use lib.Dec.{ltb}
 use lib.ListN.{length, getD}
 use Rattle.reply.specs.Read.{read}
 use Rattle.records.specs.Records.{payloadAt}
 use Rattle.assembly.specs.declared.BlockAt.{BlockAt}
-use Rattle.catalogue.specs.Library.{mostSites, mostCandidates, Library, libraryReply}
+use Rattle.catalogue.specs.Library.{mostSites, mostCandidates, candidateAt, Library, libraryReply}
 use Rattle.catalogue.specs.Products.{products, choiceAt, productAt}
 use Rattle.catalogue.specs.Sound.{whole}
 use Rattle.catalogue.specs.declared.Site.{Site}
@@ -20,7 +19,9 @@ use Rattle.catalogue.specs.Table.{sitesIn, sites-length}
 use Rattle.arms.specs.Arms.{noArm, sixOf, rowArm}
 use Rattle.arms.specs.declared.Arm.{Arm}
 use Rattle.arms.specs.declared.Core.{Core}
-use Rattle.library.specs.Kept.{armAt, coreAt, allPlaces, armFor, Picked, choiceIn}
+use Rattle.stock.specs.Stock.{coreAt, candidateArm, armAt, allArms}
+use Rattle.stock.specs.Stands.{arm-stands, row-there}
+use Rattle.library.specs.Chosen.{choiceIn, Picked}
 use Rattle.library.specs.Ready.{few-sites, site-stands, digit-low, product-is}
 
 -- 1 to 8 candidates
@@ -40,7 +41,7 @@ pub record Held (d : List ℕ) (l : Library) (bs : List BlockAt) (xs : List ℕ)
 pub record Spread (d : List ℕ) (l : Library) (bs : List BlockAt) (xs : List ℕ) (sites : List Site) (n : ℕ) (c : Core) (all : List (List ℕ)) : Type 0 where
   pub held : Held d l bs xs sites n
   pub core : c ≡ coreAt d bs xs sites
-  pub arms : (i : ℕ) → i < allPlaces → rowArm (getD all i []) ≡ armFor d bs xs sites i
+  pub arms : all ≡ allArms d bs xs sites
 
 module _ {d : List ℕ} {l : Library} {bs : List BlockAt} {xs : List ℕ} {sites : List Site} {n : ℕ} (t : Held d l bs xs sites n) where
   pub few : n ≤ mostSites
@@ -70,24 +71,16 @@ module _ {d : List ℕ} {l : Library} {bs : List BlockAt} {xs : List ℕ} {sites
   product-joined position h digits c core arms q r =
       product-is d l (t .reads) sites n (t .same) position h digits (c ∙ ap (λ (ss : List Site). choiceAt ss position) (t .same)) core arms
       (q ∙ ap₂ (λ (cs : List BlockAt) (ys : List ℕ). coreAt d cs ys sites) (t .blocks) (t .payload))
-      (λ k i. r k i ∙ ap₂ (λ (cs : List BlockAt) (ys : List ℕ). armAt d cs ys (getD sites k noSite) (getD digits k 0)) (t .blocks) (t .payload))
+      (λ k i. let s = getD sites k noSite in let j = getD digits k 0 in
+      r k i ∙ arm-stands d bs xs s j (first k) (digits-low position h digits c k i) ∙ ap₂ (λ (cs : List BlockAt) (ys : List ℕ). candidateArm d cs ys (candidateAt s j)) (t .blocks) (t .payload))
 
 module _ {d : List ℕ} {l : Library} {bs : List BlockAt} {xs : List ℕ} {sites : List Site} {n : ℕ} {c : Core} {all : List (List ℕ)} (t : Spread d l bs xs sites n c all) where
-  -- the arm at the place of a site and a digit
-  arm-there : (k j : ℕ) → j < mostCandidates → armFor d bs xs sites (mostCandidates * k + j) ≡ cond (ltb j (getD sites k noSite .many)) (armAt d bs xs (getD sites k noSite) j) noArm
-  unfolding armFor
-  arm-there k j h =
-      let z : mostCandidates * k + j ≡ k * mostCandidates + j = omega arith in
-      let a : (mostCandidates * k + j) / mostCandidates ≡ k = ap (λ (x : ℕ). x / mostCandidates) z ∙ mul-add-div-right (lit< tt) k j ∙ omega (arith, div-eq-of-lt {n = j} {m = mostCandidates} h) in
-      let b : (mostCandidates * k + j) % mostCandidates ≡ j = ap (λ (x : ℕ). x % mostCandidates) z ∙ mul-add-mod-self-right k mostCandidates j ∙ mod-eq-of-lt h in
-      rw (a, b)
-
-  -- and picked among all arms
+  -- picked among all arms
   pub product-spread : (position : ℕ) → position < products (l .sites) → (digits : List ℕ) → choiceIn digits n ≡ choiceAt (sitesIn sites n) position
       → (arms : List Arm) → Picked all digits n arms → sixOf c arms n ≡ productAt d l position
   product-spread position h digits e arms p =
       let low = digits-low (t .held) position h digits e in
       product-joined (t .held) position h digits e c arms (t .core) (λ k i.
       let small : getD digits k 0 < mostCandidates = omega (arith, low k i, many (t .held) k i .high) in
-      p .arm k i ∙ t .arms _ (omega (arith, small, few (t .held))) ∙ arm-there k (getD digits k 0) small
-      ∙ rw (lt-ltb (getD digits k 0) (getD sites k noSite .many) (low k i)))
+      p .arm k i ∙ ap (λ (rows : List (List ℕ)). rowArm (getD rows (mostCandidates * k + getD digits k 0) [])) (t .arms)
+      ∙ row-there d bs xs sites k (getD digits k 0) (omega (arith, few (t .held))) small)

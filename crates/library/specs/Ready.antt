@@ -29,7 +29,8 @@ use Rattle.catalogue.specs.Fine.{placedIn, joined, behind-count, placed-before,
 use Rattle.catalogue.specs.declared.Site.{Site}
 use Rattle.catalogue.specs.Said.{noSite}
 use Rattle.catalogue.specs.Table.{sitesIn, sites-length}
-use Rattle.library.specs.Kept.{armAt, atomsOf, coreAt, choiceIn}
+use Rattle.stock.specs.Stock.{atomsOf, coreAt, candidateArm}
+use Rattle.library.specs.Chosen.{choiceIn}
 
 -- what holds of so many holds of fewer
 fewer : (P : ℕ → Type 0) → ((m : ℕ) → P (suc m) → P m) → (n k : ℕ) → k ≤ n → P n → P k
@@ -104,9 +105,9 @@ module _ (d : List ℕ) (l : Library) (e : libraryReply d ≡ read l) where
       arm-there : (k : ℕ) → k < n → placementAt (assemblyAt d l position) (suc k) ≡ armPlaced k
       arm-there k h = ap (λ (ys : List ℕ). placementAt ys (suc k)) written-is ∙ behind-count (suc (length (l .sites))) 0 (bytes n) (suc k) ∙ arm-placed n (omega arith) k h
 
-      module _ (core : Core) (arms : List Arm) (c : core ≡ coreAt d (l .blocks) xs table) (arm : (k : ℕ) → k < n → getD arms k noArm ≡ armAt d (l .blocks) xs (siteOf k) (getD digits k 0)) where
+      module _ (core : Core) (arms : List Arm) (c : core ≡ coreAt d (l .blocks) xs table) (arm : (k : ℕ) → k < n → getD arms k noArm ≡ candidateArm d (l .blocks) xs (place k)) where
         arms-of : ArmsOf d (l .blocks) (assemblyAt d l position) (atomsOf table) n core arms
-        unfolding coreAt atomsOf armAt
+        unfolding coreAt atomsOf candidateArm
         arms-of = record {
           few = few-sites;
           count = count-is book xs (l .sites) (choiceAt (l .sites) position) (whole d l e .listed) (is-choice (l .sites) position low) ∙ ap suc (sym (ap length same) ∙ sites-length table n);

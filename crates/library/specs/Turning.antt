@@ -19,7 +19,8 @@ use Rattle.arms.specs.Arms.{noArm, stemOf, joinedTo, stem-joined, rowArm}
 use Rattle.arms.specs.declared.Arm.{Arm}
 use Rattle.arms.specs.declared.Core.{Core}
 use Rattle.arms.specs.declared.Stem.{Stem}
-use Rattle.library.specs.Kept.{allPlaces, Picked, choiceIn}
+use Rattle.stock.specs.Stock.{allPlaces}
+use Rattle.library.specs.Chosen.{choiceIn, Picked}
 use Rattle.library.specs.Held.{Spread, few, many, product-spread}
 use Rattle.library.specs.Steps.{Ran, behind, stepsFrom}
 use Rattle.library.specs.declared.last.Staying.{Staying}

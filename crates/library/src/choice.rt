@@ -8,7 +8,7 @@ ghost use Rattle.catalogue.specs.Library.{mostSites};
 ghost use Rattle.catalogue.specs.Products.{choiceAt};
 ghost use Rattle.catalogue.specs.Said.{noSite};
 ghost use Rattle.catalogue.specs.Table.{sitesIn};
-ghost use Rattle.library.specs.Kept.{choiceIn};
+ghost use Rattle.library.specs.Chosen.{choiceIn};
 
 // The choice at a position: for each of the first n sites the index of a candidate, and 0 for the others.
 pub(crate) fn choose(sites: [Site; SITES], n: usize, position: usize) -> [usize; SITES]

@@ -1,7 +1,5 @@
 // The last site turns while the others stay: what they are joined to is made once for all its candidates.
 use super::choice::choose;
-use super::spread::ArmRows;
-use super::spread::pick;
 use arms::Core;
 use arms::Stem;
 use arms::row_arm;
@@ -13,6 +11,8 @@ use catalogue::Site;
 use records::Sheet;
 use sheets::bytes_of;
 use sheets::put_sheet;
+use stock::ArmRows;
+use stock::arms_among;
 ghost use mathlib.Core.Path.{_≡_};
 ghost use mathlib.Core.List.{List};
 ghost use Prim.Native.Nat.{ℕ, _+_, _-_, _≤_, _<_};
@@ -57,7 +57,7 @@ pub(crate) fn staying_at(
 {
     let digits = choose(sites, n, position);
     let k = n - 1;
-    let arms = pick(all, digits, k);
+    let arms = arms_among(all, digits);
     let stem = stem_of(core, arms, k);
     let s = sites[k];
     let digit = digits[k];

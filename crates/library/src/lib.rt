@@ -1,8 +1,6 @@
 // The products of a library: what is kept of its core and its candidates, and each product joined from that by the composing crates.
 mod choice;
-mod kept;
 mod last;
-mod spread;
 
 use arms::Core;
 use arms::stem_of;
@@ -15,8 +13,6 @@ use catalogue::Site;
 use catalogue::read_library;
 use choice::choose;
 use deck::LONGEST;
-use kept::arms_at;
-use kept::core_at;
 use last::staying_at;
 use last::turn;
 use last::turn_values;
@@ -27,8 +23,10 @@ use reply::Reply;
 use reply::is_outside;
 use sheets::bytes_of;
 use sheets::put_sheet;
-use spread::ArmRows;
-use spread::all_arms;
+use stock::ArmRows;
+use stock::all_arms;
+use stock::arms_at;
+use stock::core_at;
 ghost use mathlib.Core.Path.{_≡_};
 ghost use mathlib.Core.List.{List};
 ghost use Prim.Native.Nat.{ℕ, suc, _+_, _-_, _≤_, _<_, min};
@@ -77,7 +75,7 @@ fn fields_at(
 {
     let xs = payload_at(d, at);
     let digits = choose(sites, n, position);
-    let arms = arms_at(d, blocks, count, xs, sites, n, digits);
+    let arms = arms_at(d, blocks, count, xs, sites, digits);
     let core = core_at(d, blocks, count, xs, sites);
     let k = n - 1;
     let arm = arms[k];

@@ -1,12 +1,15 @@
 -- `library::fields_at` meets its contract. Assumes nothing.
-use Prim.Native.Nat.{ℕ, _≤_}
+use Prim.Native.Nat.{ℕ}
 use mathlib.Core.List.{List}
-use mathlib.Core.Path.{sym, _∙_, ap, subst}
+use mathlib.Core.Path.{_∙_, ap}
 use native.Mathlib.Omega.{arith}
-use lib.ListN.{length, take, getD}
-use Rattle.catalogue.specs.Said.{noSite}
-use Rattle.library.specs.Kept.{armAt, coreAt}
-use Rattle.library.specs.Held.{few, one, many, first, digits-low, product-joined}
+use lib.ListN.{take, getD}
+use Rattle.records.specs.Records.{payloadAt}
+use Rattle.arms.specs.Arms.{noArm}
+use Rattle.arms.specs.declared.Arm.{Arm}
+use Rattle.stock.specs.Stock.{coreAt, armsAt}
+use Rattle.stock.specs.Stands.{arms-there}
+use Rattle.library.specs.Held.{few, one, many, product-joined}
 use Rattle.library.proofs.Making.{made-said}
 use borrow.Author.Needs.{needs}
 use Rattle.library.proofs.fields_at.Statement.{statement}
@@ -19,14 +22,7 @@ choose-requires : tie.Need-choose-requires
 choose-requires c κs = let h = c .before .before .pre .1 in (few h, λ k i. many h k i .low)
 
 arms-at-requires : tie.Need-arms-at-requires
-arms-at-requires c κs =
-    let p = c .before .before .before in
-    let a = p .args in
-    let h = p .pre .1 in (
-      few h,
-      subst (λ (ys : List ℕ). (k : ℕ) → getD (a .sites) k noSite .first ≤ length ys) (sym (c .before .payload-at .ensures .bytes)) (first h),
-      λ k i. omega (arith, digits-low h (a .position) (p .pre .2) (c .choose .result) (c .choose .ensures) k i, many h k i .high),
-    )
+arms-at-requires c κs = search needs
 
 core-at-requires : tie.Need-core-at-requires
 core-at-requires c κs = search needs
@@ -57,7 +53,8 @@ returns c l h q =
     made-said (core .result) (arms .result) (a .n) (c .before .stem-of .result) _ (one h) (few h) (c .before .stem-of .ensures) (c .joined .ensures)
     ∙ product-joined h (a .position) q (chosen .result) (chosen .ensures) (core .result) (arms .result)
     (core .ensures ∙ ap (λ (ys : List ℕ). coreAt (a .d .now) bs ys (a .sites)) xs)
-    (λ k i. arms .ensures k i ∙ ap (λ (ys : List ℕ). armAt (a .d .now) bs ys (getD (a .sites) k noSite) (getD (chosen .result) k 0)) xs)
+    (λ k i. ap (λ (all : List Arm). getD all k noArm) (arms .ensures ∙ ap (λ (ys : List ℕ). armsAt (a .d .now) bs ys (a .sites) (chosen .result)) xs)
+    ∙ arms-there (a .d .now) bs (payloadAt (a .d .now) (a .at)) (a .sites) (chosen .result) k (omega (arith, i, few h)))
 
 pub fields-at-spec : {M : Type 1} → statement M
 fields-at-spec =

@@ -1,14 +1,11 @@
 -- `library::run_read` meets its contract. Assumes nothing.
-use Prim.Native.Nat.{ℕ, _≤_}
-use mathlib.Core.List.{List}
-use mathlib.Core.Path.{sym, ap, subst}
-use lib.ListN.{length, take, getD}
+use mathlib.Core.Path.{ap}
+use lib.ListN.{take}
 use Rattle.records.specs.Records.{payloadAt}
-use Rattle.catalogue.specs.Said.{noSite}
 use Rattle.catalogue.specs.declared.LibraryRead.{LibraryRead}
 use Rattle.catalogue.specs.Products.{products}
-use Rattle.library.specs.Held.{Spread, first}
-use Rattle.library.proofs.Making.{held-read, spread-read}
+use Rattle.library.specs.Held.{Spread}
+use Rattle.library.proofs.Making.{spread-read}
 use borrow.Author.Needs.{needs}
 use Rattle.library.proofs.run_read.Statement.{statement}
 use Rattle.library.proofs.run_read.Tie as tie
@@ -26,8 +23,7 @@ core-at-requires : tie.Need-core-at-requires
 core-at-requires c κs = search needs
 
 all-arms-requires : tie.Need-all-arms-requires
-all-arms-requires c κs = let a = c .before .before .before .before .before .before .args in let p = c .before .before .before .before .before .before .pre in
-    subst (λ (ys : List ℕ). (k : ℕ) → getD (a .l .sites) k noSite .first ≤ length ys) (sym (c .before .payload-at .ensures .bytes)) (first (held-read (a .d .now) (p .0) (a .l) (p .1) (p .2)))
+all-arms-requires c κs = search needs
 
 run-over-requires : tie.Need-run-over-requires
 run-over-requires c κs = let p = c .before .before .before .before .before .before .before .before .before .pre in (_, p .0, _, _, kept (c .before .before), ap (λ (x : LibraryRead). x .products) (p .2))

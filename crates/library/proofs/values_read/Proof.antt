@@ -1,12 +1,8 @@
 -- `library::values_read` meets its contract. Assumes nothing.
-use Prim.Native.Nat.{ℕ, _≤_}
-use mathlib.Core.List.{List}
-use mathlib.Core.Path.{sym, subst}
-use lib.ListN.{length, take, getD}
+use lib.ListN.{take}
 use Rattle.records.specs.Records.{payloadAt}
-use Rattle.catalogue.specs.Said.{noSite}
-use Rattle.library.specs.Held.{Spread, first}
-use Rattle.library.proofs.Making.{held-read, spread-read}
+use Rattle.library.specs.Held.{Spread}
+use Rattle.library.proofs.Making.{spread-read}
 use borrow.Author.Needs.{needs}
 use Rattle.library.proofs.values_read.Statement.{statement}
 use Rattle.library.proofs.values_read.Tie as tie
@@ -24,8 +20,7 @@ core-at-requires : tie.Need-core-at-requires
 core-at-requires c κs = search needs
 
 all-arms-requires : tie.Need-all-arms-requires
-all-arms-requires c κs = let a = c .before .before .before .before .before .before .args in let p = c .before .before .before .before .before .before .pre .0 in
-    subst (λ (ys : List ℕ). (k : ℕ) → getD (a .l .sites) k noSite .first ≤ length ys) (sym (c .before .payload-at .ensures .bytes)) (first (held-read (a .d .now) (p .0) (a .l) (p .1) (p .2)))
+all-arms-requires c κs = search needs
 
 values-over-requires : tie.Need-values-over-requires
 values-over-requires c κs = let p = c .before .before .before .before .before .before .before .before .before .pre in ((_, p .0 .0, _, _, kept (c .before .before), p .0 .3), p .1)

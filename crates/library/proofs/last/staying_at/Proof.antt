@@ -3,9 +3,13 @@ use Prim.Native.Nat.{suc, _-_, _≤_, _<_, min}
 use mathlib.Core.Path.{_≡_, _∙_, ap}
 use native.Mathlib.Omega.{arith}
 use lib.ListN.{length, getD}
-use Rattle.arms.specs.Arms.{stemOf}
+use mathlib.Core.List.{List}
+use Rattle.arms.specs.Arms.{noArm, stemOf}
+use Rattle.arms.specs.declared.Arm.{Arm}
 use Rattle.catalogue.specs.Library.{mostSites, mostCandidates}
 use Rattle.catalogue.specs.Said.{noSite}
+use Rattle.stock.specs.Stands.{among-there}
+use Rattle.library.specs.Chosen.{Picked}
 use Rattle.library.specs.Held.{few, one, many, digits-low}
 use Rattle.library.specs.Turning.{staying}
 use borrow.Author.Needs.{needs}
@@ -26,11 +30,8 @@ low c =
 sub-k : tie.Need-sub-k
 sub-k c = one (c .before .pre .4 .held)
 
-pick-requires : tie.Need-pick-requires
-pick-requires c κs =
-    let p = c .before in
-    let h = p .pre .4 .held in
-    (omega (arith, few h), λ k i. let j : k < p .args .n = omega (arith, i) in omega (arith, digits-low h (p .args .position) (p .pre .5) (c .choose .result) (c .choose .ensures) k j, many h k j .high))
+arms-among-requires : tie.Need-arms-among-requires
+arms-among-requires c κs = search needs
 
 stem-of-requires : tie.Need-stem-of-requires
 stem-of-requires c κs = search needs
@@ -63,12 +64,18 @@ returns : tie.Need-returns
 returns c d l bs xs t h =
     let a = c .before .before .before .before .before .args in
     let chosen = c .before .before .before .before .choose in
-    let picked = c .before .before .before .pick in
+    let found = c .before .before .before .arms-among in
     let e : a .n ≡ suc (a .n - 1) = omega (arith, one (t .held)) in
     let z : min (a .n - 1) 3 ≡ a .n - 1 = omega (arith, few (t .held)) in
     let long : length (chosen .result) ≡ mostSites = search needs in
-    let wide : length (picked .result) ≡ mostSites = search needs in
-    staying e t (a .position) h (chosen .result) long (chosen .ensures) (picked .result) wide (picked .ensures) _ (c .before .before .stem-of .ensures ∙ ap (stemOf (a .core) (picked .result)) z)
+    let wide : length (found .result) ≡ mostSites = search needs in
+    let picked : Picked (a .all .now) (chosen .result) (a .n - 1) (found .result) = record {
+      arm = λ k i.
+          let j : k < a .n = omega (arith, i) in
+          ap (λ (all : List Arm). getD all k noArm) (found .ensures)
+          ∙ among-there (a .all .now) (chosen .result) k (omega (arith, j, few (t .held))) (omega (arith, digits-low (t .held) (a .position) h (chosen .result) (chosen .ensures) k j, many (t .held) k j .high));
+    } in
+    staying e t (a .position) h (chosen .result) long (chosen .ensures) (found .result) wide picked _ (c .before .before .stem-of .ensures ∙ ap (stemOf (a .core) (found .result)) z)
 
 pub staying-at-spec : {M : Type 1} → statement M
 staying-at-spec =
@@ -76,7 +83,7 @@ staying-at-spec =
     (tie.spec
     choose-requires
     sub-k
-    pick-requires
+    arms-among-requires
     stem-of-requires
     mul-s
     array-copy-out-s

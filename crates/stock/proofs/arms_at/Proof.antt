@@ -1,23 +1,23 @@
--- `library::kept::arms_at` meets its contract. The loop's invariant: the first k arms are kept. Assumes nothing.
+-- `stock::arms_at` meets its contract. The loop's invariant: the first k arms are kept. Assumes nothing.
 use Prim.Native.Nat.{ℕ, _-_, _≤_, _<_}
 use mathlib.Core.Path.{_≡_, refl, _∙_}
 use native.Mathlib.Omega.{arith}
 use lib.ListN.{length, take, getD, length-set}
 use borrow.Author.Needs.{needs}
 use Rattle.arms.specs.Arms.{noArm}
-use Rattle.arms.proofs.Keeping.{put-next}
+use Rattle.arms.proofs.Keeping.{put-next, put-all}
 use Rattle.catalogue.specs.Library.{mostSites}
 use Rattle.catalogue.specs.Said.{noSite}
-use Rattle.library.specs.Kept.{armAt}
-use Rattle.library.proofs.kept.arms_at.Statement.{statement}
-use Rattle.library.proofs.kept.arms_at.Tie as tie
+use Rattle.stock.specs.Stock.{armAt, armsAt}
+use Rattle.stock.proofs.arms_at.Statement.{statement}
+use Rattle.stock.proofs.arms_at.Tie as tie
 
 abbrev Inv-loop : tie.InvT-loop
-Inv-loop d blocks count xs n sites digits arms₀ k₀ arms k =
-    (length arms ≡ mostSites) × (k ≤ n) × ((j : ℕ) → j < k → getD arms j noArm ≡ armAt d (take count blocks) xs (getD sites j noSite) (getD digits j 0))
+Inv-loop d blocks count xs sites digits arms₀ k₀ arms k =
+    (length arms ≡ mostSites) × (k ≤ mostSites) × ((j : ℕ) → j < k → getD arms j noArm ≡ armAt d (take count blocks) xs (getD sites j noSite) (getD digits j 0))
 
 abbrev μ-loop : tie.MeasureT-loop
-μ-loop d blocks count xs n sites digits arms₀ k₀ arms k = n - k
+μ-loop d blocks count xs sites digits arms₀ k₀ arms k = mostSites - k
 
 loop-holds : tie.Need-loop-holds Inv-loop μ-loop
 loop-holds c = (refl, omega arith, λ j h. absurd (omega arith))
@@ -35,10 +35,7 @@ array-read-arm-at : tie.Need-array-read-arm-at Inv-loop μ-loop
 array-read-arm-at c = search needs
 
 arm-at-requires : tie.Need-arm-at-requires Inv-loop μ-loop
-arm-at-requires c κs =
-    let k = c .before .before .loop .k in
-    let p = c .before .before .before .before .before .pre in
-    (p .1 k, omega (arith, p .2 k (c .before .loop-test .taken)))
+arm-at-requires c κs = search needs
 
 mul-arms : tie.Need-mul-arms Inv-loop μ-loop
 mul-arms c = search needs
@@ -55,15 +52,18 @@ loop-less c = search needs
 loop-again : tie.Need-loop-again Inv-loop μ-loop
 loop-again c =
     let l = c .before .before .before .loop in
-    let p = c .before .before .before .before .before .before in
-    let a = p .args in (
+    let a = c .before .before .before .before .before .before .args in (
       length-set (l .arms) (l .k) _ ∙ l .inv .0,
       omega arith,
-      put-next noArm (λ (j : ℕ). armAt (a .d .now) (take (a .count) (a .blocks)) (a .xs .now) (getD (a .t5) j noSite) (getD (a .t7) j 0)) (l .arms) (l .k) _ (omega (arith, l .inv .0, c .before .before .loop-test .taken, p .pre .0)) (c .arm-at .ensures) (l .inv .2),
+      put-next noArm (λ (j : ℕ). armAt (a .d .now) (take (a .count) (a .blocks)) (a .xs .now) (getD (a .t5) j noSite) (getD (a .t6) j 0)) (l .arms) (l .k) _ (omega (arith, l .inv .0)) (c .arm-at .ensures) (l .inv .2),
     )
 
 returns : tie.Need-returns Inv-loop μ-loop
-returns c k h = c .before .loop .inv .2 k (omega (arith, h))
+unfolding armsAt
+returns c =
+    let l = c .before .loop in
+    let a = c .before .before .before .before .args in
+    put-all noArm (λ (j : ℕ). armAt (a .d .now) (take (a .count) (a .blocks)) (a .xs .now) (getD (a .t5) j noSite) (getD (a .t6) j 0)) (l .arms) mostSites (l .inv .0) (λ j h. l .inv .2 j (omega arith))
 
 pub arms-at-spec : {M : Type 1} → statement M
 arms-at-spec =

@@ -1,9 +1,9 @@
--- `library::kept::core_at` meets its contract. Assumes nothing.
+-- `stock::core_at` meets its contract. Assumes nothing.
 use lib.ListN.{take}
 use borrow.Author.Needs.{needs}
-use Rattle.library.proofs.Making.{core-said}
-use Rattle.library.proofs.kept.core_at.Statement.{statement}
-use Rattle.library.proofs.kept.core_at.Tie as tie
+use Rattle.stock.proofs.Making.{core-said}
+use Rattle.stock.proofs.core_at.Statement.{statement}
+use Rattle.stock.proofs.core_at.Tie as tie
 
 le16-at-requires : tie.Need-le16-at-requires
 le16-at-requires c κs = search needs

@@ -1,4 +1,4 @@
--- `library::kept::atoms_of` meets its contract. The loop's invariant: the first k atoms are the sites'. Assumes nothing.
+-- `stock::atoms_of` meets its contract. The loop's invariant: the first k atoms are the sites'. Assumes nothing.
 use Prim.Native.Nat.{ℕ, _-_, _≤_, _<_}
 use mathlib.Core.Path.{_≡_, refl, _∙_}
 use native.Mathlib.Omega.{arith}
@@ -7,9 +7,9 @@ use borrow.Author.Needs.{needs}
 use Rattle.arms.proofs.Keeping.{put-next, put-all}
 use Rattle.catalogue.specs.Library.{mostSites}
 use Rattle.catalogue.specs.Said.{noSite}
-use Rattle.library.specs.Kept.{atomsOf}
-use Rattle.library.proofs.kept.atoms_of.Statement.{statement}
-use Rattle.library.proofs.kept.atoms_of.Tie as tie
+use Rattle.stock.specs.Stock.{atomsOf}
+use Rattle.stock.proofs.atoms_of.Statement.{statement}
+use Rattle.stock.proofs.atoms_of.Tie as tie
 
 abbrev Inv-loop : tie.InvT-loop
 Inv-loop sites atoms₀ k₀ atoms k = (length atoms ≡ mostSites) × (k ≤ mostSites) × ((j : ℕ) → j < k → getD atoms j 0 ≡ getD sites j noSite .atom)

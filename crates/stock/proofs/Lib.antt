@@ -1,0 +1,2 @@
+-- The laws behind the proofs of what is kept.
+pub mod Making
