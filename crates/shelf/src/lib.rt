@@ -10,16 +10,17 @@ use records::part;
 use reply::Refusal;
 use reply::Reply;
 use reply::is_outside;
+use reply::wide;
 use summary::SUMMARY;
 use summary::atoms;
 use summary::ends;
 ghost use mathlib.Core.Path.{_≡_};
-ghost use Prim.Native.Nat.{_*_};
+ghost use Prim.Native.Nat.{_*_, _<_};
 ghost use Rattle.reply.specs.Read.{saidReply};
-ghost use Rattle.records.specs.Bytes.{PartOf};
+ghost use Rattle.records.specs.Bytes.{le16, PartOf};
 ghost use Rattle.assembly.specs.Placements.{placementAt, atomSite, laterFault, fault, shelfReply};
 ghost use Rattle.summary.specs.Layout.{summaryBytes};
-ghost use Rattle.shelf.specs.Shelf.{placeOf, shelfIn};
+ghost use Rattle.shelf.specs.Shelf.{placesIn, placeOf, shelfIn};
 
 // The summary at a place.
 pub fn summary_at(book: &[u8], i: usize) -> &[u8]
@@ -29,6 +30,15 @@ pub fn summary_at(book: &[u8], i: usize) -> &[u8]
         return part(book, book.len(), 0);
     }
     part(book, SUMMARY * i, SUMMARY)
+}
+
+// The number at a place that is there: nothing is tested before it is read.
+fn number_at(book: &[u8], i: usize) -> usize
+    requires { ⌜ i < placesIn (now book) ⌝ }
+    ensures { λ r. ⌜ r ≡ le16 (now (book .entry)) (summaryBytes * i) ⌝ }
+{
+    let at = SUMMARY * i;
+    (wide(book[at]) + 256 * wide(book[at + 1])) as usize
 }
 
 // The first place that has a number; the one behind the last where none has. 0 is no block's number.
@@ -41,7 +51,7 @@ pub fn place_of(book: &[u8], number: usize) -> usize
     }
     let mut i = 0;
     while i < n {
-        if (le16_at(book, SUMMARY * i) as usize) == number {
+        if number_at(book, i) == number {
             return i;
         }
         i += 1;

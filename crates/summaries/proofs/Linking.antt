@@ -1,8 +1,8 @@
--- The links of an assembly that is fine are what composing works on. Assumes nothing.
-use Prim.Native.Nat.{ℕ, suc, _+_, _-_, _≤_, _<_}
-use mathlib.Core.List.{List, []}
+-- The table of an assembly that is fine is what composing works on. Assumes nothing.
+use Prim.Native.Nat.{ℕ, _+_, _*_, _-_, _/_, _%_, _≤_, _<_}
+use mathlib.Core.List.{List}
 use mathlib.Core.Logic.{⊎-elim}
-use mathlib.Core.Path.{_≡_, refl, sym, _∙_, ap, subst}
+use mathlib.Core.Path.{_≡_, sym, _∙_, ap, subst}
 use native.Mathlib.Nat.{eq-or-lt-of-le}
 use native.Mathlib.Omega.{arith}
 use lib.ListN.{length, getD, set, length-set}
@@ -13,59 +13,91 @@ use Rattle.reply.specs.Read.{refused, read, refuseIf, isOutside}
 use Rattle.reply.specs.Chain.{then-read, if-read}
 use Rattle.reply.specs.declared.Refusal.{Refusal}
 use Rattle.block.specs.Faults.{inside}
-use Rattle.assembly.specs.Placements.{mostPlacements, placementCount, placementAt, Sites, joinOf, joinOn, sitesOn, placementsReply, shelfReply}
+use Rattle.assembly.specs.Placements.{mostPlacements, placementCount, placementAt, joinOf, joinOn, sitesOn, shelfReply}
 use Rattle.assembly.specs.Sound.{Joined, PlacedRight, right}
-use Rattle.joining.specs.Parts.{Part, sixIn}
+use Rattle.joining.specs.Parts.{sixIn}
 use Rattle.joining.specs.Table.{Fits}
 use Rattle.joining.specs.Same.{six-alike}
 use Rattle.summary.specs.Layout.{storedAtoms, keptOf}
-use Rattle.shelf.specs.Shelf.{summaryAt, placeOf, sitesIn, shelfIn}
+use Rattle.shelf.specs.Shelf.{summaryAt, placeOf, shelfIn}
 use Rattle.summaries.specs.Composing.{keptOn, composedReply}
-use Rattle.summaries.specs.Ready.{linkOf, LinkedUpTo, placeIn, keptIn, joinsIn, LentBytes, ReadyShelf}
+use Rattle.summaries.specs.Ready.{endOf, LinkedUpTo, placeIn, keptIn, joinsIn, LentBytes, ReadyShelf}
 
--- one link more
-pub linked-more : {b xs : List ℕ} {ls : List (List ℕ)} (k : ℕ) (row : List ℕ) → k < mostPlacements → row ≡ linkOf b (placementAt xs k) → LinkedUpTo b xs ls k → LinkedUpTo b xs (set ls k row) (k + 1)
-linked-more {b} {xs} {ls} k row n e l = record {
-  size = length-set ls k row ∙ l .size;
-  rows = λ m h. ⊎-elim (λ q. here m q) (λ q. before m q) (eq-or-lt-of-le {n = m} {m = k} (omega arith));
-}
-  where
-    here : (m : ℕ) → m ≡ k → getD (set ls k row) m [] ≡ linkOf b (placementAt xs m)
-    here m q = rw q (getD-set-same ls k row [] (omega (arith, l .size)) ∙ e)
+-- a placement more: its own end, the one in its parent, its parent
+abbrev pub linked : List ℕ → ℕ → ℕ → ℕ → ℕ → List ℕ
+linked ls k own site parent = set (set (set ls (2 * k) own) (2 * k + 1) site) (2 * mostPlacements + k) parent
 
-    before : (m : ℕ) → m < k → getD (set ls k row) m [] ≡ linkOf b (placementAt xs m)
-    before m q = getD-set-other ls k m row [] (λ e. omega arith) ∙ l .rows m q
+module _ (ls : List ℕ) (size : length ls ≡ 3 * mostPlacements) (k own site parent : ℕ) (few : k < mostPlacements) where
+  own-new : getD (linked ls k own site parent) (2 * k) 0 ≡ own
+  own-new =
+      getD-set-other (set (set ls (2 * k) own) (2 * k + 1) site) (2 * mostPlacements + k) (2 * k) parent 0 (omega arith)
+      ∙ getD-set-other (set ls (2 * k) own) (2 * k + 1) (2 * k) site 0 (omega arith)
+      ∙ getD-set-same ls (2 * k) own 0 (omega arith)
 
-module _ {b xs : List ℕ} {ls : List (List ℕ)} {n : ℕ} (l : LinkedUpTo b xs ls n) where
-  link-join : (m : ℕ) → m < n → joinsIn ls m ≡ joinOn (placementAt xs) m
+  site-new : getD (linked ls k own site parent) (2 * k + 1) 0 ≡ site
+  site-new =
+      getD-set-other (set (set ls (2 * k) own) (2 * k + 1) site) (2 * mostPlacements + k) (2 * k + 1) parent 0 (omega arith)
+      ∙ getD-set-same (set ls (2 * k) own) (2 * k + 1) site 0 (omega (arith, length-set ls (2 * k) own))
+
+  parent-new : getD (linked ls k own site parent) (2 * mostPlacements + k) 0 ≡ parent
+  parent-new = getD-set-same (set (set ls (2 * k) own) (2 * k + 1) site) (2 * mostPlacements + k) parent 0 (omega (arith, length-set (set ls (2 * k) own) (2 * k + 1) site, length-set ls (2 * k) own))
+
+  other : (i : ℕ) → (i ≡ 2 * k → ⊥) → (i ≡ 2 * k + 1 → ⊥) → (i ≡ 2 * mostPlacements + k → ⊥) → getD (linked ls k own site parent) i 0 ≡ getD ls i 0
+  other i p q r =
+      getD-set-other (set (set ls (2 * k) own) (2 * k + 1) site) (2 * mostPlacements + k) i parent 0 r ∙ getD-set-other (set ls (2 * k) own) (2 * k + 1) i site 0 q ∙ getD-set-other ls (2 * k) i own 0 p
+
+  pub linked-more : {xs : List ℕ} → LinkedUpTo xs ls k → own / 256 ≡ placementAt xs k .block → own % 256 ≡ placementAt xs k .own → site / 256 ≡ placementAt xs (placementAt xs k .parent - 1) .block
+      → site % 256 ≡ placementAt xs k .site → parent ≡ placementAt xs k .parent → LinkedUpTo xs (linked ls k own site parent) (k + 1)
   unfolding joinOf
-  link-join m h = rw (l .rows m h)
+  linked-more {xs} l a c d e f = record {
+    size = omega (arith, length-set (set (set ls (2 * k) own) (2 * k + 1) site) (2 * mostPlacements + k) parent, length-set (set ls (2 * k) own) (2 * k + 1) site, length-set ls (2 * k) own);
+    block = λ m h. ⊎-elim (λ q. rw q (rw own-new a)) (λ q. rw (own-old m q) (l .block m q)) (eq-or-lt-of-le {n = m} {m = k} (omega arith));
+    home = λ m h. ⊎-elim (λ q. rw q (rw site-new d)) (λ q. rw (site-old m q) (l .home m q)) (eq-or-lt-of-le {n = m} {m = k} (omega arith));
+    join = λ m h. ⊎-elim (λ q. rw q (rw (own-new, site-new, parent-new, c, e, f))) (λ q. rw (own-old m q, site-old m q, parent-old m q) (l .join m q)) (eq-or-lt-of-le {n = m} {m = k} (omega arith));
+  }
+    where
+      own-old : (m : ℕ) → m < k → getD (linked ls k own site parent) (2 * m) 0 ≡ getD ls (2 * m) 0
+      own-old m q = other (2 * m) (omega arith) (omega arith) (omega arith)
 
-  link-place : (m : ℕ) → m < n → placeIn ls m ≡ placeOf b (placementAt xs m .block)
-  link-place m h = rw (l .rows m h)
+      site-old : (m : ℕ) → m < k → getD (linked ls k own site parent) (2 * m + 1) 0 ≡ getD ls (2 * m + 1) 0
+      site-old m q = other (2 * m + 1) (omega arith) (omega arith) (omega arith)
+
+      parent-old : (m : ℕ) → m < k → getD (linked ls k own site parent) (2 * mostPlacements + m) 0 ≡ getD ls (2 * mostPlacements + m) 0
+      parent-old m q = other (2 * mostPlacements + m) (omega arith) (omega arith) (omega arith)
+
+module _ (b : List ℕ) {xs ls : List ℕ} {n : ℕ} (l : LinkedUpTo xs ls n) where
+  link-place : (m : ℕ) → m < n → placeIn b ls m ≡ placeOf b (placementAt xs m .block)
+  link-place m h = ap (placeOf b) (l .block m h)
 
   pub six-linked : 1 ≤ n → n ≡ placementCount xs → sixIn (keptIn b ls) (joinsIn ls) (n - 1) ≡ sixIn (keptOn b xs) (joinOn (placementAt xs)) (placementCount xs - 1)
   six-linked h e =
       six-alike (keptIn b ls) (keptOn b xs) (joinsIn ls) (joinOn (placementAt xs)) (n - 1) (record {
         parts = λ k q. ap (λ (p : ℕ). keptOf (summaryAt b p)) (link-place k (omega arith));
-        joins = λ k q. link-join k (omega arith);
+        joins = λ k q. l .join k (omega arith);
       })
       ∙ ap (λ (m : ℕ). sixIn (keptOn b xs) (joinOn (placementAt xs)) (m - 1)) e
 
   pub ready : LentBytes b → Within mostPlacements n → PlacedRight (shelfIn b) (placementAt xs) n → ReadyShelf b ls n
-  ready e w r = record { lent = e; few = w; fits = λ k p h. fit k h (r .joined k p h) }
+  unfolding joinOf
+  ready e w r = record { lent = e; few = w; fits = λ k p h. fit k h (r .joined k p h); homes = λ k p h. home k h (r .joined k p h) }
     where
-      size : (m : ℕ) → m < n → sitesOn (shelfIn b) (placementAt xs) m .atoms ≡ storedAtoms (summaryAt b (placeIn ls m))
+      size : (m : ℕ) → m < n → sitesOn (shelfIn b) (placementAt xs) m .atoms ≡ storedAtoms (summaryAt b (placeIn b ls m))
       size m h = ap (λ (p : ℕ). storedAtoms (summaryAt b p)) (sym (link-place m h))
 
-      fit : (k : ℕ) → k < n → Joined (sitesOn (shelfIn b) (placementAt xs)) (joinOn (placementAt xs)) k → Fits (λ m. storedAtoms (summaryAt b (placeIn ls m))) (joinsIn ls) k
+      fit : (k : ℕ) → k < n → Joined (sitesOn (shelfIn b) (placementAt xs)) (joinOn (placementAt xs)) k → Fits (λ m. storedAtoms (summaryAt b (placeIn b ls m))) (joinsIn ls) k
       fit k h j =
-          let e = sym (link-join k h) in
+          let e = sym (l .join k h) in
           record {
             parent = subst (λ (x : Join). Within k (x .parent)) e (j .parent);
-            site = subst (λ (x : Join). Within (storedAtoms (summaryAt b (placeIn ls (x .parent - 1)))) (x .site)) e (subst (λ (z : ℕ). Within z (joinOn (placementAt xs) k .site)) (size (joinOn (placementAt xs) k .parent - 1) (omega (arith, j .parent))) (j .site));
-            own = subst (λ (x : Join). Within (storedAtoms (summaryAt b (placeIn ls k))) (x .own)) e (subst (λ (z : ℕ). Within z (joinOn (placementAt xs) k .own)) (size k h) (j .own));
+            site = subst (λ (x : Join). Within (storedAtoms (summaryAt b (placeIn b ls (x .parent - 1)))) (x .site)) e (subst (λ (z : ℕ). Within z (joinOn (placementAt xs) k .site)) (size (joinOn (placementAt xs) k .parent - 1) (omega (arith, j .parent))) (j .site));
+            own = subst (λ (x : Join). Within (storedAtoms (summaryAt b (placeIn b ls k))) (x .own)) e (subst (λ (z : ℕ). Within z (joinOn (placementAt xs) k .own)) (size k h) (j .own));
           }
+
+      home : (k : ℕ) → k < n → Joined (sitesOn (shelfIn b) (placementAt xs)) (joinOn (placementAt xs)) k → endOf ls (2 * k + 1) / 256 ≡ endOf ls (2 * (joinsIn ls k .parent - 1)) / 256
+      home k h j =
+          l .home k h
+          ∙ sym (l .block (placementAt xs k .parent - 1) (omega (arith, j .parent)))
+          ∙ ap (λ (x : Join). endOf ls (2 * (x .parent - 1)) / 256) (sym (l .join k h))
 
 -- what composing replies
 module _ (b xs : List ℕ) where

@@ -1,33 +1,25 @@
 -- The joins of placed summaries: where their atoms are, how far those are apart, what is counted from them, and how small all of it is. Assumes nothing.
-use Prim.Native.Nat.{ℕ, zero, suc, _+_, _*_, _-_, _^_, _≤_, _<_, min}
-use mir.Syntax.{w64}
-use mir.Val.{Fits as Fit}
-use borrow.Author.Needs.{scaled-fits}
-use lib.Dec.{lit<}
+use Prim.Native.Nat.{ℕ, _+_, _*_, _-_, _^_, _≤_, _<_}
 use mathlib.Core.List.{List}
 use native.Mathlib.Decide.{decLt}
-use lib.ListN.{getD, take, drop, length-take, List·getD-eq-default}
+use lib.ListN.{take, drop, length-take, List·getD-eq-default}
 use lib.Seq.{getD-take, getD-drop}
-use mathlib.Core.Path.{_≡_, refl, sym, _∙_, ap}
+use mathlib.Core.Path.{_≡_, sym}
 use native.Mathlib.Omega.{arith}
 use Rattle.graph.specs.Graph.{Within}
 use Rattle.records.specs.Bytes.{little, part}
 use Rattle.assembly.specs.Placements.{mostPlacements}
 use Rattle.block.specs.declared.Indices.{Indices}
 use Rattle.block.specs.declared.Vertex.{Vertex}
-use Rattle.joining.specs.Parts.{farIn, sightIn, sixIn, grow, joinSix}
+use Rattle.joining.specs.Parts.{sightIn, sixIn, grow, joinSix}
 use Rattle.joining.specs.Table.{Fits}
 use Rattle.joining.specs.Climb.{far-same, far-later, far-earlier, sight-here, sight-there, six-here}
-use Rattle.joining.specs.Bounds.{SmallSight, Bytes, SixHeld, SixBytes, SmallPart, far-most, sight-held, six-held, held-bytes}
+use Rattle.joining.specs.Bounds.{SmallSight, SixHeld, SixBytes, SmallPart, far-most, sight-held, six-held, held-bytes}
 use Rattle.joining.specs.Small.{SmallCounts, SmallFields}
 use Rattle.summary.specs.Layout.{summaryBytes, storedAtoms, storedFields, vertexAt, farAt, keptOf}
 use Rattle.shelf.specs.Shelf.{summaryAt}
 use Rattle.summaries.specs.Ready.{placeIn, keptIn, joinsIn, LentBytes, ReadyShelf, between, sightFrom}
 use Rattle.summaries.proofs.Small.{vertex-bytes, far-few}
-
--- the offset of a row of four numbers
-pub row-at : {k : ℕ} → k < mostPlacements → Fit w64 (k * 32)
-row-at {k} l = scaled-fits k mostPlacements 32 l (lit< tt)
 
 -- a part of bytes is of bytes
 pub lent-part : {b : List ℕ} (from n : ℕ) → LentBytes b → LentBytes (part b from n)
@@ -90,9 +82,9 @@ room-bytes p = record {
 pub seen-small : (s : List ℕ) (i : ℕ) → SmallCounts (vertexAt s i)
 seen-small s i = small-held (omega arith) (held-bytes (vertex-bytes s i))
 
-module _ {b : List ℕ} {ls : List (List ℕ)} {count : ℕ} (r : ReadyShelf b ls count) where
+module _ {b ls : List ℕ} {count : ℕ} (r : ReadyShelf b ls count) where
   all : (k : ℕ) → SmallPart (keptIn b ls k)
-  all k = kept (lent-part (summaryBytes * placeIn ls k) summaryBytes (r .lent))
+  all k = kept (lent-part (summaryBytes * placeIn b ls k) summaryBytes (r .lent))
 
   pub own-small : (p i : ℕ) → SmallCounts (vertexAt (summaryAt b p) i)
   own-small p i = seen-small (summaryAt b p) i
@@ -113,7 +105,7 @@ module _ {b : List ℕ} {ls : List (List ℕ)} {count : ℕ} (r : ReadyShelf b l
   between-small x y = far-most (joinsIn ls) all 31 (joinsIn ls x .parent - 1) (joinsIn ls x .site) (joinsIn ls y .parent - 1) (joinsIn ls y .site)
 
   module _ {x : ℕ} (w : Within (count - 1) x) where
-    fit : Fits (λ k. storedAtoms (summaryAt b (placeIn ls k))) (joinsIn ls) x
+    pub fit : Fits (λ k. storedAtoms (summaryAt b (placeIn b ls k))) (joinsIn ls) x
     fit = r .fits x (w .low) (omega (arith, w .high))
 
     pub small : x < mostPlacements
@@ -130,40 +122,40 @@ module _ {b : List ℕ} {ls : List (List ℕ)} {count : ℕ} (r : ReadyShelf b l
     above h = omega (arith, earlier, w .high)
 
   module _ {x y : ℕ} (w : Within (count - 1) x) (v : Within (count - 1) y) where
-    pub between-same : joinsIn ls x .parent ≡ joinsIn ls y .parent → between b ls x y ≡ farAt (summaryAt b (placeIn ls (joinsIn ls x .parent - 1))) (joinsIn ls x .site) (joinsIn ls y .site)
+    pub between-same : joinsIn ls x .parent ≡ joinsIn ls y .parent → between b ls x y ≡ farAt (summaryAt b (placeIn b ls (joinsIn ls x .parent - 1))) (joinsIn ls x .site) (joinsIn ls y .site)
     between-same e =
         let p : joinsIn ls y .parent - 1 ≡ joinsIn ls x .parent - 1 = omega arith in
         rw p (far-same (keptIn b ls) (joinsIn ls) 31 (joinsIn ls x .parent - 1) (joinsIn ls x .site) (joinsIn ls y .site) (omega (arith, parent-small w)))
 
     pub between-first : joinsIn ls y .parent < joinsIn ls x .parent
-        → between b ls x y ≡ farAt (summaryAt b (placeIn ls (joinsIn ls x .parent - 1))) (joinsIn ls (joinsIn ls x .parent - 1) .own) (joinsIn ls x .site) + 1 + between b ls (joinsIn ls x .parent - 1) y
+        → between b ls x y ≡ farAt (summaryAt b (placeIn b ls (joinsIn ls x .parent - 1))) (joinsIn ls (joinsIn ls x .parent - 1) .own) (joinsIn ls x .site) + 1 + between b ls (joinsIn ls x .parent - 1) y
     between-first h =
         let u = above w (omega (arith, earlier v)) in
         far-later (keptIn b ls) (joinsIn ls) 31 (joinsIn ls x .parent - 1) (joinsIn ls x .site) (joinsIn ls y .parent - 1) (joinsIn ls y .site) (omega (arith, parent-small w)) (omega (arith, earlier v)) (earlier u)
 
     pub between-second : joinsIn ls x .parent < joinsIn ls y .parent
-        → between b ls x y ≡ between b ls (joinsIn ls y .parent - 1) x + 1 + farAt (summaryAt b (placeIn ls (joinsIn ls y .parent - 1))) (joinsIn ls (joinsIn ls y .parent - 1) .own) (joinsIn ls y .site)
+        → between b ls x y ≡ between b ls (joinsIn ls y .parent - 1) x + 1 + farAt (summaryAt b (placeIn b ls (joinsIn ls y .parent - 1))) (joinsIn ls (joinsIn ls y .parent - 1) .own) (joinsIn ls y .site)
     between-second h =
         let u = above v (omega (arith, earlier w)) in
         far-earlier (keptIn b ls) (joinsIn ls) 31 (joinsIn ls x .parent - 1) (joinsIn ls x .site) (joinsIn ls y .parent - 1) (joinsIn ls y .site) (omega (arith, parent-small v)) (omega (arith, earlier w)) (earlier u)
 
   module _ {k : ℕ} (w : Within (count - 1) k) where
     -- as far as the parent: the first placement, or one that is joined itself
-    pub begun-first : joinsIn ls k .parent - 1 ≡ 0 → vertexAt (summaryAt b (placeIn ls (joinsIn ls k .parent - 1))) (joinsIn ls k .site) ≡ sightFrom b ls (joinsIn ls k .parent) k
+    pub begun-first : joinsIn ls k .parent - 1 ≡ 0 → vertexAt (summaryAt b (placeIn b ls (joinsIn ls k .parent - 1))) (joinsIn ls k .site) ≡ sightFrom b ls (joinsIn ls k .parent) k
     unfolding sightIn
     begun-first e = rw e
 
-    pub begun-later : (1 ≤ joinsIn ls k .parent - 1) → let a = joinsIn ls k .parent - 1 in let s = summaryAt b (placeIn ls a) in
+    pub begun-later : (1 ≤ joinsIn ls k .parent - 1) → let a = joinsIn ls k .parent - 1 in let s = summaryAt b (placeIn b ls a) in
         grow (vertexAt s (joinsIn ls k .site)) (farAt s (joinsIn ls a .own) (joinsIn ls k .site)) (sightFrom b ls a a) ≡ sightFrom b ls (joinsIn ls k .parent) k
     begun-later h = sym (sight-here (keptIn b ls) (joinsIn ls) (joinsIn ls k .parent - 1) (joinsIn ls k .site) h)
 
     -- a placement more
-    pub from-next : (m : ℕ) → joinsIn ls k .parent ≤ m → m < k → grow (sightFrom b ls m k) (between b ls m k) (vertexAt (summaryAt b (placeIn ls m)) (joinsIn ls m .own)) ≡ sightFrom b ls (m + 1) k
+    pub from-next : (m : ℕ) → joinsIn ls k .parent ≤ m → m < k → grow (sightFrom b ls m k) (between b ls m k) (vertexAt (summaryAt b (placeIn b ls m)) (joinsIn ls m .own)) ≡ sightFrom b ls (m + 1) k
     from-next m h l =
         let e : m + 1 - 1 ≡ m = omega arith in
         let u : Within (count - 1) m = omega (arith, earlier w, w .high) in
         sym (rw e (sight-there (keptIn b ls) (joinsIn ls) 31 m (joinsIn ls k .parent - 1) (joinsIn ls k .site) (omega (arith, earlier w)) (omega (arith, small w)) (omega (arith, earlier w)) (earlier u)))
 
-    pub six-next : let s = summaryAt b (placeIn ls k) in
+    pub six-next : let s = summaryAt b (placeIn b ls k) in
         joinSix (sixIn (keptIn b ls) (joinsIn ls) (k - 1)) (storedFields s) (sightFrom b ls k k) (vertexAt s (joinsIn ls k .own)) ≡ sixIn (keptIn b ls) (joinsIn ls) k
     six-next = sym (six-here (keptIn b ls) (joinsIn ls) k (w .low))

@@ -1,45 +1,44 @@
--- Work. The ends of the joins, two for each: at 2 k the own atom of the placement at index k, at 2 k + 1 the atom of its parent that it is joined to.
-use Prim.Native.Nat.{ℕ, _*_, _-_, _/_, _%_, _≤_, _<_}
+-- Work. What is seen from the ends of the joins is put for all ends at one atom of one block at once.
+use Prim.Native.Nat.{ℕ, _+_, _*_, _/_, _%_, _≤_, _<_}
 use mathlib.Core.Bool.{cond}
 use mathlib.Core.List.{List, []}
 use mathlib.Core.Path.{_≡_}
 use lib.Dec.{eqb}
 use lib.ListN.{getD}
-use Rattle.sighted.specs.declared.Seen.{Seen}
-use Rattle.summary.specs.Layout.{seenAt}
-use Rattle.shelf.specs.Shelf.{summaryAt}
-use Rattle.summaries.specs.declared.ends.End.{End}
-use Rattle.summaries.specs.Ready.{placeIn, joinsIn, countRow}
+use Rattle.sighted.specs.Sighted.{stepsIn}
+use Rattle.summaries.specs.Ready.{endOf, joinsIn, countRow, seenFrom}
 
-abbrev pub ownEnd : List (List ℕ) → ℕ → End
-ownEnd ls k = record { at = placeIn ls k; atom = joinsIn ls k .own }
-
-abbrev pub siteEnd : List (List ℕ) → ℕ → End
-siteEnd ls k = record { at = placeIn ls (joinsIn ls k .parent - 1); atom = joinsIn ls k .site }
-
-unfoldable pub endOf : List (List ℕ) → ℕ → End
-endOf ls e = cond (eqb (e % 2) 0) (ownEnd ls (e / 2)) (siteEnd ls (e / 2))
+-- the number of the placement that has an end
+unfoldable pub homeOf : List ℕ → ℕ → ℕ
+homeOf ls e = cond (eqb (e % 2) 0) (e / 2 + 1) (joinsIn ls (e / 2) .parent)
 
 -- e is an end of one of the joins
 pub record IsEnd (count e : ℕ) : Type 0 where
   pub low : 2 ≤ e
   pub high : e < 2 * count
 
--- r is an end at the same place and atom, e itself or an earlier one
-pub record Like (ls : List (List ℕ)) (e r : ℕ) : Type 0 where
-  pub low : 2 ≤ r
-  pub high : r ≤ e
-  pub like : endOf ls r ≡ endOf ls e
+-- a row of steps from an atom of placement number home, to the atoms of it that placements are joined to; the rest is as it was
+pub record Stepped (ls : List ℕ) (count : ℕ) (from : List ℕ) (home : ℕ) (old new : List ℕ) : Type 0 where
+  pub here : (z : ℕ) → home ≤ z → z < count → joinsIn ls z .parent ≡ home → getD new z 0 ≡ stepsIn from (joinsIn ls z .site)
+  pub kept : (z : ℕ) → (joinsIn ls z .parent ≡ home → ⊥) → getD new z 0 ≡ getD old z 0
 
-abbrev pub seenFrom : List ℕ → End → Seen
-seenFrom b x = seenAt (summaryAt b (x .at)) (x .atom)
+module _ (b ls : List ℕ) (count : ℕ) where
+  -- what stands for an end is what is seen from it
+  pub record Right (rs vs : List (List ℕ)) (e : ℕ) : Type 0 where
+    pub counts : getD vs e [] ≡ countRow (seenFrom b (endOf ls e) .counts)
+    pub steps : (z : ℕ) → 1 ≤ z → z < count → joinsIn ls z .parent ≡ homeOf ls e → getD (getD rs (e / 2) []) z 0 ≡ stepsIn (seenFrom b (endOf ls e) .row) (joinsIn ls z .site)
 
--- of the ends before e rows of any kind are what they should be
-pub record Filled {A : Type 0} (none : A) (what : ℕ → A) (rs : List A) (e : ℕ) : Type 0 where
-  pub at : (f : ℕ) → 2 ≤ f → f < e → getD rs f none ≡ what f
+  -- so it is for the ends before e, and for those that count an atom
+  pub record Known (rs vs : List (List ℕ)) (e : ℕ) : Type 0 where
+    pub before : (g : ℕ) → IsEnd count g → g < e → Right rs vs g
+    pub marked : (g : ℕ) → IsEnd count g → (getD (getD vs g []) 3 0 ≡ 0 → ⊥) → Right rs vs g
 
-abbrev pub stepsFrom : List ℕ → List (List ℕ) → ℕ → List ℕ
-stepsFrom b ls e = seenFrom b (endOf ls e) .row
+  -- What is seen from x was put for the ends from e to f that are x. What was right stays so, and nothing is put for others.
+  pub record Put (x e f : ℕ) (rs vs rt vt : List (List ℕ)) : Type 0 where
+    pub keeps : (g : ℕ) → IsEnd count g → Right rs vs g → Right rt vt g
+    pub puts : (g : ℕ) → IsEnd count g → e ≤ g → g < f → endOf ls g ≡ x → Right rt vt g
+    pub others : (g : ℕ) → (endOf ls g ≡ x → ⊥) → getD vt g [] ≡ getD vs g []
 
-abbrev pub countsFrom : List ℕ → List (List ℕ) → ℕ → List ℕ
-countsFrom b ls e = countRow (seenFrom b (endOf ls e) .counts)
+-- no end counts an atom
+pub record Unmarked (vs : List (List ℕ)) : Type 0 where
+  pub none : (g : ℕ) → getD (getD vs g []) 3 0 ≡ 0

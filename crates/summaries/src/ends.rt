@@ -1,36 +1,34 @@
-// What is seen from both ends of each join, over the summaries of a book: one search an end.
-use super::links::AT;
+// What is seen from both ends of each join, over the summaries of a book: one search for all ends at one atom of one block.
 use super::links::Links;
-use super::links::OWN;
-use super::links::PARENT;
-use super::links::SITE;
-use block::ATOMS;
+use super::links::end_at;
+use super::links::parent_of;
+use assembly::PLACEMENTS;
+use block::DistanceRow;
 use block::Indices;
 use block::Vertex;
+use reply::wide;
+use shelf::place_of;
 use shelf::summary_at;
 use sighted::Seen;
-use sighted::steps;
 use summary::fields;
 use summary::seen;
-ghost use mathlib.Core.Bool.{true};
 ghost use mathlib.Core.List.{[]};
 ghost use mathlib.Core.Path.{_≡_};
-ghost use Prim.Native.Nat.{_*_, _<_, _≤_};
-ghost use lib.ListN.{length, getD, set};
+ghost use Prim.Native.Nat.{_+_, _*_, _≤_, _<_};
+ghost use lib.ListN.{length, getD};
+ghost use Rattle.assembly.specs.Placements.{mostPlacements};
 ghost use Rattle.joining.specs.Small.{SmallCounts};
-ghost use Rattle.sighted.specs.Sighted.{stepsIn};
-ghost use Rattle.summary.specs.Layout.{storedFields, seenAt};
-ghost use Rattle.shelf.specs.Shelf.{summaryAt};
-ghost use Rattle.summaries.specs.Ready.{countRow, sightOfRow, coreAt, ReadyShelf, StepsKnown, Counted};
-ghost use Rattle.summaries.specs.Ends.{endOf, IsEnd, Like, Filled, stepsFrom, countsFrom};
+ghost use Rattle.summary.specs.Layout.{storedFields};
+ghost use Rattle.shelf.specs.Shelf.{summaryAt, placeOf};
+ghost use Rattle.summaries.specs.Ready.{countRow, sightOfRow, coreAt, seenFrom, ReadyShelf, StepsKnown, Counted};
+ghost use Rattle.summaries.specs.Ends.{homeOf, IsEnd, Stepped, Known, Put, Unmarked};
 
-// How many places are told apart while ends are looked for.
-const PLACES: usize = 16;
-
-// The numbers of steps from an atom; what is counted from it, in the order of the fields, since an array of structs is not lent.
-pub(crate) type StepRow = [u8; ATOMS];
+// The numbers of steps to the atoms that placements are joined to; what is counted from an atom, in the order of the fields, since an array of structs is not lent.
+pub(crate) type StepRow = [u8; PLACEMENTS];
 
 pub(crate) type CountRow = [u32; 8];
+
+const EVENS: usize = 3;
 
 pub(crate) fn row_of(v: Vertex) -> CountRow
     requires { ⌜ SmallCounts v ⌝ }
@@ -70,141 +68,146 @@ pub(crate) fn core_at(counts: &[CountRow], e: usize) -> Vertex
     sight_of(counts[e])
 }
 
-// The number of steps to an atom in the row of an end.
-pub(crate) fn step_at(rows: &[StepRow], e: usize, atom: usize) -> u64
-    requires { ⌜ e < length (now rows) ⌝ }
-    ensures { λ r. ⌜ r ≡ stepsIn (getD (now (rows .entry)) e []) atom ⌝ }
+// The number of steps in row k to the atom that the placement at index z is joined to.
+pub(crate) fn step_at(rows: &[StepRow], k: usize, z: usize) -> u64
+    requires { ⌜ (k < length (now rows)) × (z < mostPlacements) ⌝ }
+    ensures { λ r. ⌜ r ≡ getD (getD (now (rows .entry)) k []) z 0 ⌝ }
 {
-    let row = rows[e];
-    steps(&row, atom)
+    let row = rows[k];
+    wide(row[z])
 }
 
-// The fields that the summary at a place says.
-pub(crate) fn fields_at(book: &[u8], at: usize) -> Indices
-    ensures { λ r. ⌜ r ≡ storedFields (summaryAt (now (book .entry)) at) ⌝ }
+// The fields that the summary of a block's number says.
+pub(crate) fn fields_at(book: &[u8], number: usize) -> Indices
+    ensures { λ r. ⌜ r ≡ storedFields (summaryAt (now (book .entry)) (placeOf (now (book .entry)) number)) ⌝ }
 {
-    fields(summary_at(book, at))
+    fields(summary_at(book, place_of(book, number)))
 }
 
-fn seen_at(book: &[u8], at: usize, i: usize) -> Seen
-    ensures { λ r. ⌜ r ≡ seenAt (summaryAt (now (book .entry)) at) i ⌝ }
+// What is seen from an end, 256 times a block's number and one of its atoms.
+fn seen_from(book: &[u8], x: usize) -> Seen
+    ensures { λ r. ⌜ r ≡ seenFrom (now (book .entry)) x ⌝ }
 {
-    seen(summary_at(book, at), i)
+    seen(summary_at(book, place_of(book, x / 256)), x % 256)
 }
 
-// Stores what is seen from an atom of the summary at a place as end e.
-fn see_end(
-    book: &[u8],
-    at: usize,
-    i: usize,
-    rows: &mut [StepRow],
-    counts: &mut [CountRow],
-    e: usize,
-)
-    requires { ⌜ (e < length (now rows)) × (e < length (now counts)) ⌝ }
-    ensures rows { λ _. ⌜ now (rows .exit) ≡ set (now (rows .entry)) e (seenAt (summaryAt (now (book .entry)) at) i .row) ⌝ }
-    ensures counts { λ _. ⌜
-        now (counts .exit) ≡ set (now (counts .entry)) e (countRow (seenAt (summaryAt (now (book .entry)) at) i .counts))
-        ⌝ }
+// The number of the placement that has end e.
+fn home_of(links: &Links, e: usize) -> usize
+    requires { ⌜ e < 2 * mostPlacements ⌝ }
+    ensures { λ r. ⌜ r ≡ homeOf (now (links .entry)) e ⌝ }
 {
-    let s = seen_at(book, at, i);
-    let row = s.row;
-    counts[e] = row_of(s.counts);
-    rows[e] = row;
-}
-
-// An end of a join: the place of a summary and an atom of its block.
-struct End {
-    pub at: usize,
-    pub atom: usize,
-}
-
-// End e: at 2 k the own atom of the placement at index k, at 2 k + 1 the atom of its parent that it is joined to.
-fn end_at(book: &[u8], links: &Links, count: usize, e: usize) -> End
-    requires { ⌜ ReadyShelf (now book) (now links) count × IsEnd count e ⌝ }
-    ensures { λ r. ⌜ r ≡ endOf (now (links .entry)) e ⌝ }
-{
-    let q = links[e / 2];
     if e % 2 == 0 {
-        return End {
-            at: q[AT],
-            atom: q[OWN],
-        };
+        return e / 2 + 1;
     }
-    let home = links[q[PARENT] - 1];
-    End {
-        at: home[AT],
-        atom: q[SITE],
-    }
+    parent_of(links, e / 2)
 }
 
-fn is_same(x: End, y: End) -> bool
-    ensures { λ r. ⌜ (r ≡ true → x ≡ y) ⌝ }
+// A row with the steps to the atoms of placement number `home` that placements are joined to, which another row says.
+fn stepped(
+    book: &[u8],
+    links: &Links,
+    count: usize,
+    from: &DistanceRow,
+    home: usize,
+    old: StepRow,
+) -> StepRow
+    requires { ⌜ ReadyShelf (now book) (now links) count × (1 ≤ home) ⌝ }
+    ensures { λ r. ⌜ Stepped (now (links .entry)) count (now (from .entry)) home old r ⌝ }
 {
-    if x.at != y.at {
-        return false;
-    }
-    x.atom == y.atom
-}
-
-// The first end at the same place and atom as end e; e itself where none was met.
-fn first_like(book: &[u8], links: &Links, count: usize, met: bool, e: usize) -> usize
-    requires { ⌜ ReadyShelf (now book) (now links) count × IsEnd count e ⌝ }
-    ensures { λ r. ⌜ Like (now (links .entry)) e r ⌝ }
-{
-    if !met {
-        return e;
-    }
-    let mut f: usize = 2;
-    while f < e {
-        let x = end_at(book, links, count, f);
-        let y = end_at(book, links, count, e);
-        if is_same(x, y) {
-            return f;
+    let mut row = old;
+    let mut z = home;
+    while z < count {
+        if parent_of(links, z) == home {
+            let site = end_at(links, 2 * z + 1) % 256;
+            row[z] = from[site - 1];
         }
-        f += 1;
+        z += 1;
     }
-    e
+    row
 }
 
-// Stores end f as end e.
-fn copy_end(f: usize, rows: &mut [StepRow], counts: &mut [CountRow], e: usize)
-    requires { ⌜ (f ≤ e) × (e < length (now rows)) × (e < length (now counts)) ⌝ }
-    ensures rows { λ _. ⌜ now (rows .exit) ≡ set (now (rows .entry)) e (getD (now (rows .entry)) f []) ⌝ }
-    ensures counts { λ _. ⌜ now (counts .exit) ≡ set (now (counts .entry)) e (getD (now (counts .entry)) f []) ⌝ }
-{
-    let row = rows[f];
-    let count = counts[f];
-    rows[e] = row;
-    counts[e] = count;
-}
-
-// Stores what is seen from end e: where it was met, it is copied from the first end like it.
+// Stores what is seen from x as end f, where that is end f.
 fn put_end(
     book: &[u8],
     links: &Links,
     count: usize,
-    met: bool,
+    x: usize,
+    from: &DistanceRow,
+    sight: CountRow,
+    rows: &mut [StepRow],
+    counts: &mut [CountRow],
+    f: usize,
+)
+    requires { ⌜ ReadyShelf (now book) (now links) count × IsEnd count f × (count ≤ length (now rows)) × (2 * count ≤ length (now counts))
+        × (now from ≡ seenFrom (now book) x .row) × (sight ≡ countRow (seenFrom (now book) x .counts)) ⌝ }
+    ensures { λ _. ⌜ Put (now (book .entry)) (now (links .entry)) count x f (f + 1) (now (rows .entry)) (now (counts .entry)) (now (rows .exit)) (now (counts .exit)) ⌝ }
+{
+    if end_at(links, f) != x {
+        return;
+    }
+    let k = f / 2;
+    let old = rows[k];
+    rows[k] = stepped(book, links, count, from, home_of(links, f), old);
+    counts[f] = sight;
+}
+
+// And as each end from e on that it is.
+fn put_ends(
+    book: &[u8],
+    links: &Links,
+    count: usize,
+    x: usize,
+    from: &DistanceRow,
+    sight: CountRow,
     rows: &mut [StepRow],
     counts: &mut [CountRow],
     e: usize,
 )
-    requires { ⌜ ReadyShelf (now book) (now links) count × IsEnd count e × (e < length (now rows)) × (e < length (now counts))
-        × Filled [] (stepsFrom (now book) (now links)) (now rows) e × Filled [] (countsFrom (now book) (now links)) (now counts) e ⌝ }
-    ensures rows { λ _. ⌜ now (rows .exit) ≡ set (now (rows .entry)) e (stepsFrom (now (book .entry)) (now (links .entry)) e) ⌝ }
-    ensures counts { λ _. ⌜ now (counts .exit) ≡ set (now (counts .entry)) e (countsFrom (now (book .entry)) (now (links .entry)) e) ⌝ }
+    requires { ⌜ ReadyShelf (now book) (now links) count × IsEnd count e × (count ≤ length (now rows)) × (2 * count ≤ length (now counts))
+        × (now from ≡ seenFrom (now book) x .row) × (sight ≡ countRow (seenFrom (now book) x .counts)) ⌝ }
+    ensures { λ _. ⌜ Put (now (book .entry)) (now (links .entry)) count x e (2 * count) (now (rows .entry)) (now (counts .entry)) (now (rows .exit)) (now (counts .exit)) ⌝ }
 {
-    let f = first_like(book, links, count, met, e);
-    if f < e {
-        copy_end(f, rows, counts, e);
-        return;
+    let mut f = e;
+    while f < 2 * count {
+        put_end(book, links, count, x, from, sight, rows, counts, f);
+        f += 1;
     }
-    let x = end_at(book, links, count, e);
-    see_end(book, x.at, x.atom, rows, counts, e);
 }
 
-// At 2 k what is seen from the own atom of the placement at index k, at 2 k + 1 what is seen from its parent's. Equal ends are searched once: a set for
-// each place has the atoms that were met.
+// Stores what is seen from end e and from all later ends that are the same, unless that is done: an atom counts itself.
+fn see_end(
+    book: &[u8],
+    links: &Links,
+    count: usize,
+    rows: &mut [StepRow],
+    counts: &mut [CountRow],
+    e: usize,
+)
+    requires { ⌜ ReadyShelf (now book) (now links) count × IsEnd count e × (count ≤ length (now rows)) × (2 * count ≤ length (now counts))
+        × Known (now book) (now links) count (now rows) (now counts) e ⌝ }
+    ensures { λ _. ⌜ Known (now (book .entry)) (now (links .entry)) count (now (rows .exit)) (now (counts .exit)) (e + 1) ⌝ }
+{
+    let done = counts[e];
+    if done[EVENS] != 0 {
+        return;
+    }
+    let x = end_at(links, e);
+    let s = seen_from(book, x);
+    let from = s.row;
+    put_ends(
+        book,
+        links,
+        count,
+        x,
+        &from,
+        row_of(s.counts),
+        rows,
+        counts,
+        e,
+    );
+}
+
+// At 2 k what is counted from the own atom of the placement at index k, at 2 k + 1 what is counted from its parent's; in row k the steps from both.
 pub(crate) fn see_ends(
     book: &[u8],
     links: &Links,
@@ -212,19 +215,13 @@ pub(crate) fn see_ends(
     rows: &mut [StepRow],
     counts: &mut [CountRow],
 )
-    requires { ⌜ ReadyShelf (now book) (now links) count × (2 * count ≤ length (now rows)) × (2 * count ≤ length (now counts)) ⌝ }
+    requires { ⌜ ReadyShelf (now book) (now links) count × (count ≤ length (now rows)) × (2 * count ≤ length (now counts)) × Unmarked (now counts) ⌝ }
     ensures rows { λ _. ⌜ StepsKnown (now (book .entry)) (now (links .entry)) (now (rows .exit)) count ⌝ }
     ensures counts { λ _. ⌜ Counted (now (book .entry)) (now (links .entry)) (now (counts .exit)) count 1 ⌝ }
 {
-    let mut met = [0u64; PLACES];
     let mut e: usize = 2;
     while e < 2 * count {
-        let x = end_at(book, links, count, e);
-        let p = x.at % PLACES;
-        let atom = 1u64 << (x.atom % ATOMS);
-        let set = met[p];
-        put_end(book, links, count, set & atom != 0, rows, counts, e);
-        met[p] = set | atom;
+        see_end(book, links, count, rows, counts, e);
         e += 1;
     }
 }

@@ -5,15 +5,14 @@ use super::ends::core_at;
 use super::ends::fields_at;
 use super::ends::row_of;
 use super::ends::step_at;
-use super::links::AT;
 use super::links::Links;
-use super::links::PARENT;
-use super::links::SITE;
+use super::links::end_at;
+use super::links::parent_of;
 use block::Indices;
 use block::Vertex;
 use joining::grown;
 ghost use mathlib.Core.Path.{_≡_};
-ghost use Prim.Native.Nat.{ℕ, _-_};
+ghost use Prim.Native.Nat.{_-_};
 ghost use Rattle.graph.specs.Graph.{Within};
 ghost use Rattle.joining.specs.Parts.{sixIn};
 ghost use Rattle.joining.specs.Joining.{joinedOf};
@@ -29,19 +28,17 @@ fn apart(book: &[u8], links: &Links, count: usize, rows: &[StepRow], x: usize, y
     let mut v = y;
     let mut d: u64 = 0;
     loop {
-        let p = links[u];
-        let q = links[v];
-        let first = p[PARENT];
-        let second = q[PARENT];
+        let first = parent_of(links, u);
+        let second = parent_of(links, v);
         if first == second {
-            return d + step_at(rows, 2 * u + 1, q[SITE]);
+            return d + step_at(rows, u, v);
         }
         if first < second {
-            d = d + 1 + step_at(rows, 2 * (second - 1), q[SITE]);
+            d = d + 1 + step_at(rows, second - 1, v);
             v = u;
             u = second - 1;
         } else {
-            d = d + 1 + step_at(rows, 2 * (first - 1), p[SITE]);
+            d = d + 1 + step_at(rows, first - 1, u);
             u = first - 1;
         }
     }
@@ -60,17 +57,12 @@ fn begun(
         × StepsKnown (now book) (now links) (now rows) count × Counted (now book) (now links) (now counts) count k ⌝ }
     ensures { λ r. ⌜ r ≡ sightFrom (now (book .entry)) (now (links .entry)) (joinsIn (now (links .entry)) k .parent) k ⌝ }
 {
-    let q = links[k];
-    let above = q[PARENT] - 1;
+    let above = parent_of(links, k) - 1;
     let v = core_at(counts, 2 * k + 1);
     if above == 0 {
         return v;
     }
-    grown(
-        v,
-        step_at(rows, 2 * above, q[SITE]),
-        core_at(counts, 2 * above + 1),
-    )
+    grown(v, step_at(rows, above, k), core_at(counts, 2 * above + 1))
 }
 
 // And as far as the placement before: each placement since the parent adds what is counted from its own atom.
@@ -87,7 +79,7 @@ fn core_of(
     ensures { λ r. ⌜ r ≡ sightFrom (now (book .entry)) (now (links .entry)) k k ⌝ }
 {
     let mut v = begun(book, links, count, rows, counts, k);
-    let mut m = links[k][PARENT];
+    let mut m = parent_of(links, k);
     while m < k {
         v = grown(
             v,
@@ -128,13 +120,13 @@ pub(crate) fn composed(
     ensures { λ r. ⌜ r ≡ sixIn (keptIn (now (book .entry)) (now (links .entry))) (joinsIn (now (links .entry))) (count - 1) ⌝ }
 {
     let mut s = Summary {
-        fields: fields_at(book, links[0][AT]),
+        fields: fields_at(book, end_at(links, 0) / 256),
     };
     let mut k: usize = 1;
     while k < count {
         let core = core_of(book, links, count, rows, counts, k);
         let own = core_at(counts, 2 * k);
-        s = s.joined(fields_at(book, links[k][AT]), core, own);
+        s = s.joined(fields_at(book, end_at(links, 2 * k) / 256), core, own);
         counts[2 * k + 1] = row_of(core);
         k += 1;
     }

@@ -4,7 +4,6 @@ mod joins;
 mod links;
 
 use assembly::PLACEMENTS;
-use block::ATOMS;
 use block::Indices;
 use block::IndicesReply;
 use ends::CountRow;
@@ -23,9 +22,10 @@ ghost use Rattle.block.specs.Index.{saidIndices};
 ghost use Rattle.joining.specs.Parts.{sixIn};
 ghost use Rattle.summaries.specs.Composing.{composedReply};
 ghost use Rattle.summaries.specs.Ready.{keptIn, joinsIn, ReadyShelf};
+ghost use Rattle.summaries.specs.Ends.{Unmarked};
 
 // The placements of a small assembly and of one of middle size, for which fewer rows are cleared.
-const FEW: usize = 4;
+const FEW: usize = 2;
 
 const MORE: usize = 10;
 
@@ -37,7 +37,7 @@ fn by_rows(
     rows: &mut [StepRow],
     counts: &mut [CountRow],
 ) -> Indices
-    requires { ⌜ ReadyShelf (now book) (now links) count × (2 * count ≤ length (now rows)) × (2 * count ≤ length (now counts)) ⌝ }
+    requires { ⌜ ReadyShelf (now book) (now links) count × (count ≤ length (now rows)) × (2 * count ≤ length (now counts)) × Unmarked (now counts) ⌝ }
     ensures { λ r. ⌜ r ≡ sixIn (keptIn (now (book .entry)) (now (links .entry))) (joinsIn (now (links .entry))) (count - 1) ⌝ }
 {
     see_ends(book, links, count, rows, counts);
@@ -49,16 +49,16 @@ fn placed(book: &[u8], links: &Links, count: usize) -> Indices
     ensures { λ r. ⌜ r ≡ sixIn (keptIn (now (book .entry)) (now (links .entry))) (joinsIn (now (links .entry))) (count - 1) ⌝ }
 {
     if count <= FEW {
-        let mut rows = [[0u8; ATOMS]; 2 * FEW];
+        let mut rows = [[0u8; PLACEMENTS]; FEW];
         let mut counts = [[0u32; 8]; 2 * FEW];
         return by_rows(book, links, count, &mut rows, &mut counts);
     }
     if count <= MORE {
-        let mut rows = [[0u8; ATOMS]; 2 * MORE];
+        let mut rows = [[0u8; PLACEMENTS]; MORE];
         let mut counts = [[0u32; 8]; 2 * MORE];
         return by_rows(book, links, count, &mut rows, &mut counts);
     }
-    let mut rows = [[0u8; ATOMS]; 2 * PLACEMENTS];
+    let mut rows = [[0u8; PLACEMENTS]; PLACEMENTS];
     let mut counts = [[0u32; 8]; 2 * PLACEMENTS];
     by_rows(book, links, count, &mut rows, &mut counts)
 }
@@ -73,7 +73,7 @@ pub fn compose(book: &[u8], xs: &[u8]) -> IndicesReply
         Reply::Refused(refusal) => IndicesReply::Refused(refusal),
         Reply::Fine => {
             let count = le16_at(xs, 0) as usize;
-            let links = links_of(book, xs, count);
+            let links = links_of(xs, count);
             let all = placed(book, &links, count);
             IndicesReply::Of(all)
         }

@@ -1,5 +1,5 @@
 -- `shelf::place_of` meets its contract. The loop's invariant: what is found among the places that are left is what is found. Assumes nothing.
-use Prim.Native.Nat.{ℕ, suc, _+_, _-_, _*_, _≤_, _<_}
+use Prim.Native.Nat.{ℕ, suc, _+_, _-_, _≤_}
 use mathlib.Core.Path.{_≡_, sym, ap, _∙_}
 use native.Mathlib.Numerals.{add-one}
 use native.Mathlib.Omega.{arith}
@@ -24,14 +24,8 @@ loop-holds c =
     let e : placesIn (a .book .now) - 0 ≡ placesIn (a .book .now) = omega arith in
     (omega arith, omega arith, place-some (a .book .now) (a .number) (c .if1 .left) ∙ ap (placeFrom (a .book .now) (a .number) 0) (sym e))
 
-mul-le16-at : tie.Need-mul-le16-at Inv-loop μ-loop
-mul-le16-at c = search needs
-
-le16-at-requires : tie.Need-le16-at-requires Inv-loop μ-loop
-le16-at-requires c κs = search needs
-
-cast-if2 : tie.Need-cast-if2 Inv-loop μ-loop
-cast-if2 c = search needs
+number-at-requires : tie.Need-number-at-requires Inv-loop μ-loop
+number-at-requires c κs = omega (arith, c .before .loop .inv .1, c .loop-test .taken)
 
 -- one place at least is left
 left : (c : tie.In-loop Inv-loop μ-loop) → let l = c .before in let a = l .before .before .before .args in let n = placesIn (a .book .now) in
@@ -43,7 +37,7 @@ left c = let l = c .before in let a = l .before .before .before .args in let n =
 returns-2 : tie.Need-returns-2 Inv-loop μ-loop
 returns-2 c =
     let a = c .before .before .before .before .before .before .args in
-    sym (left (c .before .before) ∙ place-here (a .book .now) (a .number) _ _ (sym (c .before .le16-at .ensures) ∙ c .if2 .taken))
+    sym (left (c .before .before) ∙ place-here (a .book .now) (a .number) _ _ (sym (c .before .number-at .ensures) ∙ c .if2 .taken))
 
 add-i : tie.Need-add-i Inv-loop μ-loop
 add-i c = search needs
@@ -55,7 +49,7 @@ loop-again : tie.Need-loop-again Inv-loop μ-loop
 loop-again c =
     let a = c .before .before .before .before .before .before .args in
     let i = c .before .before .before .loop .i in
-    (omega arith, omega arith, left (c .before .before) ∙ place-next (a .book .now) (a .number) _ _ (λ e. c .if2 .left (c .before .le16-at .ensures ∙ e)) ∙ ap (λ (j : ℕ). placeFrom (a .book .now) (a .number) j (placesIn (a .book .now) - (i + 1))) (sym (add-one i)))
+    (omega arith, omega arith, left (c .before .before) ∙ place-next (a .book .now) (a .number) _ _ (λ e. c .if2 .left (c .before .number-at .ensures ∙ e)) ∙ ap (λ (j : ℕ). placeFrom (a .book .now) (a .number) j (placesIn (a .book .now) - (i + 1))) (sym (add-one i)))
 
 returns-3 : tie.Need-returns-3 Inv-loop μ-loop
 returns-3 c =
@@ -74,9 +68,7 @@ place-of-spec =
     μ-loop
     returns
     loop-holds
-    mul-le16-at
-    le16-at-requires
-    cast-if2
+    number-at-requires
     returns-2
     add-i
     loop-less

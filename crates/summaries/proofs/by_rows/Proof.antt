@@ -1,6 +1,4 @@
 -- `summaries::by_rows` meets its contract. Assumes nothing.
-use mathlib.Core.Path.{_∙_}
-use native.Mathlib.Omega.{arith}
 use borrow.Author.Needs.{needs}
 use Rattle.summaries.proofs.by_rows.Statement.{statement}
 use Rattle.summaries.proofs.by_rows.Tie as tie

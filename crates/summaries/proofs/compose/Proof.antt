@@ -1,6 +1,4 @@
 -- `summaries::compose` meets its contract. Assumes nothing.
-use Prim.Native.Nat.{ℕ, _+_, _-_, _≤_, _<_}
-use mathlib.Core.List.{List}
 use mathlib.Core.Path.{_≡_, sym, _∙_, ap, subst}
 use native.Mathlib.Omega.{arith}
 use borrow.Author.Needs.{needs}
@@ -9,7 +7,7 @@ use Rattle.reply.specs.Read.{read}
 use Rattle.block.specs.Index.{saidIndices}
 use Rattle.block.specs.declared.IndicesReply.the-variants as measured
 use Rattle.block.proofs.Replies.{said-fine, said-refused}
-use Rattle.assembly.specs.Placements.{mostPlacements, placementCount, placementAt, shelfReply}
+use Rattle.assembly.specs.Placements.{mostPlacements, placementAt, shelfReply}
 use Rattle.assembly.specs.Sound.{PlacedRight}
 use Rattle.shelf.specs.Shelf.{shelfIn}
 use Rattle.summaries.specs.Ready.{LentBytes}
@@ -51,7 +49,7 @@ placed-requires : tie.Need-placed-requires
 placed-requires c κs =
     let l = c .before .before in
     let s = l .before .before .before .before .before .before in
-    ready (c .before .links-of .ensures) (lent (l .before .before .before .before .before)) (few l)
+    ready (s .args .book .now) (c .before .links-of .ensures) (lent (l .before .before .before .before .before)) (few l)
     (subst (PlacedRight (shelfIn (s .args .book .now)) (placementAt (s .args .xs .now))) (sym (l .le16-at .ensures)) (fine-right (s .args .book .now) (s .args .xs .now) (fine (l .before))))
 
 returns : tie.Need-returns
@@ -63,7 +61,7 @@ returns-2 : tie.Need-returns-2
 returns-2 c =
     let l = c .before .before .before in
     let a = l .before .before .before .before .before .before .args in
-    ap measured.Of (c .placed .ensures ∙ six-linked (c .before .before .links-of .ensures) (few l .low) (l .le16-at .ensures))
+    ap measured.Of (c .placed .ensures ∙ six-linked (a .book .now) (c .before .before .links-of .ensures) (few l .low) (l .le16-at .ensures))
     ∙ ap saidIndices (sym (reply-read (a .book .now) (a .xs .now) (fine (l .before))))
 
 pub compose-spec : {M : Type 1} → statement M

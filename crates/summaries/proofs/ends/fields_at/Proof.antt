@@ -1,11 +1,13 @@
 -- `summaries::ends::fields_at` meets its contract. Assumes nothing.
-use Prim.Native.Nat.{ℕ}
-use mathlib.Core.List.{List}
 use mathlib.Core.Path.{_∙_, ap}
 use Rattle.summary.specs.Layout.{storedFields}
+use Rattle.shelf.specs.Shelf.{summaryAt}
 use borrow.Author.Needs.{needs}
 use Rattle.summaries.proofs.ends.fields_at.Statement.{statement}
 use Rattle.summaries.proofs.ends.fields_at.Tie as tie
+
+place-of-requires : tie.Need-place-of-requires
+place-of-requires c κs = search needs
 
 summary-at-requires : tie.Need-summary-at-requires
 summary-at-requires c κs = search needs
@@ -14,7 +16,9 @@ fields-requires : tie.Need-fields-requires
 fields-requires c κs = search needs
 
 returns : tie.Need-returns
-returns c = c .fields .ensures ∙ ap storedFields (c .before .summary-at .ensures .bytes)
+returns c =
+    let a = c .before .before .before .before .args in
+    c .fields .ensures ∙ ap storedFields (c .before .summary-at .ensures .bytes ∙ ap (summaryAt (a .book .now)) (c .before .before .place-of .ensures))
 
 pub fields-at-spec : {M : Type 1} → statement M
-fields-at-spec = tie.close (tie.spec summary-at-requires fields-requires returns)
+fields-at-spec = tie.close (tie.spec place-of-requires summary-at-requires fields-requires returns)

@@ -1,22 +1,52 @@
 -- `summaries::ends::put_end` meets its contract. Assumes nothing.
-use Prim.Native.Nat.{ℕ}
-use mathlib.Core.List.{List}
-use mathlib.Core.Path.{_∙_, ap}
+use Prim.Native.Nat.{ℕ, _/_, _<_}
+use mathlib.Core.List.{[]}
+use mathlib.Core.Path.{_≡_, sym, _∙_, subst}
 use native.Mathlib.Omega.{arith}
 use borrow.Author.Needs.{needs}
-use lib.ListN.{set}
-use Rattle.summaries.specs.declared.ends.End.{End}
-use Rattle.summaries.specs.Ready.{countRow}
-use Rattle.summaries.specs.Ends.{seenFrom}
-use Rattle.summaries.proofs.Storing.{same-steps, same-counts}
+use lib.ListN.{length, getD}
+use Rattle.summaries.specs.Ends.{Stepped}
+use Rattle.summaries.proofs.Storing.{put-other, put-here, has-home}
 use Rattle.summaries.proofs.ends.put_end.Statement.{statement}
 use Rattle.summaries.proofs.ends.put_end.Tie as tie
 
-first-like-requires : tie.Need-first-like-requires
-first-like-requires c κs = search needs
+end-at-requires : tie.Need-end-at-requires
+end-at-requires c κs = let p = c .before .pre in omega (arith, p .1 .high, p .0 .few)
 
-copy-end-requires : tie.Need-copy-end-requires
-copy-end-requires c κs = search needs
+returns : tie.Need-returns
+returns c = let a = c .before .before .before .args in put-other (a .f) (λ e. omega (arith, c .if1 .taken, c .before .end-at .ensures .0, e))
+
+same : (c : tie.Else1) → c .before .end-at .result ≡ c .before .before .before .args .x
+same c = omega (arith, c .if1 .left)
+
+row : (c : tie.Else1) → let s = c .before .before .before in s .args .f / 2 < length (s .args .rows .now)
+row c = let p = c .before .before .before .pre in omega (arith, p .1 .high, p .2)
+
+mul-old : tie.Need-mul-old
+mul-old c = let p = c .before .before .before .pre in omega (arith, p .1 .high, p .0 .few)
+
+slice-copy-out-old : tie.Need-slice-copy-out-old
+slice-copy-out-old c = row c
+
+home-of-requires : tie.Need-home-of-requires
+home-of-requires c κs = let p = c .before .before .before .before .pre in omega (arith, p .1 .high, p .0 .few)
+
+stepped-requires : tie.Need-stepped-requires
+stepped-requires c κs =
+    let s = c .before .before .before .before .before in
+    (s .pre .0, omega (arith, c .home-of .ensures, has-home (s .pre .0) (s .args .f) (s .pre .1)))
+
+mul-t16 : tie.Need-mul-t16
+mul-t16 c = let p = c .before .before .before .before .before .before .pre in omega (arith, p .1 .high, p .0 .few)
+
+slice-set-from-rows : tie.Need-slice-set-from-rows
+slice-set-from-rows c = row (c .before .before .before)
+
+mul-sight : tie.Need-mul-sight
+mul-sight c = let p = c .before .before .before .before .before .before .pre in omega (arith, p .1 .high, p .0 .few)
+
+slice-set-from-sight : tie.Need-slice-set-from-sight
+slice-set-from-sight c = let p = c .before .before .before .before .before .before .pre in omega (arith, p .1 .high, p .3)
 
 same-length : tie.Need-same-length
 same-length c = search needs
@@ -24,48 +54,28 @@ same-length c = search needs
 same-length-2 : tie.Need-same-length-2
 same-length-2 c = search needs
 
-returns : tie.Need-returns
-returns c =
-    let s = c .before .before .before .before .before .before .before .before in
-    let a = s .args in
-    let p = s .pre in
-    let like = c .before .before .before .before .before .before .first-like .ensures in
-    let q = c .before .before .before .before .before .if1 .taken in (
-      c .before .before .copy-end .ensures .0 ∙ ap (set (a .rows .now) (a .e)) (same-steps _ _ (a .e) _ like q (p .4)),
-      c .before .before .copy-end .ensures .1 ∙ ap (set (a .counts .now) (a .e)) (same-counts _ _ (a .e) _ like q (p .5)),
-    )
-
-end-at-requires : tie.Need-end-at-requires
-end-at-requires c κs = search needs
-
-see-end-requires : tie.Need-see-end-requires
-see-end-requires c κs = search needs
-
-same-length-3 : tie.Need-same-length-3
-same-length-3 c = search needs
-
-same-length-4 : tie.Need-same-length-4
-same-length-4 c = search needs
-
 returns-2 : tie.Need-returns-2
 returns-2 c =
-    let a = c .before .before .before .before .before .before .before .before .before .args in
-    let x = c .before .before .before .before .before .end-at .ensures in (
-      c .before .before .see-end .ensures .0 ∙ ap (λ (x : End). set (a .rows .now) (a .e) (seenFrom (a .book .now) x .row)) x,
-      c .before .before .see-end .ensures .1 ∙ ap (λ (x : End). set (a .counts .now) (a .e) (countRow (seenFrom (a .book .now) x .counts))) x,
-    )
+    let s = c .before .before .before .before .before .before in
+    let a = s .args in
+    let p = s .pre in
+    put-here (p .0) (a .x) (a .f) (a .from .now) (a .sight) _ (p .1) (p .2) (p .3) (p .4) (p .5) (sym (c .before .before .before .before .end-at .ensures .0) ∙ same (c .before .before .before))
+    (subst (λ (h : ℕ). Stepped (a .links .now) (a .count) (a .from .now) h (getD (a .rows .now) (a .f / 2) []) (c .stepped .result)) (c .before .home-of .ensures) (c .stepped .ensures))
 
 pub put-end-spec : {M : Type 1} → statement M
 put-end-spec =
     tie.close
     (tie.spec
-    first-like-requires
-    copy-end-requires
+    end-at-requires
+    returns
+    mul-old
+    slice-copy-out-old
+    home-of-requires
+    stepped-requires
+    mul-t16
+    slice-set-from-rows
+    mul-sight
+    slice-set-from-sight
     same-length
     same-length-2
-    returns
-    end-at-requires
-    see-end-requires
-    same-length-3
-    same-length-4
     returns-2)

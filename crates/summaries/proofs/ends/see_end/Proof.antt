@@ -1,34 +1,42 @@
 -- `summaries::ends::see_end` meets its contract. Assumes nothing.
-use Prim.Native.Nat.{ℕ}
-use mathlib.Core.List.{List}
 use mathlib.Core.Path.{_∙_, ap, subst⁻¹}
+use native.Mathlib.Omega.{arith}
 use borrow.Author.Needs.{needs}
-use lib.ListN.{set}
+use lib.Dec.{lit<}
 use Rattle.joining.specs.Small.{SmallCounts}
 use Rattle.sighted.specs.declared.Seen.{Seen}
-use Rattle.shelf.specs.Shelf.{summaryAt}
 use Rattle.summaries.specs.Ready.{countRow}
 use Rattle.summaries.proofs.Ports.{seen-small}
+use Rattle.summaries.proofs.Storing.{known-next, known-more}
 use Rattle.summaries.proofs.ends.see_end.Statement.{statement}
 use Rattle.summaries.proofs.ends.see_end.Tie as tie
 
-seen-at-requires : tie.Need-seen-at-requires
-seen-at-requires c κs = search needs
+mul-done : tie.Need-mul-done
+mul-done c = search needs
+
+slice-copy-out-done : tie.Need-slice-copy-out-done
+slice-copy-out-done c = let p = c .before .pre in omega (arith, p .1 .high, p .3)
+
+array-read-if1 : tie.Need-array-read-if1
+array-read-if1 c = lit< tt
+
+returns : tie.Need-returns
+returns c = let s = c .before .before .before in known-next (s .args .e) (c .if1 .taken) (s .pre .4)
+
+end-at-requires : tie.Need-end-at-requires
+end-at-requires c κs = let p = c .before .before .before .pre in omega (arith, p .1 .high, p .0 .few)
+
+seen-from-requires : tie.Need-seen-from-requires
+seen-from-requires c κs = search needs
 
 row-of-requires : tie.Need-row-of-requires
-row-of-requires c κs = let a = c .before .before .before .args in subst⁻¹ (λ (v : Seen). SmallCounts (v .counts)) (c .before .seen-at .ensures) (seen-small (summaryAt (a .book .now) (a .at)) (a .i))
+row-of-requires c κs = let s = c .before .before in subst⁻¹ (λ (v : Seen). SmallCounts (v .counts)) (s .seen-from .ensures) (seen-small _ _)
 
-mul-t10 : tie.Need-mul-t10
-mul-t10 c = search needs
-
-slice-set-from-counts : tie.Need-slice-set-from-counts
-slice-set-from-counts c = search needs
-
-mul-row : tie.Need-mul-row
-mul-row c = search needs
-
-slice-set-from-row : tie.Need-slice-set-from-row
-slice-set-from-row c = search needs
+put-ends-requires : tie.Need-put-ends-requires
+put-ends-requires c κs =
+    let s = c .before .before .before .before .before .before .before .before .before .before .pre in
+    let seen = c .before .before .before .before .before .seen-from .ensures in
+    (s .0, s .1, s .2, s .3, ap (λ (v : Seen). v .row) seen, c .before .before .row-of .ensures ∙ ap (λ (v : Seen). countRow (v .counts)) seen)
 
 same-length : tie.Need-same-length
 same-length c = search needs
@@ -36,24 +44,23 @@ same-length c = search needs
 same-length-2 : tie.Need-same-length-2
 same-length-2 c = search needs
 
-returns : tie.Need-returns
-returns c =
-    let a = c .before .before .before .before .args in
-    let s = c .before .before .seen-at .ensures in (
-      ap (λ (v : Seen). set (a .rows .now) (a .e) (v .row)) s,
-      ap (set (a .counts .now) (a .e)) (c .row-of .ensures ∙ ap (λ (v : Seen). countRow (v .counts)) s),
-    )
+returns-2 : tie.Need-returns-2
+returns-2 c =
+    let s = c .before .before .before .before .before .before .before .before .before .before .before .before .before in
+    known-more _ (s .args .e) (c .before .before .before .before .before .before .before .before .before .end-at .ensures .0) (s .pre .4) (c .before .before .put-ends .ensures)
 
 pub see-end-spec : {M : Type 1} → statement M
 see-end-spec =
     tie.close
     (tie.spec
-    seen-at-requires
+    mul-done
+    slice-copy-out-done
+    array-read-if1
+    returns
+    end-at-requires
+    seen-from-requires
     row-of-requires
-    mul-t10
-    slice-set-from-counts
-    mul-row
-    slice-set-from-row
+    put-ends-requires
     same-length
     same-length-2
-    returns)
+    returns-2)

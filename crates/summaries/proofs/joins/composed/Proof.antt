@@ -1,6 +1,7 @@
 -- `summaries::joins::composed` meets its contract. The loop's invariant: s has the fields of the first k placements, and their joins are made.
 -- Assumes nothing.
-use Prim.Native.Nat.{ℕ, _+_, _*_, _-_, _≤_, _<_}
+use Prim.Native.Nat.{ℕ, _+_, _*_, _-_, _/_, _≤_, _<_}
+use mathlib.Core.List.{List}
 use mathlib.Core.Path.{_≡_, refl, _∙_, ap, subst⁻¹}
 use borrow.Author.Needs.{needs}
 use native.Mathlib.Omega.{arith}
@@ -8,13 +9,20 @@ use lib.Dec.{lit<}
 use lib.ListN.{length, length-set}
 use Rattle.graph.specs.Graph.{Within}
 use Rattle.assembly.specs.Placements.{mostPlacements}
+use Rattle.block.specs.declared.Indices.{Indices}
 use Rattle.joining.specs.Parts.{sixIn}
 use Rattle.joining.specs.Small.{SmallCounts, joined-small}
+use Rattle.summary.specs.Layout.{storedFields}
+use Rattle.shelf.specs.Shelf.{summaryAt, placeOf}
 use Rattle.summaries.specs.Ready.{placeIn, keptIn, joinsIn, sightOfRow, Counted}
-use Rattle.summaries.proofs.Ports.{row-at, small, own-small, block-room, six-room, from-small, six-next}
+use Rattle.summaries.proofs.Ports.{small, own-small, block-room, six-room, from-small, six-next}
 use Rattle.summaries.proofs.Storing.{made-more}
 use Rattle.summaries.proofs.joins.composed.Statement.{statement}
 use Rattle.summaries.proofs.joins.composed.Tie as tie
+
+-- the fields of the block that an end is in
+abbrev fieldsOf : List ℕ → ℕ → Indices
+fieldsOf b x = storedFields (summaryAt b (placeOf b (x / 256)))
 
 abbrev Inv-loop : tie.InvT-loop
 Inv-loop book links count rows counts₀ s₀ k₀ counts s k =
@@ -23,18 +31,17 @@ Inv-loop book links count rows counts₀ s₀ k₀ counts s k =
 abbrev μ-loop : tie.MeasureT-loop
 μ-loop book links count rows counts₀ s₀ k₀ counts s k = count - k
 
-index-1-fields-at : tie.Need-index-1-fields-at Inv-loop μ-loop
-index-1-fields-at c = lit< tt
-
-index-2-fields-at : tie.Need-index-2-fields-at Inv-loop μ-loop
-index-2-fields-at c = lit< tt
+end-at-requires : tie.Need-end-at-requires Inv-loop μ-loop
+end-at-requires c κs = lit< tt
 
 fields-at-requires : tie.Need-fields-at-requires Inv-loop μ-loop
 fields-at-requires c κs = search needs
 
 loop-holds : tie.Need-loop-holds Inv-loop μ-loop
 unfolding sixIn
-loop-holds c = (omega arith, omega arith, refl, c .fields-at .ensures, c .before .before .before .pre .2)
+loop-holds c =
+    let s = c .before .before .before in
+    (omega arith, omega arith, refl, c .fields-at .ensures ∙ ap (fieldsOf (s .args .book .now)) (c .before .end-at .ensures .0), s .pre .2)
 
 index : (c : tie.In-loop Inv-loop μ-loop) → Within (c .before .before .before .before .before .args .count - 1) (c .before .loop .k)
 index c = omega (arith, c .before .loop .inv .0, c .loop-test .taken)
@@ -59,14 +66,11 @@ mul-core-at c = omega (arith, row (c .before .before .before))
 core-at-requires : tie.Need-core-at-requires Inv-loop μ-loop
 core-at-requires c κs = omega (arith, long (c .before .before .before))
 
-mul-fields-at : tie.Need-mul-fields-at Inv-loop μ-loop
-mul-fields-at c = row-at (row (c .before .before .before .before))
+mul-end-at : tie.Need-mul-end-at Inv-loop μ-loop
+mul-end-at c = omega (arith, row (c .before .before .before .before))
 
-index-1-fields-at-2 : tie.Need-index-1-fields-at-2 Inv-loop μ-loop
-index-1-fields-at-2 c = row (c .before .before .before .before)
-
-index-2-fields-at-2 : tie.Need-index-2-fields-at-2 Inv-loop μ-loop
-index-2-fields-at-2 c = lit< tt
+end-at-requires-2 : tie.Need-end-at-requires-2 Inv-loop μ-loop
+end-at-requires-2 c κs = omega (arith, row (c .before .before .before .before))
 
 fields-at-requires-2 : tie.Need-fields-at-requires-2 Inv-loop μ-loop
 fields-at-requires-2 c κs = search needs
@@ -79,14 +83,14 @@ row-of-requires c κs =
     let t = c .before .before .before .before .before .before .before in
     subst⁻¹ SmallCounts (c .before .before .before .before .before .core-of .ensures) (from-small (t .before .before .before .before .before .pre .0) (t .before .loop .k) (t .before .loop .k) (omega (arith, row t)))
 
-mul-t21 : tie.Need-mul-t21 Inv-loop μ-loop
-mul-t21 c = omega (arith, row (c .before .before .before .before .before .before .before .before))
+mul-t18 : tie.Need-mul-t18 Inv-loop μ-loop
+mul-t18 c = omega (arith, row (c .before .before .before .before .before .before .before .before))
 
-add-t27 : tie.Need-add-t27 Inv-loop μ-loop
-add-t27 c = omega (arith, row (c .before .before .before .before .before .before .before .before))
+add-t21 : tie.Need-add-t21 Inv-loop μ-loop
+add-t21 c = omega (arith, row (c .before .before .before .before .before .before .before .before))
 
-mul-t29 : tie.Need-mul-t29 Inv-loop μ-loop
-mul-t29 c = omega (arith, row (c .before .before .before .before .before .before .before .before))
+mul-t20 : tie.Need-mul-t20 Inv-loop μ-loop
+mul-t20 c = omega (arith, row (c .before .before .before .before .before .before .before .before))
 
 slice-set-from-counts : tie.Need-slice-set-from-counts Inv-loop μ-loop
 slice-set-from-counts c = long (c .before .before .before .before .before .before .before .before)
@@ -114,8 +118,8 @@ loop-again c =
       length-set (t .before .loop .counts) (2 * k + 1) (c .row-of .result) ∙ i .2,
       rw e
           (c .before .joined .ensures
-          ∙ rw (i .3, c .before .before .fields-at2 .ensures, core, own)
-          (joined-small (six-room r (k - 1) (omega (arith, row t))) (block-room r (placeIn l k)) (from-small r k k (omega (arith, row t))) (own-small r (placeIn l k) (joinsIn l k .own)) ∙ six-next r w)),
+          ∙ rw (i .3, c .before .before .fields-at2 .ensures ∙ ap (fieldsOf (s .args .book .now)) (c .before .before .before .end-at2 .ensures .0), core, own)
+          (joined-small (six-room r (k - 1) (omega (arith, row t))) (block-room r (placeIn (s .args .book .now) l k)) (from-small r k k (omega (arith, row t))) (own-small r (placeIn (s .args .book .now) l k) (joinsIn l k .own)) ∙ six-next r w)),
       made-more _ _ (s .args .count) k _ (omega (arith, w)) (ap sightOfRow (c .row-of .ensures) ∙ core) (i .4),
     )
 
@@ -135,22 +139,20 @@ composed-spec =
     (tie.spec
     Inv-loop
     μ-loop
-    index-1-fields-at
-    index-2-fields-at
+    end-at-requires
     fields-at-requires
     loop-holds
     core-of-requires
     mul-core-at
     core-at-requires
-    mul-fields-at
-    index-1-fields-at-2
-    index-2-fields-at-2
+    mul-end-at
+    end-at-requires-2
     fields-at-requires-2
     joined-requires
     row-of-requires
-    mul-t21
-    add-t27
-    mul-t29
+    mul-t18
+    add-t21
+    mul-t20
     slice-set-from-counts
     add-k
     loop-less

@@ -1,14 +1,13 @@
 -- `summaries::joins::core_of` meets its contract. The loop's invariant: v is counted from the parent's atom in the first m placements.
 -- Assumes nothing.
-use Prim.Native.Nat.{ℕ, _+_, _-_, _≤_, _<_}
+use Prim.Native.Nat.{ℕ, _-_, _≤_}
 use mathlib.Core.Path.{_≡_, sym, _∙_, ap}
 use native.Mathlib.Omega.{arith}
-use lib.Dec.{lit<}
 use borrow.Author.Needs.{needs}
 use Rattle.joining.specs.Small.{grown-small}
 use Rattle.graph.specs.Graph.{Within}
 use Rattle.summaries.specs.Ready.{placeIn, joinsIn, sightFrom}
-use Rattle.summaries.proofs.Ports.{row-at, small, earlier, own-small, from-small, between-small, from-next}
+use Rattle.summaries.proofs.Ports.{small, earlier, own-small, from-small, between-small, from-next}
 use Rattle.summaries.proofs.joins.core_of.Statement.{statement}
 use Rattle.summaries.proofs.joins.core_of.Tie as tie
 
@@ -21,17 +20,14 @@ abbrev μ-loop : tie.MeasureT-loop
 begun-requires : tie.Need-begun-requires Inv-loop μ-loop
 begun-requires c κs = c .before .pre
 
-mul-m : tie.Need-mul-m Inv-loop μ-loop
-mul-m c = row-at (small (c .before .before .pre .0) (c .before .before .pre .1))
-
-index-1-m : tie.Need-index-1-m Inv-loop μ-loop
-index-1-m c = small (c .before .before .pre .0) (c .before .before .pre .1)
-
-index-2-m : tie.Need-index-2-m Inv-loop μ-loop
-index-2-m c = lit< tt
+parent-of-requires : tie.Need-parent-of-requires Inv-loop μ-loop
+parent-of-requires c κs = small (c .before .before .pre .0) (c .before .before .pre .1)
 
 loop-holds : tie.Need-loop-holds Inv-loop μ-loop
-loop-holds c = (omega arith, earlier (c .before .before .before .pre .0) (c .before .before .before .pre .1) .high, c .before .begun .ensures)
+loop-holds c =
+    let s = c .before .before .before in
+    let e = c .parent-of .ensures .0 in
+    (omega (arith, e), omega (arith, e, earlier (s .pre .0) (s .pre .1)), c .before .begun .ensures ∙ ap (λ (m : ℕ). sightFrom (s .args .book .now) (s .args .links .now) m (s .args .k)) (sym e))
 
 -- the placement at index m has joined before
 joined : (c : tie.In-loop Inv-loop μ-loop) → Within (c .before .before .before .before .before .args .count - 1) (c .before .loop .m)
@@ -69,7 +65,7 @@ loop-again c =
       omega arith,
       c .grown .ensures
           ∙ rw (i .2, c .before .before .apart .ensures, o)
-          (grown-small (from-small (p .0) m k (omega (arith, i .1, small (p .0) (p .1)))) (omega (arith, between-small (p .0) m k)) (own-small (p .0) (placeIn l m) (joinsIn l m .own))
+          (grown-small (from-small (p .0) m k (omega (arith, i .1, small (p .0) (p .1)))) (omega (arith, between-small (p .0) m k)) (own-small (p .0) (placeIn (s .args .book .now) l m) (joinsIn l m .own))
           ∙ from-next (p .0) (p .1) m (i .0) (t .loop-test .taken)),
     )
 
@@ -86,9 +82,7 @@ core-of-spec =
     Inv-loop
     μ-loop
     begun-requires
-    mul-m
-    index-1-m
-    index-2-m
+    parent-of-requires
     loop-holds
     apart-requires
     mul-core-at
