@@ -1,27 +1,26 @@
 -- Laws. What is put of a block that is not refused is its summary; and the reply, test by test. Assumes nothing.
-use Prim.Native.Nat.{ℕ, suc, _+_, _*_, _%_, _≤_, _<_}
-use mathlib.Core.List.{List, _∷_, [], _++_}
-use mathlib.Core.Path.{_≡_, refl, sym, _∙_, ap}
+use Prim.Native.Nat.{ℕ, _%_, _≤_, _<_}
+use mathlib.Core.List.{List, []}
+use mathlib.Core.Path.{_≡_, refl, _∙_, ap}
 use native.Mathlib.Omega.{arith}
 use borrow.Author.Tests.{lt-ltb, le-ltb}
 use lib.ListN.{length}
 use lib.Seq.{sets}
-use Rattle.graph.specs.Graph.{Graph, Within}
+use Rattle.graph.specs.Graph.{Graph}
 use Rattle.graph.specs.Largest.{largest-below}
-use Rattle.reply.specs.Read.{Read, refused, read, _then_, refuseIf, refusal}
+use Rattle.reply.specs.Read.{refused, read, refusal}
 use Rattle.reply.specs.declared.Refusal.{Refusal}
-use Rattle.half.specs.Half.{mostAtoms}
 use Rattle.block.specs.Block.{graphOf, blockReply}
 use Rattle.block.specs.Index.{indicesOf}
 use Rattle.block.specs.Opened.{neighboursOf}
 use Rattle.block.specs.Told.{few-atoms, molecule}
 use Rattle.block.specs.declared.Indices.{Indices}
 use Rattle.records.specs.Bytes.{littleBytes}
+use Rattle.records.specs.Stored.{joined}
 use Rattle.summary.specs.Layout.{summaryHead, summaryBytes}
 use Rattle.summary.specs.Summary.{headOf, atomsFrom, summaryOf}
 use Rattle.filling.specs.Reply.{fillReply, filledSummary, fillBytes}
 use Rattle.filling.specs.Work.{nearBytes, firstBytes, totalBytes, headOn}
-use Rattle.filling.proofs.Laws.{joined}
 use Rattle.filling.proofs.Putting.{near-same}
 
 small : (x : ℕ) → x < 256 → x % 256 ≡ x

@@ -13,7 +13,7 @@ use Rattle.graph.specs.Graph.{Graph, Within, vertexSum}
 use Rattle.graph.specs.Farthest.{largest}
 use Rattle.graph.specs.Largest.{largest-over, largest-below}
 use Rattle.half.specs.Half.{table}
-use Rattle.reply.specs.Read.{refused, read, _then_}
+use Rattle.reply.specs.Read.{refused, read}
 use Rattle.reply.specs.declared.Refusal.{Refusal}
 use Rattle.reply.specs.declared.Reply.{Reply}
 use Rattle.reply.specs.declared.Reply.the-variants as reply

@@ -8,6 +8,16 @@ use lib.ListN.{length, getD, set, take, drop, length-take, length-drop, length-s
 use lib.Seq.{sets, length-sets, getD-set-same, getD-set-other, getD-take, getD-drop, ext-getD, take-nil, take-take, drop-drop}
 use Rattle.records.specs.Bytes.{byteAt, little, le16, part}
 
+-- what is stored behind what was stored
+sets-append : (xs ys l : List ℕ) (at : ℕ) → sets l at (xs ++ ys) ≡ sets (sets l at xs) (at + length xs) ys
+sets-append [] ys l at = let e : at ≡ at + 0 = omega arith in ap (λ (k : ℕ). sets l k ys) e
+sets-append (x ∷ xs) ys l at =
+    let e : suc at + length xs ≡ at + suc (length xs) = omega arith in
+    sets-append xs ys (set l at x) (suc at) ∙ ap (λ (k : ℕ). sets (sets (set l at x) (suc at) xs) k ys) e
+
+pub joined : (l : List ℕ) {m r : List ℕ} (xs ys : List ℕ) (at p : ℕ) → m ≡ sets l at xs → r ≡ sets m p ys → p ≡ at + length xs → r ≡ sets l at (xs ++ ys)
+joined l xs ys at p e f q = f ∙ ap₂ (λ (m : List ℕ) (k : ℕ). sets m k ys) e q ∙ sym (sets-append xs ys l at)
+
 -- a place that is not stored to
 abbrev pub Outside : ℕ → ℕ → ℕ → ℕ → Type 0
 Outside from len i n = (from + len ≤ i) ⊎ (i + n ≤ from)

@@ -6,7 +6,8 @@ use denote.Ref.{RefT, ptr, now}
 use Rattle.reply.specs.Read.{saidReply}
 use Rattle.reply.specs.Chain.{unique}
 use Rattle.reply.specs.declared.Reply.{Reply}
-use Rattle.records.specs.Bytes.{byteAt, little, PartOf}
+use lib.Seq.{sets}
+use Rattle.records.specs.Bytes.{byteAt, little, littleBytes, PartOf}
 use Rattle.records.specs.Records.{headBytes, sheetKind, lengthAt, sheetAt, recordReply}
 use Rattle.records.specs.declared.Kind.{Kind}
 use Rattle.records.specs.declared.Sheet.{Sheet}
@@ -27,6 +28,9 @@ module _ (d : List ℕ) (at : ℕ) where
 
   pub unique-sheet-at : (r s : Sheet) → r ≡ sheetAt d at → s ≡ sheetAt d at → r ≡ s
   unique-sheet-at r s = unique
+
+pub unique-put-little : (k n at : ℕ) (o p q : List ℕ) → p ≡ sets o at (littleBytes k n) → q ≡ sets o at (littleBytes k n) → p ≡ q
+unique-put-little k n at o p q = unique
 
 pub unique-sheet-kind : (k : Sheet) (r s : Kind) → r ≡ sheetKind k → s ≡ sheetKind k → r ≡ s
 unique-sheet-kind k r s = unique

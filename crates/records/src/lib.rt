@@ -1,4 +1,7 @@
 // Bytes, little-endian numbers and records: refusals 11 to 13.
+mod little;
+
+pub use little::put_little;
 ghost use mathlib.Core.Bool.{not};
 ghost use mathlib.Core.Path.{_≡_};
 ghost use mathlib.Core.List.{[], _∷_};

@@ -1,15 +1,15 @@
 -- Laws. Bytes stored one after the other: a number's, and a record's field by field. Assumes nothing.
-use Prim.Native.Nat.{ℕ, suc, _+_, _-_, _/_, _%_, _≤_, _<_, min}
+use Prim.Native.Nat.{ℕ, suc, _+_, _-_, _≤_, _<_, min}
 use mathlib.Core.List.{List, [], _∷_, _++_, append-nil}
 use mathlib.Core.Path.{_≡_, refl, sym, _∙_, ap, ap₂}
-use native.Mathlib.Nat.{add-zero}
 use native.Mathlib.Numerals.{add-one}
 use native.Mathlib.Omega.{arith}
 use borrow.Author.Tests.{lt-ltb, le-ltb, eq-eqb, ne-eqb}
 use lib.ListN.{length, getD, set, take, drop, replicate, length-set, drop-of-length-le}
-use lib.Seq.{sets, sets-eq, length-sets, length-take-le, drop-cons}
+use lib.Seq.{sets, sets-eq, length-take-le, drop-cons}
 use Rattle.block.specs.declared.Indices.{Indices}
 use Rattle.records.specs.Bytes.{little, littleBytes}
+use Rattle.records.specs.Stored.{joined}
 use Rattle.records.specs.Records.{headBytes, sheetKind, sheetAt}
 use Rattle.records.specs.declared.Kind.{Kind}
 use Rattle.records.specs.declared.Sheet.{Sheet}
@@ -19,34 +19,6 @@ use Rattle.sheets.specs.Sheets.{allFields, allWidths, fieldCount, widths
 use Rattle.sheets.specs.Along.{widthsTotal, Narrow}
 use Rattle.sheets.specs.Back.{length-little, length-sheet, fields-some}
 
--- a byte is stored, and then the rest; at the end nothing is left
-pub one-byte : (out : List ℕ) (k end n : ℕ) → k < end → sets out k (littleBytes (end - k) n) ≡ sets (set out k (n % 256)) (k + 1) (littleBytes (end - (k + 1)) (n / 256))
-unfolding littleBytes
-one-byte out k end n h = let e : end - k ≡ suc (end - (k + 1)) = omega arith in rw (e, add-one k)
-
-pub no-byte : (out : List ℕ) (k end n : ℕ) → end ≤ k → sets out k (littleBytes (end - k) n) ≡ out
-unfolding littleBytes
-no-byte out k end n h = let e : end - k ≡ 0 = omega arith in rw e
-
-sets-more : (l : List ℕ) (i : ℕ) (xs ys : List ℕ) → sets l i (xs ++ ys) ≡ sets (sets l i xs) (i + length xs) ys
-sets-more l i [] ys = ap (λ (n : ℕ). sets l n ys) (sym (add-zero i))
-sets-more l i (x ∷ xs) ys =
-    let e : suc i + length xs ≡ i + suc (length xs) = omega arith in
-    sets-more (set l i x) (suc i) xs ys ∙ ap (λ (n : ℕ). sets (sets (set l i x) (suc i) xs) n ys) e
-
--- two, four and eight bytes, one behind the other
-pub two : (l : List ℕ) {m r : List ℕ} (at x : ℕ) → m ≡ set l at (x % 256) → r ≡ set m (at + 1) (x / 256 % 256) → r ≡ sets l at (littleBytes 2 x)
-unfolding littleBytes
-two l at x e f = f ∙ rw (e, add-one at)
-
-pub four : (l : List ℕ) {m r : List ℕ} (at x : ℕ) → m ≡ sets l at (littleBytes 2 x) → r ≡ sets m (at + 2) (littleBytes 2 (x / 256 / 256)) → r ≡ sets l at (littleBytes 4 x)
-unfolding littleBytes
-four l at x e f = f ∙ ap (λ (m : List ℕ). sets m (at + 2) (littleBytes 2 (x / 256 / 256))) e ∙ sym (sets-more l at (littleBytes 2 x) (littleBytes 2 (x / 256 / 256)))
-
-pub eight : (l : List ℕ) {m r : List ℕ} (at x : ℕ) → m ≡ sets l at (littleBytes 4 x) → r ≡ sets m (at + 4) (littleBytes 4 (x / 256 / 256 / 256 / 256)) → r ≡ sets l at (littleBytes 8 x)
-unfolding littleBytes
-eight l at x e f = f ∙ ap (λ (m : List ℕ). sets m (at + 4) (littleBytes 4 (x / 256 / 256 / 256 / 256))) e ∙ sym (sets-more l at (littleBytes 4 x) (littleBytes 4 (x / 256 / 256 / 256 / 256)))
-
 pub length-fields : (ws d : List ℕ) (at : ℕ) → length (fieldsAt ws d at) ≡ length ws
 unfolding fieldsAt
 length-fields [] d at = refl
@@ -55,38 +27,28 @@ length-fields (w ∷ ws) d at = ap suc (length-fields ws d (at + w))
 -- a field is put, and then the rest
 one-field : (a b : List ℕ) (at w x : ℕ) (ws xs : List ℕ) → b ≡ sets a at (littleBytes w x) → sets a at (fieldBytes (w ∷ ws) (x ∷ xs)) ≡ sets b (at + w) (fieldBytes ws xs)
 unfolding fieldBytes
-one-field a b at w x ws xs e = rw e (sets-more a at (littleBytes w x) (fieldBytes ws xs) ∙ ap (λ (n : ℕ). sets (sets a at (littleBytes w x)) (at + n) (fieldBytes ws xs)) (length-little w x))
+one-field a b at w x ws xs e = sym (joined a (littleBytes w x) (fieldBytes ws xs) at (at + w) e refl (ap (λ (n : ℕ). at + n) (sym (length-little w x))))
 
--- Along a list of widths: what was put before i, and what is left from there.
-pub record Putting (ws xs out₀ : List ℕ) (from i at : ℕ) (out : List ℕ) : Type 0 where
-  pub more : sets out₀ from (fieldBytes ws xs) ≡ sets out at (fieldBytes (drop i ws) (drop i xs))
-  pub room : at + widthsTotal (drop i ws) ≤ length out₀
-  pub same : length out ≡ length out₀
+pub two-fields : (o : List ℕ) {o₁ o₂ : List ℕ} (n k : ℕ) → o₁ ≡ sets o 0 (littleBytes 2 n) → o₂ ≡ sets o₁ 2 (littleBytes 2 k) → o₂ ≡ sets o 0 (fieldBytes (2 ∷ 2 ∷ []) (n ∷ k ∷ []))
+unfolding fieldBytes
+two-fields o {o₁} {o₂} n k e f = sym (one-field o o₁ 0 2 n (2 ∷ []) (k ∷ []) e ∙ one-field o₁ o₂ 2 2 k [] [] f)
 
-module _ {ws xs out₀ : List ℕ} {from : ℕ} where
-  pub put-none : from + widthsTotal ws ≤ length out₀ → Putting ws xs out₀ from 0 from out₀
-  put-none h = record { more = refl; room = h; same = refl }
+pub five-fields : (o : List ℕ) {o₁ o₂ o₃ o₄ o₅ : List ℕ} (a b c d e : ℕ) → o₁ ≡ sets o 4 (littleBytes 4 a) → o₂ ≡ sets o₁ 8 (littleBytes 8 b) → o₃ ≡ sets o₂ 16 (littleBytes 8 c)
+    → o₄ ≡ sets o₃ 24 (littleBytes 8 d) → o₅ ≡ sets o₄ 32 (littleBytes 8 e) → o₅ ≡ sets o headBytes (fieldBytes (widths Five) (a ∷ b ∷ c ∷ d ∷ e ∷ []))
+unfolding fieldBytes widths
+five-fields o {o₁} {o₂} {o₃} {o₄} {o₅} a b c d e p q r s t =
+    sym (one-field o o₁ 4 4 a (8 ∷ 8 ∷ 8 ∷ 8 ∷ []) (b ∷ c ∷ d ∷ e ∷ []) p ∙ one-field o₁ o₂ 8 8 b (8 ∷ 8 ∷ 8 ∷ []) (c ∷ d ∷ e ∷ []) q
+    ∙ one-field o₂ o₃ 16 8 c (8 ∷ 8 ∷ []) (d ∷ e ∷ []) r ∙ one-field o₃ o₄ 24 8 d (8 ∷ []) (e ∷ []) s ∙ one-field o₄ o₅ 32 8 e [] [] t)
 
-  module _ {i at : ℕ} {out : List ℕ} where
-    pub put-room : i < length ws → Putting ws xs out₀ from i at out → at + getD ws i 0 ≤ length out
-    unfolding widthsTotal
-    put-room l p = omega (arith, rw (drop-cons ws i 0 l) at (p .room), p .same)
+pub fields-five : (s : Sheet) (x : Indices) (o : List ℕ) {o₁ : List ℕ} → s ≡ Five → o₁ ≡ sets o headBytes (fieldBytes (widths Five) (x .atoms ∷ x .w ∷ x .even ∷ x .odd ∷ x .polarity ∷ []))
+    → o₁ ≡ sets o headBytes (fieldBytes (widths s) (fieldsOf s x))
+unfolding fieldsOf allFields
+fields-five s x o q e = rw q e
 
-    pub put-one : (next : List ℕ) → i < length ws → length xs ≡ length ws → next ≡ sets out at (littleBytes (getD ws i 0) (getD xs i 0)) → Putting ws xs out₀ from i at out
-        → Putting ws xs out₀ from (i + 1) (at + getD ws i 0) next
-    unfolding widthsTotal
-    put-one next l e q p =
-        let w = getD ws i 0 in
-        let x = getD xs i 0 in
-        record {
-          more = rw (add-one i) (p .more ∙ ap₂ (λ (vs ys : List ℕ). sets out at (fieldBytes vs ys)) (drop-cons ws i 0 l) (drop-cons xs i 0 (omega arith)) ∙ one-field out next at w x (drop (suc i) ws) (drop (suc i) xs) q);
-          room = rw (add-one i) (omega (arith, rw (drop-cons ws i 0 l) at (p .room)));
-          same = rw q (length-sets out at (littleBytes w x) ∙ p .same);
-        }
-
-    pub put-all : length ws ≤ i → Putting ws xs out₀ from i at out → out ≡ sets out₀ from (fieldBytes ws xs)
-    unfolding fieldBytes
-    put-all h p = sym (p .more ∙ ap (λ (vs : List ℕ). sets out at (fieldBytes vs (drop i xs))) (drop-of-length-le ws {i = i} h))
+pub fields-six : (s : Sheet) (x : Indices) (o : List ℕ) {o₁ o₂ : List ℕ} → s ≡ Six → o₁ ≡ sets o headBytes (fieldBytes (widths Five) (x .atoms ∷ x .w ∷ x .even ∷ x .odd ∷ x .polarity ∷ []))
+    → o₂ ≡ sets o₁ 40 (littleBytes 4 (x .largest)) → o₂ ≡ sets o headBytes (fieldBytes (widths s) (fieldsOf s x))
+unfolding fieldsOf allFields widths fieldBytes littleBytes
+fields-six s x o q e f = rw q (joined o (fieldBytes (widths Five) (x .atoms ∷ x .w ∷ x .even ∷ x .odd ∷ x .polarity ∷ [])) (littleBytes 4 (x .largest)) 4 40 e f refl)
 
 -- And of reading.
 pub fields-past : (ws d : List ℕ) (at : ℕ) → length d ≤ at → fieldsAt ws d at ≡ replicate (length ws) 0
@@ -152,22 +114,18 @@ module _ (s : Sheet) (x : Indices) where
       rw (le-ltb (length out) (sheetBytes s) h) (sym e ∙ sets-eq r out 0 (omega (arith, length-sheet s x)) ∙ ap (λ (n : ℕ). take 0 out ++ r ++ drop n out) l)
 
   -- the head and the fields, put one after the other
-  pub head-and-fields : (o o₁ o₂ ws xs : List ℕ) (k : Kind) → sheetBytes s ≤ length o → k ≡ sheetKind s → o₁ ≡ sets o 0 (fieldBytes (2 ∷ 2 ∷ []) (k .fixed ∷ k .number ∷ []))
-      → ws ≡ widths s → xs ≡ fieldsOf s x → o₂ ≡ sets o₁ 4 (fieldBytes ws xs) → o₂ ≡ sheetPut s o (fieldsOf s x)
+  pub head-and-fields : (o o₁ o₂ : List ℕ) (k : Kind) → sheetBytes s ≤ length o → k ≡ sheetKind s → o₁ ≡ sets o 0 (fieldBytes (2 ∷ 2 ∷ []) (k .fixed ∷ k .number ∷ []))
+      → o₂ ≡ sets o₁ headBytes (fieldBytes (widths s) (fieldsOf s x)) → o₂ ≡ sheetPut s o (fieldsOf s x)
   unfolding sheetRecord
-  head-and-fields o o₁ o₂ ws xs k h e a b c d =
+  head-and-fields o o₁ o₂ k h e a d =
       let f = a ∙ ap (λ (k : Kind). sets o 0 (fieldBytes (2 ∷ 2 ∷ []) (k .fixed ∷ k .number ∷ []))) e in
-      whole o o₂ h (head-first o o₁ (sheetKind s .fixed) (sheetKind s .number) (widths s) (fieldsOf s x) f ∙ sym (d ∙ ap₂ (λ (vs ys : List ℕ). sets o₁ 4 (fieldBytes vs ys)) b c))
+      whole o o₂ h (head-first o o₁ (sheetKind s .fixed) (sheetKind s .number) (widths s) (fieldsOf s x) f ∙ sym d)
 
   pub too-short : (out : List ℕ) → length out < sheetBytes s → out ≡ sheetPut s out (fieldsOf s x)
   unfolding sheetPut
   too-short out h = rw (lt-ltb (length out) (sheetBytes s) h)
 
 -- of all fields, those of a sheet
-pub widths-taken : (s : Sheet) (n : ℕ) (ws : List ℕ) → n ≡ fieldCount s → ws ≡ allWidths → take n ws ≡ widths s
-unfolding widths
-widths-taken s n ws e f = ap₂ (λ (m : ℕ) (vs : List ℕ). take m vs) e f
-
 pub fields-taken : (s : Sheet) (x : Indices) (n : ℕ) (xs : List ℕ) → n ≡ fieldCount s → xs ≡ allFields x → take n xs ≡ fieldsOf s x
 unfolding fieldsOf
 fields-taken s x n xs e f = ap₂ (λ (m : ℕ) (ys : List ℕ). take m ys) e f

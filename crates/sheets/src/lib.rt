@@ -1,20 +1,19 @@
-// The sheet: a list of fields, each in so many bytes, of which a sheet of five has all but the last. It is read, written and compared by going along that list.
-mod store;
-
+// The sheet: a list of fields, each in so many bytes, of which a sheet of five has all but the last. It is read and compared by going along that list.
 ghost use mathlib.Core.Path.{_≡_};
-ghost use Prim.Native.Nat.{_+_, _^_, _≤_, _<_};
-ghost use lib.ListN.{length, take};
+ghost use mathlib.Core.List.{[], _∷_};
+ghost use Prim.Native.Nat.{_+_, _^_, _<_};
+ghost use lib.ListN.{length};
 ghost use lib.Seq.{sets};
 ghost use Rattle.records.specs.Records.{headBytes, sheetAt};
-ghost use Rattle.sheets.specs.Sheets.{fieldCount, allFields, allWidths, fieldsOf, fieldsAt, claimedAt, fieldBytes, sheetBytes, sheetPut, firstWrong};
+ghost use Rattle.sheets.specs.Sheets.{fieldCount, allFields, allWidths, widths as widthsOf, fieldsOf, fieldsAt, claimedAt, fieldBytes, sheetBytes, sheetPut, firstWrong};
 ghost use Rattle.sheets.specs.Along.{widthsTotal, Narrow};
 use block::Indices;
 use records::HEAD;
 use records::Sheet;
 use records::little_at;
+use records::put_little;
 use records::sheet_at;
 use records::sheet_kind;
-use store::put;
 
 // How many fields there are.
 const FIELDS: usize = 6;
@@ -81,18 +80,33 @@ fn claimed(d: &[u8], sheet: usize) -> Fields
     fields
 }
 
-// Puts numbers into fields of some widths, one after the other from a place on.
-fn put_fields(out: &mut [u8], from: usize, widths: &[usize], fields: &[u64])
-    requires { ⌜ (length (now fields) ≡ length (now widths)) × (from + widthsTotal (now widths) ≤ length (now out)) ⌝ }
-    ensures { λ _. ⌜ now (out .exit) ≡ sets (now (out .entry)) from (fieldBytes (now (widths .entry)) (now (fields .entry))) ⌝ }
+// Puts the head of a record.
+fn put_head(out: &mut [u8], length: u64, number: u64)
+    ensures { λ _. ⌜ now (out .exit) ≡ sets (now (out .entry)) 0 (fieldBytes (2 ∷ 2 ∷ []) (length ∷ number ∷ [])) ⌝ }
 {
-    let mut at = from;
-    let mut i = 0;
-    while i < widths.len() {
-        let w = widths[i];
-        put(out, at, w, fields[i]);
-        at += w;
-        i += 1;
+    put_little(out, 0, 2, length);
+    put_little(out, 2, 2, number);
+}
+
+// Puts the five fields that both sheets have, behind the head.
+fn put_five(out: &mut [u8], atoms: u64, w: u64, even: u64, odd: u64, polarity: u64)
+    ensures { λ _. ⌜ now (out .exit) ≡ sets (now (out .entry)) headBytes (fieldBytes (widthsOf Sheet.Five) (atoms ∷ w ∷ even ∷ odd ∷ polarity ∷ [])) ⌝ }
+{
+    put_little(out, 4, 4, atoms);
+    put_little(out, 8, 8, w);
+    put_little(out, 16, 8, even);
+    put_little(out, 24, 8, odd);
+    put_little(out, 32, 8, polarity);
+}
+
+// Puts the fields of a sheet.
+fn put_fields(out: &mut [u8], sheet: Sheet, x: Indices)
+    ensures { λ _. ⌜ now (out .exit) ≡ sets (now (out .entry)) headBytes (fieldBytes (widthsOf sheet) (fieldsOf sheet x)) ⌝ }
+{
+    put_five(out, x.atoms, x.w, x.even, x.odd, x.polarity);
+    match sheet {
+        Sheet::Five => {}
+        Sheet::Six => put_little(out, 40, 4, x.largest),
     }
 }
 
@@ -104,13 +118,8 @@ pub fn put_sheet(out: &mut [u8], sheet: Sheet, x: Indices)
         return;
     }
     let kind = sheet_kind(sheet);
-    let twos = [2usize, 2];
-    let head = [kind.fixed as u64, kind.number as u64];
-    put_fields(out, 0, &twos, &head);
-    let n = field_count(sheet);
-    let w = widths();
-    let fields = fields_of(x);
-    put_fields(out, HEAD, &w[..n], &fields[..n]);
+    put_head(out, kind.fixed as u64, kind.number as u64);
+    put_fields(out, sheet, x);
 }
 
 // The first of some fields, counted from 1, in which two lists of them differ, or 0.

@@ -36,7 +36,7 @@ put-atoms-requires c κs =
     let o = i .before .before .before .before in
     let a = o .before .before .before .before .args in
     let (f, x) = indices-fine (a .n) (a .bonds .now) _ (sym (o .opened .ensures .0) ∙ i .before .before .reply2 .given .1) in
-    (few-atoms (a .n) (a .bonds .now) f .high, omega (arith, c .before .before .before .out .given, i .if1 .left))
+    few-atoms (a .n) (a .bonds .now) f .high
 
 returns-2 : tie.Need-returns-2
 returns-2 c =

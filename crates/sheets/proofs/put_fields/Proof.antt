@@ -1,70 +1,45 @@
--- `sheets::put_fields` meets its contract. The loop's invariant: what is left to put makes of the buffer what all of it makes of the first one.
-use Prim.Native.Nat.{_-_}
-use mathlib.Core.Path.{_≡_}
-use native.Mathlib.Omega.{arith}
+-- `sheets::put_fields` meets its contract.
+use Rattle.sheets.proofs.Puts.{fields-five, fields-six}
 use borrow.Author.Needs.{needs}
-use lib.ListN.{length}
-use Rattle.sheets.proofs.Puts.{Putting, put-none, put-room, put-one, put-all}
 use Rattle.sheets.proofs.put_fields.Statement.{statement}
 use Rattle.sheets.proofs.put_fields.Tie as tie
 
-abbrev Inv-loop : tie.InvT-loop
-Inv-loop out₀ from widths fields at₀ i₀ out at i = (length fields ≡ length widths) × Putting widths fields out₀ from i at out
+put-five-requires : tie.Need-put-five-requires
+put-five-requires c κs = search needs
 
-abbrev μ-loop : tie.MeasureT-loop
-μ-loop out₀ from widths fields at₀ i₀ out at i = length widths - i
+enum-told : tie.Need-enum-told
+enum-told c = search needs
 
-loop-holds : tie.Need-loop-holds Inv-loop μ-loop
-loop-holds c = let p = c .before .before .before .pre in (p .0, put-none (p .1))
+enum-told-2 : tie.Need-enum-told-2
+enum-told-2 c = search needs
 
-mul-w : tie.Need-mul-w Inv-loop μ-loop
-mul-w c = search needs
+put-little-requires : tie.Need-put-little-requires
+put-little-requires c κs = search needs
 
-shared-slice-read-w : tie.Need-shared-slice-read-w Inv-loop μ-loop
-shared-slice-read-w c = search needs
-
-mul-put : tie.Need-mul-put Inv-loop μ-loop
-mul-put c = let l = c .before .before .before .loop in omega (arith, l .inv .0, c .before .before .loop-test .taken)
-
-shared-slice-read-put : tie.Need-shared-slice-read-put Inv-loop μ-loop
-shared-slice-read-put c = let l = c .before .before .before .before .loop in omega (arith, l .inv .0, c .before .before .before .loop-test .taken)
-
-put-requires : tie.Need-put-requires Inv-loop μ-loop
-put-requires c κs = let l = c .before .before .before .before .loop in put-room (c .before .before .before .loop-test .taken) (l .inv .1)
-
-add-at : tie.Need-add-at Inv-loop μ-loop
-add-at c = let l = c .before .before .before .before .before .before .before .loop in omega (arith, put-room (c .before .before .before .before .before .before .loop-test .taken) (l .inv .1))
-
-add-i : tie.Need-add-i Inv-loop μ-loop
-add-i c = search needs
-
-loop-less : tie.Need-loop-less Inv-loop μ-loop
-loop-less c = search needs
-
-loop-again : tie.Need-loop-again Inv-loop μ-loop
-loop-again c = let l = c .before .before .before .before .before .before .before .loop in (l .inv .0, put-one _ (c .before .before .before .before .before .before .loop-test .taken) (l .inv .0) (c .before .before .put .ensures) (l .inv .1))
-
-same-length : tie.Need-same-length Inv-loop μ-loop
+same-length : tie.Need-same-length
 same-length c = search needs
 
-returns : tie.Need-returns Inv-loop μ-loop
-returns c = let l = c .before .loop in put-all (omega (arith, c .loop-test .left)) (l .inv .1)
+returns : tie.Need-returns
+returns c = let a = c .before .before .before .before .before .before .before .args in fields-five (a .sheet) (a .x) (a .out .now) (c .enum-told .given .1) (c .before .before .before .before .put-five .ensures)
+
+same-length-2 : tie.Need-same-length-2
+same-length-2 c = search needs
+
+returns-2 : tie.Need-returns-2
+returns-2 c =
+    let i = c .before .before .before .before in
+    let a = i .before .before .before .before .before .before .before .args in
+    fields-six (a .sheet) (a .x) (a .out .now) (i .enum-told2 .given .1) (i .before .before .before .before .put-five .ensures) (c .before .before .put-little .ensures)
 
 pub put-fields-spec : {M : Type 1} → statement M
 put-fields-spec =
     tie.close
     (tie.spec
-    Inv-loop
-    μ-loop
-    loop-holds
-    mul-w
-    shared-slice-read-w
-    mul-put
-    shared-slice-read-put
-    put-requires
-    add-at
-    add-i
-    loop-less
-    loop-again
+    put-five-requires
+    enum-told
+    enum-told-2
+    put-little-requires
     same-length
-    returns)
+    returns
+    same-length-2
+    returns-2)

@@ -1,6 +1,7 @@
 -- `put_atoms` meets its contract. The loop's invariant: what is left to put makes of the bytes what all of it makes of the first ones.
 use Prim.Native.Nat.{_-_}
 use native.Mathlib.Omega.{arith}
+use borrow.Author.Needs.{needs}
 use Rattle.filling.proofs.Putting.{AtomsPut, atoms-start, atoms-next, atoms-end}
 use Rattle.filling.proofs.atoms.put_atoms.Statement.{statement}
 use Rattle.filling.proofs.atoms.put_atoms.Tie as tie
@@ -14,26 +15,23 @@ abbrev μ-loop : tie.MeasureT-loop
 loop-holds : tie.Need-loop-holds Inv-loop μ-loop
 loop-holds c = atoms-start _ _ _
 
-mul-put8 : tie.Need-mul-put8 Inv-loop μ-loop
-mul-put8 c = let p = c .before .before .before .before .pre in omega (arith, p .0, c .before .loop-test .taken)
+mul-put-little : tie.Need-mul-put-little Inv-loop μ-loop
+mul-put-little c = let p = c .before .before .before .before .pre in omega (arith, p, c .before .loop-test .taken)
 
-add-put8 : tie.Need-add-put8 Inv-loop μ-loop
-add-put8 c = let p = c .before .before .before .before .pre in omega (arith, p .0, c .before .loop-test .taken)
+add-put-little : tie.Need-add-put-little Inv-loop μ-loop
+add-put-little c = let p = c .before .before .before .before .pre in omega (arith, p, c .before .loop-test .taken)
 
-mul-put8-2 : tie.Need-mul-put8-2 Inv-loop μ-loop
-mul-put8-2 c = let p = c .before .before .before .before .pre in omega (arith, p .0, c .before .loop-test .taken)
+mul-put-little-2 : tie.Need-mul-put-little-2 Inv-loop μ-loop
+mul-put-little-2 c = let p = c .before .before .before .before .pre in omega (arith, p, c .before .loop-test .taken)
 
-element-copy-out-put8 : tie.Need-element-copy-out-put8 Inv-loop μ-loop
-element-copy-out-put8 c = let p = c .before .before .before .before .pre in omega (arith, p .0, c .before .loop-test .taken)
+element-copy-out-put-little : tie.Need-element-copy-out-put-little Inv-loop μ-loop
+element-copy-out-put-little c = let p = c .before .before .before .before .pre in omega (arith, p, c .before .loop-test .taken)
 
-put8-requires : tie.Need-put8-requires Inv-loop μ-loop
-put8-requires c κs =
-    let t = c .before .before in
-    let p = t .before .before .before .pre in
-    omega (arith, p .0, p .1, t .loop-test .taken, t .before .loop .inv .size)
+put-little-requires : tie.Need-put-little-requires Inv-loop μ-loop
+put-little-requires c κs = search needs
 
 add-i : tie.Need-add-i Inv-loop μ-loop
-add-i c = let t = c .before .before .before .before .before in omega (arith, t .before .before .before .pre .0, t .loop-test .taken)
+add-i c = let t = c .before .before .before .before .before in omega (arith, t .before .before .before .pre, t .loop-test .taken)
 
 loop-less : tie.Need-loop-less Inv-loop μ-loop
 loop-less c = omega (arith, c .before .before .before .before .before .loop-test .taken)
@@ -41,7 +39,7 @@ loop-less c = omega (arith, c .before .before .before .before .before .loop-test
 loop-again : tie.Need-loop-again Inv-loop μ-loop
 loop-again c =
     let t = c .before .before .before .before .before in
-    atoms-next (t .before .loop .inv) (t .loop-test .taken) (c .before .out .given) (c .before .before .put8 .ensures)
+    atoms-next (t .before .loop .inv) (t .loop-test .taken) (c .before .before .put-little .ensures)
 
 same-length : tie.Need-same-length Inv-loop μ-loop
 same-length c = c .before .loop .inv .size
@@ -56,11 +54,11 @@ put-atoms-spec =
     Inv-loop
     μ-loop
     loop-holds
-    mul-put8
-    add-put8
-    mul-put8-2
-    element-copy-out-put8
-    put8-requires
+    mul-put-little
+    add-put-little
+    mul-put-little-2
+    element-copy-out-put-little
+    put-little-requires
     add-i
     loop-less
     loop-again

@@ -1,8 +1,8 @@
--- `sheets::store::put2` meets its contract. Assumes nothing.
-use Rattle.sheets.proofs.Puts.{two}
+-- `records::little::put2` meets its contract. Assumes nothing.
+use Rattle.records.proofs.Putting.{two}
 use borrow.Author.Needs.{needs}
-use Rattle.sheets.proofs.store.put2.Statement.{statement}
-use Rattle.sheets.proofs.store.put2.Tie as tie
+use Rattle.records.proofs.little.put2.Statement.{statement}
+use Rattle.records.proofs.little.put2.Tie as tie
 
 put1-requires : tie.Need-put1-requires
 put1-requires c κs = search needs

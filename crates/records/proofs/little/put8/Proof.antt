@@ -1,8 +1,8 @@
--- `sheets::store::put8` meets its contract. Assumes nothing.
-use Rattle.sheets.proofs.Puts.{eight}
+-- `records::little::put8` meets its contract. Assumes nothing.
+use Rattle.records.proofs.Putting.{eight}
 use borrow.Author.Needs.{needs}
-use Rattle.sheets.proofs.store.put8.Statement.{statement}
-use Rattle.sheets.proofs.store.put8.Tie as tie
+use Rattle.records.proofs.little.put8.Statement.{statement}
+use Rattle.records.proofs.little.put8.Tie as tie
 
 put4-requires : tie.Need-put4-requires
 put4-requires c κs = search needs

@@ -1,9 +1,10 @@
-// Numbers put into lent bytes at a place that is there. One of four or eight bytes is told in bytes, one behind the other, so that they are stored at once.
+// Numbers put into lent bytes. One of four or eight bytes that are there is told in bytes, one behind the other, so that they are stored at once.
+ghost use mathlib.Core.Bool.{true};
 ghost use mathlib.Core.Path.{_≡_};
 ghost use Prim.Native.Nat.{_+_, _%_, _≤_, _<_};
 ghost use lib.ListN.{length, set};
 ghost use lib.Seq.{sets};
 ghost use Rattle.records.specs.Bytes.{littleBytes};
 
 fn low(x: u64) -> u8
     ensures { λ r. ⌜ r ≡ x % 256 ⌝ }
@@ -42,31 +43,43 @@ fn put8(out: &mut [u8], at: usize, x: u64)
     put4(out, at + 4, x / 256 / 256 / 256 / 256);
 }
 
-// Byte by byte, as many as `width` says.
+// Byte by byte, those of `width` that there are.
 fn put_bytes(out: &mut [u8], at: usize, width: usize, n: u64)
-    requires { ⌜ at + width ≤ length (now out) ⌝ }
     ensures { λ _. ⌜ now (out .exit) ≡ sets (now (out .entry)) at (littleBytes width n) ⌝ }
 {
-    let end = at + width;
     let mut k = at;
+    let mut left = width;
     let mut rest = n;
-    while k < end {
-        out[k] = (rest % 256) as u8;
+    while left != 0 && k < out.len() {
+        out[k] = low(rest);
         rest = rest / 256;
         k += 1;
+        left -= 1;
     }
 }
 
-// Puts a number into as many bytes as `width` says, from a place on, little-endian.
-pub(crate) fn put(out: &mut [u8], at: usize, width: usize, n: u64)
-    requires { ⌜ at + width ≤ length (now out) ⌝ }
+// Whether a number takes w bytes, and all of them are there.
+fn is_whole(len: usize, at: usize, width: usize, w: usize) -> bool
+    ensures { λ r. ⌜ (r ≡ true → (width ≡ w) × (at + w ≤ len)) ⌝ }
+{
+    if width != w {
+        return false;
+    }
+    if len < w {
+        return false;
+    }
+    at <= len - w
+}
+
+// A number in as many bytes as `width` says, from a place on, little-endian. Bytes that are not there are left out.
+pub fn put_little(out: &mut [u8], at: usize, width: usize, n: u64)
     ensures { λ _. ⌜ now (out .exit) ≡ sets (now (out .entry)) at (littleBytes width n) ⌝ }
 {
-    if width == 8 {
+    if is_whole(out.len(), at, width, 8) {
         put8(out, at, n);
         return;
     }
-    if width == 4 {
+    if is_whole(out.len(), at, width, 4) {
         put4(out, at, n);
         return;
     }
