@@ -27,7 +27,7 @@ module _ (parts : ℕ → Part) (joins : ℕ → Join) where
   abbrev far : ℕ → ℕ → ℕ → ℕ → ℕ → ℕ
   far m k i l j = farIn parts joins m k i l j
 
-  -- the three ways of a turn at an index that k or l may not have
+  -- a turn, whether k or l is its index or not
   turn : (m k i l j : ℕ) (s t : Bool) → eqb k (suc m) ≡ s → eqb l (suc m) ≡ t → ℕ
   turn m k i l j true true e f = parts (suc m) .far i j
   turn m k i l j true false e f = parts (suc m) .far (joins (suc m) .own) i + 1 + far m (joins (suc m) .parent - 1) (joins (suc m) .site) l j
@@ -42,11 +42,11 @@ module _ (parts : ℕ → Part) (joins : ℕ → Join) where
   turned m k i l j false false e f = rw (e, farIn) (rw f)
 
   -- a placement behind the last counts as the first
-  pub record Lost (m : ℕ) : Type 0 where
-    pub one : (k i l j : ℕ) → m < k → far m k i l j ≡ far m 0 i l j
-    pub two : (k i l j : ℕ) → m < l → far m k i l j ≡ far m k i 0 j
+  record Lost (m : ℕ) : Type 0 where
+    one : (k i l j : ℕ) → m < k → far m k i l j ≡ far m 0 i l j
+    two : (k i l j : ℕ) → m < l → far m k i l j ≡ far m k i 0 j
 
-  pub lost : (m : ℕ) → Lost m
+  lost : (m : ℕ) → Lost m
   unfolding farIn turn
   lost zero = record { one = λ k i l j h. refl; two = λ k i l j h. refl }
   lost (suc m) = next (lost m)

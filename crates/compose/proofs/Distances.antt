@@ -1,5 +1,5 @@
 -- What is replied to a query of two placed atoms, and the number over the book that is filled while a deck is read. Assumes nothing.
-use Prim.Native.Nat.{ℕ, _*_, _-_, _<_, _≤_}
+use Prim.Native.Nat.{ℕ, _-_, _<_}
 use mathlib.Core.Bool.{true, false, _||_}
 use mathlib.Core.List.{List}
 use mathlib.Core.Path.{_≡_, sym, _∙_, ap}
@@ -12,9 +12,8 @@ use Rattle.reply.specs.declared.Refusal.{Refusal}
 use Rattle.block.specs.Index.{saidDistance}
 use Rattle.block.specs.declared.DistanceReply.the-variants as distance
 use Rattle.records.specs.Records.{payloadAt, assemblyKind}
-use Rattle.assembly.specs.Book.{bookOf, mostBlocks}
+use Rattle.assembly.specs.Book.{bookOf}
 use Rattle.assembly.specs.Placements.{placementCount, placementAt, graphOn, joinOn}
-use Rattle.summary.specs.Layout.{summaryBytes}
 use Rattle.deck.specs.Deck.{Deck, deckReply}
 use Rattle.deck.specs.Filled.{openBook}
 use Rattle.deck.specs.Kept.{kept}
@@ -22,7 +21,9 @@ use Rattle.deck.specs.Molecule.{placedIn, graphAt, joinAt, moleculeOf}
 use Rattle.deck.specs.Placed.{isMissing, placedDistanceReply}
 use Rattle.deck.specs.Present.{present}
 use Rattle.deck.specs.Sound.{parts}
+use Rattle.deck.specs.Unfilled.{Unfilled}
 use Rattle.deck.specs.declared.Form.the-variants.{Composed}
+use Rattle.deck.proofs.Few.{few-heads}
 use Rattle.deck.proofs.Filled.{book-short}
 use Rattle.deck.proofs.Honest.{honest-read}
 use Rattle.climb.specs.Far.{placedFar}
@@ -43,16 +44,16 @@ module _ (d : List ℕ) (k i l j : ℕ) where
       unfolding placedDistanceReply moleculeOf
       reply-far = rw (e, m, n)
 
-      pub book-far : ((p : ℕ) → getD d p 0 < 256) → (b new : List ℕ) → summaryBytes * mostBlocks ≤ length b → ((p : ℕ) → getD b p 0 ≡ 0) → new ≡ openBook assemblyKind d b → length new ≡ length b
+      pub book-far : ((p : ℕ) → getD d p 0 < 256) → (b new : List ℕ) → Unfilled d b → new ≡ openBook assemblyKind d b → length new ≡ length b
           → (xs : List ℕ) → xs ≡ payloadAt d (deck .assembly) → (r : ℕ) → r ≡ placedFar new xs k i l j → distance.Of r ≡ saidDistance (placedDistanceReply d k i l j)
       unfolding graphAt joinAt placedIn
-      book-far bytes b new room none f same xs g r h =
+      book-far bytes b new u f same xs g r h =
           let p = parts Composed d deck e in
           let q = kept assemblyKind d (p .blocks) in
           let book = bookOf d (deck .blocks) in
           let pay = payloadAt d (deck .assembly) in
           let c : deck .placements ≡ placementCount pay = ap (λ (x : Deck). x .placements) (q .places) in
-          let honest = honest-read assemblyKind d bytes b new (omega (arith, q .few, room)) none (p .blocks) (f ∙ book-short assemblyKind d b (p .short)) same in
+          let honest = honest-read assemblyKind d bytes b new (omega (arith, few-heads assemblyKind d (p .blocks), u .room)) (u .none) (p .blocks) (f ∙ book-short assemblyKind d b (p .short)) same in
           let one : Placed (graphOn book (placementAt pay)) (placementCount pay - 1) k i = rw (← c) (present d deck k i m) in
           let two : Placed (graphOn book (placementAt pay)) (placementCount pay - 1) l j = rw (← c) (present d deck l j n) in
           let w = far-written new book pay honest (p .assembly) one two in

@@ -1,24 +1,25 @@
 // The distance of two placed atoms of a deck, over the book that is filled while its blocks are read.
 ghost use mathlib.Core.Path.{_≡_};
-ghost use Prim.Native.Nat.{ℕ, _*_, _≤_};
-ghost use lib.ListN.{length, getD};
+ghost use Prim.Native.Nat.{_≤_};
 ghost use Rattle.block.specs.Index.{saidDistance};
 ghost use Rattle.assembly.specs.Book.{mostBlocks};
-ghost use Rattle.summary.specs.Layout.{summaryBytes};
 ghost use Rattle.deck.specs.Placed.{placedDistanceReply};
+ghost use Rattle.deck.specs.Unfilled.{headsFrom, Unfilled};
+use super::FEW;
 use super::reading::read_in;
 use assembly::BLOCKS;
 use block::DistanceReply;
 use deck::Form;
+use deck::heads;
 use deck::is_missing;
 use records::payload_at;
 use reply::Refusal;
 use reply::Reply;
 use summary::SUMMARY;
 
-// By a lent book that is all 0 and has a place for each block that a deck can have.
+// By a lent book that is all 0 and has a place for each of the deck's blocks.
 fn distance_in(d: &[u8], k: usize, i: usize, l: usize, j: usize, book: &mut [u8]) -> DistanceReply
-    requires { ⌜ (summaryBytes * mostBlocks ≤ length (now book)) × ((p : ℕ) → getD (now book) p 0 ≡ 0) ⌝ }
+    requires { ⌜ Unfilled (now d) (now book) ⌝ }
     ensures { λ r. ⌜ r ≡ saidDistance (placedDistanceReply (now (d .entry)) k i l j) ⌝ }
 {
     let read = read_in(d, Form::Composed, book);
@@ -38,9 +39,27 @@ fn distance_in(d: &[u8], k: usize, i: usize, l: usize, j: usize, book: &mut [u8]
     }
 }
 
+// By a book for few blocks, or for all that there can be: each in a function of its own, so that the stack holds one of them.
+fn distance_few(d: &[u8], k: usize, i: usize, l: usize, j: usize) -> DistanceReply
+    requires { ⌜ headsFrom mostBlocks (now d) 0 ≤ 2 ⌝ }
+    ensures { λ r. ⌜ r ≡ saidDistance (placedDistanceReply (now (d .entry)) k i l j) ⌝ }
+{
+    distance_in(d, k, i, l, j, &mut [0u8; SUMMARY * FEW])
+}
+
+fn distance_all(d: &[u8], k: usize, i: usize, l: usize, j: usize) -> DistanceReply
+    requires { ⌜ headsFrom mostBlocks (now d) 0 ≤ mostBlocks ⌝ }
+    ensures { λ r. ⌜ r ≡ saidDistance (placedDistanceReply (now (d .entry)) k i l j) ⌝ }
+{
+    distance_in(d, k, i, l, j, &mut [0u8; SUMMARY * BLOCKS])
+}
+
 // The distance of atom i of placement number k and atom j of placement number l of a deck without a sheet, or its refusal; 18 at place 0 where one does not exist.
 pub fn placed_distance(d: &[u8], k: usize, i: usize, l: usize, j: usize) -> DistanceReply
     ensures { λ r. ⌜ r ≡ saidDistance (placedDistanceReply (now (d .entry)) k i l j) ⌝ }
 {
-    distance_in(d, k, i, l, j, &mut [0u8; SUMMARY * BLOCKS])
+    if heads(d) <= FEW {
+        return distance_few(d, k, i, l, j);
+    }
+    distance_all(d, k, i, l, j)
 }

@@ -1,17 +1,15 @@
 // What a deck says, over a book that is filled while its blocks are read.
 ghost use mathlib.Core.Path.{_≡_};
-ghost use Prim.Native.Nat.{ℕ, _*_, _≤_};
-ghost use lib.ListN.{length, getD};
+ghost use Prim.Native.Nat.{_≤_};
 ghost use Rattle.reply.specs.Read.{saidReply};
 ghost use Rattle.records.specs.Records.{payloadAt, assemblyKind};
-ghost use Rattle.assembly.specs.Book.{mostBlocks};
 ghost use Rattle.assembly.specs.Placements.{mostPlacements, shelfReply};
-ghost use Rattle.summary.specs.Layout.{summaryBytes};
 ghost use Rattle.shelf.specs.Shelf.{shelfIn};
 ghost use Rattle.records.specs.Bytes.{PartOf};
 ghost use Rattle.deck.specs.Deck.{longestDeck, placementPlace, moved, openReply, deckReply, blockSpan};
 ghost use Rattle.deck.specs.Filled.{openBook};
 ghost use Rattle.deck.specs.Said.{saidDeck};
+ghost use Rattle.deck.specs.Unfilled.{Unfilled};
 use super::blocks::open_book;
 use assembly::BLOCKS;
 use assembly::PLACEMENT_BYTES;
@@ -51,9 +49,9 @@ fn assembly_reply(d: &[u8], at: usize, book: &[u8]) -> Reply
     }
 }
 
-// What a deck says, by a lent book that is all 0 and has a place for each block that it can have.
+// What a deck says, by a lent book that is all 0 and has a place for each of its blocks.
 pub(super) fn read_in(d: &[u8], form: Form, book: &mut [u8]) -> DeckRead
-    requires { ⌜ (summaryBytes * mostBlocks ≤ length (now book)) × ((p : ℕ) → getD (now book) p 0 ≡ 0) ⌝ }
+    requires { ⌜ Unfilled (now d) (now book) ⌝ }
     ensures reply { λ r. ⌜ r ≡ saidDeck (deckReply form (now (d .entry))) ⌝ }
     ensures bytes { λ _. ⌜ now (book .exit) ≡ openBook assemblyKind (now (d .entry)) (now (book .entry)) ⌝ }
 {

@@ -1,10 +1,11 @@
 -- The heads of a deck's records: no more blocks are read than there are heads of blocks. Assumes nothing.
 use Prim.Native.Nat.{ℕ, zero, suc, _+_, _≤_, _<_}
+use mathlib.Core.Bool.{Bool, true, false}
 use mathlib.Core.List.{List, [], _∷_, _++_}
 use mathlib.Core.Logic.{⊎-elim}
 use mathlib.Core.Path.{_≡_, refl}
 use native.Mathlib.Omega.{arith}
-use borrow.Author.Tests.{eq-eqb, ne-eqb, eqb-true}
+use borrow.Author.Tests.{eq-eqb, ne-eqb, eqb-true, eqb-false}
 use lib.Dec.{eqb}
 use lib.ListN.{length, length-append}
 use Rattle.reply.specs.Read.{read, ifElse}
@@ -31,6 +32,15 @@ module _ (left : ℕ) (d : List ℕ) (at : ℕ) where
   pub head-none : (kindAt d at ≡ 1 → ⊥) → headsFrom (suc left) d at ≡ 0
   unfolding headsFrom
   head-none k = rw (ne-eqb (kindAt d at) 1 k)
+
+-- no more than are asked for
+pub heads-most : (left : ℕ) (d : List ℕ) (at : ℕ) → headsFrom left d at ≤ left
+heads-most zero d at = omega (arith, heads-end zero d at refl)
+heads-most (suc left) d at = go (eqb (kindAt d at) 1) refl (heads-most left d (endAt d at))
+  where
+    go : (t : Bool) → eqb (kindAt d at) 1 ≡ t → headsFrom left d (endAt d at) ≤ left → headsFrom (suc left) d at ≤ suc left
+    go true e h = omega (arith, head-more left d at (eqb-true (kindAt d at) 1 e))
+    go false e h = omega (arith, head-none left d at (eqb-false (kindAt d at) 1 e))
 
 module _ (last : Kind) (d : List ℕ) where
   -- the blocks that are read are no more than the heads

@@ -1,12 +1,12 @@
-// The deck: the forms that it has, where things stand in it, and what follows its assembly. Reading it is in `compose`.
+// The deck: the forms that it has, what may stand where, and what is asked of one that is read. Reading it is in `compose`.
 ghost use mathlib.Core.Path.{_≡_};
 ghost use mathlib.Core.Bool.{cond};
 ghost use Prim.Native.Nat.{_≤_};
 ghost use lib.Dec.{eqb};
 ghost use lib.ListN.{take};
 ghost use Rattle.reply.specs.Read.{saidReply};
-ghost use Rattle.records.specs.Records.{blockKind, payloadAt};
 ghost use Rattle.records.specs.Bytes.{PartOf};
+ghost use Rattle.records.specs.Records.{blockKind, payloadAt};
 ghost use Rattle.assembly.specs.Book.{find, mostBlocks};
 ghost use Rattle.assembly.specs.Placements.{placementAt};
 ghost use Rattle.deck.specs.Deck.{endReply, sheetReply, payload, unfitAfter};

@@ -78,7 +78,7 @@ returns-3 c =
     let s = o .before .before .before .before .before .before .before .before .before .before .before .before .before in
     let a = s .args in
     let r = o .before .before .before .before .before .before .before .before .before .read-in in
-    book-far (now (a .d)) (a .k) (a .i) (a .l) (a .j) (told (o .before .before .before .before .before)) (one-there o) (two-there o) (λ p. omega (arith, o .before .before .before .before .before .before .before .before .before .before .before .before .shared-slice-known .given p)) (a .book .now) (r .last .1 .1 .0) (s .pre .0) (s .pre .1)
+    book-far (now (a .d)) (a .k) (a .i) (a .l) (a .j) (told (o .before .before .before .before .before)) (one-there o) (two-there o) (λ p. omega (arith, o .before .before .before .before .before .before .before .before .before .before .before .before .shared-slice-known .given p)) (a .book .now) (r .last .1 .1 .0) (s .pre)
     (r .ensures .1) (o .before .before .before .before .before .before .before .before .book .given) _ (c .before .payload-at .ensures .bytes) (c .far .result) (c .far .ensures)
 
 pub distance-in-spec : {M : Type 1} → statement M

@@ -1,7 +1,10 @@
 -- `compose::reading::read_deck` meets its contract. Assumes nothing.
 use native.Mathlib.Omega.{arith}
 use borrow.Author.Needs.{needs}
+use denote.Ref.{now}
 use Rattle.block.specs.Lent.{zeros}
+use Rattle.assembly.specs.Book.{mostBlocks}
+use Rattle.deck.proofs.Few.{heads-most}
 use Rattle.compose.proofs.reading.read_deck.Statement.{statement}
 use Rattle.compose.proofs.reading.read_deck.Tie as tie
 
@@ -9,7 +12,7 @@ slice-aggregate-read-in : tie.Need-slice-aggregate-read-in
 slice-aggregate-read-in c = search needs
 
 read-in-requires : tie.Need-read-in-requires
-read-in-requires c κs = (omega arith, zeros 8448)
+read-in-requires c κs = record { room = omega (arith, heads-most mostBlocks (now (c .before .before .args .d)) 0); none = zeros 8448 }
 
 returns : tie.Need-returns
 returns c = c .before .read-in .ensures .0

@@ -19,6 +19,7 @@ use Rattle.deck.specs.Said.{refusedDeck, saidDeck}
 use Rattle.deck.specs.Kept.{kept}
 use Rattle.deck.specs.declared.DeckRead.{DeckRead}
 use Rattle.deck.proofs.Parts.{open-read, bad-blocks, bad-assembly, bad-sheet, whole-deck, deck-ended, deck-stopped}
+use Rattle.deck.proofs.Few.{few-heads}
 use Rattle.deck.proofs.Filled.{book-short}
 use Rattle.deck.proofs.Honest.{honest-read, same-refusals}
 use Rattle.compose.proofs.reading.read_in.Statement.{statement}
@@ -41,7 +42,7 @@ book c =
     let d = deck s in
     let (k, e, r) = blocks c in
     let (short, f) = open-read assemblyKind d e in
-    honest-read assemblyKind d (λ i. omega (arith, c .before .before .before .before .before .before .before .shared-slice-known .given i)) (s .args .book .now) _ (omega (arith, kept assemblyKind d f .few, s .pre .0)) (s .pre .1) f
+    honest-read assemblyKind d (λ i. omega (arith, c .before .before .before .before .before .before .before .shared-slice-known .given i)) (s .args .book .now) _ (omega (arith, few-heads assemblyKind d f, s .pre .room)) (s .pre .none) f
     (c .before .before .before .before .open-book .ensures .1 ∙ book-short assemblyKind d (s .args .book .now) short) (c .before .before .before .book .given)
 
 assembly-is : (c : tie.After-assembly-reply) → let k = blocks (c .before .before .before) .0 in c .assembly-reply .result ≡ saidReply (assemblyReplyAt (deck (c .before .before .before .before .before .before .before .before .before .before .before)) (k .blocks) (k .assembly))
