@@ -1,7 +1,7 @@
 -- A row that is filled place by place, and one arm more. Assumes nothing.
 use Prim.Native.Nat.{ℕ, _+_, _<_}
 use mathlib.Core.Bool.{Bool, true, false}
-use mathlib.Core.List.{List, [], _∷_}
+use mathlib.Core.List.{List}
 use mathlib.Core.Path.{_≡_, refl, sym, _∙_}
 use native.Mathlib.Numerals.{add-one}
 use native.Mathlib.Omega.{arith}
@@ -13,11 +13,10 @@ use Rattle.block.specs.Rows.{table}
 use Rattle.block.specs.Tables.{length-table, getD-table}
 use Rattle.block.specs.declared.Indices.{Indices}
 use Rattle.block.specs.declared.Vertex.{Vertex}
-use Rattle.sighted.specs.Sighted.{stepsIn}
 use Rattle.sighted.specs.declared.Seen.{Seen}
 use Rattle.summary.specs.Layout.{storedFields, seenAt}
 use Rattle.joining.specs.Joining.{grownOf, joinedOf}
-use Rattle.arms.specs.Arms.{mostArms, noPort, noArm, armIn, portIn, coreIn, sightFrom, sightOf, sixOf, stemOf}
+use Rattle.arms.specs.Arms.{mostArms, noPort, noArm, armIn, portsNear, portIn, coreIn, sightFrom, sightOf, sixOf, stemOf}
 use Rattle.arms.specs.declared.Arm.{Arm}
 use Rattle.arms.specs.declared.Core.{Core}
 use Rattle.arms.specs.declared.Port.{Port}
@@ -36,11 +35,9 @@ module _ {A : Type 0} (none : A) (f : ℕ → A) (l : List A) where
 pub arm-kept : (s : List ℕ) (a : ℕ) (x : Indices) (y : Seen) → x ≡ storedFields s → y ≡ seenAt s a → record { six = x; end = y .counts } ≡ armIn s a
 arm-kept s a x y e q = rw (e, q)
 
-pub port-kept : (s atoms : List ℕ) (a : ℕ) (x : Seen) (d₀ d₁ d₂ d₃ : ℕ) → x ≡ seenAt s a
-    → d₀ ≡ stepsIn (x .row) (getD atoms 0 0) → d₁ ≡ stepsIn (x .row) (getD atoms 1 0) → d₂ ≡ stepsIn (x .row) (getD atoms 2 0) → d₃ ≡ stepsIn (x .row) (getD atoms 3 0)
-    → record { counts = x .counts; near = d₀ ∷ d₁ ∷ d₂ ∷ d₃ ∷ [] } ≡ portIn s atoms a
-unfolding portIn table
-port-kept s atoms a x d₀ d₁ d₂ d₃ e e₀ e₁ e₂ e₃ = rw (e₀, e₁, e₂, e₃) (rw e refl)
+pub port-kept : (s atoms : List ℕ) (a : ℕ) (x : Seen) (near : List ℕ) → x ≡ seenAt s a → near ≡ portsNear (x .row) atoms → record { counts = x .counts; near = near } ≡ portIn s atoms a
+unfolding portIn
+port-kept s atoms a x near e h = rw h (rw e refl)
 
 pub core-kept : (s atoms : List ℕ) (x : Indices) (ends : List Port) → x ≡ storedFields s → length ends ≡ mostArms → ((j : ℕ) → j < mostArms → getD ends j noPort ≡ portIn s atoms (getD atoms j 0))
     → record { six = x; ends = ends } ≡ coreIn s atoms

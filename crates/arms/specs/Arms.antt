@@ -7,7 +7,8 @@ use lib.ListN.{getD, replicate}
 use Rattle.block.specs.Rows.{table}
 use Rattle.block.specs.declared.Indices.{Indices}
 use Rattle.block.specs.declared.Vertex.{Vertex}
-use Rattle.summary.specs.Layout.{summaryBytes, storedFields, vertexAt, farAt}
+use Rattle.sighted.specs.Sighted.{stepsIn}
+use Rattle.summary.specs.Layout.{summaryBytes, storedFields, seenAt, vertexAt}
 use Rattle.filling.specs.Reply.{fillBytes}
 use Rattle.joining.specs.Joining.{grownOf, joinedOf}
 use Rattle.arms.specs.declared.Arm.{Arm}
@@ -51,9 +52,12 @@ rowArm r = record {
 abbrev pub armIn : List ℕ → ℕ → Arm
 armIn s a = record { six = storedFields s; end = vertexAt s a }
 
--- one of the atoms where arms join: what is counted from it, and the numbers of steps to all of them
+-- one of the atoms where arms join: the numbers of steps to all of them by its row, and with them what is counted from it
+unfoldable pub portsNear : List ℕ → List ℕ → List ℕ
+portsNear row atoms = table mostArms (λ j. stepsIn row (getD atoms j 0))
+
 unfoldable pub portIn : List ℕ → List ℕ → ℕ → Port
-portIn s atoms a = record { counts = vertexAt s a; near = table mostArms (λ j. farAt s a (getD atoms j 0)) }
+portIn s atoms a = record { counts = vertexAt s a; near = portsNear (seenAt s a .row) atoms }
 
 unfoldable pub coreIn : List ℕ → List ℕ → Core
 coreIn s atoms = record { six = storedFields s; ends = table mostArms (λ k. portIn s atoms (getD atoms k 0)) }

@@ -1,10 +1,10 @@
 -- Laws. Each promise determines the reply: two replies that satisfy it are equal. Assumes nothing.
-use Prim.Native.Nat.{ℕ, min}
+use Prim.Native.Nat.{ℕ, _-_, min}
 use mathlib.Core.List.{List}
 use mathlib.Core.Path.{_≡_}
 use Rattle.reply.specs.Chain.{unique}
 use Rattle.block.specs.declared.Indices.{Indices}
-use Rattle.arms.specs.Arms.{armRow, rowArm, armOf, coreOf, stemOf, joinedTo}
+use Rattle.arms.specs.Arms.{mostArms, armRow, rowArm, armOf, coreOf, stemOf, joinedTo}
 use Rattle.arms.specs.declared.Arm.{Arm}
 use Rattle.arms.specs.declared.Core.{Core}
 use Rattle.arms.specs.declared.Stem.{Stem}
@@ -21,7 +21,7 @@ unique-row-arm row r s = unique
 pub unique-core : (n : ℕ) (bonds atoms : List ℕ) (r s : Core) → r ≡ coreOf n bonds atoms → s ≡ coreOf n bonds atoms → r ≡ s
 unique-core n bonds atoms r s = unique
 
-pub unique-stem : (core : Core) (arms : List Arm) (m : ℕ) (r s : Stem) → r ≡ stemOf core arms (min m 3) → s ≡ stemOf core arms (min m 3) → r ≡ s
+pub unique-stem : (core : Core) (arms : List Arm) (m : ℕ) (r s : Stem) → r ≡ stemOf core arms (min m (mostArms - 1)) → s ≡ stemOf core arms (min m (mostArms - 1)) → r ≡ s
 unique-stem core arms m r s = unique
 
 pub unique-joined : (stem : Stem) (arm : Arm) (r s : Indices) → r ≡ joinedTo stem arm → s ≡ joinedTo stem arm → r ≡ s

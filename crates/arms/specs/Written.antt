@@ -32,7 +32,7 @@ use Rattle.summary.specs.Back.{summary-fits, fields-told, summary-told}
 use Rattle.summaries.specs.Ready.{LentBytes}
 use Rattle.summaries.proofs.Ports.{fields-bytes}
 use Rattle.filling.specs.Reply.{fillReply, filledSummary, fillBytes}
-use Rattle.arms.specs.Arms.{mostArms, noPort, noArm, portIn, coreIn, opened, armOf, sixOf}
+use Rattle.arms.specs.Arms.{mostArms, noPort, noArm, portsNear, portIn, coreIn, opened, armOf, sixOf}
 use Rattle.arms.specs.Composed.{Keeps, six-composed}
 use Rattle.arms.specs.declared.Arm.{Arm}
 use Rattle.arms.specs.declared.Core.{Core}
@@ -109,7 +109,7 @@ module _ {d : List ℕ} {bs : List BlockAt} {xs atoms : List ℕ} {n : ℕ} {cor
   port k h = ap (λ (c : Core). getD (c .ends) k noPort) (t .kept) ∙ getD-table mostArms (λ i. portIn (openedAt d bs xs 0) atoms (getD atoms i 0)) k noPort h
 
   keeps : Keeps (openedAt d bs xs) (joinOn (placementAt xs)) n core arms
-  unfolding coreIn portIn joinOf
+  unfolding coreIn portIn portsNear joinOf
   keeps = record {
     few = t .few;
     small = λ k. let b = find bs (placementAt xs k .block) in opened-small (b .atoms) (bondBytes d b);

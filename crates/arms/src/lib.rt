@@ -11,10 +11,10 @@ use summary::SUMMARY;
 use summary::fields;
 use summary::seen;
 ghost use mathlib.Core.Path.{_≡_};
-ghost use Prim.Native.Nat.{_<_, min};
+ghost use Prim.Native.Nat.{_-_, _<_, min};
 ghost use Rattle.sighted.specs.Sighted.{stepsIn};
 ghost use Rattle.filling.specs.Reply.{fillBytes};
-ghost use Rattle.arms.specs.Arms.{mostArms, armRow, rowArm, armIn, armOf, portIn, coreIn, coreOf, sightAt, stemOf, joinedTo};
+ghost use Rattle.arms.specs.Arms.{mostArms, armRow, rowArm, armIn, armOf, portsNear, portIn, coreIn, coreOf, sightAt, stemOf, joinedTo};
 
 // The most arms of a core.
 pub const ARMS: usize = 4;
@@ -165,18 +165,26 @@ fn step_to(row: &DistanceRow, b: usize) -> u8
     row[b - 1]
 }
 
-// Of the four atoms where arms join, what is kept of one: all from one search.
+// The numbers of steps to the atoms where arms join that a row says.
+fn near_in(row: &DistanceRow, atoms: [u8; ARMS]) -> [u8; ARMS]
+    ensures { λ r. ⌜ r ≡ portsNear (now (row .entry)) atoms ⌝ }
+{
+    let mut near = [0u8; ARMS];
+    let mut j: usize = 0;
+    while j < ARMS {
+        near[j] = step_to(row, atoms[j] as usize);
+        j += 1;
+    }
+    near
+}
+
+// Of the atoms where arms join, what is kept of one: all from one search.
 fn port_in(s: &[u8], atoms: [u8; ARMS], a: usize) -> Port
     ensures { λ r. ⌜ r ≡ portIn (now (s .entry)) atoms a ⌝ }
 {
     let all = seen(s, a);
     let row = all.row;
-    let near = [
-        step_to(&row, atoms[0] as usize),
-        step_to(&row, atoms[1] as usize),
-        step_to(&row, atoms[2] as usize),
-        step_to(&row, atoms[3] as usize),
-    ];
+    let near = near_in(&row, atoms);
     let counts = all.counts;
     Port { counts, near }
 }
@@ -229,7 +237,7 @@ fn sight(ends: [Port; ARMS], arms: [Arm; ARMS], k: usize) -> Vertex
 }
 
 fn within(m: usize) -> usize
-    ensures { λ r. ⌜ r ≡ min m 3 ⌝ }
+    ensures { λ r. ⌜ r ≡ min m (mostArms - 1) ⌝ }
 {
     if m < ARMS {
         return m;
@@ -237,9 +245,9 @@ fn within(m: usize) -> usize
     ARMS - 1
 }
 
-// The core with its first m arms, at most 3.
+// The core with its first m arms, at most all but one.
 pub fn stem_of(core: Core, arms: [Arm; ARMS], m: usize) -> Stem
-    ensures { λ r. ⌜ r ≡ stemOf core arms (min m 3) ⌝ }
+    ensures { λ r. ⌜ r ≡ stemOf core arms (min m (mostArms - 1)) ⌝ }
 {
     let n = within(m);
     let ends = core.ends;

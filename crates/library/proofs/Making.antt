@@ -18,7 +18,7 @@ use Rattle.catalogue.specs.Table.{sites-back, table-empty}
 use Rattle.catalogue.specs.declared.LibraryRead.{LibraryRead}
 use Rattle.library.specs.Said.{saidProduct}
 use Rattle.library.specs.Held.{Held, Spread}
-use Rattle.arms.specs.Arms.{noArm, sixOf, stemOf, joinedTo, stem-joined}
+use Rattle.arms.specs.Arms.{mostArms, noArm, sixOf, stemOf, joinedTo, stem-joined}
 use Rattle.arms.specs.declared.Arm.{Arm}
 use Rattle.arms.specs.declared.Core.{Core}
 use Rattle.arms.specs.declared.Stem.{Stem}
@@ -47,9 +47,9 @@ spread-read d l r e f ys c all y q all-are =
     }
 
 -- the last arm is joined to the core with the others
-pub made-said : (c : Core) (arms : List Arm) (n : ℕ) (s : Stem) (x : Indices) → 1 ≤ n → n ≤ mostSites → s ≡ stemOf c arms (min (n - 1) 3) → x ≡ joinedTo s (getD arms (n - 1) noArm) → x ≡ sixOf c arms n
+pub made-said : (c : Core) (arms : List Arm) (n : ℕ) (s : Stem) (x : Indices) → 1 ≤ n → n ≤ mostSites → s ≡ stemOf c arms (min (n - 1) (mostArms - 1)) → x ≡ joinedTo s (getD arms (n - 1) noArm) → x ≡ sixOf c arms n
 made-said c arms n s x one few e f =
-    let z : min (n - 1) 3 ≡ n - 1 = omega arith in
+    let z : min (n - 1) (mostArms - 1) ≡ n - 1 = omega arith in
     let w : suc (n - 1) ≡ n = omega arith in
     f ∙ ap (λ (y : Stem). joinedTo y (getD arms (n - 1) noArm)) (e ∙ ap (stemOf c arms) z) ∙ stem-joined c arms arms (n - 1) (λ i h. refl) ∙ ap (sixOf c arms) w
 

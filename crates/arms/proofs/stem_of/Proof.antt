@@ -7,7 +7,7 @@ use borrow.Author.Needs.{needs}
 use Rattle.block.specs.declared.Indices.{Indices}
 use Rattle.arms.specs.declared.Core.{Core}
 use Rattle.arms.specs.declared.Port.{Port}
-use Rattle.arms.specs.Arms.{sixOf, sightAt}
+use Rattle.arms.specs.Arms.{mostArms, sixOf, sightAt}
 use Rattle.arms.proofs.Keeping.{six-start, sight-first, six-next, stem-end}
 use Rattle.arms.proofs.stem_of.Statement.{statement}
 use Rattle.arms.proofs.stem_of.Tie as tie
@@ -58,8 +58,8 @@ returns : tie.Need-returns Inv-loop μ-loop
 returns c =
     let a = c .before .before .before .before .before .before .before .args in
     let l = c .before .loop in
-    let e : l .k ≡ min (a .m) 3 = omega (arith, c .before .before .before .before .before .before .within .ensures) in
-    stem-end (a .core) (a .t2) (l .k) (min (a .m) 3) _ _ e (l .inv .1) (l .inv .2)
+    let e : l .k ≡ min (a .m) (mostArms - 1) = omega (arith, c .before .before .before .before .before .before .within .ensures) in
+    stem-end (a .core) (a .t2) (l .k) (min (a .m) (mostArms - 1)) _ _ e (l .inv .1) (l .inv .2)
 
 pub stem-of-spec : {M : Type 1} → statement M
 stem-of-spec =

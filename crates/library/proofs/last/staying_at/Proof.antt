@@ -4,7 +4,7 @@ use mathlib.Core.Path.{_≡_, _∙_, ap}
 use native.Mathlib.Omega.{arith}
 use lib.ListN.{length, getD}
 use mathlib.Core.List.{List}
-use Rattle.arms.specs.Arms.{noArm, stemOf}
+use Rattle.arms.specs.Arms.{mostArms, noArm, stemOf}
 use Rattle.arms.specs.declared.Arm.{Arm}
 use Rattle.catalogue.specs.Library.{mostSites, mostCandidates}
 use Rattle.catalogue.specs.Said.{noSite}
@@ -66,7 +66,7 @@ returns c d l bs xs t h =
     let chosen = c .before .before .before .before .choose in
     let found = c .before .before .before .arms-among in
     let e : a .n ≡ suc (a .n - 1) = omega (arith, one (t .held)) in
-    let z : min (a .n - 1) 3 ≡ a .n - 1 = omega (arith, few (t .held)) in
+    let z : min (a .n - 1) (mostArms - 1) ≡ a .n - 1 = omega (arith, few (t .held)) in
     let long : length (chosen .result) ≡ mostSites = search needs in
     let wide : length (found .result) ≡ mostSites = search needs in
     let picked : Picked (a .all .now) (chosen .result) (a .n - 1) (found .result) = record {
