@@ -1,4 +1,4 @@
-// A line of the table: words, a colon, and numbers. Those before the last comma are asked, those behind it are the reply. A reply of the library is such a row too.
+// A line of a table: words, a colon, and numbers. Those before the last comma are asked, those behind it are the reply. A reply of the library is such a row too.
 ghost use Prim.Native.Nat.{_≤_};
 
 // The most numbers that a line keeps: a deck of the largest block and its sheet has 446.

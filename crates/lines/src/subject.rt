@@ -38,7 +38,7 @@ impl Subject {
         }
     }
 
-    // After a line that starts with a capital, which stands at a place.
+    // After a line, which stands at a place: a capital says what is asked about.
     pub fn next(self, letter: u8, row: Row, from: usize, len: usize) -> Subject {
         let given = self.given;
         let changed = self.changed;
@@ -57,13 +57,14 @@ impl Subject {
                 from,
                 len,
             },
-            _ => Subject {
+            b'B' | b'D' => Subject {
                 deck: letter == b'D',
                 given: row,
                 changed: row,
                 from,
                 len,
             },
+            _ => self,
         }
     }
 }

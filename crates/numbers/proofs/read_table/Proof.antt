@@ -1,6 +1,7 @@
 -- `read_table` is safe and ends: what is left of the text falls.
 use Prim.Native.Nat.{_-_}
 use mathlib.Core.Path.{_≡_}
+use native.Mathlib.Omega.{arith}
 use lib.ListN.{length}
 use borrow.Author.Needs.{needs}
 use Rattle.numbers.proofs.read_table.Statement.{statement}
@@ -15,20 +16,23 @@ abbrev μ-loop : tie.MeasureT-loop
 none-requires : tie.Need-none-requires Inv-loop μ-loop
 none-requires c κs = search needs
 
-none-requires-2 : tie.Need-none-requires-2 Inv-loop μ-loop
-none-requires-2 c κs = search needs
-
 loop-holds : tie.Need-loop-holds Inv-loop μ-loop
 loop-holds c = search needs
 
 line-end-requires : tie.Need-line-end-requires Inv-loop μ-loop
 line-end-requires c κs = search needs
 
+sub-part : tie.Need-sub-part Inv-loop μ-loop
+sub-part c = omega (arith, c .line-end .ensures (search needs))
+
+part-requires : tie.Need-part-requires Inv-loop μ-loop
+part-requires c κs = search needs
+
 after-requires : tie.Need-after-requires Inv-loop μ-loop
 after-requires c κs = search needs
 
 loop-less : tie.Need-loop-less Inv-loop μ-loop
-loop-less c = search needs
+loop-less c = omega (arith, c .before .before .line-end .ensures (search needs))
 
 loop-again : tie.Need-loop-again Inv-loop μ-loop
 loop-again c = search needs
@@ -43,9 +47,10 @@ read-table-spec =
     Inv-loop
     μ-loop
     none-requires
-    none-requires-2
     loop-holds
     line-end-requires
+    sub-part
+    part-requires
     after-requires
     loop-less
     loop-again

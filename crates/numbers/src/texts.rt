@@ -37,7 +37,7 @@ fn whole(text: &[u8]) -> Row {
 }
 
 // The reply to a question, which is known by its first letter.
-pub fn of_text(letter: u8, text: &[u8], row: Row) -> Row {
+pub(crate) fn reply_to(letter: u8, text: &[u8], row: Row) -> Row {
     match letter {
         b'm' => told::indices(letter, measuring::measure(text)),
         b'n' => told::indices(letter, measuring::measure_neighbours(text)),

@@ -2,8 +2,8 @@
 use Prim.Native.Nat.{_≤_, _-_}
 use lib.ListN.{length}
 use borrow.Author.Needs.{needs}
-use Rattle.numbers.proofs.line_end.Statement.{statement}
-use Rattle.numbers.proofs.line_end.Tie as tie
+use Rattle.lines.proofs.table.line_end.Statement.{statement}
+use Rattle.lines.proofs.table.line_end.Tie as tie
 
 abbrev Inv-loop : tie.InvT-loop
 Inv-loop text from at₀ at = from ≤ at

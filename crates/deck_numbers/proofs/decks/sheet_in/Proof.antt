@@ -2,8 +2,8 @@
 use mathlib.Core.Path.{sym}
 use lib.Seq.{length-take-le}
 use borrow.Author.Needs.{needs}
-use Rattle.numbers.proofs.decks.sheet_in.Statement.{statement}
-use Rattle.numbers.proofs.decks.sheet_in.Tie as tie
+use Rattle.deck_numbers.proofs.decks.sheet_in.Statement.{statement}
+use Rattle.deck_numbers.proofs.decks.sheet_in.Tie as tie
 
 slice-relend-prefix-write-sheet : tie.Need-slice-relend-prefix-write-sheet
 slice-relend-prefix-write-sheet c = search needs

@@ -1,4 +1,4 @@
-// What is asked of a deck, or of bytes that are a text.
+// What is asked of a deck.
 ghost use Prim.Native.Nat.{_≤_};
 ghost use lib.ListN.{length};
 use crate::libraries;
@@ -101,6 +101,6 @@ pub(crate) fn reply_to(letter: u8, deck: &[u8], row: Row) -> Row {
         b'y' => written_out(deck),
         b'x' => pair(deck, row.first(0, FAR)),
         b'q' | b'p' | b'r' | b'e' => libraries::reply_to(letter, deck, row),
-        _ => asked::of_text(letter, deck, row),
+        _ => told::unknown(),
     }
 }

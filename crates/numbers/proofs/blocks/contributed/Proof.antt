@@ -2,8 +2,8 @@
 use mathlib.Core.Path.{sym}
 use lib.Seq.{length-take-le}
 use borrow.Author.Needs.{needs}
-use Rattle.asked.proofs.blocks.contributed.Statement.{statement}
-use Rattle.asked.proofs.blocks.contributed.Tie as tie
+use Rattle.numbers.proofs.blocks.contributed.Statement.{statement}
+use Rattle.numbers.proofs.blocks.contributed.Tie as tie
 
 slice-relend-prefix-contributions : tie.Need-slice-relend-prefix-contributions
 slice-relend-prefix-contributions c = search needs

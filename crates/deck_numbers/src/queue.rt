@@ -1,5 +1,4 @@
 // A block in a queue.
-use crate::blocks::of_reply;
 use block::IndicesReply;
 use lines::row::FAR;
 use lines::row::Row;

@@ -2,10 +2,12 @@
 ghost use Prim.Native.Nat.{_≤_};
 ghost use lib.ListN.{length};
 use crate::values;
+use crate::written;
 use balaban::BalabanReply;
 use block::DistanceReply;
 use block::OneRow;
 use block::VertexReply;
+use half::PAIRS;
 use lines::row::FAR;
 use lines::row::Row;
 use lines::row::STAYS;
@@ -18,7 +20,7 @@ use shares::SharesReply;
 use szeged::SzegedReply;
 
 // Nothing, or refused.
-pub(crate) fn of_reply(reply: Reply) -> Row {
+fn of_reply(reply: Reply) -> Row {
     match reply {
         Reply::Refused(r) => told::refusal(r),
         Reply::Fine => told::nothing(),
@@ -99,17 +101,33 @@ fn sets(reply: SetsReply) -> Row {
     }
 }
 
-fn reply_to(letter: u8, n: usize, bonds: &[u8], row: Row) -> Row {
+// What a half says of two atoms either way round, once a number is stored for them.
+fn got(i: usize, j: usize, d: u8) -> Row {
+    let mut half = [0u8; PAIRS];
+    half::put(&mut half, i, j, d);
+    told::two(wide(half::get(&half, i, j)), wide(half::get(&half, j, i)))
+}
+
+// Of no number, or of an atom.
+fn of_atom(letter: u8, n: usize, bonds: &[u8], atom: usize) -> Row {
     match letter {
         b'c' => of_reply(block::check(n, bonds)),
-        b'v' => around(block::vertex_sums(n, bonds, row.first(0, FAR))),
-        b'r' => farthest(block::row(n, bonds, row.first(0, FAR))),
-        b'a' => apart(block::distance(n, bonds, row.first(0, FAR), row.first(1, FAR))),
-        b'd' | b'e' => shared(letter, n, bonds, row.first(0, BONDS)),
-        b's' | b'u' => szeged(letter, n, bonds),
+        b'v' => around(block::vertex_sums(n, bonds, atom)),
+        b'r' => farthest(block::row(n, bonds, atom)),
         b'j' => balaban(balaban::index(n, bonds)),
-        b'h' => sets(sets::count_from(n, bonds, row.first(0, FAR))),
-        _ => told::unknown(),
+        b'h' => sets(sets::count_from(n, bonds, atom)),
+        _ => szeged(letter, n, bonds),
+    }
+}
+
+fn reply_to(letter: u8, n: usize, bonds: &[u8], row: Row) -> Row {
+    let i = row.first(0, FAR);
+    let j = row.first(1, FAR);
+    match letter {
+        b'a' => apart(block::distance(n, bonds, i, j)),
+        b'd' | b'e' => shared(letter, n, bonds, row.first(0, BONDS)),
+        b'g' => got(i, j, row.first(2, FAR) as u8),
+        _ => of_atom(letter, n, bonds, i),
     }
 }
 
@@ -120,14 +138,18 @@ fn measured(letter: u8, n: usize, bonds: &[u8], row: Row) -> bool {
     row.says(told::indices(letter, reply)) && row.says(told::indices(letter, plain))
 }
 
-// Whether the reply to a question, which is known by its first letter, is that of its line.
-pub fn of_block(letter: u8, n: usize, bonds: &[u8], row: Row) -> bool {
+fn block_right(letter: u8, n: usize, bonds: &[u8], row: Row) -> bool {
     match letter {
         b'i' | b'l' => measured(letter, n, bonds, row),
         b'p' | b'm' | b'n' => values::right(letter, n, bonds, row),
-        b'q' => crate::queue::right(n, bonds, row),
-        b'w' => crate::written::molfile(n, bonds, row),
-        b'k' => crate::written::neighbours(n, bonds, row),
+        b'w' => written::molfile(n, bonds, row),
+        b'k' => written::neighbours(n, bonds, row),
         _ => row.says(reply_to(letter, n, bonds, row)),
     }
+}
+
+// The first byte is how many atoms the block has.
+pub(crate) fn right(letter: u8, bytes: &[u8], row: Row) -> bool {
+    let n = records::byte_at(bytes, 0) as usize;
+    block_right(letter, n, records::part(bytes, 1, bytes.len()), row)
 }

@@ -1,3 +1,0 @@
--- Nothing is promised here: `asked` is read by a test alone.
---
--- | notion | meaning | the law that matters |
