@@ -17,7 +17,7 @@ pub record IsEnd (count e : ℕ) : Type 0 where
   pub low : 2 ≤ e
   pub high : e < 2 * count
 
--- a row of steps from an atom of placement number home, to the atoms of it that placements are joined to; the rest is as it was
+-- a row with the steps to the atoms of placement number home that others are joined to; the rest is as it was
 pub record Stepped (ls : List ℕ) (count : ℕ) (from : List ℕ) (home : ℕ) (old new : List ℕ) : Type 0 where
   pub here : (z : ℕ) → home ≤ z → z < count → joinsIn ls z .parent ≡ home → getD new z 0 ≡ stepsIn from (joinsIn ls z .site)
   pub kept : (z : ℕ) → (joinsIn ls z .parent ≡ home → ⊥) → getD new z 0 ≡ getD old z 0
@@ -28,7 +28,7 @@ module _ (b ls : List ℕ) (count : ℕ) where
     pub counts : getD vs e [] ≡ countRow (seenFrom b (endOf ls e) .counts)
     pub steps : (z : ℕ) → 1 ≤ z → z < count → joinsIn ls z .parent ≡ homeOf ls e → getD (getD rs (e / 2) []) z 0 ≡ stepsIn (seenFrom b (endOf ls e) .row) (joinsIn ls z .site)
 
-  -- so it is for the ends before e, and for those that count an atom
+  -- so it is for the ends before e, and for those that count an atom: at first none does, and what is seen from an atom counts the atom itself
   pub record Known (rs vs : List (List ℕ)) (e : ℕ) : Type 0 where
     pub before : (g : ℕ) → IsEnd count g → g < e → Right rs vs g
     pub marked : (g : ℕ) → IsEnd count g → (getD (getD vs g []) 3 0 ≡ 0 → ⊥) → Right rs vs g

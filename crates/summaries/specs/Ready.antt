@@ -14,7 +14,7 @@ use Rattle.sighted.specs.Sighted.{stepsIn}
 use Rattle.sighted.specs.declared.Seen.{Seen}
 use Rattle.shelf.specs.Shelf.{summaryAt, placeOf}
 
--- an end of a join: 256 times a block's number, and one of its atoms. At 2 k the own atom of the placement at index k, at 2 k + 1 the atom of its parent that it is joined to
+-- An end of a join: 256 times a block's number, and one of its atoms. At 2 k is the own atom of the placement at index k, at 2 k + 1 the atom of its parent that it is joined to.
 abbrev pub endOf : List ℕ → ℕ → ℕ
 endOf ls e = getD ls e 0
 
@@ -81,7 +81,8 @@ ownSeen b ls k = seenAt (summaryAt b (placeIn b ls k)) (joinsIn ls k .own)
 abbrev pub siteSeen : List ℕ → List ℕ → ℕ → Seen
 siteSeen b ls k = seenAt (summaryAt b (placeIn b ls (joinsIn ls k .parent - 1))) (joinsIn ls k .site)
 
--- in row m the steps from both ends of the join at index m to the atoms that placements are joined to: z to the placement itself, or z to its parent as well
+-- In row m, at z: the steps to the atom that the placement at index z is joined to, from the own atom of the one at m where z is joined to that, and from its parent's
+-- atom where z is joined to the same parent.
 pub record StepsKnown (b ls : List ℕ) (rs : List (List ℕ)) (count : ℕ) : Type 0 where
   pub long : count ≤ length rs
   pub own : (m z : ℕ) → 1 ≤ m → m < count → 1 ≤ z → z < count → joinsIn ls z .parent ≡ m + 1 → getD (getD rs m []) z 0 ≡ stepsIn (ownSeen b ls m .row) (joinsIn ls z .site)

@@ -151,7 +151,7 @@ fn put_end(
     counts[f] = sight;
 }
 
-// And as each end from e on that it is.
+// And as every end from e on that it is.
 fn put_ends(
     book: &[u8],
     links: &Links,
@@ -174,7 +174,7 @@ fn put_ends(
     }
 }
 
-// Stores what is seen from end e and from all later ends that are the same, unless that is done: an atom counts itself.
+// Stores what is seen from end e, for the later ends at the same atom too, unless that is done: an end that is stored counts its own atom.
 fn see_end(
     book: &[u8],
     links: &Links,
