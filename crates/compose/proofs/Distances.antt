@@ -7,10 +7,9 @@ use native.Mathlib.Omega.{arith}
 use lib.ListN.{length, getD}
 use Rattle.graph.specs.Assembly.{Placed}
 use Rattle.graph.specs.Climb.{apart}
-use Rattle.reply.specs.Read.{refused, read, refusal}
+use Rattle.reply.specs.Read.{refused, read, refusal, saidNumber}
 use Rattle.reply.specs.declared.Refusal.{Refusal}
-use Rattle.block.specs.Index.{saidDistance}
-use Rattle.block.specs.declared.DistanceReply.the-variants as distance
+use Rattle.reply.specs.declared.NumberReply.the-variants as distance
 use Rattle.records.specs.Records.{payloadAt, assemblyKind}
 use Rattle.assembly.specs.Book.{bookOf}
 use Rattle.assembly.specs.Placements.{placementCount, placementAt, graphOn, joinOn}
@@ -30,22 +29,22 @@ use Rattle.climb.specs.Far.{placedFar}
 use Rattle.climb.specs.Written.{far-written}
 
 module _ (d : List ℕ) (k i l j : ℕ) where
-  pub reply-refused : {q : Refusal} → deckReply Composed d ≡ refused q → distance.Refused q ≡ saidDistance (placedDistanceReply d k i l j)
+  pub reply-refused : {q : Refusal} → deckReply Composed d ≡ refused q → distance.Refused q ≡ saidNumber (placedDistanceReply d k i l j)
   unfolding placedDistanceReply
   reply-refused e = rw e
 
   module _ {deck : Deck} (e : deckReply Composed d ≡ read deck) where
-    pub reply-missing : (isMissing d deck k i || isMissing d deck l j) ≡ true → distance.Refused (refusal 18 0) ≡ saidDistance (placedDistanceReply d k i l j)
+    pub reply-missing : (isMissing d deck k i || isMissing d deck l j) ≡ true → distance.Refused (refusal 18 0) ≡ saidNumber (placedDistanceReply d k i l j)
     unfolding placedDistanceReply
     reply-missing m = rw (e, m)
 
     module _ (m : isMissing d deck k i ≡ false) (n : isMissing d deck l j ≡ false) where
-      reply-far : distance.Of (apart (graphAt d deck) (joinAt d deck) (deck .placements - 1) k i l j) ≡ saidDistance (placedDistanceReply d k i l j)
+      reply-far : distance.Of (apart (graphAt d deck) (joinAt d deck) (deck .placements - 1) k i l j) ≡ saidNumber (placedDistanceReply d k i l j)
       unfolding placedDistanceReply moleculeOf
       reply-far = rw (e, m, n)
 
       pub book-far : ((p : ℕ) → getD d p 0 < 256) → (b new : List ℕ) → Unfilled d b → new ≡ openBook assemblyKind d b → length new ≡ length b
-          → (xs : List ℕ) → xs ≡ payloadAt d (deck .assembly) → (r : ℕ) → r ≡ placedFar new xs k i l j → distance.Of r ≡ saidDistance (placedDistanceReply d k i l j)
+          → (xs : List ℕ) → xs ≡ payloadAt d (deck .assembly) → (r : ℕ) → r ≡ placedFar new xs k i l j → distance.Of r ≡ saidNumber (placedDistanceReply d k i l j)
       unfolding graphAt joinAt placedIn
       book-far bytes b new u f same xs g r h =
           let p = parts Composed d deck e in

@@ -7,8 +7,8 @@ use Rattle.reply.specs.Chain.{unique}
 use Rattle.records.specs.Bytes.{PartOf}
 use Rattle.records.specs.Unique.{unique-part}
 use Rattle.records.specs.declared.Kind.{Kind}
-use Rattle.block.specs.Index.{saidDistance}
-use Rattle.block.specs.declared.DistanceReply.{DistanceReply}
+use Rattle.reply.specs.Read.{saidNumber}
+use Rattle.reply.specs.declared.NumberReply.{NumberReply}
 use Rattle.deck.specs.Deck.{openReply, deckReply, blockSpan}
 use Rattle.deck.specs.Placed.{placedDistanceReply}
 use Rattle.deck.specs.Said.{saidDeck}
@@ -27,7 +27,7 @@ module _ (d : List ℕ) where
 pub unique-fields : (form : Form) (d : List ℕ) (r s : ComposeReply) → r ≡ saidComposed (composeReply form d) → s ≡ saidComposed (composeReply form d) → r ≡ s
 unique-fields form d r s = unique
 
-pub unique-placed-distance : (d : List ℕ) (k i l j : ℕ) (r s : DistanceReply) → r ≡ saidDistance (placedDistanceReply d k i l j) → s ≡ saidDistance (placedDistanceReply d k i l j) → r ≡ s
+pub unique-placed-distance : (d : List ℕ) (k i l j : ℕ) (r s : NumberReply) → r ≡ saidNumber (placedDistanceReply d k i l j) → s ≡ saidNumber (placedDistanceReply d k i l j) → r ≡ s
 unique-placed-distance d k i l j r s = unique
 
 pub unique-block-part : (s : RefT (List ℕ)) (x : ℕ) (q r : RefT (List ℕ)) → let p = blockSpan (now s) x in PartOf s (p .from) (p .len) q → PartOf s (p .from) (p .len) r → (now q ≡ now r) × (ptr q ≡ ptr r)

@@ -3,8 +3,6 @@ ghost use Prim.Native.Nat.{_≤_};
 ghost use lib.ListN.{length};
 use crate::values;
 use crate::written;
-use balaban::BalabanReply;
-use block::DistanceReply;
 use block::OneRow;
 use block::VertexReply;
 use half::PAIRS;
@@ -12,12 +10,11 @@ use lines::row::FAR;
 use lines::row::Row;
 use lines::row::STAYS;
 use lines::told;
+use reply::NumberReply;
 use reply::Reply;
 use reply::wide;
 use sets::SetsReply;
 use shares::BONDS;
-use shares::SharesReply;
-use szeged::SzegedReply;
 
 // Nothing, or refused.
 fn of_reply(reply: Reply) -> Row {
@@ -44,15 +41,8 @@ fn farthest(seen: OneRow) -> Row {
     }
 }
 
-fn apart(a: DistanceReply) -> Row {
-    match a {
-        DistanceReply::Refused(r) => told::refusal(r),
-        DistanceReply::Of(d) => told::one(d),
-    }
-}
-
 // The first entries of a buffer are lent.
-fn contributed(n: usize, bonds: &[u8], out: &mut [u64], lent: usize) -> SharesReply
+fn contributed(n: usize, bonds: &[u8], out: &mut [u64], lent: usize) -> NumberReply
     requires { ⌜ lent ≤ length (now out) ⌝ }
 {
     shares::contributions(n, bonds, &mut out[..lent])
@@ -67,10 +57,7 @@ fn shared(letter: u8, n: usize, bonds: &[u8], lent: usize) -> Row
     if letter == b'e' {
         return told::entries(&out);
     }
-    match reply {
-        SharesReply::Refused(r) => told::refusal(r),
-        SharesReply::Denominator(d) => told::one(d),
-    }
+    told::number(reply)
 }
 
 // The Szeged index, or the terms of the bonds in the lent entries.
@@ -80,17 +67,7 @@ fn szeged(letter: u8, n: usize, bonds: &[u8]) -> Row {
     if letter == b'u' {
         return told::entries(&out);
     }
-    match reply {
-        SzegedReply::Refused(r) => told::refusal(r),
-        SzegedReply::Index(x) => told::one(x),
-    }
-}
-
-fn balaban(reply: BalabanReply) -> Row {
-    match reply {
-        BalabanReply::Refused(r) => told::refusal(r),
-        BalabanReply::Of(x) => told::one(x),
-    }
+    told::number(reply)
 }
 
 // Both numbers of a tree, by the recursion from a root.
@@ -114,7 +91,7 @@ fn of_atom(letter: u8, n: usize, bonds: &[u8], atom: usize) -> Row {
         b'c' => of_reply(block::check(n, bonds)),
         b'v' => around(block::vertex_sums(n, bonds, atom)),
         b'r' => farthest(block::row(n, bonds, atom)),
-        b'j' => balaban(balaban::index(n, bonds)),
+        b'j' => told::number(balaban::index(n, bonds)),
         b'h' => sets(sets::count_from(n, bonds, atom)),
         _ => szeged(letter, n, bonds),
     }
@@ -124,7 +101,7 @@ fn reply_to(letter: u8, n: usize, bonds: &[u8], row: Row) -> Row {
     let i = row.first(0, FAR);
     let j = row.first(1, FAR);
     match letter {
-        b'a' => apart(block::distance(n, bonds, i, j)),
+        b'a' => told::number(block::distance(n, bonds, i, j)),
         b'd' | b'e' => shared(letter, n, bonds, row.first(0, BONDS)),
         b'g' => got(i, j, row.first(2, FAR) as u8),
         _ => of_atom(letter, n, bonds, i),
