@@ -6,14 +6,15 @@ use mathlib.Core.Path.{_≡_, refl, sym, ap, _∙_}
 use Rattle.graph.specs.Graph.{distance}
 use Rattle.graph.specs.Farthest.{farthest}
 use Rattle.reply.specs.Read.{Read, refused, read, _then_, refuseIf, refusal, isOutside, saidNumber}
-use Rattle.half.specs.Half.{halfAt}
+use lib.ListN.{replicate}
+use Rattle.half.specs.Half.{allPairs, halfAt}
 use Rattle.reply.specs.Chain.{not-read}
 use Rattle.block.specs.Block.{mostAtoms, graphOf, blockReply}
-use Rattle.block.specs.Rows.{rowOf, halfTable, noRow, rowReply, saidRow}
+use Rattle.block.specs.Rows.{rowOf, halfTable, halfAfter, noRow, rowReply, saidRow}
+use Rattle.block.specs.Halved.{half-lent, table-distance}
 use Rattle.block.specs.Index.{vertexOf, vertexReply, saidVertex, distanceReply, pairsOf, pairsReply, saidPairs}
 use Rattle.block.specs.Sums.{entry, countsBy, vertexBy}
 use Rattle.block.specs.Faults.{inside}
-use Rattle.block.specs.Told.{entry-at}
 use Rattle.block.specs.Measures.{all-atoms, counts-are, vertex-is}
 use Rattle.reply.specs.declared.Refusal.{Refusal}
 use Rattle.reply.specs.declared.Reply.the-variants as reply
@@ -57,6 +58,26 @@ module _ (n : ℕ) (xs : List ℕ) where
       let b : p .at ≡ pairsOf (graphOf n xs) = rw (a, q, all-atoms n xs e) (counts-are n xs e) in
       rw e (λ i. record { reply = f i; at = b i })
 
+  -- a distance out of the half
+  module _ (i j : ℕ) where
+    pub distance-refused : (r : Refusal) → blockReply n xs ≡ refused r → apart.Refused r ≡ saidNumber (distanceReply n xs i j)
+    unfolding distanceReply
+    distance-refused r e = rw e
+
+    module _ (fine : blockReply n xs ≡ read tt) where
+      pub distance-first : isOutside n i ≡ true → apart.Refused (refusal 18 0) ≡ saidNumber (distanceReply n xs i j)
+      unfolding distanceReply
+      distance-first o = rw (fine, o)
+
+      module _ (a : isOutside n i ≡ false) where
+        pub distance-second : isOutside n j ≡ true → apart.Refused (refusal 18 0) ≡ saidNumber (distanceReply n xs i j)
+        unfolding distanceReply
+        distance-second o = rw (fine, a, o)
+
+        pub distance-fine : isOutside n j ≡ false → (half : List ℕ) → half ≡ halfAfter n xs (replicate allPairs 0) → (d : ℕ) → d ≡ halfAt half i j → apart.Of d ≡ saidNumber (distanceReply n xs i j)
+        unfolding distanceReply
+        distance-fine b half e d q = rw (fine, a, b) (ap apart.Of (q ∙ ap (λ (h : List ℕ). halfAt h i j) (e ∙ half-lent n xs) ∙ table-distance n xs fine (inside n i a) (inside n j b)))
+
   module _ (i : ℕ) (v : OneRow) (W : v ≡ saidRow (rowReply n xs i)) where
     replied : v .reply ≡ saidRow (rowReply n xs i) .reply
     replied = ap (λ (x : OneRow). x .reply) W
@@ -68,10 +89,6 @@ module _ (n : ℕ) (xs : List ℕ) where
       pub vertex-refused : around.Refused r ≡ saidVertex (vertexReply n xs i)
       unfolding vertexReply rowReply
       vertex-refused = rw (asked-out (blockReply n xs) (isOutside n i) (rowOf (graphOf n xs) i, farthest (graphOf n xs) i) (read (vertexOf (graphOf n xs) i)) r out)
-
-      pub distance-refused : (j : ℕ) → apart.Refused r ≡ saidNumber (distanceReply n xs i j)
-      unfolding distanceReply rowReply
-      distance-refused j = rw (asked-out (blockReply n xs) (isOutside n i) (rowOf (graphOf n xs) i, farthest (graphOf n xs) i) (asked (read tt) (isOutside n j) (read (distance (graphOf n xs) i j))) r out)
 
     -- the row was read: of a block that is fine, for one of its atoms
     pub record Seen : Type 0 where
@@ -95,11 +112,3 @@ module _ (n : ℕ) (xs : List ℕ) where
       pub vertex-fine : (x : Vertex) → x ≡ vertexBy (min n mostAtoms) (entry (v .row)) (v .largest) → around.Of x ≡ saidVertex (vertexReply n xs i)
       unfolding vertexReply
       vertex-fine x p = let S = seen in rw (S .fine, S .inner, p, S .row-is, S .largest-is, all-atoms n xs (S .fine), vertex-is n xs (S .fine) i)
-
-      pub distance-outside : (j : ℕ) → isOutside n j ≡ true → apart.Refused (refusal 18 0) ≡ saidNumber (distanceReply n xs i j)
-      unfolding distanceReply
-      distance-outside j o = let S = seen in rw (S .fine, S .inner, o)
-
-      pub distance-fine : (j : ℕ) → isOutside n j ≡ false → (d : ℕ) → d ≡ entry (v .row) j → apart.Of d ≡ saidNumber (distanceReply n xs i j)
-      unfolding distanceReply
-      distance-fine j o d p = let S = seen in rw (S .fine, S .inner, o, p, S .row-is, entry-at n xs (S .fine) i (inside n j o))

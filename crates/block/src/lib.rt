@@ -15,6 +15,7 @@ mod totals;
 
 use half::Half;
 use half::PAIRS;
+use half::get;
 use half::within;
 use reply::NumberReply;
 use reply::Refusal;
@@ -245,19 +246,20 @@ fn around_row(row: &DistanceRow, n: usize, farthest: u8) -> Vertex
 pub fn distance(n: usize, bonds: &[u8], i: usize, j: usize) -> NumberReply
     ensures { λ r. ⌜ r ≡ saidNumber (distanceReply n (now (bonds .entry)) i j) ⌝ }
 {
-    let seen = row(n, bonds, i);
+    let mut half = [0u8; PAIRS];
+    let mut far = [0u8; ATOMS];
+    let seen = table(n, bonds, &mut half, &mut far);
     let reply = seen.reply;
     match reply {
         Reply::Refused(refusal) => NumberReply::Refused(refusal),
         Reply::Fine => {
-            if is_outside(n, j) {
+            if is_outside(n, i) || is_outside(n, j) {
                 return NumberReply::Refused(Refusal {
                     number: 18,
                     place: 0,
                 });
             }
-            let row = seen.row;
-            let d = wide(row[j - 1]);
+            let d = wide(get(&half, i, j));
             NumberReply::Of(d)
         }
     }

@@ -1,17 +1,16 @@
--- Laws. A row that is stored is read at its pairs, and changes no other atom's. Assumes nothing.
+-- Laws. A row that is stored is read at its pairs, and changes no other atom's; and a row reads as the half does. Assumes nothing.
 use Prim.Native.Nat.{ℕ, zero, suc, _+_, _-_, _≤_, _<_, min}
-use mathlib.Core.Bool.{true, false}
 use mathlib.Core.List.{List, [], _∷_}
-use mathlib.Core.Logic.{_⊎_, inl, inr, ⊎-elim}
 use mathlib.Core.Path.{_≡_, refl, sym, _∙_, ap}
 use native.Mathlib.Decide.{decLt}
 use native.Mathlib.Omega.{arith}
 use borrow.Author.Tests.{ne-eqb, le-ltb}
 use lib.ListN.{length, getD, set, length-set}
 use lib.Seq.{sets, length-sets, getD-set-same, getD-set-other}
-use Rattle.reply.specs.Read.{isOutside}
-use Rattle.half.specs.Half.{mostAtoms, allPairs, rowStart, abovePlace, partOf, halfWithRow}
+use Rattle.half.specs.Half.{mostAtoms, allPairs, rowStart, abovePlace, halfAt, halfRow, partOf, halfWithRow}
+use Rattle.half.specs.Tables.{getD-table}
 use Rattle.half.specs.Places.{Pair, start-last, start-next, start-most, place-is, place-high}
+use Rattle.half.specs.Reads.{Sides, up, down, none, sides, up-reads, down-reads, none-reads}
 
 pub length-part : (row : List ℕ) (j m : ℕ) → length (partOf row j m) ≡ m
 unfolding partOf
@@ -74,3 +73,23 @@ module _ (h : List ℕ) (i : ℕ) (row : List ℕ) (n : ℕ) (low : 1 ≤ i) (hi
     | no u ↦ sets-behind (partOf row i few) h (rowStart i) (abovePlace k l)
         (omega (arith, length-part row i few, start-next i low (omega (arith, p .less, p .high)), start-most (suc i) k (omega arith) (omega arith) (omega (arith, p .less, p .high)), place-is k l))
   ])
+
+  -- A STORED ROW IS READ at its pairs, either way round
+  pub row-get-put : (l : ℕ) → Pair i l → l ≤ n → (halfAt (halfWithRow h i row n) i l ≡ getD row (l - 1) 0) × (halfAt (halfWithRow h i row n) l i ≡ getD row (l - 1) 0)
+  row-get-put l p q = (up-reads (halfWithRow h i row n) p ∙ row-same l p q, down-reads (halfWithRow h i row n) p ∙ row-same l p q)
+
+  -- AND CHANGES NO OTHER PAIR'S: none whose first atom is another
+  pub row-half-other : (k l : ℕ) → (min k l ≡ i → ⊥) → halfAt (halfWithRow h i row n) k l ≡ halfAt h k l
+  row-half-other k l ne = go (sides k l)
+    where
+      go : Sides k l → halfAt (halfWithRow h i row n) k l ≡ halfAt h k l
+      go (up p) = up-reads (halfWithRow h i row n) p ∙ row-other k l p (λ e. ne (omega (arith, p .less))) ∙ sym (up-reads h p)
+      go (down p) = down-reads (halfWithRow h i row n) p ∙ row-other l k p (λ e. ne (omega (arith, p .less))) ∙ sym (down-reads h p)
+      go (none e) = none-reads (halfWithRow h i row n) k l e ∙ sym (none-reads h k l e)
+
+-- A ROW READS as the half does; so what is stored for two atoms stands in the rows of both
+pub row-reads : (h : List ℕ) (i j : ℕ) → 1 ≤ j → j ≤ mostAtoms → getD (halfRow h i) (j - 1) 0 ≡ halfAt h i j
+unfolding halfRow
+row-reads h i j low high =
+    let e : suc (j - 1) ≡ j = omega arith in
+    getD-table mostAtoms (λ k. halfAt h i (suc k)) (j - 1) 0 (omega arith) ∙ ap (halfAt h i) e

@@ -46,7 +46,7 @@ fn no_pair(i: usize, j: usize) -> bool
     i == j
 }
 
-// The place of two atoms, either way round; PAIRS where they are no pair. This, `get` and `put` are for who keeps a half: the other crates go by rows.
+// The place of two atoms, either way round; PAIRS where they are no pair.
 pub fn place(i: usize, j: usize) -> usize
     ensures { λ r. ⌜ r ≡ pairPlace i j ⌝ }
 {

@@ -1,18 +1,16 @@
-use mathlib.Core.Bool.{false}
+use mathlib.Core.Logic.{⊎-elim}
 use mathlib.Core.Path.{_≡_, sym, _∙_}
-use native.Mathlib.Omega.{arith}
 use borrow.Author.Needs.{needs}
-use Rattle.graph.specs.Graph.{Within}
-use Rattle.reply.specs.Read.{isOutside}
-use Rattle.block.specs.Block.{mostAtoms}
-use Rattle.block.specs.Faults.{inside}
-use Rattle.block.specs.Told.{few-atoms}
-use Rattle.block.proofs.Answers.{seen, distance-refused, distance-outside, distance-fine}
+use Rattle.reply.specs.Read.{read}
+use Rattle.reply.specs.Chain.{fine-read, refused-read}
+use Rattle.block.specs.Block.{blockReply}
+use Rattle.block.specs.Drawn.{opened-reply}
+use Rattle.block.proofs.Answers.{distance-refused, distance-first, distance-second, distance-fine}
 use Rattle.block.proofs.distance.Statement.{statement}
 use Rattle.block.proofs.distance.Tie as tie
 
-row-requires : tie.Need-row-requires
-row-requires c κs = search needs
+table-requires : tie.Need-table-requires
+table-requires c κs = search needs
 
 enum-known-reply : tie.Need-enum-known-reply
 enum-known-reply c = search needs
@@ -23,46 +21,45 @@ enum-told c = search needs
 is-outside-requires : tie.Need-is-outside-requires
 is-outside-requires c κs = search needs
 
+is-outside-requires-2 : tie.Need-is-outside-requires-2
+is-outside-requires-2 c κs = search needs
+
+-- the block is fine
+fine : (c : tie.After-enum-told) → let a = c .before .before .before .before .before .before .args in blockReply (a .n) (a .bonds .now) ≡ read tt
+fine c = fine-read _ (sym (opened-reply _ _ _ (c .before .before .table .ensures .0)) ∙ c .enum-told .given .1)
+
 returns : tie.Need-returns
-returns c = distance-outside _ _ _ _ (c .before .before .before .before .row .ensures) (c .before .before .enum-told .given .1) _ (sym (c .before .is-outside .ensures) ∙ c .if1 .taken)
+returns c =
+    let o = c .before .is-outside .ensures in
+    ⊎-elim (λ t. distance-first _ _ _ _ (fine (c .before .before)) (sym o ∙ t .taken)) (λ t. distance-second _ _ _ _ (fine (c .before .before)) (sym o ∙ t .0 .left) (sym (t .1 .ensures) ∙ t .2 .taken))
+    (c .if1 .came)
 
--- j is an atom of the block, whose atoms are few
-inner : (c : tie.Else1) → let s = c .before .before .before .before .before .before .args in isOutside (s .n) (s .j) ≡ false
-inner c = sym (c .before .is-outside .ensures) ∙ c .if1 .left
-
-small : (c : tie.Else1) → let s = c .before .before .before .before .before .before .args in Within (s .n) (s .j) × Within mostAtoms (s .n)
-small c =
-    let S = seen _ _ _ _ (c .before .before .before .before .row .ensures) (c .before .before .enum-told .given .1) in
-    (inside _ _ (inner c), few-atoms _ _ (S .fine))
-
-sub-wide : tie.Need-sub-wide
-sub-wide c = omega (arith, small (c .before))
-
-array-read-wide : tie.Need-array-read-wide
-array-read-wide c = omega (arith, small (c .before))
+get-requires : tie.Need-get-requires
+get-requires c κs = search needs
 
 wide-requires : tie.Need-wide-requires
 wide-requires c κs = search needs
 
 returns-2 : tie.Need-returns-2
-returns-2 c = distance-refused _ _ _ _ (c .before .before .before .row .ensures) _ (c .before .reply .given .1) _
+returns-2 c = distance-refused _ _ _ _ _ (refused-read _ _ (sym (opened-reply _ _ _ (c .before .before .before .table .ensures .0)) ∙ c .before .reply .given .1))
 
 returns-3 : tie.Need-returns-3
 returns-3 c =
-    let d = c .before .before in
-    distance-fine _ _ _ _ (d .before .before .before .before .row .ensures) (d .before .before .enum-told .given .1) _ (inner d) _ (c .wide .ensures .0)
+    let f = c .before .before .before .before .before .before .before in
+    let s = c .before .before .before in
+    distance-fine _ _ _ _ (fine f) (sym (s .before .before .before .is-outside .ensures) ∙ s .before .before .if1 .left) (sym (s .before .is-outside2 .ensures) ∙ s .if2 .left) _ (f .before .before .table .ensures .1 .0) _ (c .wide .ensures .0 ∙ c .before .get .ensures)
 
 pub distance-spec : {M : Type 1} → statement M
 distance-spec =
     tie.close
     (tie.spec
-    row-requires
+    table-requires
     enum-known-reply
     enum-told
     is-outside-requires
+    is-outside-requires-2
     returns
-    sub-wide
-    array-read-wide
+    get-requires
     wide-requires
     returns-2
     returns-3)
