@@ -196,5 +196,5 @@ sites-said table n e = rw (sites-length table n, e)
 pub byte-more : (t k m : ℕ) → t ≤ 256 ^ k → m ≤ 255 → t * m ≤ 256 ^ (k + 1)
 byte-more t k m h l = rw (add-one k) (rw pow-suc (mul-le-mul h (omega arith)))
 
-pub four-bytes : (t k : ℕ) → t ≤ 256 ^ k → k ≤ mostSites → t ≤ 4294967296
-four-bytes t k h l = le-trans h (pow-le-pow-right {n = 256} (lit< tt) {i = k} {j = 4} l)
+pub few-bytes : (t k : ℕ) → t ≤ 256 ^ k → k ≤ mostSites → t ≤ 256 ^ mostSites
+few-bytes t k h l = le-trans h (pow-le-pow-right {n = 256} (lit< tt) {i = k} {j = mostSites} l)

@@ -19,7 +19,7 @@ ghost use Rattle.assembly.specs.Book.{blockGraph, bookOf};
 ghost use Rattle.catalogue.specs.Library.{isFullIn, candidateFault, candidatesFault};
 
 // The bytes of a candidate: block number (2), joining atom (1).
-pub(crate) const CANDIDATE: usize = 3;
+pub const CANDIDATE: usize = 3;
 
 fn one_if(x: bool) -> u8
     ensures { λ r. ⌜ (r ≡ cond x 1 0) × (r ≤ 1) ⌝ }

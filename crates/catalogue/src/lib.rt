@@ -5,6 +5,7 @@ mod sites;
 use assembly::BLOCKS;
 use assembly::BlockTable;
 use assembly::NO_BLOCK;
+pub use candidates::CANDIDATE;
 use compose::open_deck;
 use records::Kind;
 use records::payload_at;

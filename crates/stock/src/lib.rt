@@ -10,6 +10,7 @@ use arms::row_arm;
 use assembly::BlockTable;
 use assembly::bonds_part;
 use assembly::find_block;
+use catalogue::CANDIDATE;
 use catalogue::CANDIDATES;
 use catalogue::SITES;
 use catalogue::Site;
@@ -36,7 +37,7 @@ fn arm_at(d: &[u8], blocks: BlockTable, count: usize, xs: &[u8], s: Site, j: usi
     if (s.many as usize) <= j {
         return NO_ARM;
     }
-    let p = s.first + 3 * j;
+    let p = s.first + CANDIDATE * j;
     let number = le16_at(xs, p) as usize;
     let a = byte_at(xs, p + 2) as usize;
     let b = find_block(blocks, count, number);

@@ -6,7 +6,7 @@ use native.Mathlib.Omega.{arith}
 use borrow.Author.Needs.{needs}
 use Rattle.catalogue.specs.Products.{products}
 use Rattle.catalogue.specs.Table.{sitesIn}
-use Rattle.catalogue.proofs.Turns.{products-grow, one-product, byte-more, four-bytes}
+use Rattle.catalogue.proofs.Turns.{products-grow, one-product, byte-more, few-bytes}
 use Rattle.catalogue.proofs.sites.count_of.Statement.{statement}
 use Rattle.catalogue.proofs.sites.count_of.Tie as tie
 
@@ -29,7 +29,7 @@ wide-byte-requires : tie.Need-wide-byte-requires Inv-loop μ-loop
 wide-byte-requires c κs = search needs
 
 mul-total : tie.Need-mul-total Inv-loop μ-loop
-mul-total c = let l = c .before .before .before .loop in omega (arith, four-bytes _ (l .k + 1) (byte-more (l .total) (l .k) (c .wide-byte .result) (l .inv .2) (c .wide-byte .ensures .1)) (omega arith))
+mul-total c = let l = c .before .before .before .loop in omega (arith, few-bytes _ (l .k + 1) (byte-more (l .total) (l .k) (c .wide-byte .result) (l .inv .2) (c .wide-byte .ensures .1)) (omega arith))
 
 add-k : tie.Need-add-k Inv-loop μ-loop
 add-k c = search needs

@@ -33,7 +33,7 @@ start : (b : Book) (g : Graph) (xs : List ℕ) (at total p : ℕ) (table : List 
 unfolding sitesIn
 start b g xs at total p table = let z : total ≡ total - 0 = omega arith in ap (λ (n : ℕ). sitesFrom b g xs at n p []) z
 
-blank : siteTable [] ≡ replicate 4 noSite
+blank : siteTable [] ≡ replicate mostSites noSite
 unfolding siteTable
 blank = refl
 
