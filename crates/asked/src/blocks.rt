@@ -2,20 +2,17 @@
 ghost use Prim.Native.Nat.{_≤_};
 ghost use lib.ListN.{length};
 use crate::values;
-use balaban::BalabanReply;
-use block::DistanceReply;
 use block::OneRow;
 use block::VertexReply;
 use lines::row::FAR;
 use lines::row::Row;
 use lines::row::STAYS;
 use lines::told;
+use reply::NumberReply;
 use reply::Reply;
 use reply::wide;
 use sets::SetsReply;
 use shares::BONDS;
-use shares::SharesReply;
-use szeged::SzegedReply;
 
 // Nothing, or refused.
 pub(crate) fn of_reply(reply: Reply) -> Row {
@@ -42,15 +39,8 @@ fn farthest(seen: OneRow) -> Row {
     }
 }
 
-fn apart(a: DistanceReply) -> Row {
-    match a {
-        DistanceReply::Refused(r) => told::refusal(r),
-        DistanceReply::Of(d) => told::one(d),
-    }
-}
-
 // The first entries of a buffer are lent.
-fn contributed(n: usize, bonds: &[u8], out: &mut [u64], lent: usize) -> SharesReply
+fn contributed(n: usize, bonds: &[u8], out: &mut [u64], lent: usize) -> NumberReply
     requires { ⌜ lent ≤ length (now out) ⌝ }
 {
     shares::contributions(n, bonds, &mut out[..lent])
@@ -65,10 +55,7 @@ fn shared(letter: u8, n: usize, bonds: &[u8], lent: usize) -> Row
     if letter == b'e' {
         return told::entries(&out);
     }
-    match reply {
-        SharesReply::Refused(r) => told::refusal(r),
-        SharesReply::Denominator(d) => told::one(d),
-    }
+    told::number(reply)
 }
 
 // The Szeged index, or the terms of the bonds in the lent entries.
@@ -78,17 +65,7 @@ fn szeged(letter: u8, n: usize, bonds: &[u8]) -> Row {
     if letter == b'u' {
         return told::entries(&out);
     }
-    match reply {
-        SzegedReply::Refused(r) => told::refusal(r),
-        SzegedReply::Index(x) => told::one(x),
-    }
-}
-
-fn balaban(reply: BalabanReply) -> Row {
-    match reply {
-        BalabanReply::Refused(r) => told::refusal(r),
-        BalabanReply::Of(x) => told::one(x),
-    }
+    told::number(reply)
 }
 
 // Both numbers of a tree, by the recursion from a root.
@@ -104,10 +81,10 @@ fn reply_to(letter: u8, n: usize, bonds: &[u8], row: Row) -> Row {
         b'c' => of_reply(block::check(n, bonds)),
         b'v' => around(block::vertex_sums(n, bonds, row.first(0, FAR))),
         b'r' => farthest(block::row(n, bonds, row.first(0, FAR))),
-        b'a' => apart(block::distance(n, bonds, row.first(0, FAR), row.first(1, FAR))),
+        b'a' => told::number(block::distance(n, bonds, row.first(0, FAR), row.first(1, FAR))),
         b'd' | b'e' => shared(letter, n, bonds, row.first(0, BONDS)),
         b's' | b'u' => szeged(letter, n, bonds),
-        b'j' => balaban(balaban::index(n, bonds)),
+        b'j' => told::number(balaban::index(n, bonds)),
         b'h' => sets(sets::count_from(n, bonds, row.first(0, FAR))),
         _ => told::unknown(),
     }

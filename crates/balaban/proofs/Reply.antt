@@ -9,29 +9,29 @@ use Rattle.graph.specs.Graph.{bond, bonded, vertexSum}
 use Rattle.graph.specs.Walk.{far-end}
 use Rattle.graph.specs.Bounds.{vertexSum-positive}
 use Rattle.graph.specs.Tree.{enough-bonds}
-use Rattle.reply.specs.Read.{refused, read}
+use Rattle.reply.specs.Read.{refused, read, saidNumber}
 use Rattle.reply.specs.Chain.{then-read}
 use Rattle.block.specs.Block.{graphOf, bondsOf, blockReply}
 use Rattle.block.specs.Told.{molecule, each-bond}
 use Rattle.block.specs.Numbered.{ends-apart}
 use Rattle.reply.specs.declared.Refusal.{Refusal}
-use Rattle.balaban.specs.Balaban.{Largest, bound, term, bondCount, divisor, reckoned, balabanReply, saidBalaban, Fine}
-use Rattle.balaban.specs.declared.BalabanReply.{BalabanReply}
-use Rattle.balaban.specs.declared.BalabanReply.the-variants as answer
+use Rattle.balaban.specs.Balaban.{Largest, bound, term, bondCount, divisor, reckoned, balabanReply, Fine}
+use Rattle.reply.specs.declared.NumberReply.{NumberReply}
+use Rattle.reply.specs.declared.NumberReply.the-variants as answer
 use Rattle.balaban.proofs.Squares.{largest-root}
 use Rattle.balaban.proofs.Fineness.{fine-molecule}
 
 -- two replies that satisfy the promise are equal
-pub one-reply : (n : ℕ) (xs : List ℕ) (r s : BalabanReply) → r ≡ saidBalaban (balabanReply n xs) → s ≡ saidBalaban (balabanReply n xs) → r ≡ s
+pub one-reply : (n : ℕ) (xs : List ℕ) (r s : NumberReply) → r ≡ saidNumber (balabanReply n xs) → s ≡ saidNumber (balabanReply n xs) → r ≡ s
 one-reply n xs r s p q = p ∙ sym q
 
 module _ (n : ℕ) (xs : List ℕ) where
-  pub refused-reply : (r : Refusal) → blockReply n xs ≡ refused r → answer.Refused r ≡ saidBalaban (balabanReply n xs)
+  pub refused-reply : (r : Refusal) → blockReply n xs ≡ refused r → answer.Refused r ≡ saidNumber (balabanReply n xs)
   unfolding balabanReply
   refused-reply r e = rw e
 
   module _ (fine : blockReply n xs ≡ read tt) where
-    pub fine-reply : (j : ℕ) → j ≡ reckoned 1 (graphOf n xs) → answer.Of j ≡ saidBalaban (balabanReply n xs)
+    pub fine-reply : (j : ℕ) → j ≡ reckoned 1 (graphOf n xs) → answer.Of j ≡ saidNumber (balabanReply n xs)
     unfolding balabanReply
     fine-reply j e = rw (fine, e)
 

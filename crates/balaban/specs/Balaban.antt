@@ -6,10 +6,8 @@ use mathlib.Core.List.{List}
 use lib.Dec.{eqb, leb}
 use lib.ListN.{length}
 use Rattle.graph.specs.Graph.{Graph, Bond, sumBonds, vertexSum}
-use Rattle.reply.specs.Read.{Read, refused, read, _then_}
+use Rattle.reply.specs.Read.{Read, read, _then_}
 use Rattle.block.specs.Block.{graphOf, blockReply}
-use Rattle.balaban.specs.declared.BalabanReply.{BalabanReply}
-use Rattle.balaban.specs.declared.BalabanReply.the-variants as answer
 
 -- t is the largest whole number with t squared times p at most the bound
 pub record Largest (bound p t : ℕ) : Type 0 where
@@ -48,11 +46,6 @@ reckoned K g = bondCount g * sumBonds (g .bonds) (term K g) / divisor g
 -- the answer is the one for K = 1
 unfoldable pub balabanReply : ℕ → List ℕ → Read ℕ
 balabanReply n xs = blockReply n xs then λ _. read (reckoned 1 (graphOf n xs))
-
--- how the code says it
-abbrev pub saidBalaban : Read ℕ → BalabanReply
-saidBalaban (refused r) = answer.Refused r
-saidBalaban (read j) = answer.Of j
 
 -- How fine an answer R is: the reckoning with K squared times 10 ^ 18, held against K times R.
 pub record Fine (K : ℕ) (g : Graph) (R : ℕ) : Type 0 where

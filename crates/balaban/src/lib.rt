@@ -2,21 +2,16 @@
 ghost use mathlib.Core.Path.{_≡_};
 ghost use Prim.Native.Nat.{_+_, _-_, _*_, _/_, _≤_};
 ghost use Rattle.graph.specs.Graph.{Within};
+ghost use Rattle.reply.specs.Read.{saidNumber};
 ghost use Rattle.block.specs.Block.{mostAtoms, mostBytes, graphOf};
 ghost use Rattle.block.specs.Sums.{entry};
-ghost use Rattle.balaban.specs.Balaban.{bound, largestRoot, reckoned, balabanReply, saidBalaban};
+ghost use Rattle.balaban.specs.Balaban.{bound, largestRoot, reckoned, balabanReply};
 ghost use Rattle.balaban.specs.Work.{unit, mostSum, RootsTask};
 use block::ATOMS;
-use reply::Refusal;
+use reply::NumberReply;
 use reply::Reply;
 
 mod roots;
-
-// J times 10^9, or a refusal.
-pub enum BalabanReply {
-    Refused(Refusal),
-    Of(u64),
-}
 
 // The sum of atom v.
 fn sum_of(sums: &[u64; ATOMS], v: u8) -> u64
@@ -62,17 +57,17 @@ fn reckon(n: usize, bonds: &[u8], sums: &[u64; ATOMS]) -> u64
 }
 
 // Balaban's J of a block, times 10^9 and in whole numbers, or the block's refusal.
-pub fn index(n: usize, bonds: &[u8]) -> BalabanReply
-    ensures { λ r. ⌜ r ≡ saidBalaban (balabanReply n (now (bonds .entry))) ⌝ }
+pub fn index(n: usize, bonds: &[u8]) -> NumberReply
+    ensures { λ r. ⌜ r ≡ saidNumber (balabanReply n (now (bonds .entry))) ⌝ }
 {
     let seen = reach::vertex_sums(n, bonds);
     let reply = seen.reply;
     match reply {
-        Reply::Refused(refusal) => BalabanReply::Refused(refusal),
+        Reply::Refused(refusal) => NumberReply::Refused(refusal),
         Reply::Fine => {
             let sums = seen.at;
             let j = reckon(n, bonds, &sums);
-            BalabanReply::Of(j)
+            NumberReply::Of(j)
         }
     }
 }

@@ -5,21 +5,21 @@ use mathlib.Core.List.{List}
 use mathlib.Core.Path.{_≡_, refl, sym, ap, _∙_}
 use Rattle.graph.specs.Graph.{distance}
 use Rattle.graph.specs.Farthest.{farthest}
-use Rattle.reply.specs.Read.{Read, refused, read, _then_, refuseIf, refusal, isOutside}
+use Rattle.reply.specs.Read.{Read, refused, read, _then_, refuseIf, refusal, isOutside, saidNumber}
 use Rattle.half.specs.Half.{halfAt}
 use Rattle.reply.specs.Chain.{not-read}
 use Rattle.block.specs.Block.{mostAtoms, graphOf, blockReply}
 use Rattle.block.specs.Rows.{rowOf, halfTable, noRow, rowReply, saidRow}
-use Rattle.block.specs.Index.{vertexOf, vertexReply, saidVertex, distanceReply, saidDistance, pairsOf, pairsReply, saidPairs}
+use Rattle.block.specs.Index.{vertexOf, vertexReply, saidVertex, distanceReply, pairsOf, pairsReply, saidPairs}
 use Rattle.block.specs.Sums.{entry, countsBy, vertexBy}
 use Rattle.block.specs.Faults.{inside}
 use Rattle.block.specs.Told.{entry-at}
 use Rattle.block.specs.Measures.{all-atoms, counts-are, vertex-is}
 use Rattle.reply.specs.declared.Refusal.{Refusal}
 use Rattle.reply.specs.declared.Reply.the-variants as reply
+use Rattle.reply.specs.declared.NumberReply.the-variants as apart
 use Rattle.block.specs.declared.Vertex.{Vertex}
 use Rattle.block.specs.declared.VertexReply.the-variants as around
-use Rattle.block.specs.declared.DistanceReply.the-variants as apart
 use Rattle.block.specs.declared.Pairs.{Pairs}
 use Rattle.block.specs.declared.OneRow.{OneRow}
 use Rattle.block.proofs.Replies.{not-fine}
@@ -69,7 +69,7 @@ module _ (n : ℕ) (xs : List ℕ) where
       unfolding vertexReply rowReply
       vertex-refused = rw (asked-out (blockReply n xs) (isOutside n i) (rowOf (graphOf n xs) i, farthest (graphOf n xs) i) (read (vertexOf (graphOf n xs) i)) r out)
 
-      pub distance-refused : (j : ℕ) → apart.Refused r ≡ saidDistance (distanceReply n xs i j)
+      pub distance-refused : (j : ℕ) → apart.Refused r ≡ saidNumber (distanceReply n xs i j)
       unfolding distanceReply rowReply
       distance-refused j = rw (asked-out (blockReply n xs) (isOutside n i) (rowOf (graphOf n xs) i, farthest (graphOf n xs) i) (asked (read tt) (isOutside n j) (read (distance (graphOf n xs) i j))) r out)
 
@@ -96,10 +96,10 @@ module _ (n : ℕ) (xs : List ℕ) where
       unfolding vertexReply
       vertex-fine x p = let S = seen in rw (S .fine, S .inner, p, S .row-is, S .largest-is, all-atoms n xs (S .fine), vertex-is n xs (S .fine) i)
 
-      pub distance-outside : (j : ℕ) → isOutside n j ≡ true → apart.Refused (refusal 18 0) ≡ saidDistance (distanceReply n xs i j)
+      pub distance-outside : (j : ℕ) → isOutside n j ≡ true → apart.Refused (refusal 18 0) ≡ saidNumber (distanceReply n xs i j)
       unfolding distanceReply
       distance-outside j o = let S = seen in rw (S .fine, S .inner, o)
 
-      pub distance-fine : (j : ℕ) → isOutside n j ≡ false → (d : ℕ) → d ≡ entry (v .row) j → apart.Of d ≡ saidDistance (distanceReply n xs i j)
+      pub distance-fine : (j : ℕ) → isOutside n j ≡ false → (d : ℕ) → d ≡ entry (v .row) j → apart.Of d ≡ saidNumber (distanceReply n xs i j)
       unfolding distanceReply
       distance-fine j o d p = let S = seen in rw (S .fine, S .inner, o, p, S .row-is, entry-at n xs (S .fine) i (inside n j o))

@@ -13,8 +13,6 @@ use Rattle.block.specs.declared.IndicesReply.the-variants as measured
 use Rattle.block.specs.declared.Vertex.{Vertex}
 use Rattle.block.specs.declared.VertexReply.{VertexReply}
 use Rattle.block.specs.declared.VertexReply.the-variants as around
-use Rattle.block.specs.declared.DistanceReply.{DistanceReply}
-use Rattle.block.specs.declared.DistanceReply.the-variants as apart
 use Rattle.block.specs.declared.Pairs.{Pairs}
 
 unfoldable pub indicesOf : Graph → Indices
@@ -54,10 +52,6 @@ distanceReply n xs i j =
     refuseIf (isOutside n i) 18 0 then λ _.
     refuseIf (isOutside n j) 18 0 then λ _.
     read (distance (graphOf n xs) i j)
-
-abbrev pub saidDistance : Read ℕ → DistanceReply
-saidDistance (refused r) = apart.Refused r
-saidDistance (read d) = apart.Of d
 
 -- n(k) at place k
 unfoldable pub pairsOf : Graph → List ℕ

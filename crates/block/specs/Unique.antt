@@ -1,18 +1,18 @@
 -- Laws. Each promise determines the reply: two replies that satisfy it are equal. Assumes nothing.
-use Prim.Native.Nat.{ℕ}
+use Prim.Native.Nat.{ℕ, _-_, _^_, min}
 use mathlib.Core.List.{List}
 use mathlib.Core.Path.{_≡_}
-use Rattle.reply.specs.Read.{saidReply}
+use Rattle.reply.specs.Read.{saidReply, saidNumber}
 use Rattle.reply.specs.Chain.{unique}
-use Rattle.block.specs.Block.{drawnReply, blockReply}
+use Rattle.block.specs.Block.{mostAtoms, drawnReply, blockReply}
 use Rattle.block.specs.Rows.{halfAfter, farAfter, rowReply, saidRow}
 use Rattle.block.specs.Opened.{drawnNear, openedReply, saidOpened}
-use Rattle.block.specs.Index.{vertexReply, saidVertex, distanceReply, saidDistance, pairsReply, saidPairs}
+use Rattle.block.specs.Index.{vertexReply, saidVertex, distanceReply, pairsReply, saidPairs}
 use Rattle.reply.specs.declared.Reply.{Reply}
+use Rattle.reply.specs.declared.NumberReply.{NumberReply}
 use Rattle.block.specs.declared.OneRow.{OneRow}
 use Rattle.block.specs.declared.Opened.{Opened}
 use Rattle.block.specs.declared.VertexReply.{VertexReply}
-use Rattle.block.specs.declared.DistanceReply.{DistanceReply}
 use Rattle.block.specs.declared.Pairs.{Pairs}
 
 module _ (n : ℕ) (xs : List ℕ) where
@@ -34,7 +34,7 @@ module _ (n : ℕ) (xs : List ℕ) where
   pub unique-row : (i : ℕ) (r s : OneRow) → r ≡ saidRow (rowReply n xs i) → s ≡ saidRow (rowReply n xs i) → r ≡ s
   unique-row i r s = unique
 
-  pub unique-distance : (i j : ℕ) (r s : DistanceReply) → r ≡ saidDistance (distanceReply n xs i j) → s ≡ saidDistance (distanceReply n xs i j) → r ≡ s
+  pub unique-distance : (i j : ℕ) (r s : NumberReply) → r ≡ saidNumber (distanceReply n xs i j) → s ≡ saidNumber (distanceReply n xs i j) → r ≡ s
   unique-distance i j r s = unique
 
   pub unique-vertex-sums : (a : ℕ) (r s : VertexReply) → r ≡ saidVertex (vertexReply n xs a) → s ≡ saidVertex (vertexReply n xs a) → r ≡ s
@@ -42,3 +42,6 @@ module _ (n : ℕ) (xs : List ℕ) where
 
   pub unique-pair-counts : (r s : Pairs) → r ≡ saidPairs (pairsReply n xs) → s ≡ saidPairs (pairsReply n xs) → r ≡ s
   unique-pair-counts r s = unique
+
+pub unique-first-atoms : (n r s : ℕ) → r ≡ 2 ^ min n mostAtoms - 1 → s ≡ 2 ^ min n mostAtoms - 1 → r ≡ s
+unique-first-atoms n r s = unique

@@ -1,10 +1,10 @@
 // One block: its refusals 1 to 7, its distances, indices and vertex sums.
 ghost use mathlib.Core.Path.{_≡_};
 ghost use Prim.Native.Nat.{min};
-ghost use Rattle.reply.specs.Read.{refusal, saidReply};
+ghost use Rattle.reply.specs.Read.{saidReply, saidNumber};
 ghost use Rattle.block.specs.Block.{mostAtoms, drawnReply, blockReply};
 ghost use Rattle.block.specs.Rows.{noRow, halfAfter, farAfter, rowReply, saidRow};
-ghost use Rattle.block.specs.Index.{vertexReply, saidVertex, distanceReply, saidDistance, pairsReply, saidPairs};
+ghost use Rattle.block.specs.Index.{vertexReply, saidVertex, distanceReply, pairsReply, saidPairs};
 ghost use Rattle.block.specs.Sums.{entry, vertexBy};
 ghost use Rattle.block.specs.Opened.{drawnNear, openedReply, saidOpened};
 ghost use Rattle.block.specs.Near.{Drawing, Admitting};
@@ -16,10 +16,13 @@ mod totals;
 use half::Half;
 use half::PAIRS;
 use half::within;
+use reply::NumberReply;
 use reply::Refusal;
 use reply::Reply;
 use reply::is_outside;
+use reply::refused;
 use reply::wide;
+pub use search::first_atoms;
 
 // The most atoms of a block, the most bonds of an atom, and the most bytes that a block's bonds take.
 pub const ATOMS: usize = half::ATOMS;
@@ -73,11 +76,6 @@ pub enum VertexReply {
     Of(Vertex),
 }
 
-pub enum DistanceReply {
-    Refused(Refusal),
-    Of(u64),
-}
-
 // How many pairs of atoms lie at each distance; all 0 where the block is refused.
 pub struct Pairs {
     pub reply: Reply,
@@ -101,13 +99,6 @@ struct Tally {
     pub odds: u64,
     pub ones: u64,
     pub twos: u64,
-}
-
-// A refusal at place 0.
-fn refused(number: usize) -> Reply
-    ensures { λ r. ⌜ r ≡ Reply.Refused (refusal number 0) ⌝ }
-{
-    Reply::Refused(Refusal { number, place: 0 })
 }
 
 // Refusals 1 to 6 of a block and, where there is none, in what is lent, empty before, the neighbours.
@@ -251,23 +242,23 @@ fn around_row(row: &DistanceRow, n: usize, farthest: u8) -> Vertex
 }
 
 // The distance of two atoms of a block, or its refusal; 18 at place 0 where there is no such atom.
-pub fn distance(n: usize, bonds: &[u8], i: usize, j: usize) -> DistanceReply
-    ensures { λ r. ⌜ r ≡ saidDistance (distanceReply n (now (bonds .entry)) i j) ⌝ }
+pub fn distance(n: usize, bonds: &[u8], i: usize, j: usize) -> NumberReply
+    ensures { λ r. ⌜ r ≡ saidNumber (distanceReply n (now (bonds .entry)) i j) ⌝ }
 {
     let seen = row(n, bonds, i);
     let reply = seen.reply;
     match reply {
-        Reply::Refused(refusal) => DistanceReply::Refused(refusal),
+        Reply::Refused(refusal) => NumberReply::Refused(refusal),
         Reply::Fine => {
             if is_outside(n, j) {
-                return DistanceReply::Refused(Refusal {
+                return NumberReply::Refused(Refusal {
                     number: 18,
                     place: 0,
                 });
             }
             let row = seen.row;
             let d = wide(row[j - 1]);
-            DistanceReply::Of(d)
+            NumberReply::Of(d)
         }
     }
 }

@@ -2,24 +2,24 @@
 use super::ATOMS;
 use super::Farthest;
 use half::put_row;
+use half::within;
 ghost use mathlib.Core.Path.{_≡_};
 ghost use mathlib.Core.List.{List};
-ghost use Prim.Native.Nat.{ℕ};
+ghost use Prim.Native.Nat.{ℕ, _-_, _^_, min};
 ghost use lib.ListN.{replicate};
-ghost use Rattle.graph.specs.Graph.{Graph, Within, connected as isConnected};
-ghost use Rattle.graph.specs.Sets.{firsts};
+ghost use Rattle.graph.specs.Graph.{Graph, connected as isConnected};
 ghost use Rattle.half.specs.Half.{allPairs};
 ghost use Rattle.block.specs.Block.{mostAtoms, graphOf};
 ghost use Rattle.block.specs.Rows.{noRow, halfTable, farOf};
 ghost use Rattle.block.specs.Near.{ReadyBlock};
 ghost use Rattle.block.specs.Found.{SearchTask, Searched};
 
-// The set of the atoms 1 to n.
-fn all(n: usize) -> u64
-    requires { ⌜ Within mostAtoms n ⌝ }
-    ensures { λ r. ⌜ r ≡ firsts n ⌝ }
+// The set of the atoms 1 to n, at most ATOMS.
+pub fn first_atoms(n: usize) -> u64
+    ensures { λ r. ⌜ r ≡ 2 ^ min n mostAtoms - 1 ⌝ }
 {
-    u64::MAX >> (ATOMS - n)
+    let m = within(n);
+    if m == 0 { 0 } else { u64::MAX >> (ATOMS - m) }
 }
 
 // How a search ended: the set of the atoms that were not met, and the last level, which is how far the farthest atom is.
@@ -35,7 +35,7 @@ pub(crate) fn from_atom(near: &[u64], n: usize, i: usize, row: &mut [u8]) -> End
     ensures { λ r. ⌜ ((g : Graph) → SearchTask g (now (near .entry)) n i → Searched g i (now (row .exit)) (r .rest) (r .last)) ⌝ }
 {
     let mut level = 1u64 << (i - 1);
-    let mut rest = all(n) ^ level;
+    let mut rest = first_atoms(n) ^ level;
     let mut next = 0u64;
     let mut d = 0u8;
     while level != 0 {

@@ -1,17 +1,22 @@
--- Laws. A number for each bond with one number beside them: each case of the reply. Assumes nothing.
+-- Laws. A number for each bond with one number beside them: each case of the reply; contributions and Szeged terms as they are lent. Assumes nothing.
 use Prim.Native.Nat.{ℕ, _≤_, _<_}
 use mathlib.Core.Bool.{true}
-use mathlib.Core.List.{List, [], _∷_}
+use mathlib.Core.List.{List, [], _∷_, _++_, map}
 use mathlib.Core.Path.{_≡_, refl, sym, _∙_, ap}
 use borrow.Author.Tests.{lt-ltb, le-ltb}
-use lib.ListN.{length, set}
+use lib.ListN.{length, drop, length-map}
 use Rattle.reply.specs.Read.{Read, refused, read, _then_, refuseIf, refusal}
 use Rattle.reply.specs.declared.Refusal.{Refusal}
-use Rattle.block.specs.Block.{blockReply}
-use Rattle.calls.specs.Convention.{code, coded, outAfter, thenNine}
+use Rattle.graph.specs.Graph.{Bond}
+use Rattle.graph.specs.Paths.{share}
+use Rattle.block.specs.Block.{graphOf, bondsOf, blockReply}
+use Rattle.shares.specs.Reply.{sharesReply, filledShares, sharesEntries}
+use Rattle.szeged.specs.Szeged.{szegedTerm, szegedTerms}
+use Rattle.szeged.specs.Reply.{szegedReply, filledTerms, szegedEntries}
+use Rattle.calls.specs.Convention.{code, coded, over, outAfter, numberList, Lent, thenNine}
 use Rattle.calls.specs.Beside.{Beside}
 use Rattle.calls.specs.Blocks.{unlentReply}
-use Rattle.calls.proofs.Laws.{first-put}
+use Rattle.calls.proofs.Laws.{number-fits}
 use Rattle.block_calls.specs.Replies.{besideReply}
 
 unlent-is : (B : Read (Unit {0})) (rest : Unit {0} → Read ℕ) → (r : Refusal) × (thenNine B ≡ refused r) × ((B then λ _. refuseIf true 9 0 then rest) ≡ refused r)
@@ -38,10 +43,28 @@ module _ (n : ℕ) (bonds : List ℕ) (R : Read ℕ) (numbers each one : List �
         go (refused r) e = sym (stops r e)
         go (read u) e = refl
 
-    pub block-refused : {each′ : List ℕ} (r : Refusal) (x : ℕ) → R ≡ refused r → each′ ≡ outAfter (R then λ _. read numbers) each → x ≡ code r
-        → Beside (besideReply n bonds (length one) R) (λ _. numbers) (λ d. d ∷ []) each one x each′ one
-    block-refused r x e s q = record { replied = rw (same, e) q; first = s ∙ rw same refl; second = rw (same, e) refl }
+    pub block-given : {each′ one′ : List ℕ} {x : ℕ} → each′ ≡ outAfter (R then λ _. read numbers) each → Lent (numberList R) one x one′
+        → Beside (besideReply n bonds (length one) R) (λ _. numbers) (λ d. d ∷ []) each one x each′ one′
+    block-given s l =
+        let (p, q) = number-fits R room l in
+        record { replied = p ∙ rw same refl; first = s ∙ rw same refl; second = q ∙ rw same refl }
 
-    pub block-fine : {each′ : List ℕ} (d : ℕ) → R ≡ read d → each′ ≡ outAfter (R then λ _. read numbers) each
-        → Beside (besideReply n bonds (length one) R) (λ _. numbers) (λ x. x ∷ []) each one 0 each′ (set one 0 d)
-    block-fine d e s = record { replied = rw (same, e) refl; first = s ∙ rw same refl; second = rw (same, e) (first-put d one room) }
+-- the lent entries, as the convention has them
+each-lent : (f : Bond → ℕ) (bs : List Bond) (out : List ℕ) → map f bs ++ drop (length bs) out ≡ over (map f bs) out
+each-lent f bs out = ap (λ (k : ℕ). map f bs ++ drop k out) (sym (length-map bs f))
+
+pub shares-lent : (n : ℕ) (bonds out : List ℕ) → sharesEntries n bonds out ≡ outAfter (sharesReply n bonds (length out) then λ _. read (map (share (graphOf n bonds)) (bondsOf bonds))) out
+unfolding filledShares
+shares-lent n bonds out = go (sharesReply n bonds (length out))
+  where
+    go : (R : Read ℕ) → filledShares R (graphOf n bonds) out ≡ outAfter (R then λ _. read (map (share (graphOf n bonds)) (bondsOf bonds))) out
+    go (refused r) = refl
+    go (read d) = each-lent (share (graphOf n bonds)) (bondsOf bonds) out
+
+pub szeged-lent : (n : ℕ) (bonds out : List ℕ) → szegedEntries n bonds out ≡ outAfter (szegedReply n bonds (length out) then λ _. read (szegedTerms (graphOf n bonds))) out
+unfolding filledTerms
+szeged-lent n bonds out = go (szegedReply n bonds (length out))
+  where
+    go : (R : Read ℕ) → filledTerms R (graphOf n bonds) out ≡ outAfter (R then λ _. read (szegedTerms (graphOf n bonds))) out
+    go (refused r) = refl
+    go (read x) = each-lent (szegedTerm (graphOf n bonds)) (bondsOf bonds) out

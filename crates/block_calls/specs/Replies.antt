@@ -19,12 +19,13 @@ use Rattle.sets.specs.declared.Sets.{Sets}
 use Rattle.poly.specs.declared.Values.{Values}
 use Rattle.poly.specs.Poly.{polynomialReply}
 use Rattle.records.specs.declared.Sheet.the-variants.{Five}
-use Rattle.sheets.specs.Sheets.{fieldsOf}
+use Rattle.calls.specs.Convention.{numberList}
+use Rattle.calls.specs.Blocks.{fieldsList}
 use Rattle.calls.specs.Beside.{Beside}
 
 -- atom count, W, even part, odd part, polarity
 abbrev pub indicesList : ℕ → List ℕ → Read (List ℕ)
-indicesList n bonds = indicesReply n bonds then λ x. read (fieldsOf Five x)
+indicesList n bonds = fieldsList Five (indicesReply n bonds)
 
 -- sum, even part, odd part, even count, odd count, f(1), f(2)
 abbrev pub sumsOf : Vertex → List ℕ
@@ -46,7 +47,7 @@ polynomialList n bonds x = polynomialReply n bonds x then λ v. read (valuesList
 
 -- Balaban's J
 abbrev pub balabanList : ℕ → List ℕ → Read (List ℕ)
-balabanList n bonds = balabanReply n bonds then λ j. read (j ∷ [])
+balabanList n bonds = numberList (balabanReply n bonds)
 
 -- sets of bonds that share no atom, sets of atoms no two of which are bonded
 abbrev pub setsNumbers : Sets → List ℕ

@@ -4,12 +4,11 @@ ghost use Rattle.reply.specs.Read.{read};
 ghost use Rattle.block.specs.Block.{blockReply};
 ghost use Rattle.calls.specs.Convention.{coded, Lent};
 ghost use Rattle.block_calls.specs.Replies.{indicesList, vertexList, farthestList, valuesList, polynomialList, balabanList, setsList, Contributed, SzegedLent};
-use balaban::BalabanReply;
-use block::IndicesReply;
 use block::VertexReply;
 use calls::code_of;
 use calls::give;
-use calls::give_fields;
+use calls::give_indices;
+use calls::give_number;
 use calls::reply_code;
 use calls::unlent;
 use poly::Values;
@@ -18,8 +17,6 @@ use records::Sheet;
 use reply::Reply;
 use reply::wide;
 use sets::SetsReply;
-use shares::SharesReply;
-use szeged::SzegedReply;
 
 pub fn check_block(atoms: usize, bonds: &[u8]) -> u64
     ensures { λ r. ⌜ r ≡ coded (blockReply atoms (now (bonds .entry))) ⌝ }
@@ -32,10 +29,7 @@ pub fn indices(atoms: usize, bonds: &[u8], fields: &mut [u64]) -> u64
     ensures { λ r. ⌜ Lent (indicesList atoms (now (bonds .entry))) (now (fields .entry)) r (now (fields .exit)) ⌝ }
 {
     let answer = reach::measure(atoms, bonds);
-    match answer {
-        IndicesReply::Refused(r) => code_of(r),
-        IndicesReply::Of(x) => give_fields(fields, Sheet::Five, x),
-    }
+    give_indices(fields, Sheet::Five, answer)
 }
 
 pub fn vertex(atoms: usize, bonds: &[u8], atom: usize, sums: &mut [u64]) -> u64
@@ -97,13 +91,7 @@ pub fn contributions(atoms: usize, bonds: &[u8], shares: &mut [u64], denominator
         return unlent(atoms, bonds);
     }
     let answer = shares::contributions(atoms, bonds, shares);
-    match answer {
-        SharesReply::Refused(r) => code_of(r),
-        SharesReply::Denominator(d) => {
-            denominator[0] = d;
-            0
-        }
-    }
+    give_number(denominator, answer)
 }
 
 pub fn szeged(atoms: usize, bonds: &[u8], terms: &mut [u64], index: &mut [u64]) -> u64
@@ -115,26 +103,14 @@ pub fn szeged(atoms: usize, bonds: &[u8], terms: &mut [u64], index: &mut [u64]) 
         return unlent(atoms, bonds);
     }
     let answer = szeged::terms(atoms, bonds, terms);
-    match answer {
-        SzegedReply::Refused(r) => code_of(r),
-        SzegedReply::Index(x) => {
-            index[0] = x;
-            0
-        }
-    }
+    give_number(index, answer)
 }
 
 pub fn balaban(atoms: usize, bonds: &[u8], value: &mut [u64]) -> u64
     ensures { λ r. ⌜ Lent (balabanList atoms (now (bonds .entry))) (now (value .entry)) r (now (value .exit)) ⌝ }
 {
     let answer = balaban::index(atoms, bonds);
-    match answer {
-        BalabanReply::Refused(r) => code_of(r),
-        BalabanReply::Of(j) => {
-            let numbers = [j];
-            give(value, &numbers)
-        }
-    }
+    give_number(value, answer)
 }
 
 pub fn count_sets(atoms: usize, bonds: &[u8], counts: &mut [u64]) -> u64

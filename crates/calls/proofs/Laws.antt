@@ -2,14 +2,16 @@
 use Prim.Native.Nat.{ℕ, _≤_, _<_}
 use mathlib.Core.Bool.{Bool, true, false}
 use mathlib.Core.List.{List, [], _∷_}
-use mathlib.Core.Path.{_≡_, refl, sym, _∙_, ap}
+use mathlib.Core.Path.{_≡_, refl, sym, _∙_, ap, subst}
 use native.Mathlib.Omega.{arith}
 use borrow.Author.Tests.{lt-ltb, le-ltb}
 use lib.ListN.{length, set}
-use Rattle.reply.specs.Read.{Read, refused, read, saidReply, _then_, refuseIf, refusal}
+use Rattle.reply.specs.Read.{Read, refused, read, saidReply, saidNumber, toldNumber, _then_, refuseIf, refusal}
+use Rattle.reply.specs.Chain.{number-told}
 use Rattle.reply.specs.declared.Refusal.{Refusal}
 use Rattle.reply.specs.declared.Reply.{Reply}
-use Rattle.calls.specs.Convention.{code, coded, replyCode, over, Lent, thenNine}
+use Rattle.reply.specs.declared.NumberReply.{NumberReply}
+use Rattle.calls.specs.Convention.{code, coded, replyCode, over, outAfter, numberList, Lent, thenNine}
 use Rattle.calls.specs.Beside.{withRoom, Beside}
 
 pub reply-coded : (a : Reply) (R : Read (Unit {0})) → a ≡ saidReply R → replyCode a ≡ coded R
@@ -28,6 +30,14 @@ lent-over xs old new h e = record { replied = rw (le-ltb (length old) (length xs
 
 pub lent-read : {A : Type 0} {answer : Read (List A)} (xs old : List A) (x : ℕ) (new : List A) → answer ≡ read xs → Lent (read xs) old x new → Lent answer old x new
 lent-read xs old x new e l = rw e l
+
+-- ONE NUMBER, by the reply that says it; and where there is an entry for it
+pub lent-number : {old new : List ℕ} {x : ℕ} (a : NumberReply) (R : Read ℕ) → a ≡ saidNumber R → Lent (numberList (toldNumber a)) old x new → Lent (numberList R) old x new
+lent-number {old} {new} {x} a R e l = subst (λ (Q : Read ℕ). Lent (numberList Q) old x new) (number-told a R e) l
+
+pub number-fits : {old new : List ℕ} {x : ℕ} (R : Read ℕ) → 1 ≤ length old → Lent (numberList R) old x new → (x ≡ coded R) × (new ≡ outAfter (numberList R) old)
+number-fits (refused r) h l = (l .replied, l .lent)
+number-fits {old} (read n) h l = let f = le-ltb (length old) 1 h in (rw f at (l .replied), rw f at (l .lent))
 
 -- one entry put, and two one after the other
 pub first-put : {A : Type 0} (x : A) (old : List A) → 1 ≤ length old → set old 0 x ≡ over (x ∷ []) old
@@ -50,7 +60,7 @@ nine-is : {A : Type 0} (R : Read A) → (r : Refusal) × (thenNine R ≡ refused
 nine-is (refused r) = (r, refl, refl)
 nine-is (read a) = (refusal 9 0, refl, refl)
 
-and-on : {A : Type 0} (R : Read A) → (R then λ a. read a) ≡ R
+pub and-on : {A : Type 0} (R : Read A) → (R then λ a. read a) ≡ R
 and-on (refused r) = refl
 and-on (read a) = refl
 
@@ -69,3 +79,16 @@ module _ {A B C : Type 0} (R : Read A) (wanted : ℕ) (one : A → List B) (two 
 
   pub beside-fine : {new : List B} {also : List C} (a : A) → wanted ≤ length more → R ≡ read a → new ≡ over (one a) old → also ≡ over (two a) more → Beside (withRoom (length more) wanted R) one two old more 0 new also
   beside-fine a h e s t = record { replied = rw (there h, e) refl; first = s ∙ rw (there h, e) refl; second = t ∙ rw (there h, e) refl }
+
+-- TWO OUTPUTS, the second one number, which a reply says.
+pub beside-number : {A B : Type 0} (R : Read A) (one : A → List B) (beside : A → ℕ) (old : List B) (more : List ℕ) {new : List B} {also : List ℕ} {x : ℕ} (a : NumberReply) → 1 ≤ length more
+    → a ≡ saidNumber (R then λ v. read (beside v)) → new ≡ outAfter (R then λ v. read (one v)) old → Lent (numberList (toldNumber a)) more x also
+    → Beside (withRoom (length more) 1 R) one (λ v. beside v ∷ []) old more x new also
+beside-number {A} {B} R one beside old more {new} {also} {x} a h e s l =
+    let (p, q) = number-fits (R then λ v. read (beside v)) h (lent-number a (R then λ v. read (beside v)) e l) in
+    rw (there R 1 one (λ v. beside v ∷ []) old more h) (go R s p q)
+  where
+    go : (Q : Read A) → new ≡ outAfter (Q then λ v. read (one v)) old → x ≡ coded (Q then λ v. read (beside v)) → also ≡ outAfter (numberList (Q then λ v. read (beside v))) more
+        → Beside Q one (λ v. beside v ∷ []) old more x new also
+    go (refused r) s p q = record { replied = p; first = s; second = q }
+    go (read v) s p q = record { replied = p; first = s; second = q }

@@ -2,7 +2,7 @@
 -- quotient is the refusal's place, or the first wrong field. What is answered besides goes to the front of a lent output.
 use mathlib.Core.Path.{_≡_}
 use Prim.Native.Nat.{ℕ, _+_, _*_, _%_, _^_}
-use mathlib.Core.List.{List, _++_}
+use mathlib.Core.List.{List, [], _∷_, _++_}
 use lib.Dec.{ltb}
 use lib.ListN.{length, drop}
 use Rattle.reply.specs.Read.{Read, refused, read, _then_, refuseIf, refusal}
@@ -38,6 +38,10 @@ over new old = new ++ drop (length new) old
 abbrev pub outAfter : {A : Type 0} → Read (List A) → List A → List A
 outAfter (refused r) old = old
 outAfter (read xs) old = over xs old
+
+-- an answer that is one number, as it is lent out
+abbrev pub numberList : Read ℕ → Read (List ℕ)
+numberList answer = answer then λ n. read (n ∷ [])
 
 -- what a function that lends its answer out promises: its reply, and the output after the call
 pub record Lent {A : Type 0} (answer : Read (List A)) (old : List A) (reply : ℕ) (new : List A) : Type 0 where

@@ -1,6 +1,6 @@
 // How the library replies to C, for every crate of C functions (`.._calls`):
 //   code_of, reply_code    a refusal, a reply as one number
-//   give, give_fields      numbers, the fields of a sheet at the front of a lent output; 9 where they do not fit
+//   give, give_number, give_indices   numbers, the number or the fields of a reply at the front of a lent output; 9 where they do not fit
 //   unlent                 what a function over a block says that lacks an output
 //   sheet_for              the sheet that a caller's number means
 // A promise is `r ≡ coded answer`, `Lent answer out r out′` for one output, `Beside answer one two out more r out′ more′` for two (specs/Convention, Beside).
@@ -8,12 +8,14 @@
 ghost use mathlib.Core.Path.{_≡_};
 ghost use Prim.Native.Nat.{_≤_};
 ghost use lib.ListN.{length};
-ghost use Rattle.reply.specs.Read.{read};
+ghost use Rattle.reply.specs.Read.{read, toldNumber};
 ghost use Rattle.sheets.specs.Sheets.{fieldsOf};
-ghost use Rattle.calls.specs.Convention.{code, coded, replyCode, over, Lent};
-ghost use Rattle.calls.specs.Blocks.{unlentReply, sheetFor};
+ghost use Rattle.calls.specs.Convention.{code, coded, replyCode, over, numberList, Lent};
+ghost use Rattle.calls.specs.Blocks.{toldIndices, fieldsList, unlentReply, sheetFor};
 use block::Indices;
+use block::IndicesReply;
 use records::Sheet;
+use reply::NumberReply;
 use reply::Refusal;
 use reply::Reply;
 use sheets::field_count;
@@ -61,13 +63,36 @@ pub fn give(out: &mut [u64], numbers: &[u64]) -> u64
     0
 }
 
+// The same with the number of a reply.
+pub fn give_number(out: &mut [u64], reply: NumberReply) -> u64
+    ensures { λ r. ⌜ Lent (numberList (toldNumber reply)) (now (out .entry)) r (now (out .exit)) ⌝ }
+{
+    match reply {
+        NumberReply::Refused(r) => code_of(r),
+        NumberReply::Of(n) => {
+            let numbers = [n];
+            give(out, &numbers)
+        }
+    }
+}
+
 // The same with the fields of a sheet.
-pub fn give_fields(out: &mut [u64], sheet: Sheet, x: Indices) -> u64
+fn give_fields(out: &mut [u64], sheet: Sheet, x: Indices) -> u64
     ensures { λ r. ⌜ Lent (read (fieldsOf sheet x)) (now (out .entry)) r (now (out .exit)) ⌝ }
 {
     let n = field_count(sheet);
     let numbers = fields_of(x);
     give(out, &numbers[..n])
+}
+
+// The same with those of a reply.
+pub fn give_indices(out: &mut [u64], sheet: Sheet, reply: IndicesReply) -> u64
+    ensures { λ r. ⌜ Lent (fieldsList sheet (toldIndices reply)) (now (out .entry)) r (now (out .exit)) ⌝ }
+{
+    match reply {
+        IndicesReply::Refused(r) => code_of(r),
+        IndicesReply::Of(x) => give_fields(out, sheet, x),
+    }
 }
 
 // The block's refusal, and 9 where it is fine.

@@ -6,7 +6,7 @@ use native.Mathlib.Omega.{arith}
 use borrow.Author.Tests.{eq-eqb, lt-ltb, le-ltb}
 use lib.Dec.{ltb}
 use lib.ListN.{length, drop, length-take, length-drop}
-use Rattle.reply.specs.Read.{Read, refused, read, _then_, refusal, refuseIf}
+use Rattle.reply.specs.Read.{Read, refused, read, _then_, refusal, refuseIf, saidNumber}
 use Rattle.reply.specs.Chain.{then-read}
 use Rattle.reply.specs.declared.Refusal.{Refusal}
 use Rattle.reply.specs.declared.Reply.the-variants as reply
@@ -22,9 +22,9 @@ use Rattle.catalogue.specs.Library.{mostSites, libraryKind, sitesReply, 
 use Rattle.catalogue.specs.Products.{products, countReply}
 use Rattle.catalogue.specs.Sound.{listed}
 use Rattle.catalogue.specs.declared.Site.{Site}
-use Rattle.catalogue.specs.Said.{siteTable, saidSites, tabled, tabledLibrary, saidLibrary, saidCount}
+use Rattle.catalogue.specs.Said.{siteTable, saidSites, tabled, tabledLibrary, saidLibrary}
 use Rattle.catalogue.specs.Table.{sitesIn, sites-back}
-use Rattle.catalogue.specs.declared.CountReply.the-variants as counted
+use Rattle.reply.specs.declared.NumberReply.the-variants as counted
 use Rattle.catalogue.specs.declared.LibraryRead.{LibraryRead}
 use Rattle.catalogue.specs.declared.sites.SitesRead.{SitesRead}
 
@@ -93,11 +93,11 @@ module _ (d : List ℕ) where
       omega (arith, t .whole, of-least d at (t .kind) (t .suits), ap (λ (y : Kind). y .fixed) same, length-take (lengthAt d at) (drop (at + headBytes) d), length-drop (at + headBytes) d)
 
   -- how the code says the number of products
-  pub count-refused : (q : Refusal) → libraryReply d ≡ refused q → counted.Refused q ≡ saidCount (countReply d)
+  pub count-refused : (q : Refusal) → libraryReply d ≡ refused q → counted.Refused q ≡ saidNumber (countReply d)
   unfolding countReply
   count-refused q e = rw e
 
-  pub count-fine : (l : Library) (n : ℕ) → libraryReply d ≡ read l → n ≡ products (l .sites) → counted.Of n ≡ saidCount (countReply d)
+  pub count-fine : (l : Library) (n : ℕ) → libraryReply d ≡ read l → n ≡ products (l .sites) → counted.Of n ≡ saidNumber (countReply d)
   unfolding countReply
   count-fine l n e h = rw (e, h)
 

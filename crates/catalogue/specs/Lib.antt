@@ -8,7 +8,6 @@
 -- | `productAt d l p`     | the fields of its molecule                                     | `product-deck`: those of the deck with that assembly     |
 -- | `moleculeOver book x` | the molecule of an assembly over a book of blocks              | `product-deck`                                           |
 -- | `saidLibrary`         | how the code says what a library deck is told                  | `unique-read-library`                                    |
--- | `saidCount`           | how it says the number of products                             | `unique-count`                                           |
 -- | `siteTable`           | a table of sites, each at its turn                             | `sites-back`: its sites are those it was made of         |
 -- | `sitesIn`             | the first sites of a table, the last first                     | `sites-grow`                                             |
 -- Definitions

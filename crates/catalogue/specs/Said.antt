@@ -11,8 +11,6 @@ use Rattle.catalogue.specs.Library.{mostSites, Library}
 use Rattle.catalogue.specs.Products.{products}
 use Rattle.catalogue.specs.declared.Site.{Site}
 use Rattle.catalogue.specs.declared.LibraryRead.{LibraryRead}
-use Rattle.catalogue.specs.declared.CountReply.{CountReply}
-use Rattle.catalogue.specs.declared.CountReply.the-variants as counted
 use Rattle.catalogue.specs.declared.sites.SitesRead.{SitesRead}
 
 abbrev pub noSite : Site
@@ -41,7 +39,3 @@ tabledLibrary table count (read l) = tabled table count l
 abbrev pub saidLibrary : Read Library → LibraryRead
 saidLibrary (refused r) = refusedLibrary (Refused r)
 saidLibrary (read l) = tabled (blockTable (l .blocks)) (length (l .blocks)) l
-
-abbrev pub saidCount : Read ℕ → CountReply
-saidCount (refused r) = counted.Refused r
-saidCount (read n) = counted.Of n

@@ -8,6 +8,7 @@ use assembly::NO_BLOCK;
 use compose::open_deck;
 use records::Kind;
 use records::payload_at;
+use reply::NumberReply;
 use reply::Refusal;
 use reply::Reply;
 use sites::count_of;
@@ -15,10 +16,11 @@ use sites::read_sites;
 ghost use mathlib.Core.Path.{_≡_};
 ghost use Prim.Native.Nat.{_≤_};
 ghost use lib.ListN.{length, take};
+ghost use Rattle.reply.specs.Read.{saidNumber};
 ghost use Rattle.records.specs.Records.{payloadAt};
 ghost use Rattle.catalogue.specs.Library.{libraryKind, afterBlocks, libraryReply};
 ghost use Rattle.catalogue.specs.Products.{countReply};
-ghost use Rattle.catalogue.specs.Said.{refusedLibrary, tabledLibrary, saidLibrary, saidCount};
+ghost use Rattle.catalogue.specs.Said.{refusedLibrary, tabledLibrary, saidLibrary};
 
 // Kind 5, library: the core's block number (2), site count (2), then the sites, each with candidates of its own number.
 pub const LIBRARY: Kind = Kind {
@@ -57,12 +59,6 @@ pub struct LibraryRead {
     pub n: usize,
     pub sites: [Site; SITES],
     pub products: usize,
-}
-
-// How many products a library deck has.
-pub enum CountReply {
-    Refused(Refusal),
-    Of(usize),
 }
 
 fn library_refused(reply: Reply) -> LibraryRead
@@ -126,13 +122,13 @@ pub fn read_library(d: &[u8]) -> LibraryRead
 }
 
 // How many products a library deck has, or its refusal.
-pub fn count(d: &[u8]) -> CountReply
-    ensures { λ r. ⌜ r ≡ saidCount (countReply (now (d .entry))) ⌝ }
+pub fn count(d: &[u8]) -> NumberReply
+    ensures { λ r. ⌜ r ≡ saidNumber (countReply (now (d .entry))) ⌝ }
 {
     let l = read_library(d);
     let reply = l.reply;
     match reply {
-        Reply::Refused(refusal) => CountReply::Refused(refusal),
-        Reply::Fine => CountReply::Of(l.products),
+        Reply::Refused(refusal) => NumberReply::Refused(refusal),
+        Reply::Fine => NumberReply::Of(l.products as u64),
     }
 }

@@ -15,6 +15,7 @@ use records::le16_at;
 use reply::Refusal;
 use reply::Reply;
 use reply::is_outside;
+use reply::wide_byte;
 ghost use mathlib.Core.Path.{_≡_};
 ghost use mathlib.Core.List.{[]};
 ghost use Prim.Native.Nat.{_≤_};
@@ -51,12 +52,6 @@ fn sites_refused(number: usize, place: usize) -> SitesRead
     }
 }
 
-fn wide(x: u8) -> usize
-    ensures { λ r. ⌜ (r ≡ x) × (r ≤ 255) ⌝ }
-{
-    x as usize
-}
-
 // How many products the first n sites have.
 pub(crate) fn count_of(sites: [Site; SITES], n: usize) -> usize
     requires { ⌜ n ≤ mostSites ⌝ }
@@ -66,7 +61,7 @@ pub(crate) fn count_of(sites: [Site; SITES], n: usize) -> usize
     let mut k = 0;
     while k < n {
         let s = sites[k];
-        total = total * wide(s.many);
+        total = total * wide_byte(s.many);
         k += 1;
     }
     total
@@ -160,7 +155,7 @@ fn sites_from(
         let s = site_at(xs, p);
         sites[n] = s;
         n += 1;
-        p = s.first + CANDIDATE * wide(s.many);
+        p = s.first + CANDIDATE * wide_byte(s.many);
     }
     if p < xs.len() {
         return sites_refused(13, at);

@@ -9,9 +9,10 @@ use borrow.Author.Tests.{lt-ltb, le-ltb, eq-eqb, ne-eqb}
 use lib.Dec.{eqb, ltb}
 use lib.ListN.{length}
 use Rattle.graph.specs.Graph.{Graph}
-use Rattle.reply.specs.Read.{Read, refused, read, _then_, refuseIf}
-use Rattle.reply.specs.Chain.{then-read}
+use Rattle.reply.specs.Read.{Read, refused, read, _then_, refuseIf, saidNumber}
+use Rattle.reply.specs.Chain.{then-read, not-read, number-told}
 use Rattle.reply.specs.declared.Refusal.{Refusal}
+use Rattle.reply.specs.declared.NumberReply.the-variants as number
 use Rattle.block.specs.Block.{mostBytes, bondsOf, graphOf, blockReply}
 use Rattle.block.specs.Index.{indicesOf, indicesReply, saidIndices}
 use Rattle.block.specs.Numbered.{bonds-length, few-bytes, least-bonds}
@@ -26,14 +27,12 @@ use Rattle.judging.specs.Judging.{saidVerdict}
 use Rattle.judging.specs.declared.Verdict.{Verdict}
 use Rattle.judging.specs.declared.Verdict.the-variants as verdict
 use Rattle.szeged.specs.Szeged.{szeged}
-use Rattle.szeged.specs.Reply.{szegedReply, saidSzeged}
-use Rattle.szeged.specs.declared.SzegedReply.the-variants as szegedAnswer
+use Rattle.szeged.specs.Reply.{szegedReply}
 use Rattle.sets.specs.Sets.{hosoya, merrifieldSimmons}
 use Rattle.sets.specs.Reply.{setsOf, treeReply, setsReply, saidSets}
 use Rattle.sets.specs.declared.Sets.{Sets}
 use Rattle.sets.specs.declared.SetsReply.the-variants as setsAnswer
-use Rattle.balaban.specs.Balaban.{bondCount, divisor, reckoned, balabanReply, saidBalaban}
-use Rattle.balaban.specs.declared.BalabanReply.the-variants as fineAnswer
+use Rattle.balaban.specs.Balaban.{bondCount, divisor, reckoned, balabanReply}
 use Rattle.claiming.specs.Claims.{truth, fieldOf, claimsReply}
 use Rattle.claiming.specs.Asked.{asks}
 use Rattle.claiming.specs.Alike.{AlikeIn, told-alike}
@@ -84,21 +83,21 @@ module _ (n : ℕ) (xs : List ℕ) (fine : blockReply n xs ≡ read tt) where
   unfolding szegedReply
   szeged-read = rw (fine, le-ltb 192 (length (bondsOf xs)) (omega (arith, bonds-length xs, few-bytes n xs fine)))
 
-  pub szeged-none : {r : Refusal} → szegedAnswer.Refused r ≡ saidSzeged (szegedReply n xs 192) → 0 ≡ szeged (graphOf n xs)
-  szeged-none {r} e = absurd (let f : szegedAnswer.Refused r ≡ saidSzeged (read (szeged (graphOf n xs))) = e ∙ ap saidSzeged szeged-read in let z : _≡_ {A = ℕ} 0 1 = cc in omega arith)
+  pub szeged-none : {r : Refusal} → number.Refused r ≡ saidNumber (szegedReply n xs 192) → 0 ≡ szeged (graphOf n xs)
+  szeged-none {r} e = absurd (not-read (number-told (number.Refused r) (szegedReply n xs 192) e ∙ szeged-read))
 
-  pub szeged-is : {s : ℕ} → szegedAnswer.Index s ≡ saidSzeged (szegedReply n xs 192) → s ≡ szeged (graphOf n xs)
-  szeged-is {s} e = let f : szegedAnswer.Index s ≡ saidSzeged (read (szeged (graphOf n xs))) = e ∙ ap saidSzeged szeged-read in cc
+  pub szeged-is : {s : ℕ} → number.Of s ≡ saidNumber (szegedReply n xs 192) → s ≡ szeged (graphOf n xs)
+  szeged-is {s} e = let f : read s ≡ read (szeged (graphOf n xs)) = number-told (number.Of s) (szegedReply n xs 192) e ∙ szeged-read in cc
 
   fine-read : balabanReply n xs ≡ read (reckoned 1 (graphOf n xs))
   unfolding balabanReply
   fine-read = rw fine
 
-  pub fine-none : {r : Refusal} → fineAnswer.Refused r ≡ saidBalaban (balabanReply n xs) → 0 ≡ reckoned 1 (graphOf n xs)
-  fine-none {r} e = absurd (let f : fineAnswer.Refused r ≡ saidBalaban (read (reckoned 1 (graphOf n xs))) = e ∙ ap saidBalaban fine-read in let z : _≡_ {A = ℕ} 0 1 = cc in omega arith)
+  pub fine-none : {r : Refusal} → number.Refused r ≡ saidNumber (balabanReply n xs) → 0 ≡ reckoned 1 (graphOf n xs)
+  fine-none {r} e = absurd (not-read (number-told (number.Refused r) (balabanReply n xs) e ∙ fine-read))
 
-  pub fine-is : {j : ℕ} → fineAnswer.Of j ≡ saidBalaban (balabanReply n xs) → j ≡ reckoned 1 (graphOf n xs)
-  fine-is {j} e = let f : fineAnswer.Of j ≡ saidBalaban (read (reckoned 1 (graphOf n xs))) = e ∙ ap saidBalaban fine-read in cc
+  pub fine-is : {j : ℕ} → number.Of j ≡ saidNumber (balabanReply n xs) → j ≡ reckoned 1 (graphOf n xs)
+  fine-is {j} e = let f : read j ≡ read (reckoned 1 (graphOf n xs)) = number-told (number.Of j) (balabanReply n xs) e ∙ fine-read in cc
 
   -- a tree has the two numbers, another block is told 0
   abbrev treeOr : Bool → Read Sets

@@ -1,14 +1,13 @@
 // Claims of a molecule, judged: numbers that a program printed of a deck's molecule or of a block.
-use balaban::BalabanReply;
 use block::Indices;
 use block::IndicesReply;
 use claiming::is_asked;
 use claiming::judged;
 use judging::Verdict;
+use reply::NumberReply;
 use sets::Sets;
 use sets::SetsReply;
 use sheets::fields_of;
-use szeged::SzegedReply;
 ghost use mathlib.Core.Path.{_≡_};
 ghost use mathlib.Core.Bool.{true};
 ghost use Prim.Native.Nat.{_+_, _-_, _*_, _/_, _≤_};
@@ -48,8 +47,8 @@ fn szeged_of(n: usize, bonds: &[u8]) -> u64
     let mut entries = [0u64; BONDS];
     let told = szeged::terms(n, bonds, &mut entries);
     match told {
-        SzegedReply::Refused(_) => 0,
-        SzegedReply::Index(s) => s,
+        NumberReply::Refused(_) => 0,
+        NumberReply::Of(s) => s,
     }
 }
 
@@ -73,8 +72,8 @@ fn fine_of(n: usize, bonds: &[u8]) -> u64
 {
     let told = balaban::index(n, bonds);
     match told {
-        BalabanReply::Refused(_) => 0,
-        BalabanReply::Of(j) => j,
+        NumberReply::Refused(_) => 0,
+        NumberReply::Of(j) => j,
     }
 }
 

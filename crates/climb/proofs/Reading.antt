@@ -6,13 +6,13 @@ use mathlib.Core.Path.{_≡_, sym, _∙_, ap}
 use native.Mathlib.Omega.{arith}
 use borrow.Author.Tests.{ne-eqb, le-ltb}
 use Rattle.graph.specs.Graph.{Within, distance}
-use Rattle.reply.specs.Read.{Read, refused, read, refusal, isOutside}
+use Rattle.reply.specs.Read.{Read, refused, read, refusal, isOutside, saidNumber}
 use Rattle.block.specs.Block.{graphOf, blockReply}
-use Rattle.block.specs.Index.{distanceReply, saidDistance}
+use Rattle.block.specs.Index.{distanceReply}
 use Rattle.reply.specs.declared.Refusal.{Refusal}
 use Rattle.reply.specs.declared.Reply.the-variants.{Fine}
-use Rattle.block.specs.declared.DistanceReply.{DistanceReply}
-use Rattle.block.specs.declared.DistanceReply.the-variants as apart
+use Rattle.reply.specs.declared.NumberReply.{NumberReply}
+use Rattle.reply.specs.declared.NumberReply.the-variants as apart
 use Rattle.assembly.specs.Book.{find, bondBytes, bookOf}
 use Rattle.assembly.specs.declared.BlockAt.{BlockAt}
 use Rattle.deck.specs.Deck.{Deck, deckReply}
@@ -43,7 +43,7 @@ not-outside {n} {a} w = rw (ne-eqb a 0 (omega arith), le-ltb n a (w .high))
 
 -- two atoms of it are told their distance
 pub told-inside : {d : List ℕ} {deck : Deck} {k i j : ℕ} → PlacedPair d deck k i k j → (b : BlockAt) → b ≡ find (deck .blocks) (placedIn d deck (k - 1) .block)
-    → (r : DistanceReply) → r ≡ saidDistance (distanceReply (b .atoms) (bondBytes d b) i j) → r ≡ apart.Of (distance (graphAt d deck (k - 1)) i j)
+    → (r : NumberReply) → r ≡ saidNumber (distanceReply (b .atoms) (bondBytes d b) i j) → r ≡ apart.Of (distance (graphAt d deck (k - 1)) i j)
 unfolding distanceReply
 told-inside {d} {deck} {k} {i} {j} p b e r f =
     let n : k - 1 < deck .placements = omega (arith, p .one .number, p .whole .count) in
@@ -55,15 +55,15 @@ told-inside {d} {deck} {k} {i} {j} p b e r f =
 
 -- what is replied to a query of a deck that is refused, of one that is read and misses an atom, and of one that has both
 module _ (d : List ℕ) (k i l j : ℕ) where
-  pub reply-refused : {q : Refusal} → deckReply Composed d ≡ refused q → apart.Refused q ≡ saidDistance (placedDistanceReply d k i l j)
+  pub reply-refused : {q : Refusal} → deckReply Composed d ≡ refused q → apart.Refused q ≡ saidNumber (placedDistanceReply d k i l j)
   unfolding placedDistanceReply
   reply-refused e = rw e
 
   module _ {deck : Deck} (e : deckReply Composed d ≡ read deck) where
-    pub reply-missing : (isMissing d deck k i || isMissing d deck l j) ≡ true → apart.Refused (refusal 18 0) ≡ saidDistance (placedDistanceReply d k i l j)
+    pub reply-missing : (isMissing d deck k i || isMissing d deck l j) ≡ true → apart.Refused (refusal 18 0) ≡ saidNumber (placedDistanceReply d k i l j)
     unfolding placedDistanceReply
     reply-missing m = rw (e, m)
 
-    pub reply-far : isMissing d deck k i ≡ false → isMissing d deck l j ≡ false → apart.Of (between d deck k i l j) ≡ saidDistance (placedDistanceReply d k i l j)
+    pub reply-far : isMissing d deck k i ≡ false → isMissing d deck l j ≡ false → apart.Of (between d deck k i l j) ≡ saidNumber (placedDistanceReply d k i l j)
     unfolding placedDistanceReply moleculeOf
     reply-far m n = rw (e, m, n)

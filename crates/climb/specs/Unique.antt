@@ -6,15 +6,15 @@ use mathlib.Core.Path.{_≡_, sym, _∙_}
 use denote.Ref.{RefT, ptr, now}
 use Rattle.records.specs.Bytes.{PartOf}
 use Rattle.records.specs.Unique.{unique-part}
-use Rattle.block.specs.Index.{saidDistance}
-use Rattle.block.specs.declared.DistanceReply.{DistanceReply}
+use Rattle.reply.specs.Read.{saidNumber}
+use Rattle.reply.specs.declared.NumberReply.{NumberReply}
 use Rattle.assembly.specs.Book.{find}
 use Rattle.assembly.specs.declared.BlockAt.{BlockAt}
 use Rattle.deck.specs.Deck.{Deck, blockSpan}
 use Rattle.deck.specs.Molecule.{placedIn}
 use Rattle.climb.specs.Placed.{isMissing, placedDistanceReply}
 
-pub unique-placed-distance : (d : List ℕ) (k i l j : ℕ) (r s : DistanceReply) → r ≡ saidDistance (placedDistanceReply d k i l j) → s ≡ saidDistance (placedDistanceReply d k i l j) → r ≡ s
+pub unique-placed-distance : (d : List ℕ) (k i l j : ℕ) (r s : NumberReply) → r ≡ saidNumber (placedDistanceReply d k i l j) → s ≡ saidNumber (placedDistanceReply d k i l j) → r ≡ s
 unique-placed-distance d k i l j r s p q = p ∙ sym q
 
 pub unique-block-at : (d : List ℕ) (k : Deck) (i : ℕ) (r s : BlockAt) → r ≡ find (k .blocks) (placedIn d k i .block) → s ≡ find (k .blocks) (placedIn d k i .block) → r ≡ s

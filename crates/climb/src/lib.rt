@@ -3,7 +3,7 @@ ghost use mathlib.Core.Path.{_≡_};
 ghost use Prim.Native.Nat.{_-_};
 ghost use lib.ListN.{take};
 ghost use Rattle.graph.specs.Graph.{distance};
-ghost use Rattle.block.specs.Index.{saidDistance};
+ghost use Rattle.reply.specs.Read.{saidNumber};
 ghost use Rattle.records.specs.Bytes.{PartOf};
 ghost use Rattle.assembly.specs.Book.{find};
 ghost use Rattle.deck.specs.Deck.{payload, blockSpan};
@@ -14,10 +14,10 @@ use assembly::BLOCK_HEAD;
 use assembly::BOND_BYTES;
 use assembly::BlockAt;
 use assembly::BlockTable;
-use block::DistanceReply;
 use deck::Form;
 use deck::Layout;
 use records::part;
+use reply::NumberReply;
 use reply::Refusal;
 use reply::Reply;
 use reply::is_outside;
@@ -83,8 +83,8 @@ fn inside(d: &[u8], deck: Layout, k: usize, i: usize, j: usize) -> u64
     let bonds = assembly::bonds_part(d, b);
     let reply = block::distance(b.atoms as usize, bonds, i, j);
     match reply {
-        DistanceReply::Of(x) => x,
-        DistanceReply::Refused(r) => 0,
+        NumberReply::Of(x) => x,
+        NumberReply::Refused(r) => 0,
     }
 }
 
@@ -107,22 +107,22 @@ fn climb(d: &[u8], deck: Layout, k: usize, i: usize, l: usize, j: usize) -> u64
 }
 
 // The distance of atom i of placement number k and atom j of placement number l of a deck without a sheet, or its refusal; 18 at place 0 where one does not exist.
-pub fn placed_distance(d: &[u8], k: usize, i: usize, l: usize, j: usize) -> DistanceReply
-    ensures { λ r. ⌜ r ≡ saidDistance (placedDistanceReply (now (d .entry)) k i l j) ⌝ }
+pub fn placed_distance(d: &[u8], k: usize, i: usize, l: usize, j: usize) -> NumberReply
+    ensures { λ r. ⌜ r ≡ saidNumber (placedDistanceReply (now (d .entry)) k i l j) ⌝ }
 {
     let read = compose::read_deck(d, Form::Composed);
     let reply = read.reply;
     match reply {
-        Reply::Refused(r) => DistanceReply::Refused(r),
+        Reply::Refused(r) => NumberReply::Refused(r),
         Reply::Fine => {
             let deck = read.layout;
             if is_missing(d, deck, k, i) || is_missing(d, deck, l, j) {
-                return DistanceReply::Refused(Refusal {
+                return NumberReply::Refused(Refusal {
                     number: 18,
                     place: 0,
                 });
             }
-            DistanceReply::Of(climb(d, deck, k, i, l, j))
+            NumberReply::Of(climb(d, deck, k, i, l, j))
         }
     }
 }

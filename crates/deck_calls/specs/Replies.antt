@@ -1,9 +1,8 @@
 -- Definitions. What each C function for a deck answers.
 use Prim.Native.Nat.{ℕ, _+_, _*_, _%_}
-use mathlib.Core.List.{List, [], _∷_}
-use Rattle.reply.specs.Read.{Read, read, _then_}
+use mathlib.Core.List.{List}
+use Rattle.reply.specs.Read.{Read}
 use Rattle.records.specs.declared.Sheet.{Sheet}
-use Rattle.sheets.specs.Sheets.{fieldsOf}
 use Rattle.deck.specs.declared.Form.the-variants.{Composed}
 use Rattle.compose.specs.Fields.{fieldsReply}
 use Rattle.climb.specs.Placed.{placedDistanceReply}
@@ -11,7 +10,8 @@ use Rattle.judging.specs.declared.SheetWritten.{SheetWritten}
 use Rattle.judging.specs.declared.SheetWritten.the-variants as written
 use Rattle.judging.specs.declared.Verdict.{Verdict}
 use Rattle.judging.specs.declared.Verdict.the-variants as verdict
-use Rattle.calls.specs.Convention.{mostPlace, code}
+use Rattle.calls.specs.Convention.{mostPlace, code, numberList}
+use Rattle.calls.specs.Blocks.{fieldsList}
 
 -- a verdict: 0 for accepted, 255 for "differs" with the first wrong field
 abbrev pub verdictCode : Verdict → ℕ
@@ -26,8 +26,8 @@ writtenCode written.Sheet = 0
 
 -- the fields of a sheet of a deck without one
 abbrev pub composedList : Sheet → List ℕ → Read (List ℕ)
-composedList s d = fieldsReply Composed d then λ x. read (fieldsOf s x)
+composedList s d = fieldsList s (fieldsReply Composed d)
 
 -- the distance of two placed atoms
 abbrev pub placedList : List ℕ → ℕ → ℕ → ℕ → ℕ → Read (List ℕ)
-placedList d k i l j = placedDistanceReply d k i l j then λ n. read (n ∷ [])
+placedList d k i l j = numberList (placedDistanceReply d k i l j)

@@ -5,11 +5,9 @@ ghost use lib.ListN.{length};
 ghost use Rattle.judging.specs.Judging.{judgeReply, saidVerdict, sheetWriteReply, sheetOut};
 ghost use Rattle.calls.specs.Convention.{mostPlace, coded, Lent};
 ghost use Rattle.deck_calls.specs.Replies.{writtenCode, verdictCode, composedList, placedList};
-use block::DistanceReply;
-use block::IndicesReply;
 use calls::code_of;
-use calls::give;
-use calls::give_fields;
+use calls::give_indices;
+use calls::give_number;
 use judging::SheetWritten;
 use judging::Verdict;
 use records::Sheet;
@@ -65,10 +63,7 @@ pub fn compose(deck: &[u8], sheet: Sheet, fields: &mut [u64]) -> u64
     ensures { λ r. ⌜ Lent (composedList sheet (now (deck .entry))) (now (fields .entry)) r (now (fields .exit)) ⌝ }
 {
     let answer = judging::compose(deck);
-    match answer {
-        IndicesReply::Refused(r) => code_of(r),
-        IndicesReply::Of(x) => give_fields(fields, sheet, x),
-    }
+    give_indices(fields, sheet, answer)
 }
 
 pub fn placed_distance(
@@ -82,11 +77,5 @@ pub fn placed_distance(
     ensures { λ r. ⌜ Lent (placedList (now (deck .entry)) k i l j) (now (distance .entry)) r (now (distance .exit)) ⌝ }
 {
     let answer = climb::placed_distance(deck, k, i, l, j);
-    match answer {
-        DistanceReply::Refused(r) => code_of(r),
-        DistanceReply::Of(n) => {
-            let numbers = [n];
-            give(distance, &numbers)
-        }
-    }
+    give_number(distance, answer)
 }

@@ -1,8 +1,9 @@
 // What is counted from an atom, and the six fields, as they grow when two are joined by a bond. For any numbers: larger ones than can be are cut down.
 use block::Indices;
 use block::Vertex;
+use reply::larger;
 ghost use mathlib.Core.Path.{_≡_};
-ghost use Prim.Native.Nat.{_+_, _*_, _^_, _<_, _≤_, max, min};
+ghost use Prim.Native.Nat.{_+_, _*_, _^_, _<_, _≤_, min};
 ghost use Rattle.graph.specs.Graph.{isAt};
 ghost use Rattle.joining.specs.Parts.{beyond, both, joinSix};
 ghost use Rattle.joining.specs.Joining.{mostCounted, mostField, cutCounts, cutFields, grownOf, joinedOf};
@@ -17,12 +18,6 @@ fn smaller(a: u64, b: u64) -> u64
     ensures { λ r. ⌜ r ≡ min a b ⌝ }
 {
     if a < b { a } else { b }
-}
-
-fn larger(a: u64, b: u64) -> u64
-    ensures { λ r. ⌜ r ≡ max a b ⌝ }
-{
-    if a < b { b } else { a }
 }
 
 fn times(a: u64, b: u64) -> u64

@@ -12,7 +12,7 @@ use Rattle.block.specs.declared.Indices.{Indices}
 use Rattle.sheets.specs.Sheets.{allFields}
 use Rattle.catalogue.specs.Library.{Library, libraryReply}
 use Rattle.catalogue.specs.Products.{products, productAt}
-use Rattle.catalogue.specs.declared.CountReply.the-variants as counted
+use Rattle.reply.specs.declared.NumberReply.the-variants as counted
 use Rattle.library.specs.Values.{mostFields, fieldAt, valueAt, valuesOf, valuesFrom, valuesReply, saidValues, valuesOut}
 use Rattle.library.specs.Filled.{Filled, filled-whole}
 

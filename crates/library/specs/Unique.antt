@@ -6,7 +6,7 @@ use lib.ListN.{length}
 use Rattle.reply.specs.Chain.{unique}
 use Rattle.records.specs.declared.Sheet.{Sheet}
 use Rattle.catalogue.specs.Products.{productReply}
-use Rattle.catalogue.specs.declared.CountReply.{CountReply}
+use Rattle.reply.specs.declared.NumberReply.{NumberReply}
 use Rattle.library.specs.Said.{saidProduct}
 use Rattle.library.specs.Steps.{stepReply, stepOut, saidStep, runOf}
 use Rattle.library.specs.Values.{valuesReply, saidValues, valuesOut}
@@ -31,7 +31,7 @@ module _ (d : List ℕ) (position : ℕ) where
     unique-run-bytes a b = unique
 
   module _ (field : ℕ) (row : List ℕ) where
-    pub unique-values : (r s : CountReply) → let x = valuesReply d field position (length row) in r ≡ saidValues x → s ≡ saidValues x → r ≡ s
+    pub unique-values : (r s : NumberReply) → let x = valuesReply d field position (length row) in r ≡ saidValues x → s ≡ saidValues x → r ≡ s
     unique-values r s = unique
 
     pub unique-values-numbers : (a b : List ℕ) → let x = valuesReply d field position (length row) in a ≡ valuesOut row x → b ≡ valuesOut row x → a ≡ b

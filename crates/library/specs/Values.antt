@@ -8,8 +8,8 @@ use Rattle.block.specs.declared.Indices.{Indices}
 use Rattle.sheets.specs.Sheets.{allFields}
 use Rattle.catalogue.specs.Library.{Library, libraryReply}
 use Rattle.catalogue.specs.Products.{products, productAt}
-use Rattle.catalogue.specs.declared.CountReply.{CountReply}
-use Rattle.catalogue.specs.declared.CountReply.the-variants as counted
+use Rattle.reply.specs.declared.NumberReply.{NumberReply}
+use Rattle.reply.specs.declared.NumberReply.the-variants as counted
 
 -- a field by its number on the sheet, 1 to 6
 abbrev pub mostFields : ℕ
@@ -37,7 +37,7 @@ valuesReply d field position n =
     read (valuesFrom d l field position (min n (products (l .sites) - position)))
 
 -- how the code says it: how many they are; and the row afterwards
-abbrev pub saidValues : Read (List ℕ) → CountReply
+abbrev pub saidValues : Read (List ℕ) → NumberReply
 saidValues (refused r) = counted.Refused r
 saidValues (read vs) = counted.Of (length vs)
 

@@ -8,7 +8,6 @@ use arms::Core;
 use arms::stem_of;
 use assembly::BlockTable;
 use block::Indices;
-use catalogue::CountReply;
 use catalogue::LibraryRead;
 use catalogue::SITES;
 use catalogue::Site;
@@ -22,6 +21,7 @@ use last::turn;
 use last::turn_values;
 use records::Sheet;
 use records::payload_at;
+use reply::NumberReply;
 use reply::Refusal;
 use reply::Reply;
 use reply::is_outside;
@@ -296,7 +296,7 @@ fn values_read(
 
 // Writes one field of the products from a position on into the first places of a row, as many as there are and it has room for, and hands back how many. The
 // blocks are read once; no sheet is made.
-pub fn values(d: &[u8], field: usize, position: usize, row: &mut [u64]) -> CountReply
+pub fn values(d: &[u8], field: usize, position: usize, row: &mut [u64]) -> NumberReply
     ensures reply { λ r. ⌜ r ≡ saidValues (valuesReply (now (d .entry)) field position (length (now (row .entry)))) ⌝ }
     ensures numbers { λ _. ⌜
         now (row .exit) ≡ valuesOut (now (row .entry)) (valuesReply (now (d .entry)) field position (length (now (row .entry))))
@@ -305,17 +305,17 @@ pub fn values(d: &[u8], field: usize, position: usize, row: &mut [u64]) -> Count
     let l = read_library(d);
     let reply = l.reply;
     match reply {
-        Reply::Refused(refusal) => CountReply::Refused(refusal),
+        Reply::Refused(refusal) => NumberReply::Refused(refusal),
         Reply::Fine => {
             if is_outside(FIELDS, field) {
-                return CountReply::Refused(Refusal {
+                return NumberReply::Refused(Refusal {
                     number: 35,
                     place: 0,
                 });
             }
             let count = count_from(l.products, position, row.len());
             values_read(d, l, position, field, count, row);
-            CountReply::Of(count)
+            NumberReply::Of(count as u64)
         }
     }
 }

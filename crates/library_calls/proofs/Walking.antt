@@ -9,24 +9,12 @@ use Rattle.reply.specs.Read.{Read, refused, read, refusal, _then_}
 use Rattle.reply.specs.declared.Refusal.{Refusal}
 use Rattle.records.specs.declared.Sheet.{Sheet}
 use Rattle.block.specs.declared.Indices.{Indices}
-use Rattle.catalogue.specs.Products.{countReply, Product, done, made}
-use Rattle.catalogue.specs.Said.{saidCount}
-use Rattle.catalogue.specs.declared.CountReply.{CountReply}
-use Rattle.catalogue.specs.declared.CountReply.the-variants as counted
+use Rattle.catalogue.specs.Products.{Product, done, made}
 use Rattle.library.specs.Steps.{Ran, stepReply, stepOut, saidStep, runOf}
 use Rattle.library.specs.Running.{run-stops, run-ends}
 use Rattle.library.specs.declared.StepReply.{StepReply}
 use Rattle.calls.specs.Convention.{code, over}
 use Rattle.library_calls.specs.Libraries.{withNext, stepCode, madeOut, steppedCode, steppedNext, Walked}
-
--- how many products
-abbrev pub toldCount : CountReply → Read ℕ
-toldCount (counted.Refused r) = refused r
-toldCount (counted.Of n) = read n
-
-pub count-told : (a : CountReply) (R : Read ℕ) → a ≡ saidCount R → toldCount a ≡ R
-count-told a (refused r) e = ap toldCount e
-count-told a (read n) e = ap toldCount e
 
 -- a next position has room
 room-next : (entries : ℕ) (answer : Read Product) → 1 ≤ entries → withNext entries answer ≡ answer

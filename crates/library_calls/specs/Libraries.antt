@@ -8,10 +8,10 @@ use Rattle.reply.specs.Read.{Read, refused, read, _then_, refuseIf}
 use Rattle.catalogue.specs.Products.{countReply, Product, done, made}
 use Rattle.library.specs.declared.StepReply.{StepReply}
 use Rattle.library.specs.declared.StepReply.the-variants as stepped
-use Rattle.calls.specs.Convention.{code, over}
+use Rattle.calls.specs.Convention.{code, over, numberList}
 
 abbrev pub countList : List ℕ → Read (List ℕ)
-countList d = countReply d then λ n. read (n ∷ [])
+countList d = numberList (countReply d)
 
 -- 9 where a product is made and there is no entry for the next position
 abbrev pub withNext : ℕ → Read Product → Read Product

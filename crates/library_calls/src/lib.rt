@@ -7,9 +7,8 @@ ghost use Rattle.calls.specs.Convention.{Lent};
 ghost use Rattle.calls.specs.Blocks.{sheetFor};
 ghost use Rattle.library_calls.specs.Libraries.{countList, withNext, stepCode, steppedCode, steppedNext, Walked};
 use calls::code_of;
-use calls::give;
+use calls::give_number;
 use calls::sheet_for;
-use catalogue::CountReply;
 use deck::LONGEST;
 use library::ProductReply;
 use library::StepReply;
@@ -23,13 +22,7 @@ pub fn count(deck: &[u8], count: &mut [u64]) -> u64
     ensures { λ r. ⌜ Lent (countList (now (deck .entry))) (now (count .entry)) r (now (count .exit)) ⌝ }
 {
     let answer = catalogue::count(deck);
-    match answer {
-        CountReply::Refused(r) => code_of(r),
-        CountReply::Of(n) => {
-            let numbers = [n as u64];
-            give(count, &numbers)
-        }
-    }
+    give_number(count, answer)
 }
 
 // What a step into an output of so many bytes says where the next position has no room.

@@ -3,6 +3,7 @@ use crate::row::MOST;
 use crate::row::Row;
 use block::Indices;
 use block::IndicesReply;
+use reply::NumberReply;
 use reply::Refusal;
 
 pub fn nothing() -> Row {
@@ -54,6 +55,13 @@ pub fn refusal(r: Refusal) -> Row {
     let mut row = two(r.number as u64, r.place as u64);
     row.refused = true;
     row
+}
+
+pub fn number(reply: NumberReply) -> Row {
+    match reply {
+        NumberReply::Refused(r) => refusal(r),
+        NumberReply::Of(x) => one(x),
+    }
 }
 
 // What no line says: the reply to a question that nobody knows.

@@ -2,7 +2,7 @@
 // believed: after a yes the two differ only in the numbering of their atoms.
 ghost use mathlib.Core.Path.{_≡_};
 ghost use mathlib.Core.Bool.{_&&_};
-ghost use Prim.Native.Nat.{_+_, _*_, _≤_};
+ghost use Prim.Native.Nat.{_+_, _*_, _/_, _^_, _≤_, _<_};
 ghost use lib.Dec.{eqb};
 ghost use lib.ListN.{length};
 ghost use Rattle.graph.specs.Graph.{bond, joins, anyJoins};
@@ -14,14 +14,15 @@ ghost use Rattle.deck.specs.Sound.{WholeDeck};
 ghost use Rattle.deck.specs.declared.Form.the-variants.{Composed};
 ghost use Rattle.climb.specs.Pairs.{deckOf};
 ghost use Rattle.whole.specs.Work.{mostStart, mostNumbers};
-ghost use Rattle.matched.specs.Matched.{placedNumber, partners, partner, isLost, isLoose, carried, isUnlisted, firstAtom, firstBond, matchPlace, answerAt, matchAnswer, matchReply};
-ghost use Rattle.matched.specs.Work.{isTaken};
+ghost use Rattle.matched.specs.Matched.{placedNumber, partners, partner, isLost, isLoose, carried, firstAtom, firstBond, matchPlace, answerAt, matchAnswer, matchReply};
+ghost use Rattle.matched.specs.Work.{isTaken, isAmiss};
 ghost use Rattle.matched.specs.Said.{saidWhether, saidMatch};
 use deck::Form;
 use deck::Layout;
 use reply::Refusal;
 use reply::Reply;
 use reply::is_outside;
+use reply::wide_two;
 use whole::MoleculeReply;
 
 // The most atoms of a deck's molecule, and the most numbers that its bonds take.
@@ -34,12 +35,6 @@ pub enum MatchReply {
     Refused(Refusal),
     Yes,
     No(usize),
-}
-
-fn wide(x: u16) -> usize
-    ensures { λ r. ⌜ (r ≡ x) × (r ≤ 65535) ⌝ }
-{
-    x as usize
 }
 
 // The number in the whole molecule of atom a of placement p, or 0.
@@ -72,7 +67,7 @@ fn partner(to: &[u16], v: usize) -> usize
     if is_outside(to.len(), v) {
         return 0;
     }
-    wide(to[v - 1])
+    wide_two(to[v - 1])
 }
 
 // Whether one of the atoms up to u has a partner.
@@ -135,7 +130,7 @@ fn is_bonded(bonds: &[u16], x: usize, y: usize) -> bool
 {
     let mut i = 0;
     while 2 <= bonds.len() - i {
-        if is_between(wide(bonds[i]), wide(bonds[i + 1]), x, y) {
+        if is_between(wide_two(bonds[i]), wide_two(bonds[i + 1]), x, y) {
             return true;
         }
         i += 2;
@@ -149,8 +144,8 @@ fn is_carried(bonds: &[u16], to: &[u16], x: usize, y: usize) -> bool
 {
     let mut i = 0;
     while 2 <= bonds.len() - i {
-        let one = partner(to, wide(bonds[i]));
-        let two = partner(to, wide(bonds[i + 1]));
+        let one = partner(to, wide_two(bonds[i]));
+        let two = partner(to, wide_two(bonds[i + 1]));
         if is_between(one, two, x, y) {
             return true;
         }
@@ -169,37 +164,48 @@ fn is_loose(n: usize, bonds: &[u16], whole: &[u16], to: &[u16], one: usize, two:
     !is_bonded(whole, partner(to, one), partner(to, two))
 }
 
-fn first_loose(n: usize, bonds: &[u16], whole: &[u16], to: &[u16]) -> usize
-    requires { ⌜ n ≤ mostStart ⌝ }
-    ensures { λ r. ⌜
-        r ≡ firstBond (n + 1) (isLoose (graphOf n (now (bonds .entry))) (graphOf n (now (whole .entry))) (now (to .entry))) (bondsOf (now (bonds .entry)))
-        ⌝ }
+// Whether a bond is amiss: one that is listed, or one of the deck that is not.
+fn is_amiss(
+    listed: bool,
+    n: usize,
+    bonds: &[u16],
+    whole: &[u16],
+    to: &[u16],
+    one: usize,
+    two: usize,
+) -> bool
+    ensures { λ r. ⌜ r ≡ isAmiss listed (graphOf n (now (bonds .entry))) (graphOf n (now (whole .entry))) (now (to .entry)) (bond one two) ⌝ }
 {
-    let mut place = n + 1;
-    let mut i = 0;
-    while 2 <= bonds.len() - i {
-        if is_loose(n, bonds, whole, to, wide(bonds[i]), wide(bonds[i + 1])) {
-            return place;
-        }
-        place += 1;
-        i += 2;
+    if listed {
+        return is_loose(n, bonds, whole, to, one, two);
     }
-    0
+    !is_carried(bonds, to, one, two)
 }
 
-fn first_new(n: usize, bonds: &[u16], whole: &[u16], to: &[u16]) -> usize
-    requires { ⌜ (n ≤ mostStart) × (length (now whole) ≤ mostNumbers) ⌝ }
+// The place of the first bond of a list that is amiss, or 0. The first of the list has the place given.
+fn first_amiss(
+    listed: bool,
+    n: usize,
+    bonds: &[u16],
+    whole: &[u16],
+    to: &[u16],
+    list: &[u16],
+    place: usize,
+) -> usize
+    requires { ⌜ place + length (now list) / 2 < 2 ^ 64 ⌝ }
     ensures { λ r. ⌜
-        r ≡ firstBond (n + length (bondsOf (now (bonds .entry))) + 1) (isUnlisted (graphOf n (now (bonds .entry))) (now (to .entry))) (bondsOf (now (whole .entry)))
+        r ≡ firstBond place (isAmiss listed (graphOf n (now (bonds .entry))) (graphOf n (now (whole .entry))) (now (to .entry))) (bondsOf (now (list .entry)))
         ⌝ }
 {
-    let mut place = n + bonds.len() / 2 + 1;
+    let mut at = place;
     let mut i = 0;
-    while 2 <= whole.len() - i {
-        if !is_carried(bonds, to, wide(whole[i]), wide(whole[i + 1])) {
-            return place;
+    while 2 <= list.len() - i {
+        let one = wide_two(list[i]);
+        let two = wide_two(list[i + 1]);
+        if is_amiss(listed, n, bonds, whole, to, one, two) {
+            return at;
         }
-        place += 1;
+        at += 1;
         i += 2;
     }
     0
@@ -214,11 +220,11 @@ fn match_place(n: usize, bonds: &[u16], whole: &[u16], to: &[u16]) -> usize
     if lost != 0 {
         return lost;
     }
-    let loose = first_loose(n, bonds, whole, to);
+    let loose = first_amiss(true, n, bonds, whole, to, bonds, n + 1);
     if loose != 0 {
         return loose;
     }
-    first_new(n, bonds, whole, to)
+    first_amiss(false, n, bonds, whole, to, whole, n + bonds.len() / 2 + 1)
 }
 
 fn answer_at(place: usize) -> MatchReply

@@ -7,9 +7,10 @@ use block::Indices;
 use block::IndicesReply;
 use half::within;
 use reply::Reply;
+use reply::larger;
 use reply::wide;
 ghost use mathlib.Core.Path.{_≡_};
-ghost use Prim.Native.Nat.{_≤_, min, max};
+ghost use Prim.Native.Nat.{_≤_, min};
 ghost use Rattle.block.specs.Block.{mostAtoms};
 ghost use Rattle.block.specs.Index.{indicesReply, saidIndices};
 ghost use Rattle.block.specs.Rows.{rowsOf, farAfter};
@@ -25,13 +26,6 @@ struct Line {
     pub odd: u64,
     pub threes: u64,
     pub largest: u64,
-}
-
-// The larger of two numbers.
-fn larger(a: u64, b: u64) -> u64
-    ensures { λ r. ⌜ r ≡ max a b ⌝ }
-{
-    if a < b { b } else { a }
 }
 
 // The first k entries of a row.

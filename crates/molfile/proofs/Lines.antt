@@ -13,7 +13,7 @@ use Rattle.block.specs.Faults.{inside}
 use Rattle.graph.specs.Graph.{Bond, Within}
 use Rattle.reply.specs.declared.Refusal.{Refusal}
 use Rattle.text.specs.Text.{isNumber, numberOf, threeAt, lineChars, nextLine}
-use Rattle.text.specs.Said.{noNumber, saidNumber, lineAt}
+use Rattle.text.specs.Said.{noNumber, fieldNumber, lineAt}
 use Rattle.text.specs.Laws.{chars-within}
 use Rattle.molfile.specs.Molfile.{bondLinePlace, endsOfLine, bondOfLine, lineReply, numbersReply, bondReply}
 

@@ -9,7 +9,7 @@ ghost use lib.ListN.{length};
 ghost use lib.Seq.{sets};
 ghost use Rattle.reply.specs.Read.{read};
 ghost use Rattle.text.specs.Text.{threeAt, lineChars};
-ghost use Rattle.text.specs.Said.{saidNumber};
+ghost use Rattle.text.specs.Said.{fieldNumber};
 ghost use Rattle.molfile.specs.Molfile.{countsPlace, atomLinePlace, bondLinePlace, atomLineCount, bondLineCount, symbolAt, isH, oneH, hydrogenAt, inTurn, lineReply, headerReply, numbersReply, bondReply, keptReply, molfileReply};
 ghost use Rattle.molfile.specs.Said.{saidAnswer, saidMolfile, filledBonds, molfileBytes, saidKept, keptNumbers};
 ghost use Rattle.molfile.specs.Work.{most, markOf, saidLine, saidWalk, numbersAt, saidNumbers, countsReply, answerReply, lows, AtomsRead, BondsRead, RestRead, ListsRead};
@@ -125,7 +125,7 @@ fn header(d: &[u8]) -> Walk
 // The number of three characters at a place: 1000 where it is none.
 fn number_at(d: &[u8], at: usize) -> usize
     requires { ⌜ at + 3 ≤ length (now d) ⌝ }
-    ensures { λ r. ⌜ r ≡ saidNumber (threeAt (now (d .entry)) at) ⌝ }
+    ensures { λ r. ⌜ r ≡ fieldNumber (threeAt (now (d .entry)) at) ⌝ }
 {
     text::number(d[at], d[at + 1], d[at + 2])
 }

@@ -7,8 +7,6 @@ use Rattle.graph.specs.Graph.{Bond}
 use Rattle.reply.specs.Read.{Read, refused, read, _then_, refuseIf}
 use Rattle.block.specs.Block.{bondsOf, blockReply}
 use Rattle.text.specs.Text.{ascii, feed, three}
-use Rattle.molwriter.specs.declared.MolWritten.{MolWritten}
-use Rattle.molwriter.specs.declared.MolWritten.the-variants.{Refused, Bytes}
 
 -- the number of atoms, the number of bonds
 unfoldable pub countsLine : ℕ → ℕ → List ℕ
@@ -45,11 +43,6 @@ molfileWriteReply n xs room =
     blockReply n xs then λ _.
     refuseIf (ltb room (length (molfileText n (bondsOf xs)))) 9 0 then λ _.
     read (length (molfileText n (bondsOf xs)))
-
--- how the code says it
-abbrev pub saidMolfileWritten : Read ℕ → MolWritten
-saidMolfileWritten (refused r) = Refused r
-saidMolfileWritten (read k) = Bytes k
 
 -- the lent bytes afterwards: the text, and later ones as they were; a refusal changes none
 unfoldable pub filledText : Read ℕ → List ℕ → List ℕ → List ℕ

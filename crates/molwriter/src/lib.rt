@@ -4,19 +4,15 @@ ghost use mathlib.Core.List.{List, _++_};
 ghost use Rattle.graph.specs.Graph.{bond};
 ghost use lib.ListN.{length};
 ghost use Rattle.block.specs.Block.{bondsOf, blockReply};
-ghost use Rattle.reply.specs.Read.{read};
+ghost use Rattle.reply.specs.Read.{read, saidNumber};
 ghost use Rattle.text.specs.Text.{ascii};
 ghost use Rattle.text.specs.Put.{Puts};
-ghost use Rattle.molwriter.specs.Written.{molfileWriteReply, saidMolfileWritten, writtenBytes};
+ghost use Rattle.molwriter.specs.Written.{molfileWriteReply, writtenBytes};
 ghost use Rattle.molwriter.specs.Pieces.{countsText, atomsText, bondText, bondsText};
+use reply::NumberReply;
 use reply::Refusal;
 use reply::Reply;
-
-// How many bytes were written, or why none were.
-pub enum MolWritten {
-    Refused(Refusal),
-    Bytes(usize),
-}
+use reply::wide_byte;
 
 // The bytes of the lines that every file has, of an atom line and of a bond line, line feeds among them.
 const FIXED: usize = 50;
@@ -53,18 +49,12 @@ fn put_atoms(out: &mut [u8], at: usize, n: usize) -> usize
     k
 }
 
-fn wide(b: u8) -> usize
-    ensures { λ r. ⌜ r ≡ b ⌝ }
-{
-    b as usize
-}
-
 // Puts a bond line.
 fn put_bond(out: &mut [u8], at: usize, a: u8, b: u8) -> usize
     ensures { λ r. ⌜ Puts (now (out .entry)) at (bondText (bond a b)) (now (out .exit)) r ⌝ }
 {
-    let i = text::put_three(out, at, wide(a));
-    let j = text::put_three(out, i, wide(b));
+    let i = text::put_three(out, at, wide_byte(a));
+    let j = text::put_three(out, i, wide_byte(b));
     text::put(out, j, b"  1  0  0  0  0\n")
 }
 
@@ -84,14 +74,14 @@ fn put_bonds(out: &mut [u8], at: usize, bonds: &[u8]) -> usize
 }
 
 // The answer for a block that is not refused.
-fn written(n: usize, bonds: &[u8], out: &mut [u8]) -> MolWritten
+fn written(n: usize, bonds: &[u8], out: &mut [u8]) -> NumberReply
     requires { ⌜ blockReply n (now bonds) ≡ read tt ⌝ }
-    ensures reply { λ r. ⌜ r ≡ saidMolfileWritten (molfileWriteReply n (now (bonds .entry)) (length (now (out .entry)))) ⌝ }
+    ensures reply { λ r. ⌜ r ≡ saidNumber (molfileWriteReply n (now (bonds .entry)) (length (now (out .entry)))) ⌝ }
     ensures bytes { λ _. ⌜ now (out .exit) ≡ writtenBytes n (now (bonds .entry)) (now (out .entry)) ⌝ }
 {
     let m = bonds.len() / 2;
     if out.len() < FIXED + ATOM * n + BOND * m {
-        return MolWritten::Refused(Refusal {
+        return NumberReply::Refused(Refusal {
             number: 9,
             place: 0,
         });
@@ -100,18 +90,18 @@ fn written(n: usize, bonds: &[u8], out: &mut [u8]) -> MolWritten
     let b = put_atoms(out, a, n);
     let c = put_bonds(out, b, bonds);
     let end = text::put(out, c, b"M  END\n");
-    MolWritten::Bytes(end)
+    NumberReply::Of(end as u64)
 }
 
 // Writes a block as a molfile at the front of the lent output and answers how many bytes that takes; later bytes stay. Or it is a refusal, and no byte
 // changes: the block's, then 9 where fewer bytes are lent than the text has.
-pub fn write(n: usize, bonds: &[u8], out: &mut [u8]) -> MolWritten
-    ensures reply { λ r. ⌜ r ≡ saidMolfileWritten (molfileWriteReply n (now (bonds .entry)) (length (now (out .entry)))) ⌝ }
+pub fn write(n: usize, bonds: &[u8], out: &mut [u8]) -> NumberReply
+    ensures reply { λ r. ⌜ r ≡ saidNumber (molfileWriteReply n (now (bonds .entry)) (length (now (out .entry)))) ⌝ }
     ensures bytes { λ _. ⌜ now (out .exit) ≡ writtenBytes n (now (bonds .entry)) (now (out .entry)) ⌝ }
 {
     let reply = block::check(n, bonds);
     match reply {
-        Reply::Refused(r) => MolWritten::Refused(r),
+        Reply::Refused(r) => NumberReply::Refused(r),
         Reply::Fine => written(n, bonds, out),
     }
 }

@@ -3,11 +3,10 @@ use Prim.Native.Nat.{ℕ}
 use mathlib.Core.List.{List}
 use lib.ListN.{length}
 use Rattle.graph.specs.Graph.{Graph}
-use Rattle.reply.specs.Read.{Read, refused, read}
+use Rattle.reply.specs.Read.{Read, refused, read, _then_, saidNumber}
+use Rattle.reply.specs.declared.NumberReply.{NumberReply}
 use Rattle.neighbours.specs.declared.NeighboursRead.{NeighboursRead}
 use Rattle.neighbours.specs.declared.NeighboursRead.the-variants.{Refused, Block}
-use Rattle.neighbours.specs.declared.NeighboursWritten.{NeighboursWritten}
-use Rattle.neighbours.specs.declared.NeighboursWritten.the-variants as written
 use Rattle.neighbours.specs.declared.Shape.{Shape}
 use Rattle.neighbours.specs.declared.Shape.the-variants as shape
 
@@ -15,9 +14,9 @@ abbrev pub saidNeighboursRead : Read Graph → NeighboursRead
 saidNeighboursRead (refused r) = Refused r
 saidNeighboursRead (read g) = Block (record { atoms = g .atoms; bonds = length (g .bonds) })
 
-abbrev pub saidNeighboursWritten : Read (List ℕ) → NeighboursWritten
-saidNeighboursWritten (refused r) = written.Refused r
-saidNeighboursWritten (read t) = written.Bytes (length t)
+-- a text's length
+abbrev pub saidNeighboursWritten : Read (List ℕ) → NumberReply
+saidNeighboursWritten answer = saidNumber (answer then λ t. read (length t))
 
 -- within the crate: 22, or the number of bonds
 abbrev pub saidShape : Read ℕ → Shape

@@ -1,15 +1,13 @@
 -- Laws. Each promise determines the reply and the lent bytes afterwards: two that satisfy it are equal. Assumes nothing.
 use Prim.Native.Nat.{ℕ}
 use mathlib.Core.List.{List}
-use mathlib.Core.Path.{_≡_, sym, _∙_}
+use mathlib.Core.Path.{_≡_}
+use Rattle.reply.specs.Chain.{unique}
+use Rattle.reply.specs.declared.NumberReply.{NumberReply}
 use Rattle.adjacency.specs.Neighbours.{neighboursReply, bytesAfter}
 use Rattle.adjacency.specs.Written.{neighboursWriteReply, textAfter}
 use Rattle.neighbours.specs.Said.{saidNeighboursRead, saidNeighboursWritten}
 use Rattle.neighbours.specs.declared.NeighboursRead.{NeighboursRead}
-use Rattle.neighbours.specs.declared.NeighboursWritten.{NeighboursWritten}
-
-unique : {A : Type 0} {r s t : A} → r ≡ t → s ≡ t → r ≡ s
-unique p q = p ∙ sym q
 
 module _ (text : List ℕ) (room : ℕ) where
   pub unique-read : (r s : NeighboursRead) → r ≡ saidNeighboursRead (neighboursReply text room) → s ≡ saidNeighboursRead (neighboursReply text room) → r ≡ s
@@ -19,7 +17,7 @@ module _ (text : List ℕ) (room : ℕ) where
   unique-read-bytes out p q = unique
 
 module _ (n : ℕ) (xs : List ℕ) (room : ℕ) where
-  pub unique-write : (r s : NeighboursWritten) → r ≡ saidNeighboursWritten (neighboursWriteReply n xs room) → s ≡ saidNeighboursWritten (neighboursWriteReply n xs room) → r ≡ s
+  pub unique-write : (r s : NumberReply) → r ≡ saidNeighboursWritten (neighboursWriteReply n xs room) → s ≡ saidNeighboursWritten (neighboursWriteReply n xs room) → r ≡ s
   unique-write r s = unique
 
   pub unique-write-bytes : (out p q : List ℕ) → p ≡ textAfter (neighboursWriteReply n xs room) out → q ≡ textAfter (neighboursWriteReply n xs room) out → p ≡ q

@@ -15,6 +15,7 @@ ghost use Rattle.neighbours.specs.Said.{saidNeighboursRead, saidNeighbou
 use block::ATOMS;
 use block::BYTES;
 use block::Neighbours;
+use reply::NumberReply;
 use reply::Refusal;
 use reply::Reply;
 
@@ -32,12 +33,6 @@ pub struct Counts {
 pub enum NeighboursRead {
     Refused(Refusal),
     Block(Counts),
-}
-
-// How many bytes were written, or why none.
-pub enum NeighboursWritten {
-    Refused(Refusal),
-    Bytes(usize),
 }
 
 // The first number from a place on, where it stands, and the place behind it.
@@ -149,22 +144,22 @@ pub fn read(text: &[u8], out: &mut [u8]) -> NeighboursRead
 const TEXT: usize = 8 * ATOMS + 2 * BYTES;
 
 // Puts a text into the lent bytes, or 9.
-fn given(bytes: &[u8], out: &mut [u8]) -> NeighboursWritten
+fn given(bytes: &[u8], out: &mut [u8]) -> NumberReply
     ensures reply { λ r. ⌜ r ≡ saidNeighboursWritten (givenReply (now (bytes .entry)) (length (now (out .entry)))) ⌝ }
     ensures bytes { λ r. ⌜ now (out .exit) ≡ textAfter (givenReply (now (bytes .entry)) (length (now (out .entry)))) (now (out .entry)) ⌝ }
 {
     if out.len() < bytes.len() {
-        return NeighboursWritten::Refused(Refusal {
+        return NumberReply::Refused(Refusal {
             number: 9,
             place: 0,
         });
     }
     text::put(out, 0, bytes);
-    NeighboursWritten::Bytes(bytes.len())
+    NumberReply::Of(bytes.len() as u64)
 }
 
 // Writes the text of a block by its neighbours.
-fn write_fine(n: usize, near: &Neighbours, out: &mut [u8]) -> NeighboursWritten
+fn write_fine(n: usize, near: &Neighbours, out: &mut [u8]) -> NumberReply
     requires { ⌜ (n ≤ mostAtoms) × (length (textBy (joinedIn (now near)) n) ≤ longest) ⌝ }
     ensures reply { λ r. ⌜ r ≡ saidNeighboursWritten (givenReply (textBy (joinedIn (now (near .entry))) n) (length (now (out .entry)))) ⌝ }
     ensures bytes { λ r. ⌜
@@ -177,7 +172,7 @@ fn write_fine(n: usize, near: &Neighbours, out: &mut [u8]) -> NeighboursWritten
 }
 
 // Writes the text of a block at the front of the lent bytes; later bytes stay, and a refusal changes none.
-pub fn write(n: usize, bonds: &[u8], out: &mut [u8]) -> NeighboursWritten
+pub fn write(n: usize, bonds: &[u8], out: &mut [u8]) -> NumberReply
     ensures reply { λ r. ⌜ r ≡ saidNeighboursWritten (neighboursWriteReply n (now (bonds .entry)) (length (now (out .entry)))) ⌝ }
     ensures bytes { λ r. ⌜
         now (out .exit) ≡ textAfter (neighboursWriteReply n (now (bonds .entry)) (length (now (out .entry)))) (now (out .entry))
@@ -186,7 +181,7 @@ pub fn write(n: usize, bonds: &[u8], out: &mut [u8]) -> NeighboursWritten
     let opened = block::neighbours(n, bonds);
     let reply = opened.reply;
     match reply {
-        Reply::Refused(refusal) => NeighboursWritten::Refused(refusal),
+        Reply::Refused(refusal) => NumberReply::Refused(refusal),
         Reply::Fine => write_fine(n, &opened.near, out),
     }
 }

@@ -1,6 +1,5 @@
 // What is asked of a library deck.
 use block::IndicesReply;
-use catalogue::CountReply;
 use library::ProductReply;
 use library::StepReply;
 use lines::row::FAR;
@@ -8,16 +7,10 @@ use lines::row::Row;
 use lines::row::STAYS;
 use lines::told;
 use records::Sheet;
+use reply::NumberReply;
 
 // The bytes of a sheet of kind 4.
 const SHEET: usize = 44;
-
-fn counted(reply: CountReply) -> Row {
-    match reply {
-        CountReply::Refused(r) => told::refusal(r),
-        CountReply::Of(n) => told::one(n as u64),
-    }
-}
 
 // The six fields of a product, or nothing where all are done.
 fn product(letter: u8, reply: ProductReply) -> Row {
@@ -53,15 +46,15 @@ fn extremes(deck: &[u8], field: usize, greatest: bool) -> Row {
     let mut out = [STAYS; 6];
     let reply = ranking::best(deck, field, greatest, 9, &mut out, 0);
     match reply {
-        CountReply::Refused(r) => told::refusal(r),
-        CountReply::Of(_) => told::entries(&out),
+        NumberReply::Refused(r) => told::refusal(r),
+        NumberReply::Of(_) => told::entries(&out),
     }
 }
 
 // The reply to a question, which is known by its first letter.
 pub(crate) fn reply_to(letter: u8, deck: &[u8], row: Row) -> Row {
     match letter {
-        b'q' => counted(catalogue::count(deck)),
+        b'q' => told::number(catalogue::count(deck)),
         b'p' => product(letter, library::product(deck, row.first(0, FAR))),
         b'r' => run(deck, row.first(0, FAR)),
         _ => extremes(deck, row.first(0, FAR), row.first(1, FAR) != 0),

@@ -3,23 +3,17 @@ use Prim.Native.Nat.{ℕ}
 use mathlib.Core.List.{List}
 use mathlib.Core.Path.{_≡_, sym, _∙_, ap, ap₂}
 use borrow.Author.Tests.{eq-eqb, ne-eqb}
-use Rattle.reply.specs.Read.{Read, read, _then_, saidReply}
+use Rattle.reply.specs.Read.{Read, saidReply}
 use Rattle.reply.specs.declared.Reply.{Reply}
-use Rattle.block.specs.Index.{saidIndices}
 use Rattle.block.specs.declared.Indices.{Indices}
-use Rattle.block.specs.declared.IndicesReply.{IndicesReply}
 use Rattle.records.specs.declared.Sheet.{Sheet}
-use Rattle.records.specs.declared.Sheet.the-variants.{Six}
 use Rattle.judging.specs.Judging.{saidSheetWritten, sheetOut}
 use Rattle.judging.specs.declared.SheetWritten.{SheetWritten}
-use Rattle.sheets.specs.Sheets.{fieldsOf}
 use Rattle.queues.specs.declared.Queue.{Queue}
 use Rattle.queues.specs.declared.Queue.the-variants.{Day, Night}
-use Rattle.queues.specs.Queues.{lookTold}
 use Rattle.calls.specs.Convention.{coded, replyCode}
 use Rattle.deck_calls.specs.Replies.{writtenCode}
-use Rattle.queue_calls.specs.TwoQueues.{queueFor, lookList}
-use Rattle.calls.proofs.Blocks.{toldIndices, indices-told}
+use Rattle.queue_calls.specs.TwoQueues.{queueFor}
 use Rattle.calls.proofs.Laws.{reply-coded}
 use Rattle.deck_calls.proofs.Laws.{written-coded}
 
@@ -33,12 +27,6 @@ queue-night which e = rw (ne-eqb which 0 e)
 module _ (told : Queue → Read (Unit {0})) (left : Queue → List ℕ) where
   pub queue-coded : {x : ℕ} (a : Reply) (q p : Queue) (t : List ℕ) → q ≡ p → x ≡ replyCode a → (a ≡ saidReply (told q)) × (t ≡ left q) → (x ≡ coded (told p)) × (t ≡ left p)
   queue-coded a q p t s e f = (e ∙ reply-coded a (told p) (f .0 ∙ ap (λ (y : Queue). saidReply (told y)) s), f .1 ∙ ap left s)
-
--- what looking up tells
-module _ (t : List ℕ) (x : ℕ) where
-  pub look-listed : (a b : IndicesReply) (q p : Queue) → q ≡ p → a ≡ saidIndices (lookTold t q x) → a ≡ b → lookList t p x ≡ (toldIndices b then λ i. read (fieldsOf Six i))
-  look-listed a b q p s e f =
-      ap (λ (R : Read Indices). R then λ i. read (fieldsOf Six i)) (sym (indices-told b (lookTold t p x) (sym f ∙ e ∙ ap (λ (y : Queue). saidIndices (lookTold t y x)) s)))
 
 -- a sheet over what a queue that is called by a number holds
 module _ (told : Queue → Sheet → Read Indices) (old : List ℕ) where

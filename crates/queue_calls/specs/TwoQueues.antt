@@ -3,12 +3,12 @@ use Prim.Native.Nat.{ℕ}
 use mathlib.Core.Bool.{cond}
 use mathlib.Core.List.{List}
 use lib.Dec.{eqb}
-use Rattle.reply.specs.Read.{Read, read, _then_}
+use Rattle.reply.specs.Read.{Read}
 use Rattle.records.specs.declared.Sheet.the-variants.{Six}
-use Rattle.sheets.specs.Sheets.{fieldsOf}
 use Rattle.queues.specs.declared.Queue.{Queue}
 use Rattle.queues.specs.declared.Queue.the-variants.{Day, Night}
 use Rattle.queues.specs.Queues.{lookTold}
+use Rattle.calls.specs.Blocks.{fieldsList}
 
 -- 0 is the day queue, anything else counts as the night queue
 abbrev pub queueFor : ℕ → Queue
@@ -16,4 +16,4 @@ queueFor which = cond (eqb which 0) Day Night
 
 -- the six fields of a block that a queue holds
 abbrev pub lookList : List ℕ → Queue → ℕ → Read (List ℕ)
-lookList t q x = lookTold t q x then λ i. read (fieldsOf Six i)
+lookList t q x = fieldsList Six (lookTold t q x)

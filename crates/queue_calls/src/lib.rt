@@ -9,9 +9,7 @@ ghost use Rattle.gathered.specs.Gathered.{sheetTold};
 ghost use Rattle.calls.specs.Convention.{coded, Lent};
 ghost use Rattle.calls.specs.Blocks.{sheetFor};
 ghost use Rattle.queue_calls.specs.TwoQueues.{queueFor, lookList};
-use block::IndicesReply;
-use calls::code_of;
-use calls::give_fields;
+use calls::give_indices;
 use calls::reply_code;
 use calls::sheet_for;
 use deck_calls::written_code;
@@ -48,10 +46,7 @@ pub fn look(table: &[u8], queue: usize, number: u16, fields: &mut [u64]) -> u64
     ensures { λ r. ⌜ Lent (lookList (now (table .entry)) (queueFor queue) number) (now (fields .entry)) r (now (fields .exit)) ⌝ }
 {
     let answer = queues::look(table, queue_for(queue), number);
-    match answer {
-        IndicesReply::Refused(r) => code_of(r),
-        IndicesReply::Of(x) => give_fields(fields, Sheet::Six, x),
-    }
+    give_indices(fields, Sheet::Six, answer)
 }
 
 pub fn drop(table: &mut [u8], queue: usize, number: u16) -> u64

@@ -5,6 +5,7 @@ use filling::fill;
 use records::le16_at;
 use reply::Refusal;
 use reply::Reply;
+use reply::refused;
 use summary::SUMMARY;
 ghost use mathlib.Core.Path.{_≡_};
 ghost use Prim.Native.Nat.{_+_, _≤_, _<_};
@@ -22,13 +23,6 @@ ghost use Rattle.queues.specs.Work.{firstOf, filledIn};
 pub(crate) const PLACES: usize = 8;
 
 pub(crate) const SHELF: usize = SUMMARY * PLACES;
-
-// A refusal at place 0.
-pub(crate) fn refused(number: usize) -> Reply
-    ensures { λ r. ⌜ r ≡ Reply.Refused (refusal number 0) ⌝ }
-{
-    Reply::Refused(Refusal { number, place: 0 })
-}
 
 // The first place that has a number; PLACES where none has it.
 pub(crate) fn place_of(s: &[u8], number: u16) -> usize

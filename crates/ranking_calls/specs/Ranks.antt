@@ -6,11 +6,9 @@ use mathlib.Core.Path.{_≡_}
 use lib.Dec.{eqb}
 use lib.ListN.{length, getD}
 use Rattle.reply.specs.Read.{Read, refused, read}
-use Rattle.catalogue.specs.declared.CountReply.{CountReply}
-use Rattle.catalogue.specs.declared.CountReply.the-variants as counted
 use Rattle.placing.specs.Ranked.{Entry}
 use Rattle.ranking.specs.Best.{bestReply, bestOut}
-use Rattle.calls.specs.Convention.{code, coded, over}
+use Rattle.calls.specs.Convention.{coded, over}
 
 -- any number but 0 wants the greatest
 abbrev pub wantsGreatest : ℕ → Bool
@@ -28,15 +26,6 @@ bestFor d field greatest tag best held = bestReply d field (wantsGreatest greate
 abbrev pub heldOut : Read (List Entry) → List ℕ → List ℕ
 heldOut (refused r) held = held
 heldOut (read l) held = over (length l ∷ []) held
-
--- the same of what the library says
-abbrev pub countedCode : CountReply → ℕ
-countedCode (counted.Refused r) = code r
-countedCode (counted.Of n) = 0
-
-abbrev pub countedOut : CountReply → List ℕ → List ℕ
-countedOut (counted.Refused r) held = held
-countedOut (counted.Of n) held = over (n ∷ []) held
 
 -- the reply, the entries and the number after the call: a refusal changes nothing
 pub record Ranks (answer : Read (List Entry)) (best held : List ℕ) (reply : ℕ) (best′ held′ : List ℕ) : Type 0 where

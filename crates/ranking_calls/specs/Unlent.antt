@@ -5,28 +5,24 @@ use mathlib.Core.List.{List, [], _∷_}
 use mathlib.Core.Path.{_≡_, refl, sym, _∙_, ap}
 use native.Mathlib.Omega.{arith}
 use borrow.Author.Tests.{eq-eqb, ne-eqb}
-use lib.ListN.{length, getD, set}
-use Rattle.reply.specs.Read.{Read, refused, read, refusal, isOutside}
+use lib.ListN.{length, getD}
+use Rattle.reply.specs.Read.{Read, refused, read, refusal, isOutside, toldNumber}
 use Rattle.reply.specs.declared.Refusal.{Refusal}
+use Rattle.reply.specs.declared.NumberReply.{NumberReply}
+use Rattle.reply.specs.declared.NumberReply.the-variants as counted
 use Rattle.catalogue.specs.Library.{Library, libraryReply}
-use Rattle.catalogue.specs.declared.CountReply.{CountReply}
-use Rattle.catalogue.specs.declared.CountReply.the-variants as counted
 use Rattle.library.specs.Values.{mostFields, valuesReply, saidValues}
 use Rattle.placing.specs.Ranked.{Entry}
 use Rattle.ranking.specs.Best.{bestReply, saidBest, bestOut}
-use Rattle.calls.specs.Convention.{code, coded, over, thenNine}
-use Rattle.ranking_calls.specs.Ranks.{wantsGreatest, lentFor, bestFor, heldOut, countedCode, countedOut, Ranks}
+use Rattle.calls.specs.Convention.{code, coded, outAfter, numberList, Lent, thenNine}
+use Rattle.calls.proofs.Laws.{number-fits}
+use Rattle.ranking_calls.specs.Ranks.{wantsGreatest, lentFor, bestFor, heldOut, Ranks}
 
 pub wants-smallest : (g : ℕ) → g ≡ 0 → false ≡ wantsGreatest g
 wants-smallest g e = rw (eq-eqb g 0 e)
 
 pub wants-greatest : (g : ℕ) → (g ≡ 0 → ⊥) → true ≡ wantsGreatest g
 wants-greatest g e = rw (ne-eqb g 0 e)
-
--- the first entry
-pub one-set : (l : List ℕ) (n : ℕ) → 1 ≤ length l → set l 0 n ≡ over (n ∷ []) l
-one-set [] n h = absurd (omega arith)
-one-set (x ∷ xs) n h = refl
 
 -- what the values' reply tells
 pub values-refused : (x : Read (List ℕ)) (q : Refusal) → saidValues x ≡ counted.Refused q → code q ≡ coded (thenNine x)
@@ -65,23 +61,21 @@ module _ (d : List ℕ) (field greatest tag : ℕ) (best : List ℕ) where
   }
   ranks-lacking (x ∷ xs) h r e = absurd (omega arith)
 
-  said-code : (x : Read (List Entry)) → countedCode (saidBest x) ≡ coded x
-  said-code (refused r) = refl
-  said-code (read l) = refl
+  said-held : (x : Read (List Entry)) (held : List ℕ) → (coded (toldNumber (saidBest x)) ≡ coded x) × (outAfter (numberList (toldNumber (saidBest x))) held ≡ heldOut x held)
+  said-held (refused r) held = (refl, refl)
+  said-held (read l) held = (refl, refl)
 
-  said-held : (x : Read (List Entry)) (held : List ℕ) → countedOut (saidBest x) held ≡ heldOut x held
-  said-held (refused r) held = refl
-  said-held (read l) held = refl
-
-  pub ranks-told : (held : List ℕ) → 1 ≤ length held → (g : Bool) → g ≡ wantsGreatest greatest → (told : CountReply) (r : ℕ) (best′ held′ : List ℕ)
+  pub ranks-told : (held : List ℕ) → 1 ≤ length held → (g : Bool) → g ≡ wantsGreatest greatest → (told : NumberReply) (r : ℕ) (best′ held′ : List ℕ)
       → told ≡ saidBest (bestReply d field g tag best (getD held 0 0)) → best′ ≡ bestOut best (bestReply d field g tag best (getD held 0 0))
-      → r ≡ countedCode told → held′ ≡ countedOut told held → Ranks (bestFor d field greatest tag best held) best held r best′ held′
-  ranks-told [] h g w told r best′ held′ e f p q = absurd (omega arith)
-  ranks-told (y ∷ held) h g w told r best′ held′ e f p q =
+      → Lent (numberList (toldNumber told)) held r held′ → Ranks (bestFor d field greatest tag best held) best held r best′ held′
+  ranks-told [] h g w told r best′ held′ e f l = absurd (omega arith)
+  ranks-told (y ∷ held) h g w told r best′ held′ e f l =
       let same : bestReply d field g tag best y ≡ bestReply d field (wantsGreatest greatest) tag best y = ap (λ (b : Bool). bestReply d field b tag best y) w in
       let x = bestReply d field g tag best y in
+      let (p, q) = number-fits (toldNumber told) h l in
+      let (s, t) = said-held x (y ∷ held) in
       record {
-        replied = p ∙ ap countedCode e ∙ said-code x ∙ ap coded same;
+        replied = p ∙ ap (λ (t : NumberReply). coded (toldNumber t)) e ∙ s ∙ ap coded same;
         entries = f ∙ ap (bestOut best) same;
-        many = q ∙ ap (λ (t : CountReply). countedOut t (y ∷ held)) e ∙ said-held x (y ∷ held) ∙ ap (λ (z : Read (List Entry)). heldOut z (y ∷ held)) same;
+        many = q ∙ ap (λ (t : NumberReply). outAfter (numberList (toldNumber t)) (y ∷ held)) e ∙ t ∙ ap (λ (z : Read (List Entry)). heldOut z (y ∷ held)) same;
       }

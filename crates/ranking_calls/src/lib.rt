@@ -1,13 +1,12 @@
 // The best products of a library as C asks for them.
 use calls::code_of;
-use catalogue::CountReply;
+use calls::give_number;
 use library::values;
+use reply::NumberReply;
 ghost use mathlib.Core.Path.{_≡_};
-ghost use Prim.Native.Nat.{_≤_};
-ghost use lib.ListN.{length};
 ghost use Rattle.library.specs.Values.{valuesReply};
 ghost use Rattle.calls.specs.Convention.{coded, thenNine};
-ghost use Rattle.ranking_calls.specs.Ranks.{wantsGreatest, bestFor, countedCode, countedOut, Ranks};
+ghost use Rattle.ranking_calls.specs.Ranks.{wantsGreatest, bestFor, Ranks};
 
 // Whether the greatest are wanted: any number but 0 says so.
 fn wants(greatest: usize) -> bool
@@ -26,23 +25,8 @@ fn unlent(deck: &[u8], field: usize) -> u64
     let mut none = [0u64; 1];
     let told = values(deck, field, 0, &mut none);
     match told {
-        CountReply::Refused(r) => code_of(r),
-        CountReply::Of(_) => 9,
-    }
-}
-
-// The reply, and how many are held.
-fn tell(told: CountReply, held: &mut [u64]) -> u64
-    requires { ⌜ 1 ≤ length (now held) ⌝ }
-    ensures reply { λ r. ⌜ r ≡ countedCode told ⌝ }
-    ensures held { λ _. ⌜ now (held .exit) ≡ countedOut told (now (held .entry)) ⌝ }
-{
-    match told {
-        CountReply::Refused(r) => code_of(r),
-        CountReply::Of(n) => {
-            held[0] = n as u64;
-            0
-        }
+        NumberReply::Refused(r) => code_of(r),
+        NumberReply::Of(_) => 9,
     }
 }
 
@@ -66,5 +50,5 @@ pub fn best(
     }
     let many = held[0] as usize;
     let told = ranking::best(deck, field, wants(greatest), tag, best, many);
-    tell(told, held)
+    give_number(held, told)
 }

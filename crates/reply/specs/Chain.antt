@@ -1,11 +1,13 @@
 -- Laws. What a chain of answers tells when it was read to its end, and that a promise which is an equation leaves one answer. Assumes nothing.
-use Prim.Native.Nat.{ℕ, zero, suc}
+use Prim.Native.Nat.{ℕ, zero, suc, max}
 use mathlib.Core.Bool.{Bool, true, false, _||_, true≢false}
-use mathlib.Core.Path.{_≡_, refl, sym, _∙_}
+use mathlib.Core.Path.{_≡_, refl, sym, _∙_, ap}
 use native.Mathlib.Omega.{arith}
-use Rattle.reply.specs.Read.{Read, refused, read, _then_, refuseIf, refuseFor, isOutside, saidReply}
+use Rattle.reply.specs.Read.{Read, refused, read, _then_, refuseIf, refuseFor, refusal, isOutside, saidReply, saidNumber, toldNumber}
 use Rattle.reply.specs.declared.Refusal.{Refusal}
+use Rattle.reply.specs.declared.Reply.{Reply}
 use Rattle.reply.specs.declared.Reply.the-variants.{Fine, Refused}
+use Rattle.reply.specs.declared.NumberReply.{NumberReply}
 
 pub not-read : {A : Type 0} {r : Refusal} {a : A} → refused r ≡ read a → ⊥
 not-read e = let z : _≡_ {A = ℕ} 0 1 = cc in omega arith
@@ -37,6 +39,10 @@ pub refused-read : (x : Read (Unit {0})) (r : Refusal) → saidReply x ≡ Refus
 refused-read (refused q) r e = cc
 refused-read (read u) r e = let z : _≡_ {A = ℕ} 0 1 = cc in absurd (omega arith)
 
+pub number-told : (a : NumberReply) (x : Read ℕ) → a ≡ saidNumber x → toldNumber a ≡ x
+number-told a (refused r) e = ap toldNumber e
+number-told a (read n) e = ap toldNumber e
+
 -- two answers that are both what a promise says are equal
 pub unique : {A : Type 0} {r s t : A} → r ≡ t → s ≡ t → r ≡ s
 unique p q = p ∙ sym q
@@ -44,5 +50,11 @@ unique p q = p ∙ sym q
 pub unique-is-outside : (n v : ℕ) (r s : Bool) → r ≡ isOutside n v → s ≡ isOutside n v → r ≡ s
 unique-is-outside n v r s = unique
 
+pub unique-refused : (n : ℕ) (r s : Reply) → r ≡ Refused (refusal n 0) → s ≡ Refused (refusal n 0) → r ≡ s
+unique-refused n r s = unique
+
 pub unique-wide : (x r s : ℕ) → r ≡ x → s ≡ x → r ≡ s
 unique-wide x r s = unique
+
+pub unique-larger : (a b r s : ℕ) → r ≡ max a b → s ≡ max a b → r ≡ s
+unique-larger a b r s = unique

@@ -7,5 +7,6 @@
 -- | `refuseFor n p`  | refusal n at place p unless n is 0                   | `for-read`                                      |
 -- | `isOutside n v`  | v is 0 or above n                                    | `unique-is-outside`                             |
 -- | `saidReply`      | how the code says a refusal or none                  | `fine-read`, `refused-read`                     |
+-- | `saidNumber`     | how it says a refusal or a number                    | `number-told`: `toldNumber` is its way back     |
 pub mod Read
 pub mod Chain

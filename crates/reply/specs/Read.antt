@@ -5,6 +5,8 @@ use lib.Dec.{eqb, ltb}
 use Rattle.reply.specs.declared.Refusal.{Refusal}
 use Rattle.reply.specs.declared.Reply.{Reply}
 use Rattle.reply.specs.declared.Reply.the-variants.{Fine, Refused}
+use Rattle.reply.specs.declared.NumberReply.{NumberReply}
+use Rattle.reply.specs.declared.NumberReply.the-variants as number
 
 abbrev pub refusal : ℕ → ℕ → Refusal
 refusal n p = record { number = n; place = p }
@@ -42,3 +44,12 @@ isOutside n v = eqb v 0 || ltb n v
 abbrev pub saidReply : Read (Unit {0}) → Reply
 saidReply (refused r) = Refused r
 saidReply (read u) = Fine
+
+-- how it says a refusal or a number; and what was said
+abbrev pub saidNumber : Read ℕ → NumberReply
+saidNumber (refused r) = number.Refused r
+saidNumber (read n) = number.Of n
+
+abbrev pub toldNumber : NumberReply → Read ℕ
+toldNumber (number.Refused r) = refused r
+toldNumber (number.Of n) = read n

@@ -1,7 +1,7 @@
-// What every part of the library answers with: fine, or a refusal. And two small tests of numbers that all of them make.
+// What every part of the library answers with: fine, a number, or a refusal. And what all of them do with small numbers.
 ghost use mathlib.Core.Path.{_≡_};
-ghost use Prim.Native.Nat.{_≤_};
-ghost use Rattle.reply.specs.Read.{isOutside};
+ghost use Prim.Native.Nat.{_≤_, max};
+ghost use Rattle.reply.specs.Read.{refusal, isOutside};
 
 // What is wrong, by the number of the rules' table, and where.
 pub struct Refusal {
@@ -13,6 +13,19 @@ pub struct Refusal {
 pub enum Reply {
     Fine,
     Refused(Refusal),
+}
+
+// A number, or refused.
+pub enum NumberReply {
+    Refused(Refusal),
+    Of(u64),
+}
+
+// A refusal at place 0.
+pub fn refused(number: usize) -> Reply
+    ensures { λ r. ⌜ r ≡ Reply.Refused (refusal number 0) ⌝ }
+{
+    Reply::Refused(Refusal { number, place: 0 })
 }
 
 // Whether v is none of the numbers 1 to n.
@@ -27,4 +40,24 @@ pub fn wide(x: u8) -> u64
     ensures { λ r. ⌜ (r ≡ x) × (r ≤ 255) ⌝ }
 {
     x as u64
+}
+
+// The same as a size; and a number of two bytes.
+pub fn wide_byte(x: u8) -> usize
+    ensures { λ r. ⌜ (r ≡ x) × (r ≤ 255) ⌝ }
+{
+    x as usize
+}
+
+pub fn wide_two(x: u16) -> usize
+    ensures { λ r. ⌜ (r ≡ x) × (r ≤ 65535) ⌝ }
+{
+    x as usize
+}
+
+// The larger of two numbers.
+pub fn larger(a: u64, b: u64) -> u64
+    ensures { λ r. ⌜ r ≡ max a b ⌝ }
+{
+    if a < b { b } else { a }
 }

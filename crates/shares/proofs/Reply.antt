@@ -11,15 +11,15 @@ use Rattle.graph.specs.Graph.{wiener}
 use Rattle.graph.specs.BondSums.{added, added-map}
 use Rattle.graph.specs.Paths.{denominator, share}
 use Rattle.graph.specs.Uses.{shares-total}
-use Rattle.reply.specs.Read.{refused, read, refuseIf, refusal}
+use Rattle.reply.specs.Read.{refused, read, refuseIf, refusal, saidNumber}
 use Rattle.reply.specs.Chain.{then-read}
 use Rattle.block.specs.Block.{bondsOf, graphOf, blockReply}
 use Rattle.block.specs.Told.{molecule}
 use Rattle.block.specs.Numbered.{bondAt, bonds-length}
 use Rattle.block.specs.Lent.{EntriesFilled, filled-bonds}
 use Rattle.reply.specs.declared.Refusal.{Refusal}
-use Rattle.shares.specs.Reply.{mostDenominator, sharesReply, saidShares, filledShares, sharesEntries}
-use Rattle.shares.specs.declared.SharesReply.{SharesReply}
+use Rattle.shares.specs.Reply.{mostDenominator, sharesReply, filledShares, sharesEntries}
+use Rattle.reply.specs.declared.NumberReply.{NumberReply}
 use Rattle.shares.proofs.Blocks.{plain}
 
 module _ (n : ℕ) (xs : List ℕ) where
@@ -52,8 +52,8 @@ module _ (n : ℕ) (xs : List ℕ) where
   entries-done e f room = filled-bonds (share (graphOf n xs)) xs f room ∙ rw e
 
 -- THE PROMISE DETERMINES the reply and the entries
-pub one-reply : (n : ℕ) (xs out : List ℕ) (r s : SharesReply) (o p : List ℕ) → r ≡ saidShares (sharesReply n xs (length out)) → o ≡ sharesEntries n xs out
-    → s ≡ saidShares (sharesReply n xs (length out)) → p ≡ sharesEntries n xs out → (r ≡ s) × (o ≡ p)
+pub one-reply : (n : ℕ) (xs out : List ℕ) (r s : NumberReply) (o p : List ℕ) → r ≡ saidNumber (sharesReply n xs (length out)) → o ≡ sharesEntries n xs out
+    → s ≡ saidNumber (sharesReply n xs (length out)) → p ≡ sharesEntries n xs out → (r ≡ s) × (o ≡ p)
 one-reply n xs out r s o p a b c d = (a ∙ sym c, b ∙ sym d)
 
 -- what a reply that is D tells

@@ -7,8 +7,6 @@ use Rattle.graph.specs.Graph.{Graph}
 use Rattle.graph.specs.Paths.{denominator, share}
 use Rattle.reply.specs.Read.{Read, refused, read, _then_, refuseIf}
 use Rattle.block.specs.Block.{bondsOf, graphOf, blockReply}
-use Rattle.shares.specs.declared.SharesReply.{SharesReply}
-use Rattle.shares.specs.declared.SharesReply.the-variants.{Refused, Denominator}
 
 -- the most that D may be
 abbrev pub mostDenominator : ℕ
@@ -21,11 +19,6 @@ sharesReply n xs room =
     refuseIf (ltb room (length (bondsOf xs))) 9 0 then λ _.
     refuseIf (ltb mostDenominator (denominator (graphOf n xs))) 8 0 then λ _.
     read (denominator (graphOf n xs))
-
--- how the code says it
-abbrev pub saidShares : Read ℕ → SharesReply
-saidShares (refused r) = Refused r
-saidShares (read d) = Denominator d
 
 -- the lent entries afterwards: the share of each bond in list order, and later entries as they were; a refusal changes none
 unfoldable pub filledShares : Read ℕ → Graph → List ℕ → List ℕ

@@ -5,11 +5,11 @@ use super::MOST;
 use super::SEATS;
 use super::common;
 use super::sweeps;
-use super::sweeps::wide;
 use block::DistanceRow;
 use block::Farthest;
 use block::Neighbours;
 use half::Half;
+use reply::wide_byte;
 ghost use mathlib.Core.Path.{_≡_};
 ghost use mathlib.Core.Bool.{cond};
 ghost use Prim.Native.Nat.{ℕ, suc, _+_, _*_, _-_, _/_, min, _<_, _≤_};
@@ -47,7 +47,7 @@ fn passed(row: &DistanceRow, c: &[u64; SEATS], t: &[u64; SEATS], a: usize, b: us
         ⌝ }
 {
     let x = c[a] * t[b];
-    if wide(row[a - 1]) + 1 == wide(row[b - 1]) {
+    if wide_byte(row[a - 1]) + 1 == wide_byte(row[b - 1]) {
         x
     } else {
         0
@@ -69,8 +69,8 @@ fn add_flows(bonds: &[u8], row: &DistanceRow, c: &[u64; SEATS], t: &[u64; SEATS]
     let m = bonds.len() / 2;
     let mut k = 0;
     while k < m {
-        let a = wide(bonds[2 * k]);
-        let b = wide(bonds[2 * k + 1]);
+        let a = wide_byte(bonds[2 * k]);
+        let b = wide_byte(bonds[2 * k + 1]);
         let s = passed(row, c, t, a, b) + passed(row, c, t, b, a);
         out[k] = out[k] + s;
         k += 1;
@@ -154,7 +154,7 @@ pub(crate) fn fill(
         }
         let row = half::row(half, i + 1);
         let levels = sweeps::by_level(n, &row);
-        let top = wide(far[i]);
+        let top = wide_byte(far[i]);
         let next = add_start(n, bonds, near, &row, &levels, top, i, d, out);
         d = next;
         i += 1;

@@ -6,17 +6,18 @@
 // nothing.
 ghost use mathlib.Core.Path.{_≡_};
 ghost use lib.ListN.{length};
-ghost use Rattle.reply.specs.Read.{read, refusal};
+ghost use Rattle.reply.specs.Read.{read, saidNumber};
 ghost use Rattle.block.specs.Block.{graphOf, blockReply};
 ghost use Rattle.block.specs.Rows.{farOf, halfTable};
 ghost use Rattle.block.specs.Opened.{neighboursOf};
-ghost use Rattle.shares.specs.Reply.{sharesReply, saidShares, sharesEntries};
+ghost use Rattle.shares.specs.Reply.{sharesReply, sharesEntries};
 use block::ATOMS;
 use block::BYTES;
 use block::Farthest;
 use block::Neighbours;
 use half::Half;
 use half::PAIRS;
+use reply::NumberReply;
 use reply::Refusal;
 use reply::Reply;
 
@@ -38,19 +39,6 @@ const CAP: u64 = MOST + 1;
 // The most that a bond is passed from one start: D for each atom.
 const FULL: u64 = ATOMS as u64 * MOST;
 
-// D, or why there is none.
-pub enum SharesReply {
-    Refused(Refusal),
-    Denominator(u64),
-}
-
-// A refusal at place 0.
-fn refused(number: usize) -> SharesReply
-    ensures { λ r. ⌜ r ≡ SharesReply.Refused (refusal number 0) ⌝ }
-{
-    SharesReply::Refused(Refusal { number, place: 0 })
-}
-
 // The answer for a block that is not refused.
 fn answered(
     n: usize,
@@ -59,30 +47,36 @@ fn answered(
     half: &Half,
     far: &Farthest,
     out: &mut [u64],
-) -> SharesReply
+) -> NumberReply
     requires { ⌜
         (blockReply n (now bonds) ≡ read tt) × (now near ≡ neighboursOf (graphOf n (now bonds))) × (now half ≡ halfTable n (now bonds))
         × (now far ≡ farOf n (now bonds))
         ⌝ }
-    ensures reply { λ r. ⌜ r ≡ saidShares (sharesReply n (now (bonds .entry)) (length (now (out .entry)))) ⌝ }
+    ensures reply { λ r. ⌜ r ≡ saidNumber (sharesReply n (now (bonds .entry)) (length (now (out .entry)))) ⌝ }
     ensures entries { λ _. ⌜ now (out .exit) ≡ sharesEntries n (now (bonds .entry)) (now (out .entry)) ⌝ }
 {
     if out.len() < bonds.len() / 2 {
-        return refused(9);
+        return NumberReply::Refused(Refusal {
+            number: 9,
+            place: 0,
+        });
     }
     let mut entries = [0u64; BONDS];
     let d = flows::fill(n, bonds, near, half, far, &mut entries);
     if MOST < d {
-        return refused(8);
+        return NumberReply::Refused(Refusal {
+            number: 8,
+            place: 0,
+        });
     }
     flows::put(bonds.len() / 2, &entries, out);
-    SharesReply::Denominator(d)
+    NumberReply::Of(d)
 }
 
 // The contributions of a block's bonds. The reply is D; the entry of each bond, in list order, is D times its contribution, and later entries
 // stay. Or it is a refusal, and no entry changes: the block's, then 9 where there are fewer entries than bonds, then 8 where D is above the most.
-pub fn contributions(n: usize, bonds: &[u8], out: &mut [u64]) -> SharesReply
-    ensures reply { λ r. ⌜ r ≡ saidShares (sharesReply n (now (bonds .entry)) (length (now (out .entry)))) ⌝ }
+pub fn contributions(n: usize, bonds: &[u8], out: &mut [u64]) -> NumberReply
+    ensures reply { λ r. ⌜ r ≡ saidNumber (sharesReply n (now (bonds .entry)) (length (now (out .entry)))) ⌝ }
     ensures entries { λ _. ⌜ now (out .exit) ≡ sharesEntries n (now (bonds .entry)) (now (out .entry)) ⌝ }
 {
     let mut half = [0u8; PAIRS];
@@ -90,7 +84,7 @@ pub fn contributions(n: usize, bonds: &[u8], out: &mut [u64]) -> SharesReply
     let opened = block::table(n, bonds, &mut half, &mut far);
     let reply = opened.reply;
     match reply {
-        Reply::Refused(refusal) => SharesReply::Refused(refusal),
+        Reply::Refused(refusal) => NumberReply::Refused(refusal),
         Reply::Fine => answered(n, bonds, &opened.near, &half, &far, out),
     }
 }

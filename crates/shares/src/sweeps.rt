@@ -24,6 +24,7 @@ use super::SEATS;
 use block::ATOMS;
 use block::DistanceRow;
 use block::Neighbours;
+use reply::wide_byte;
 ghost use mathlib.Core.Path.{_≡_};
 ghost use mathlib.Core.Bool.{Bool};
 ghost use mathlib.Core.List.{List};
@@ -35,12 +36,6 @@ ghost use Rattle.graph.specs.Notions.{gathered};
 ghost use Rattle.block.specs.Block.{mostAtoms};
 ghost use Rattle.block.specs.Sums.{entry};
 ghost use Rattle.shares.specs.Work.{cap, full, at, overSet, heights, NearSets, Tops, Levels, Rule, CappedRow, graph, Start};
-
-pub(crate) fn wide(x: u8) -> usize
-    ensures { λ r. ⌜ (r ≡ x) × (r < 256) ⌝ }
-{
-    x as usize
-}
 
 // The sum, and the cap where it is more.
 fn add(a: u64, b: u64, cap: u64) -> u64
@@ -59,7 +54,7 @@ pub(crate) fn by_level(n: usize, row: &DistanceRow) -> [u64; SEATS]
     let mut sets = [0u64; SEATS];
     let mut j = 0;
     while j < n {
-        let d = wide(row[j]);
+        let d = wide_byte(row[j]);
         sets[d] = sets[d] | (1u64 << j);
         j += 1;
     }

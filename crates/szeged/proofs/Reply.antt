@@ -9,18 +9,18 @@ use lib.ListN.{length, take, drop, length-map}
 use lib.Seq.{take-at}
 use Rattle.graph.specs.Graph.{wiener}
 use Rattle.graph.specs.BondSums.{added, added-map}
-use Rattle.reply.specs.Read.{Read, refused, read, refuseIf, refusal}
-use Rattle.reply.specs.Chain.{then-read}
+use Rattle.reply.specs.Read.{refused, read, refuseIf, refusal, saidNumber}
+use Rattle.reply.specs.Chain.{then-read, number-told}
 use Rattle.block.specs.Block.{bondsOf, graphOf, blockReply}
 use Rattle.block.specs.Told.{molecule}
 use Rattle.block.specs.Numbered.{bonds-length}
 use Rattle.block.specs.Lent.{filled-bonds}
 use Rattle.reply.specs.declared.Refusal.{Refusal}
 use Rattle.szeged.specs.Szeged.{szegedTerm, szegedTerms, szeged}
-use Rattle.szeged.specs.Reply.{szegedReply, saidSzeged, filledTerms, szegedEntries}
+use Rattle.szeged.specs.Reply.{szegedReply, filledTerms, szegedEntries}
 use Rattle.szeged.specs.Work.{Done}
-use Rattle.szeged.specs.declared.SzegedReply.{SzegedReply}
-use Rattle.szeged.specs.declared.SzegedReply.the-variants.{Index}
+use Rattle.reply.specs.declared.NumberReply.{NumberReply}
+use Rattle.reply.specs.declared.NumberReply.the-variants.{Of}
 use Rattle.szeged.proofs.Tree.{szeged-of-tree}
 
 module _ (n : ℕ) (xs : List ℕ) where
@@ -47,8 +47,8 @@ module _ (n : ℕ) (xs : List ℕ) where
   entries-done e room d = filled-bonds (szegedTerm (graphOf n xs)) xs (d .entries) room ∙ rw e
 
 -- THE PROMISE DETERMINES the reply and the entries
-pub one-reply : (n : ℕ) (xs out : List ℕ) (r s : SzegedReply) (o p : List ℕ) → r ≡ saidSzeged (szegedReply n xs (length out)) → o ≡ szegedEntries n xs out
-    → s ≡ saidSzeged (szegedReply n xs (length out)) → p ≡ szegedEntries n xs out → (r ≡ s) × (o ≡ p)
+pub one-reply : (n : ℕ) (xs out : List ℕ) (r s : NumberReply) (o p : List ℕ) → r ≡ saidNumber (szegedReply n xs (length out)) → o ≡ szegedEntries n xs out
+    → s ≡ saidNumber (szegedReply n xs (length out)) → p ≡ szegedEntries n xs out → (r ≡ s) × (o ≡ p)
 one-reply n xs out r s o p a b c d = (a ∙ sym c, b ∙ sym d)
 
 -- what a reply that is the index tells
@@ -73,12 +73,8 @@ pub szeged-tree : (n : ℕ) (xs : List ℕ) → blockReply n xs ≡ read tt → 
 szeged-tree n xs fine few = szeged-of-tree (molecule n xs fine) few
 
 -- and so is the index that is told
-pub tree-told : (n : ℕ) (xs : List ℕ) (room : ℕ) (r : SzegedReply) → r ≡ saidSzeged (szegedReply n xs room)
-    → (w : ℕ) → r ≡ Index w → length (bondsOf xs) + 1 ≡ n → w ≡ wiener (graphOf n xs)
+pub tree-told : (n : ℕ) (xs : List ℕ) (room : ℕ) (r : NumberReply) → r ≡ saidNumber (szegedReply n xs room)
+    → (w : ℕ) → r ≡ Of w → length (bondsOf xs) + 1 ≡ n → w ≡ wiener (graphOf n xs)
 tree-told n xs room r e w i few =
-    let (fine, is) = told n xs room w (said (szegedReply n xs room) (sym i ∙ e)) in
+    let (fine, is) = told n xs room w (sym (number-told (Of w) (szegedReply n xs room) (sym i ∙ e))) in
     sym is ∙ szeged-tree n xs fine few
-  where
-    said : (m : Read ℕ) → Index w ≡ saidSzeged m → m ≡ read w
-    said (read s) f = cc
-    said (refused s) f = let z : _≡_ {A = ℕ} 0 1 = cc in absurd (omega arith)

@@ -7,8 +7,6 @@ use Rattle.graph.specs.Graph.{Graph}
 use Rattle.reply.specs.Read.{Read, refused, read, _then_, refuseIf}
 use Rattle.block.specs.Block.{bondsOf, graphOf, blockReply}
 use Rattle.szeged.specs.Szeged.{szegedTerms, szeged}
-use Rattle.szeged.specs.declared.SzegedReply.{SzegedReply}
-use Rattle.szeged.specs.declared.SzegedReply.the-variants.{Refused, Index}
 
 -- 9 where there are fewer entries than bonds
 unfoldable pub szegedReply : ℕ → List ℕ → ℕ → Read ℕ
@@ -16,11 +14,6 @@ szegedReply n xs room =
     blockReply n xs then λ _.
     refuseIf (ltb room (length (bondsOf xs))) 9 0 then λ _.
     read (szeged (graphOf n xs))
-
--- how the code says it
-abbrev pub saidSzeged : Read ℕ → SzegedReply
-saidSzeged (refused r) = Refused r
-saidSzeged (read s) = Index s
 
 -- the lent entries afterwards: the term of each bond in list order, and later entries as they were; a refusal changes none
 unfoldable pub filledTerms : Read ℕ → Graph → List ℕ → List ℕ

@@ -3,24 +3,19 @@ ghost use mathlib.Core.Path.{_≡_};
 ghost use Prim.Native.Nat.{ℕ, _+_, _≤_};
 ghost use lib.ListN.{length};
 ghost use Rattle.graph.specs.Graph.{Within, wiener};
-ghost use Rattle.reply.specs.Read.{read, refusal};
+ghost use Rattle.reply.specs.Read.{read, saidNumber};
 ghost use Rattle.block.specs.Block.{mostAtoms, bondsOf, graphOf, blockReply};
 ghost use Rattle.block.specs.Rows.{halfTable};
-ghost use Rattle.szeged.specs.Reply.{szegedReply, saidSzeged, szegedEntries};
+ghost use Rattle.szeged.specs.Reply.{szegedReply, szegedEntries};
 ghost use Rattle.szeged.specs.Work.{CloserCounted, Product, TermsTask, Done};
 use block::ATOMS;
 use block::DistanceRow;
 use half::Half;
 use half::PAIRS;
+use reply::NumberReply;
 use reply::Refusal;
 use reply::Reply;
 use reply::wide;
-
-// The index, or a refusal.
-pub enum SzegedReply {
-    Refused(Refusal),
-    Index(u64),
-}
 
 // How many of the first n atoms have a smaller entry in the row one than in the row two.
 fn nearer(n: usize, one: &DistanceRow, two: &DistanceRow) -> u64
@@ -66,28 +61,28 @@ fn fill(n: usize, bonds: &[u8], half: &Half, out: &mut [u64]) -> u64
 }
 
 // The answer for a block that is not refused, by half of its distances.
-fn answered(n: usize, bonds: &[u8], half: &Half, out: &mut [u64]) -> SzegedReply
+fn answered(n: usize, bonds: &[u8], half: &Half, out: &mut [u64]) -> NumberReply
     requires { ⌜ (blockReply n (now bonds) ≡ read tt) × (now half ≡ halfTable n (now bonds)) ⌝ }
-    ensures reply { λ r. ⌜ r ≡ saidSzeged (szegedReply n (now (bonds .entry)) (length (now (out .entry)))) ⌝ }
+    ensures reply { λ r. ⌜ r ≡ saidNumber (szegedReply n (now (bonds .entry)) (length (now (out .entry)))) ⌝ }
     ensures entries { λ _. ⌜ now (out .exit) ≡ szegedEntries n (now (bonds .entry)) (now (out .entry)) ⌝ }
 {
     if out.len() < bonds.len() / 2 {
-        return SzegedReply::Refused(Refusal {
+        return NumberReply::Refused(Refusal {
             number: 9,
             place: 0,
         });
     }
     let s = fill(n, bonds, half, out);
-    SzegedReply::Index(s)
+    NumberReply::Of(s)
 }
 
 // The Szeged index of a block. The reply is the index; the entry of each bond, in list order, is its term, and later entries stay. Or it is a
 // refusal, and no entry changes: the block's, then 9 where there are fewer entries than bonds. Where there is one bond fewer than atoms, the index is W.
-pub fn terms(n: usize, bonds: &[u8], out: &mut [u64]) -> SzegedReply
-    ensures reply { λ r. ⌜ r ≡ saidSzeged (szegedReply n (now (bonds .entry)) (length (now (out .entry)))) ⌝ }
+pub fn terms(n: usize, bonds: &[u8], out: &mut [u64]) -> NumberReply
+    ensures reply { λ r. ⌜ r ≡ saidNumber (szegedReply n (now (bonds .entry)) (length (now (out .entry)))) ⌝ }
     ensures entries { λ _. ⌜ now (out .exit) ≡ szegedEntries n (now (bonds .entry)) (now (out .entry)) ⌝ }
     ensures tree { λ r. ⌜
-        ((w : ℕ) → r ≡ SzegedReply.Index w → length (bondsOf (now (bonds .entry))) + 1 ≡ n → w ≡ wiener (graphOf n (now (bonds .entry))))
+        ((w : ℕ) → r ≡ NumberReply.Of w → length (bondsOf (now (bonds .entry))) + 1 ≡ n → w ≡ wiener (graphOf n (now (bonds .entry))))
         ⌝ }
 {
     let mut half = [0u8; PAIRS];
@@ -95,7 +90,7 @@ pub fn terms(n: usize, bonds: &[u8], out: &mut [u64]) -> SzegedReply
     let opened = block::table(n, bonds, &mut half, &mut far);
     let reply = opened.reply;
     match reply {
-        Reply::Refused(refusal) => SzegedReply::Refused(refusal),
+        Reply::Refused(refusal) => NumberReply::Refused(refusal),
         Reply::Fine => answered(n, bonds, &half, out),
     }
 }

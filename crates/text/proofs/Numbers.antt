@@ -7,7 +7,7 @@ use native.Mathlib.Omega.{arith}
 use borrow.Author.Tests.{ne-eqb, leb-true}
 use lib.Dec.{eqb, leb}
 use Rattle.text.specs.Text.{isBlank, isDigit, digit, allDigits, isNumber, valueFrom, numberOf}
-use Rattle.text.specs.Said.{noNumber, saidNumber}
+use Rattle.text.specs.Said.{noNumber, fieldNumber}
 
 first : (p q : Bool) → (p && q) ≡ true → p ≡ true
 first true q e = refl
@@ -17,12 +17,12 @@ first false q e = e
 pub not-blank : (b : ℕ) → isDigit b ≡ true → isBlank b ≡ false
 not-blank b e = let l : 48 ≤ b = leb-true 48 b (first (leb 48 b) (leb b 57) e) in ne-eqb b 32 (λ z. omega arith)
 
-pub one-digit : (c : ℕ) → isDigit c ≡ true → saidNumber (c ∷ []) ≡ digit c
-unfolding saidNumber isNumber allDigits numberOf valueFrom
+pub one-digit : (c : ℕ) → isDigit c ≡ true → fieldNumber (c ∷ []) ≡ digit c
+unfolding fieldNumber isNumber allDigits numberOf valueFrom
 one-digit c e = rw (not-blank c e, e) (omega arith)
 
-pub one-none : (c : ℕ) → isDigit c ≡ false → saidNumber (c ∷ []) ≡ noNumber
-unfolding saidNumber isNumber allDigits
+pub one-none : (c : ℕ) → isDigit c ≡ false → fieldNumber (c ∷ []) ≡ noNumber
+unfolding fieldNumber isNumber allDigits
 one-none c e = rw e (go (isBlank c) (numberOf (c ∷ [])))
   where
     go : (t : Bool) (n : ℕ) → cond (cond t false false) n noNumber ≡ noNumber
@@ -30,26 +30,26 @@ one-none c e = rw e (go (isBlank c) (numberOf (c ∷ [])))
     go false n = refl
 
 -- a blank more
-pub one-blank : (b : ℕ) (xs : List ℕ) → isBlank b ≡ true → saidNumber (b ∷ xs) ≡ saidNumber xs
-unfolding saidNumber isNumber numberOf
+pub one-blank : (b : ℕ) (xs : List ℕ) → isBlank b ≡ true → fieldNumber (b ∷ xs) ≡ fieldNumber xs
+unfolding fieldNumber isNumber numberOf
 one-blank b xs e = rw e
 
 module _ (b : ℕ) (xs : List ℕ) (n : isBlank b ≡ false) where
   -- no digit where one is due
-  pub no-digit : isDigit b ≡ false → saidNumber (b ∷ xs) ≡ noNumber
-  unfolding saidNumber isNumber
+  pub no-digit : isDigit b ≡ false → fieldNumber (b ∷ xs) ≡ noNumber
+  unfolding fieldNumber isNumber
   no-digit e = rw (n, e)
 
-  pub no-digits : allDigits xs ≡ false → saidNumber (b ∷ xs) ≡ noNumber
-  unfolding saidNumber isNumber
+  pub no-digits : allDigits xs ≡ false → fieldNumber (b ∷ xs) ≡ noNumber
+  unfolding fieldNumber isNumber
   no-digits e = rw (n, e) (go (isDigit b) (numberOf (b ∷ xs)))
     where
       go : (t : Bool) (v : ℕ) → cond (t && false) v noNumber ≡ noNumber
       go true v = refl
       go false v = refl
 
-  pub all-digits : isDigit b ≡ true → allDigits xs ≡ true → saidNumber (b ∷ xs) ≡ valueFrom (10 * 0 + digit b) xs
-  unfolding saidNumber isNumber numberOf valueFrom
+  pub all-digits : isDigit b ≡ true → allDigits xs ≡ true → fieldNumber (b ∷ xs) ≡ valueFrom (10 * 0 + digit b) xs
+  unfolding fieldNumber isNumber numberOf valueFrom
   all-digits e f = rw (n, e, f)
 
 -- the digits behind

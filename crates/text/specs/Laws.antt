@@ -10,7 +10,7 @@ use lib.Dec.{eqb, leb}
 use lib.ListN.{length, drop, length-drop}
 use Rattle.reply.specs.Read.{ifElse}
 use Rattle.text.specs.Text.{feed, isBlank, isDigit, digit, allDigits, isNumber, valueFrom, numberOf, untilFeed, lineEnd, hasCarriage, lineChars, nextLine, laterLine}
-use Rattle.text.specs.Said.{noNumber, saidNumber, lineAt}
+use Rattle.text.specs.Said.{noNumber, fieldNumber, lineAt}
 use Rattle.text.specs.declared.Line.{Line}
 
 until-within : (xs : List ℕ) → untilFeed xs ≤ length xs
@@ -95,9 +95,9 @@ three-below a b c e = go (isBlank a) e
         omega (arith, digit-below a (r .0), digit-below b (s .0), digit-below c (both (isDigit c) true (s .1) .0))
 
 -- what the code's number says: 1000 where there is none
-module _ (a b c : ℕ) (r : ℕ) (is : r ≡ saidNumber (a ∷ b ∷ c ∷ [])) where
+module _ (a b c : ℕ) (r : ℕ) (is : r ≡ fieldNumber (a ∷ b ∷ c ∷ [])) where
   pub no-number : r ≡ noNumber → isNumber (a ∷ b ∷ c ∷ []) ≡ false
-  unfolding saidNumber
+  unfolding fieldNumber
   no-number e = go (isNumber (a ∷ b ∷ c ∷ [])) (three-below a b c) is
     where
       go : (t : Bool) → (t ≡ true → numberOf (a ∷ b ∷ c ∷ []) < 1000) → r ≡ cond t (numberOf (a ∷ b ∷ c ∷ [])) noNumber → t ≡ false
@@ -105,7 +105,7 @@ module _ (a b c : ℕ) (r : ℕ) (is : r ≡ saidNumber (a ∷ b ∷ c ∷ [])) 
       go false h f = refl
 
   pub is-number : (r ≡ noNumber → ⊥) → (isNumber (a ∷ b ∷ c ∷ []) ≡ true) × (r ≡ numberOf (a ∷ b ∷ c ∷ []))
-  unfolding saidNumber
+  unfolding fieldNumber
   is-number e = go (isNumber (a ∷ b ∷ c ∷ [])) is
     where
       go : (t : Bool) → r ≡ cond t (numberOf (a ∷ b ∷ c ∷ [])) noNumber → (t ≡ true) × (r ≡ numberOf (a ∷ b ∷ c ∷ []))

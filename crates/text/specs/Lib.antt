@@ -3,7 +3,7 @@
 -- | notion                        | meaning                                                        | the law that matters                                  |
 -- | `isDigit`, `isBlank`, `digit` | one byte                                                       | `unique-digit` ..                                     |
 -- | `isNumber`                    | blanks, then at least one digit                                | `three-below`: three characters say less than 1000    |
--- | `numberOf`, `saidNumber`      | what they say                                                  | `three-back`: a number of three characters reads back |
+-- | `numberOf`, `fieldNumber`     | what they say                                                  | `three-back`: a number of three characters reads back |
 -- | `three`, `decimal`            | a number as it is written                                      | `decimal-one`, `decimal-two`, `decimal-three`         |
 -- | `lineEnd`, `lineAt`           | where a line ends; its characters and where the next begins    | `end-within`, `next-later`                            |
 -- | `lineChars`                   | the characters of a line, the CR before its line feed left out | `chars-within`                                        |

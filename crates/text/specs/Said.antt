@@ -9,8 +9,8 @@ use Rattle.text.specs.declared.Line.{Line}
 abbrev pub noNumber : ℕ
 noNumber = 1000
 
-unfoldable pub saidNumber : List ℕ → ℕ
-saidNumber xs = cond (isNumber xs) (numberOf xs) noNumber
+unfoldable pub fieldNumber : List ℕ → ℕ
+fieldNumber xs = cond (isNumber xs) (numberOf xs) noNumber
 
 unfoldable pub lineAt : List ℕ → ℕ → Line
 lineAt d at = record { chars = lineChars d at; next = nextLine d at }

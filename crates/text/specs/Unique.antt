@@ -5,7 +5,7 @@ use mathlib.Core.List.{List, [], _∷_}
 use mathlib.Core.Path.{_≡_, sym, _∙_}
 use lib.ListN.{drop}
 use Rattle.text.specs.Text.{isDigit, isBlank, digit, lineEnd, startsWith, lineStarts}
-use Rattle.text.specs.Said.{saidNumber, lineAt}
+use Rattle.text.specs.Said.{fieldNumber, lineAt}
 use Rattle.text.specs.Put.{Puts}
 use Rattle.text.specs.declared.Line.{Line}
 
@@ -22,8 +22,8 @@ unique-is-blank b = one (isBlank b)
 pub unique-digit : (b r s : ℕ) → r ≡ digit b → s ≡ digit b → r ≡ s
 unique-digit b = one (digit b)
 
-pub unique-number : (a b c r s : ℕ) → r ≡ saidNumber (a ∷ b ∷ c ∷ []) → s ≡ saidNumber (a ∷ b ∷ c ∷ []) → r ≡ s
-unique-number a b c = one (saidNumber (a ∷ b ∷ c ∷ []))
+pub unique-number : (a b c r s : ℕ) → r ≡ fieldNumber (a ∷ b ∷ c ∷ []) → s ≡ fieldNumber (a ∷ b ∷ c ∷ []) → r ≡ s
+unique-number a b c = one (fieldNumber (a ∷ b ∷ c ∷ []))
 
 pub unique-line-end : (d : List ℕ) (at r s : ℕ) → r ≡ lineEnd d at → s ≡ lineEnd d at → r ≡ s
 unique-line-end d at = one (lineEnd d at)

@@ -7,11 +7,12 @@ ghost use Prim.Native.Nat.{_+_, _≤_};
 ghost use lib.Dec.{eqb};
 ghost use lib.ListN.{length, drop};
 ghost use Rattle.text.specs.Text.{feed, isBlank, isDigit, digit, lineEnd, startsWith, lineStarts};
-ghost use Rattle.text.specs.Said.{saidNumber, lineAt};
+ghost use Rattle.text.specs.Said.{fieldNumber, lineAt};
 ghost use Rattle.text.specs.Clear.{Clear};
 
 mod writing;
 
+use reply::wide_byte;
 pub use writing::put;
 pub use writing::put_byte;
 pub use writing::put_decimal;
@@ -47,28 +48,22 @@ pub fn is_blank(b: u8) -> bool
     b == BLANK
 }
 
-fn wide(b: u8) -> usize
-    ensures { λ r. ⌜ r ≡ b ⌝ }
-{
-    b as usize
-}
-
 // What a digit says.
 pub fn digit(b: u8) -> usize
     ensures { λ r. ⌜ r ≡ digit b ⌝ }
 {
-    if b < 48 { 0 } else { wide(b) - 48 }
+    if b < 48 { 0 } else { wide_byte(b) - 48 }
 }
 
 // The numbers that one, two and three characters say: blanks, then at least one digit. What is no number is 1000.
 fn number_of_one(c: u8) -> usize
-    ensures { λ r. ⌜ r ≡ saidNumber (c ∷ []) ⌝ }
+    ensures { λ r. ⌜ r ≡ fieldNumber (c ∷ []) ⌝ }
 {
     if is_digit(c) { digit(c) } else { NO_NUMBER }
 }
 
 fn number_of_two(b: u8, c: u8) -> usize
-    ensures { λ r. ⌜ r ≡ saidNumber (b ∷ c ∷ []) ⌝ }
+    ensures { λ r. ⌜ r ≡ fieldNumber (b ∷ c ∷ []) ⌝ }
 {
     if is_blank(b) {
         return number_of_one(c);
@@ -82,7 +77,7 @@ fn number_of_two(b: u8, c: u8) -> usize
 }
 
 pub fn number(a: u8, b: u8, c: u8) -> usize
-    ensures { λ r. ⌜ r ≡ saidNumber (a ∷ b ∷ c ∷ []) ⌝ }
+    ensures { λ r. ⌜ r ≡ fieldNumber (a ∷ b ∷ c ∷ []) ⌝ }
 {
     if is_blank(a) {
         return number_of_two(b, c);

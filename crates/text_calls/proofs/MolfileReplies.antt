@@ -6,29 +6,20 @@ use mathlib.Core.Path.{_≡_, refl, sym, _∙_, ap, ap₂}
 use native.Mathlib.Omega.{arith}
 use lib.Dec.{eqb, ltb}
 use lib.ListN.{length, set}
-use Rattle.reply.specs.Read.{Read, refused, read, _then_, refuseIf}
+use Rattle.reply.specs.Read.{Read, refused, read, _then_, refuseIf, saidNumber, toldNumber}
 use Rattle.reply.specs.declared.Refusal.{Refusal}
+use Rattle.reply.specs.declared.NumberReply.{NumberReply}
 use Rattle.block.specs.Block.{bondsOf, bondsReply, blockReply}
 use Rattle.molfile.specs.Molfile.{keptAtoms, bytesOf, linesReply, molfileReply}
 use Rattle.molfile.specs.Said.{filledBonds}
 use Rattle.molfile.specs.declared.Counts.{Counts}
 use Rattle.wholefile.specs.Whole.{moleculeReply, wholeFileReply}
-use Rattle.molwriter.specs.Written.{molfileText, molfileWriteReply, filledText, saidMolfileWritten}
-use Rattle.molwriter.specs.declared.MolWritten.the-variants as text
-use Rattle.calls.specs.Convention.{code, coded, over, thenNine}
+use Rattle.molwriter.specs.Written.{molfileText, molfileWriteReply, filledText}
+use Rattle.calls.specs.Convention.{code, coded, outAfter, numberList, Lent, thenNine}
 use Rattle.calls.specs.Beside.{withRoom, Beside}
 use Rattle.calls.specs.Blocks.{unlentReply}
-use Rattle.calls.proofs.Laws.{first-put, both-put, nine-behind, beside-lacking, beside-refused, beside-fine}
+use Rattle.calls.proofs.Laws.{and-on, both-put, nine-behind, beside-lacking, beside-refused, beside-fine, beside-number}
 use Rattle.text_calls.specs.Molfiles.{unlentMolfile, unlentWhole, MolfileRead, WholeFileRead, MolfileWritten}
-
--- what a reply of the code says of the definition
-pub text-refused : (R : Read ℕ) {r : Refusal} → saidMolfileWritten R ≡ text.Refused r → R ≡ refused r
-text-refused (refused s) e = ap refused (cc)
-text-refused (read k) e = let z : _≡_ {A = ℕ} 0 1 = cc in absurd (omega arith)
-
-pub text-bytes : (R : Read ℕ) {k : ℕ} → saidMolfileWritten R ≡ text.Bytes k → R ≡ read k
-text-bytes (refused s) e = let z : _≡_ {A = ℕ} 0 1 = cc in absurd (omega arith)
-text-bytes (read j) e = ap read (cc)
 
 -- READING. What comes before 9, whatever the room is.
 nine-either : (L B : Read (Unit {0})) (s t : Bool) → thenNine (L then λ _. B then λ _. refuseIf s 9 0) ≡ thenNine (L then λ _. B then λ _. refuseIf t 9 0)
@@ -82,12 +73,11 @@ module _ (n : ℕ) (xs out told : List ℕ) where
       let k = length (molfileText n (bondsOf xs)) in
       beside-lacking (molfileWriteReply n xs (length out)) 1 _ _ out told x h (q ∙ ap coded (sym (nine-behind (blockReply n xs) (ltb (length out) k) (λ _. k))))
 
-  pub write-refused : (out′ : List ℕ) (r : Refusal) (x : ℕ) → 1 ≤ length told → molfileWriteReply n xs (length out) ≡ refused r
-      → out′ ≡ filledText (molfileWriteReply n xs (length out)) (molfileText n (bondsOf xs)) out → x ≡ code r → MolfileWritten n xs out told x out′ told
+  pub write-given : {out′ told′ : List ℕ} {x : ℕ} (a : NumberReply) → 1 ≤ length told → a ≡ saidNumber (molfileWriteReply n xs (length out))
+      → out′ ≡ filledText (molfileWriteReply n xs (length out)) (molfileText n (bondsOf xs)) out → Lent (numberList (toldNumber a)) told x told′ → MolfileWritten n xs out told x out′ told′
   unfolding filledText
-  write-refused out′ r x h e b q = beside-refused (molfileWriteReply n xs (length out)) 1 _ _ out told r x h e (b ∙ rw e refl) q
-
-  pub write-fine : (out′ : List ℕ) (k : ℕ) → 1 ≤ length told → molfileWriteReply n xs (length out) ≡ read k
-      → out′ ≡ filledText (molfileWriteReply n xs (length out)) (molfileText n (bondsOf xs)) out → MolfileWritten n xs out told 0 out′ (set told 0 k)
-  unfolding filledText
-  write-fine out′ k h e b = beside-fine (molfileWriteReply n xs (length out)) 1 _ _ out told k h e (b ∙ rw e refl) (first-put k told h)
+  write-given a h e b l = let R = molfileWriteReply n xs (length out) in beside-number R _ (λ k. k) out told a h (e ∙ ap saidNumber (sym (and-on R))) (b ∙ go R) l
+    where
+      go : (R : Read ℕ) → filledText R (molfileText n (bondsOf xs)) out ≡ outAfter (R then λ _. read (molfileText n (bondsOf xs))) out
+      go (refused r) = refl
+      go (read k) = refl

@@ -6,16 +6,18 @@ use mathlib.Core.Path.{_≡_, refl, sym, _∙_, ap, ap₂}
 use lib.Dec.{ltb}
 use lib.ListN.{length, set}
 use Rattle.graph.specs.Graph.{Graph, connected}
-use Rattle.reply.specs.Read.{Read, refused, read, _then_, refuseIf, isOutside}
+use Rattle.reply.specs.Read.{Read, refused, read, _then_, refuseIf, isOutside, toldNumber}
 use Rattle.reply.specs.declared.Refusal.{Refusal}
+use Rattle.reply.specs.declared.NumberReply.{NumberReply}
 use Rattle.block.specs.Block.{mostAtoms, mostBytes, bondsOf, blockReply}
 use Rattle.adjacency.specs.Neighbours.{CountRead, numbers, bytesReply, atomCountReply, Step, steps, bondsIn, stepsReply, bondsLength, molecule, blockOf, neighboursReply, bytesAfter}
 use Rattle.adjacency.specs.Written.{writtenText, neighboursWriteReply, textAfter}
 use Rattle.adjacency.specs.Blocks.{bytes-length}
+use Rattle.neighbours.specs.Said.{saidNeighboursWritten}
 use Rattle.neighbours.specs.declared.Counts.{Counts}
-use Rattle.calls.specs.Convention.{code, coded, over, thenNine}
+use Rattle.calls.specs.Convention.{code, coded, outAfter, numberList, Lent, thenNine}
 use Rattle.calls.specs.Blocks.{unlentReply}
-use Rattle.calls.proofs.Laws.{first-put, both-put, nine-behind, beside-lacking, beside-refused, beside-fine}
+use Rattle.calls.proofs.Laws.{both-put, nine-behind, beside-lacking, beside-refused, beside-fine, beside-number}
 use Rattle.text_calls.specs.Texts.{unlentText, TextRead, TextWritten}
 
 -- READING. What comes before 9, whatever the room is.
@@ -72,10 +74,10 @@ module _ (n : ℕ) (xs out told : List ℕ) where
       let t = writtenText n (bondsOf xs) in
       beside-lacking (neighboursWriteReply n xs (length out)) 1 _ _ out told x h (q ∙ ap coded (sym (nine-behind (blockReply n xs) (ltb (length out) (length t)) (λ _. t))))
 
-  pub write-refused : (out′ : List ℕ) (r : Refusal) (x : ℕ) → 1 ≤ length told → neighboursWriteReply n xs (length out) ≡ refused r
-      → out′ ≡ textAfter (neighboursWriteReply n xs (length out)) out → x ≡ code r → TextWritten n xs out told x out′ told
-  write-refused out′ r x h e b q = beside-refused (neighboursWriteReply n xs (length out)) 1 _ _ out told r x h e (b ∙ rw e refl) q
-
-  pub write-fine : (out′ t : List ℕ) (k : ℕ) → 1 ≤ length told → neighboursWriteReply n xs (length out) ≡ read t → length t ≡ k
-      → out′ ≡ textAfter (neighboursWriteReply n xs (length out)) out → TextWritten n xs out told 0 out′ (set told 0 k)
-  write-fine out′ t k h e m b = beside-fine (neighboursWriteReply n xs (length out)) 1 _ _ out told t h e (b ∙ rw e refl) (first-put k told h ∙ rw (← m) refl)
+  pub write-given : {out′ told′ : List ℕ} {x : ℕ} (a : NumberReply) → 1 ≤ length told → a ≡ saidNeighboursWritten (neighboursWriteReply n xs (length out))
+      → out′ ≡ textAfter (neighboursWriteReply n xs (length out)) out → Lent (numberList (toldNumber a)) told x told′ → TextWritten n xs out told x out′ told′
+  write-given a h e b l = let R = neighboursWriteReply n xs (length out) in beside-number R (λ t. t) length out told a h e (b ∙ go R) l
+    where
+      go : (R : Read (List ℕ)) → textAfter R out ≡ outAfter (R then λ t. read t) out
+      go (refused r) = refl
+      go (read t) = refl

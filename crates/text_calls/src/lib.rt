@@ -4,11 +4,10 @@ ghost use Rattle.calls.specs.Convention.{coded};
 ghost use Rattle.text_calls.specs.Molfiles.{unlentMolfile, unlentWhole, MolfileRead, WholeFileRead, MolfileWritten};
 ghost use Rattle.text_calls.specs.Texts.{unlentText, TextRead, TextWritten};
 use calls::code_of;
+use calls::give_number;
 use calls::unlent;
 use molfile::MolRead;
-use molwriter::MolWritten;
 use neighbours::NeighboursRead;
-use neighbours::NeighboursWritten;
 use wholefile::WholeRead;
 
 // The refusal of a file, and 9 where it has none.
@@ -82,13 +81,7 @@ pub fn write_molfile(atoms: usize, bonds: &[u8], text: &mut [u8], length: &mut [
         return unlent(atoms, bonds);
     }
     let answer = molwriter::write(atoms, bonds, text);
-    match answer {
-        MolWritten::Refused(r) => code_of(r),
-        MolWritten::Bytes(bytes) => {
-            length[0] = bytes as u64;
-            0
-        }
-    }
+    give_number(length, answer)
 }
 
 // The refusal of a text, and 9 where it has none.
@@ -129,11 +122,5 @@ pub fn write_neighbours(atoms: usize, bonds: &[u8], text: &mut [u8], length: &mu
         return unlent(atoms, bonds);
     }
     let answer = neighbours::write(atoms, bonds, text);
-    match answer {
-        NeighboursWritten::Refused(r) => code_of(r),
-        NeighboursWritten::Bytes(k) => {
-            length[0] = k as u64;
-            0
-        }
-    }
+    give_number(length, answer)
 }

@@ -21,6 +21,7 @@ use molfile::PAIRS;
 use reply::Refusal;
 use reply::Reply;
 use reply::is_outside;
+use reply::wide_two;
 
 pub enum WholeRead {
     Refused(Refusal),
@@ -32,12 +33,6 @@ struct Seen {
     pub joined: bool,
     pub one: usize,
     pub two: usize,
-}
-
-fn wide(x: u16) -> usize
-    ensures { λ r. ⌜ r ≡ x ⌝ }
-{
-    x as usize
 }
 
 fn both(p: u16, q: u16, a: u16, b: u16) -> bool
@@ -93,10 +88,10 @@ fn fault(n: usize, xs: &[u16], k: usize) -> usize
 {
     let a = xs[2 * k];
     let b = xs[2 * k + 1];
-    if is_outside(n, wide(a)) {
+    if is_outside(n, wide_two(a)) {
         return 3;
     }
-    if is_outside(n, wide(b)) {
+    if is_outside(n, wide_two(b)) {
         return 3;
     }
     if a == b {

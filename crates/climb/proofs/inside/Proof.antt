@@ -6,8 +6,9 @@ use native.Mathlib.Omega.{arith}
 use borrow.Author.Needs.{needs}
 use denote.Ref.{now}
 use Rattle.graph.specs.Graph.{distance}
-use Rattle.block.specs.Index.{distanceReply, saidDistance}
-use Rattle.block.specs.declared.DistanceReply.the-variants as apart
+use Rattle.block.specs.Index.{distanceReply}
+use Rattle.reply.specs.Read.{saidNumber}
+use Rattle.reply.specs.declared.NumberReply.the-variants as apart
 use Rattle.deck.specs.Molecule.{graphAt}
 use Rattle.climb.specs.Pairs.{deckOf}
 use Rattle.climb.proofs.Reading.{told-inside}
@@ -42,7 +43,7 @@ told c =
     let s = c .before .before .before .before .before in
     let b = c .before .before .before .block-at in
     told-inside (s .pre) (b .result) (b .ensures) (c .distance .result)
-    (c .distance .ensures ∙ ap (λ (xs : List ℕ). saidDistance (distanceReply (b .result .atoms) xs (s .args .i) (s .args .j))) (c .before .before .bonds-part .ensures .bytes))
+    (c .distance .ensures ∙ ap (λ (xs : List ℕ). saidNumber (distanceReply (b .result .atoms) xs (s .args .i) (s .args .j))) (c .before .before .bonds-part .ensures .bytes))
 
 returns : tie.Need-returns
 returns c = let is = told (c .before .before .before) in let e = c .before .reply .given .1 in cc

@@ -5,7 +5,7 @@ use mathlib.Core.Path.{_≡_, sym, _∙_, ap}
 use borrow.Author.Needs.{needs}
 use denote.Ref.{now}
 use Rattle.reply.specs.Read.{read}
-use Rattle.block.specs.declared.DistanceReply.the-variants as apart
+use Rattle.reply.specs.declared.NumberReply.the-variants as apart
 use Rattle.deck.specs.Deck.{deckReply}
 use Rattle.deck.specs.Sound.{whole}
 use Rattle.deck.specs.declared.Form.the-variants.{Composed}

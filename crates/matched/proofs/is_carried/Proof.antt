@@ -24,29 +24,29 @@ loop-holds c = (omega arith, refl)
 sub-loop : tie.Need-sub-loop Inv-loop μ-loop
 sub-loop c = search needs
 
-mul-wide : tie.Need-mul-wide Inv-loop μ-loop
-mul-wide c = search needs
+mul-wide-two : tie.Need-mul-wide-two Inv-loop μ-loop
+mul-wide-two c = search needs
 
-shared-slice-read-wide : tie.Need-shared-slice-read-wide Inv-loop μ-loop
-shared-slice-read-wide c = omega (arith, c .before .loop-test .taken)
+shared-slice-read-wide-two : tie.Need-shared-slice-read-wide-two Inv-loop μ-loop
+shared-slice-read-wide-two c = omega (arith, c .before .loop-test .taken)
 
-wide-requires : tie.Need-wide-requires Inv-loop μ-loop
-wide-requires c κs = search needs
+wide-two-requires : tie.Need-wide-two-requires Inv-loop μ-loop
+wide-two-requires c κs = search needs
 
 partner-requires : tie.Need-partner-requires Inv-loop μ-loop
 partner-requires c κs = search needs
 
-add-wide : tie.Need-add-wide Inv-loop μ-loop
-add-wide c = search needs
+add-wide-two : tie.Need-add-wide-two Inv-loop μ-loop
+add-wide-two c = search needs
 
-mul-wide-2 : tie.Need-mul-wide-2 Inv-loop μ-loop
-mul-wide-2 c = search needs
+mul-wide-two-2 : tie.Need-mul-wide-two-2 Inv-loop μ-loop
+mul-wide-two-2 c = search needs
 
-shared-slice-read-wide-2 : tie.Need-shared-slice-read-wide-2 Inv-loop μ-loop
-shared-slice-read-wide-2 c = omega (arith, c .before .before .before .before .loop-test .taken)
+shared-slice-read-wide-two-2 : tie.Need-shared-slice-read-wide-two-2 Inv-loop μ-loop
+shared-slice-read-wide-two-2 c = omega (arith, c .before .before .before .before .loop-test .taken)
 
-wide-requires-2 : tie.Need-wide-requires-2 Inv-loop μ-loop
-wide-requires-2 c κs = search needs
+wide-two-requires-2 : tie.Need-wide-two-requires-2 Inv-loop μ-loop
+wide-two-requires-2 c κs = search needs
 
 partner-requires-2 : tie.Need-partner-requires-2 Inv-loop μ-loop
 partner-requires-2 c κs = search needs
@@ -56,14 +56,14 @@ is-between-requires c κs = search needs
 
 -- whether the bond at hand joins the two by its partners
 joined : (c : tie.After-is-between Inv-loop μ-loop) → let a = c .before .before .before .before .before .before .before .before .before .before .before .args in
-    joins (bond (partner (now (a .to)) (c .before .before .before .before .before .wide .result)) (partner (now (a .to)) (c .before .before .wide2 .result))) (a .x) (a .y) ≡ c .is-between .result
+    joins (bond (partner (now (a .to)) (c .before .before .before .before .before .wide-two .result)) (partner (now (a .to)) (c .before .before .wide-two2 .result))) (a .x) (a .y) ≡ c .is-between .result
 joined c = let a = c .before .before .before .before .before .before .before .before .before .before .before .args in ap₂ (λ (one two : ℕ). joins (bond one two) (a .x) (a .y)) (sym (c .before .before .before .before .partner .ensures)) (sym (c .before .partner2 .ensures)) ∙ sym (c .is-between .ensures)
 
 returns : tie.Need-returns Inv-loop μ-loop
 returns c =
     let a = c .before .before .before .before .before .before .before .before .before .before .before .before .args in
     let l = c .before .before .before .before .before .before .before .before .before .loop in
-    carried-hit (now (a .bonds)) (l .i) (c .before .before .before .before .before .before .wide .result) (c .before .before .before .wide2 .result) (omega (arith, c .before .before .before .before .before .before .before .before .loop-test .taken)) (c .before .before .before .before .before .before .wide .ensures .0) (c .before .before .before .wide2 .ensures .0)
+    carried-hit (now (a .bonds)) (l .i) (c .before .before .before .before .before .before .wide-two .result) (c .before .before .before .wide-two2 .result) (omega (arith, c .before .before .before .before .before .before .before .before .loop-test .taken)) (c .before .before .before .before .before .before .wide-two .ensures .0) (c .before .before .before .wide-two2 .ensures .0)
     (a .x) (a .y) (now (a .to)) (joined (c .before) ∙ c .if1 .taken)
     ∙ l .inv .1
 
@@ -79,7 +79,7 @@ loop-again c =
     let l = c .before .before .before .before .before .before .before .before .before .loop in
     let h : 2 ≤ length (now (a .bonds)) - l .i = omega (arith, c .before .before .before .before .before .before .before .before .loop-test .taken) in (
       omega arith,
-      carried-on (now (a .bonds)) (l .i) (c .before .before .before .before .before .before .wide .result) (c .before .before .before .wide2 .result) h (c .before .before .before .before .before .before .wide .ensures .0) (c .before .before .before .wide2 .ensures .0)
+      carried-on (now (a .bonds)) (l .i) (c .before .before .before .before .before .before .wide-two .result) (c .before .before .before .wide-two2 .result) h (c .before .before .before .before .before .before .wide-two .ensures .0) (c .before .before .before .wide-two2 .ensures .0)
           (a .x) (a .y) (now (a .to)) (joined (c .before) ∙ c .if1 .left)
           ∙ l .inv .1,
     )
@@ -98,14 +98,14 @@ is-carried-spec =
     μ-loop
     loop-holds
     sub-loop
-    mul-wide
-    shared-slice-read-wide
-    wide-requires
+    mul-wide-two
+    shared-slice-read-wide-two
+    wide-two-requires
     partner-requires
-    add-wide
-    mul-wide-2
-    shared-slice-read-wide-2
-    wide-requires-2
+    add-wide-two
+    mul-wide-two-2
+    shared-slice-read-wide-two-2
+    wide-two-requires-2
     partner-requires-2
     is-between-requires
     returns

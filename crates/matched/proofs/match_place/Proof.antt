@@ -1,9 +1,12 @@
 -- `matched::match_place` meets its contract. Assumes nothing.
-use mathlib.Core.Path.{_≡_, sym, _∙_}
+use Prim.Native.Nat.{ℕ, _+_}
+use mathlib.Core.Path.{_≡_, sym, _∙_, ap}
 use native.Mathlib.Omega.{arith}
 use borrow.Author.Needs.{needs}
 use denote.Ref.{now}
-use Rattle.block.specs.Block.{graphOf}
+use Rattle.block.specs.Block.{bondsOf, graphOf}
+use Rattle.block.specs.Numbered.{bonds-length}
+use Rattle.matched.specs.Matched.{isUnlisted, firstBond}
 use Rattle.matched.specs.Laws.{place-lost, place-loose, place-new}
 use Rattle.matched.proofs.match_place.Statement.{statement}
 use Rattle.matched.proofs.match_place.Tie as tie
@@ -14,24 +17,33 @@ first-lost-requires c κs = search needs
 returns : tie.Need-returns
 returns c = let a = c .before .before .before .before .before .args in place-lost (graphOf (a .n) (now (a .bonds))) (graphOf (a .n) (now (a .whole))) (now (a .to)) (c .before .first-lost .result) (c .before .first-lost .ensures) (λ e. omega (arith, c .if1 .taken, e))
 
-first-loose-requires : tie.Need-first-loose-requires
-first-loose-requires c κs = search needs
+add-first-amiss : tie.Need-add-first-amiss
+add-first-amiss c = search needs
+
+first-amiss-requires : tie.Need-first-amiss-requires
+first-amiss-requires c κs = omega (arith, c .before .before .before .before .before .pre)
 
 returns-2 : tie.Need-returns-2
 returns-2 c =
     let a = c .before .before .before .before .before .before .before .args in
     let z : c .before .before .before .first-lost .result ≡ 0 = omega (arith, c .before .before .if1 .left) in
-    place-loose (graphOf (a .n) (now (a .bonds))) (graphOf (a .n) (now (a .whole))) (now (a .to)) (c .before .first-loose .result) (sym (c .before .before .before .first-lost .ensures) ∙ z) (c .before .first-loose .ensures) (λ e. omega (arith, c .if2 .taken, e))
+    place-loose (graphOf (a .n) (now (a .bonds))) (graphOf (a .n) (now (a .whole))) (now (a .to)) (c .before .first-amiss .result) (sym (c .before .before .before .first-lost .ensures) ∙ z) (c .before .first-amiss .ensures) (λ e. omega (arith, c .if2 .taken, e))
 
-first-new-requires : tie.Need-first-new-requires
-first-new-requires c κs = search needs
+add-first-amiss-2 : tie.Need-add-first-amiss-2
+add-first-amiss-2 c = search needs
+
+add-first-amiss-3 : tie.Need-add-first-amiss-3
+add-first-amiss-3 c = search needs
+
+first-amiss-requires-2 : tie.Need-first-amiss-requires-2
+first-amiss-requires-2 c κs = omega (arith, c .before .before .before .before .before .before .before .pre)
 
 returns-3 : tie.Need-returns-3
 returns-3 c =
     let a = c .before .before .before .before .before .before .before .before .args in
-    let y : c .before .before .first-loose .result ≡ 0 = omega (arith, c .before .if2 .left) in
+    let y : c .before .before .first-amiss .result ≡ 0 = omega (arith, c .before .if2 .left) in
     let z : c .before .before .before .before .first-lost .result ≡ 0 = omega (arith, c .before .before .before .if1 .left) in
-    place-new (graphOf (a .n) (now (a .bonds))) (graphOf (a .n) (now (a .whole))) (now (a .to)) (c .first-new .result) (sym (c .before .before .before .before .first-lost .ensures) ∙ z) (sym (c .before .before .first-loose .ensures) ∙ y) (c .first-new .ensures)
+    place-new (graphOf (a .n) (now (a .bonds))) (graphOf (a .n) (now (a .whole))) (now (a .to)) (c .first-amiss2 .result) (sym (c .before .before .before .before .first-lost .ensures) ∙ z) (sym (c .before .before .first-amiss .ensures) ∙ y) (c .first-amiss2 .ensures ∙ ap (λ (m : ℕ). firstBond (a .n + m + 1) (isUnlisted (graphOf (a .n) (now (a .bonds))) (now (a .to))) (bondsOf (now (a .whole)))) (sym (bonds-length (now (a .bonds)))))
 
 pub match-place-spec : {M : Type 1} → statement M
 match-place-spec =
@@ -39,7 +51,10 @@ match-place-spec =
     (tie.spec
     first-lost-requires
     returns
-    first-loose-requires
+    add-first-amiss
+    first-amiss-requires
     returns-2
-    first-new-requires
+    add-first-amiss-2
+    add-first-amiss-3
+    first-amiss-requires-2
     returns-3)

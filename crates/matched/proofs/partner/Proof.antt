@@ -15,23 +15,23 @@ is-outside-requires c κs = search needs
 returns : tie.Need-returns
 returns c = let a = c .before .before .before .args in partner-none (now (a .to)) (a .v) (sym (c .before .is-outside .ensures) ∙ c .if1 .taken)
 
-sub-wide : tie.Need-sub-wide
-sub-wide c = let a = c .before .before .before .args in omega (arith, inside (length (now (a .to))) (a .v) (sym (c .before .is-outside .ensures) ∙ c .if1 .left))
+sub-wide-two : tie.Need-sub-wide-two
+sub-wide-two c = let a = c .before .before .before .args in omega (arith, inside (length (now (a .to))) (a .v) (sym (c .before .is-outside .ensures) ∙ c .if1 .left))
 
-mul-wide : tie.Need-mul-wide
-mul-wide c = let a = c .before .before .before .args in omega (arith, inside (length (now (a .to))) (a .v) (sym (c .before .is-outside .ensures) ∙ c .if1 .left))
+mul-wide-two : tie.Need-mul-wide-two
+mul-wide-two c = let a = c .before .before .before .args in omega (arith, inside (length (now (a .to))) (a .v) (sym (c .before .is-outside .ensures) ∙ c .if1 .left))
 
-shared-slice-read-wide : tie.Need-shared-slice-read-wide
-shared-slice-read-wide c = let a = c .before .before .before .before .args in omega (arith, inside (length (now (a .to))) (a .v) (sym (c .before .before .is-outside .ensures) ∙ c .before .if1 .left))
+shared-slice-read-wide-two : tie.Need-shared-slice-read-wide-two
+shared-slice-read-wide-two c = let a = c .before .before .before .before .args in omega (arith, inside (length (now (a .to))) (a .v) (sym (c .before .before .is-outside .ensures) ∙ c .before .if1 .left))
 
-wide-requires : tie.Need-wide-requires
-wide-requires c κs = search needs
+wide-two-requires : tie.Need-wide-two-requires
+wide-two-requires c κs = search needs
 
 returns-2 : tie.Need-returns-2
 returns-2 c =
     let a = c .before .before .before .before .before .args in
     let w = inside (length (now (a .to))) (a .v) (sym (c .before .before .before .is-outside .ensures) ∙ c .before .before .if1 .left) in
-    partner-some (now (a .to)) (a .v) (c .wide .result) (w .low) (c .wide .ensures .0)
+    partner-some (now (a .to)) (a .v) (c .wide-two .result) (w .low) (c .wide-two .ensures .0)
 
 pub partner-spec : {M : Type 1} → statement M
 partner-spec =
@@ -39,8 +39,8 @@ partner-spec =
     (tie.spec
     is-outside-requires
     returns
-    sub-wide
-    mul-wide
-    shared-slice-read-wide
-    wide-requires
+    sub-wide-two
+    mul-wide-two
+    shared-slice-read-wide-two
+    wide-two-requires
     returns-2)

@@ -9,14 +9,14 @@ use borrow.Author.Needs.{needs}
 use Rattle.molwriter.proofs.put_bond.Statement.{statement}
 use Rattle.molwriter.proofs.put_bond.Tie as tie
 
-wide-requires : tie.Need-wide-requires
-wide-requires c κs = search needs
+wide-byte-requires : tie.Need-wide-byte-requires
+wide-byte-requires c κs = search needs
 
 put-three-requires : tie.Need-put-three-requires
 put-three-requires c κs = search needs
 
-wide-requires-2 : tie.Need-wide-requires-2
-wide-requires-2 c κs = search needs
+wide-byte-requires-2 : tie.Need-wide-byte-requires-2
+wide-byte-requires-2 c κs = search needs
 
 put-three-requires-2 : tie.Need-put-three-requires-2
 put-three-requires-2 c κs = search needs
@@ -36,15 +36,15 @@ returns c =
     let p2 = p3 .before .before .before .before .before in
     let p1 = p2 .before .before .before .before .before in
     let s = p1 .before .before .before .before in
-    as-word (bond-is (s .args .a) (s .args .b)) (both (both (as-word (ap three (p1 .before .wide .ensures)) (p1 .put-three .ensures)) (as-word (ap three (p2 .before .wide2 .ensures)) (p2 .put-three2 .ensures))) (p3 .put .ensures))
+    as-word (bond-is (s .args .a) (s .args .b)) (both (both (as-word (ap three (p1 .before .wide-byte .ensures .0)) (p1 .put-three .ensures)) (as-word (ap three (p2 .before .wide-byte2 .ensures .0)) (p2 .put-three2 .ensures))) (p3 .put .ensures))
 
 pub put-bond-spec : {M : Type 1} → statement M
 put-bond-spec =
     tie.close
     (tie.spec
-    wide-requires
+    wide-byte-requires
     put-three-requires
-    wide-requires-2
+    wide-byte-requires-2
     put-three-requires-2
     slice-aggregate-put
     put-requires

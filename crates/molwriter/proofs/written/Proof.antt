@@ -6,10 +6,11 @@ use lib.ListN.{length}
 use Rattle.block.specs.Block.{mostAtoms, mostBytes, bondsOf}
 use Rattle.block.specs.Told.{few-atoms}
 use Rattle.text.specs.Text.{ascii, three}
-use Rattle.molwriter.specs.Written.{molfileText, saidMolfileWritten}
+use Rattle.molwriter.specs.Written.{molfileText}
 use Rattle.molwriter.specs.Pieces.{countsText, pieces}
 use Rattle.molwriter.specs.Listing.{text-pieces}
-use Rattle.molwriter.specs.declared.MolWritten.the-variants.{Bytes}
+use Rattle.reply.specs.Read.{saidNumber}
+use Rattle.reply.specs.declared.NumberReply.the-variants.{Of}
 use Rattle.molwriter.specs.Length.{half-length, pieces-length, few-bytes}
 use Rattle.text.proofs.Putting.{both, as-word, at-front}
 use Rattle.molwriter.specs.Replies.{write-short, write-fine, stays, fills}
@@ -51,7 +52,7 @@ returns c =
     let s = c .before .before .before in
     let a = s .args in
     let e = write-short (a .n) (a .bonds .now) (length (a .out .now)) (s .pre) (no-room (a .n) (length (a .bonds .now) / 2) (long s) (c .if1 .taken)) in
-    (sym (ap saidMolfileWritten e), sym (stays (molfileText (a .n) (bondsOf (a .bonds .now))) (a .out .now) e))
+    (sym (ap saidNumber e), sym (stays (molfileText (a .n) (bondsOf (a .bonds .now))) (a .out .now) e))
 
 put-counts-requires : tie.Need-put-counts-requires
 put-counts-requires c κs = search needs
@@ -86,7 +87,7 @@ returns-2 c =
     let first = as-word (ap (λ (m : ℕ). ascii "\n\n\n" ++ countsText n m) (sym (half-length xs))) (p1 .put-counts .ensures) in
     let F = at-front (as-word (text-pieces n (bondsOf xs)) (both (both (both first (p2 .put-atoms .ensures)) (p3 .put-bonds .ensures)) (p4 .put .ensures))) l in
     let e = write-fine n xs (length (a .out .now)) (s .pre) l in
-    (ap Bytes (F .0) ∙ sym (ap saidMolfileWritten e), F .1 ∙ sym (fills (molfileText n (bondsOf xs)) (a .out .now) e))
+    (ap Of (F .0) ∙ sym (ap saidNumber e), F .1 ∙ sym (fills (molfileText n (bondsOf xs)) (a .out .now) e))
 
 pub written-spec : {M : Type 1} → statement M
 written-spec =

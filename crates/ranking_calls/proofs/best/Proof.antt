@@ -22,8 +22,8 @@ wants-requires c κs = search needs
 best-requires : tie.Need-best-requires
 best-requires c κs = search needs
 
-tell-requires : tie.Need-tell-requires
-tell-requires c κs = search needs
+give-number-requires : tie.Need-give-number-requires
+give-number-requires c κs = search needs
 
 same-length : tie.Need-same-length
 same-length c = search needs
@@ -35,10 +35,9 @@ returns-2 : tie.Need-returns-2
 returns-2 c =
     let a = c .before .before .before .before .before .before .before .before .before .before .before .before .before .before .args in
     let b = c .before .before .before .before .before .before .best .ensures in
-    let t = c .before .before .tell .ensures in
     let w = c .before .before .before .before .before .before .before .before .wants .ensures in
     let some = c .before .before .before .before .before .before .before .before .before .before .if1 .left in
-    ranks-told (a .deck .now) (a .field) (a .greatest) (a .tag) (a .best .now) (a .held .now) (omega (arith, some)) _ w _ _ _ _ (b .0) (b .1) (t .0) (t .1)
+    ranks-told (a .deck .now) (a .field) (a .greatest) (a .tag) (a .best .now) (a .held .now) (omega (arith, some)) _ w _ _ _ _ (b .0) (b .1) (c .before .before .give-number .ensures)
 
 pub best-spec : {M : Type 1} → statement M
 best-spec =
@@ -49,7 +48,7 @@ best-spec =
     slice-read-many
     wants-requires
     best-requires
-    tell-requires
+    give-number-requires
     same-length
     same-length-2
     returns-2)

@@ -2,7 +2,7 @@
 use mathlib.Core.Path.{sym, _∙_, ap}
 use borrow.Author.Needs.{needs}
 use Rattle.block.specs.Halved.{half-lent, far-lent}
-use Rattle.shares.specs.Reply.{saidShares}
+use Rattle.reply.specs.Read.{saidNumber}
 use Rattle.shares.proofs.Blocks.{opened-in, opened-out}
 use Rattle.shares.proofs.Reply.{reply-refused, entries-stay}
 use Rattle.shares.proofs.contributions.Statement.{statement}
@@ -29,7 +29,7 @@ returns c =
     let a = c .before .before .before .before .before .before .before .before .args in
     let t = c .before .before .before .table in
     let e = reply-refused (a .n) (a .bonds .now) _ (opened-out (a .n) (a .bonds .now) (t .result) (t .ensures .0) _ (c .before .reply .given .1)) in
-    (sym (ap saidShares e), entries-stay (a .n) (a .bonds .now) (a .out .now) e)
+    (sym (ap saidNumber e), entries-stay (a .n) (a .bonds .now) (a .out .now) e)
 
 same-length : tie.Need-same-length
 same-length c = search needs

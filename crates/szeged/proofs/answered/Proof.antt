@@ -1,7 +1,7 @@
 -- `answered` meets its contract: each return is one way through the definition.
 use mathlib.Core.Path.{sym, _∙_, ap}
-use Rattle.szeged.specs.Reply.{saidSzeged}
-use Rattle.szeged.specs.declared.SzegedReply.the-variants.{Index}
+use Rattle.reply.specs.Read.{saidNumber}
+use Rattle.reply.specs.declared.NumberReply.the-variants.{Of}
 use Rattle.szeged.proofs.Reply.{reply-short, reply-done, entries-stay, entries-done}
 use borrow.Author.Needs.{needs}
 use Rattle.szeged.proofs.answered.Statement.{statement}
@@ -11,7 +11,7 @@ returns : tie.Need-returns
 returns c =
     let s = c .before .before .before in
     let e = reply-short (s .args .n) (s .args .bonds .now) (s .pre .0) _ (c .if1 .taken) in
-    (sym (ap saidSzeged e), entries-stay (s .args .n) (s .args .bonds .now) (s .args .out .now) e)
+    (sym (ap saidNumber e), entries-stay (s .args .n) (s .args .bonds .now) (s .args .out .now) e)
 
 fill-requires : tie.Need-fill-requires
 fill-requires c κs = let p = c .before .before .before .before .pre in record { fine = p .0; far = p .1; room = c .before .if1 .left }
@@ -25,7 +25,7 @@ returns-2 c =
     let fits = c .before .before .before .before .if1 .left in
     let d = c .before .before .fill .ensures in
     let e = reply-done (s .args .n) (s .args .bonds .now) (s .pre .0) _ fits in
-    (ap Index (d .is) ∙ sym (ap saidSzeged e), entries-done (s .args .n) (s .args .bonds .now) e fits d)
+    (ap Of (d .is) ∙ sym (ap saidNumber e), entries-done (s .args .n) (s .args .bonds .now) e fits d)
 
 pub answered-spec : {M : Type 1} → statement M
 answered-spec = tie.close (tie.spec returns fill-requires same-length returns-2)

@@ -4,7 +4,7 @@ use Rattle.reply.specs.Chain.{fine-read, refused-read}
 use Rattle.block.specs.Block.{blockReply}
 use Rattle.block.specs.Drawn.{opened-reply}
 use Rattle.block.specs.Halved.{half-lent}
-use Rattle.szeged.specs.Reply.{saidSzeged}
+use Rattle.reply.specs.Read.{saidNumber}
 use Rattle.szeged.proofs.Reply.{reply-refused, entries-stay, tree-told}
 use borrow.Author.Needs.{needs}
 use Rattle.szeged.proofs.terms.Statement.{statement}
@@ -29,7 +29,7 @@ returns : tie.Need-returns
 returns c =
     let a = c .before .before .before .before .before .before .before .before .args in
     let e = reply-refused (a .n) (a .bonds .now) _ (refused-read (blockReply (a .n) (a .bonds .now)) _ (sym (opened-reply _ _ _ (c .before .before .before .table .ensures .0)) ∙ c .before .reply .given .1)) in
-    let r = sym (ap saidSzeged e) in
+    let r = sym (ap saidNumber e) in
     (r, (entries-stay (a .n) (a .bonds .now) (a .out .now) e, tree-told (a .n) (a .bonds .now) _ _ r))
 
 same-length : tie.Need-same-length

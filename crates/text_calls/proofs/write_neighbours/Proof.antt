@@ -1,12 +1,8 @@
 -- `text_calls::write_neighbours` meets its contract.
-use mathlib.Core.Path.{sym, _∙_, ap}
 use native.Mathlib.Omega.{arith}
 use denote.Ref.{now}
-use lib.ListN.{length}
 use borrow.Author.Needs.{needs}
-use Rattle.adjacency.specs.Written.{neighboursWriteReply}
-use Rattle.neighbours.specs.Told.{text-refused, text-bytes}
-use Rattle.text_calls.proofs.Texts.{write-lacking, write-refused, write-fine}
+use Rattle.text_calls.proofs.Texts.{write-lacking, write-given}
 use Rattle.text_calls.proofs.write_neighbours.Statement.{statement}
 use Rattle.text_calls.proofs.write_neighbours.Tie as tie
 
@@ -21,40 +17,21 @@ returns c =
 write-requires : tie.Need-write-requires
 write-requires c κs = search needs
 
-enum-known-answer : tie.Need-enum-known-answer
-enum-known-answer c = search needs
-
-code-of-requires : tie.Need-code-of-requires
-code-of-requires c κs = search needs
-
-enum-known-answer-2 : tie.Need-enum-known-answer-2
-enum-known-answer-2 c = search needs
-
-slice-write-length : tie.Need-slice-write-length
-slice-write-length c = search needs
+give-number-requires : tie.Need-give-number-requires
+give-number-requires c κs = search needs
 
 same-length : tie.Need-same-length
 same-length c = search needs
 
-returns-2 : tie.Need-returns-2
-returns-2 c =
-    let m = c .before .before .before .before .before .before in
-    let s = m .before .before .before .before .before .before in
-    write-refused (s .args .atoms) (now (s .args .bonds)) (now (s .args .text)) (now (s .args .length)) _ _ (c .code-of .result) (omega arith)
-    (text-refused _ (sym (m .write .ensures .0) ∙ c .before .before .answer .given .1)) (m .write .ensures .1) (c .code-of .ensures)
-
 same-length-2 : tie.Need-same-length-2
 same-length-2 c = search needs
 
-same-length-3 : tie.Need-same-length-3
-same-length-3 c = search needs
-
-returns-3 : tie.Need-returns-3
-returns-3 c =
-    let m = c .before .before .before .before .before in
+returns-2 : tie.Need-returns-2
+returns-2 c =
+    let g = c .before .before in
+    let m = g .before .before .before .before in
     let s = m .before .before .before .before .before .before in
-    let (t, e, k) = text-bytes (neighboursWriteReply (s .args .atoms) (now (s .args .bonds)) (length (now (s .args .text)))) (sym (m .write .ensures .0) ∙ c .before .answer2 .given .1) in
-    write-fine (s .args .atoms) (now (s .args .bonds)) (now (s .args .text)) (now (s .args .length)) _ t _ (omega arith) e k (m .write .ensures .1)
+    write-given (s .args .atoms) (now (s .args .bonds)) (now (s .args .text)) (now (s .args .length)) _ (omega arith) (m .write .ensures .0) (m .write .ensures .1) (g .give-number .ensures)
 
 pub write-neighbours-spec : {M : Type 1} → statement M
 write-neighbours-spec =
@@ -63,12 +40,7 @@ write-neighbours-spec =
     unlent-requires
     returns
     write-requires
-    enum-known-answer
-    code-of-requires
-    enum-known-answer-2
-    slice-write-length
+    give-number-requires
     same-length
-    returns-2
     same-length-2
-    same-length-3
-    returns-3)
+    returns-2)

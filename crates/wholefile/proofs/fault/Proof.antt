@@ -38,8 +38,8 @@ mul-b-2 c = search needs
 shared-slice-read-b : tie.Need-shared-slice-read-b
 shared-slice-read-b c = search needs
 
-wide-requires : tie.Need-wide-requires
-wide-requires c κs = search needs
+wide-two-requires : tie.Need-wide-two-requires
+wide-two-requires c κs = search needs
 
 is-outside-requires : tie.Need-is-outside-requires
 is-outside-requires c κs = search needs
@@ -52,14 +52,14 @@ abbrev b-of : tie.Start → ℕ
 b-of s = getD (s .args .xs .now) (2 * s .args .k + 1) 0
 
 returns : tie.Need-returns
-returns c = three _ _ _ _ (ap (λ (v : ℕ). isOutside (c .before .before .before .before .before .before .args .n) v) (sym (c .before .before .wide .ensures)) ∙ sym (c .before .is-outside .ensures) ∙ c .if1 .taken)
+returns c = three _ _ _ _ (ap (λ (v : ℕ). isOutside (c .before .before .before .before .before .before .args .n) v) (sym (c .before .before .wide-two .ensures .0)) ∙ sym (c .before .is-outside .ensures) ∙ c .if1 .taken)
 
 -- what has passed at each place: the first end, the second end, that they differ, that the bond is new, and room at the first end
 one : (c : tie.Else1) → let s = c .before .before .before .before .before .before in isOutside (s .args .n) (a-of s) ≡ false
-one c = ap (λ (v : ℕ). isOutside (c .before .before .before .before .before .before .args .n) v) (sym (c .before .before .wide .ensures)) ∙ sym (c .before .is-outside .ensures) ∙ c .if1 .left
+one c = ap (λ (v : ℕ). isOutside (c .before .before .before .before .before .before .args .n) v) (sym (c .before .before .wide-two .ensures .0)) ∙ sym (c .before .is-outside .ensures) ∙ c .if1 .left
 
-wide-requires-2 : tie.Need-wide-requires-2
-wide-requires-2 c κs = search needs
+wide-two-requires-2 : tie.Need-wide-two-requires-2
+wide-two-requires-2 c κs = search needs
 
 is-outside-requires-2 : tie.Need-is-outside-requires-2
 is-outside-requires-2 c κs = search needs
@@ -67,10 +67,10 @@ is-outside-requires-2 c κs = search needs
 returns-2 : tie.Need-returns-2
 returns-2 c =
     three′ _ _ _ _ (one (c .before .before .before))
-    (ap (λ (v : ℕ). isOutside (c .before .before .before .before .before .before .before .before .before .args .n) v) (sym (c .before .before .wide2 .ensures)) ∙ sym (c .before .is-outside2 .ensures) ∙ c .if2 .taken)
+    (ap (λ (v : ℕ). isOutside (c .before .before .before .before .before .before .before .before .before .args .n) v) (sym (c .before .before .wide-two2 .ensures .0)) ∙ sym (c .before .is-outside2 .ensures) ∙ c .if2 .taken)
 
 two : (c : tie.Else2) → let s = c .before .before .before .before .before .before .before .before .before in isOutside (s .args .n) (b-of s) ≡ false
-two c = ap (λ (v : ℕ). isOutside (c .before .before .before .before .before .before .before .before .before .args .n) v) (sym (c .before .before .wide2 .ensures)) ∙ sym (c .before .is-outside2 .ensures) ∙ c .if2 .left
+two c = ap (λ (v : ℕ). isOutside (c .before .before .before .before .before .before .before .before .before .args .n) v) (sym (c .before .before .wide-two2 .ensures .0)) ∙ sym (c .before .is-outside2 .ensures) ∙ c .if2 .left
 
 returns-3 : tie.Need-returns-3
 returns-3 c = four _ _ _ _ (one (c .before .before .before .before)) (two (c .before)) (eq-eqb _ _ (c .if3 .taken))
@@ -131,10 +131,10 @@ fault-spec =
     add-b
     mul-b-2
     shared-slice-read-b
-    wide-requires
+    wide-two-requires
     is-outside-requires
     returns
-    wide-requires-2
+    wide-two-requires-2
     is-outside-requires-2
     returns-2
     returns-3

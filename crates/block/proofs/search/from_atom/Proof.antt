@@ -1,6 +1,7 @@
-use Prim.Native.Nat.{_+_, _-_, _^_, _<_}
+use Prim.Native.Nat.{_+_, _-_, _^_, _<_, min}
 use mathlib.Core.Path.{_≡_, refl, ap}
 use native.Mathlib.Omega.{arith}
+use borrow.Author.Needs.{needs}
 use lib.Bits.{bitAnd, bitOr, bitXor}
 use lib.ListN.{length, getD}
 use lib.Pow.{pow-pos}
@@ -32,11 +33,13 @@ sub-level c = omega (arith, begins (c .before .before))
 shl-level : tie.Need-shl-level Inv-loop μ-loop
 shl-level c = omega (arith, begins (c .before .before))
 
-all-requires : tie.Need-all-requires Inv-loop μ-loop
-all-requires c κs = begins (c .before .before) .0
+first-atoms-requires : tie.Need-first-atoms-requires Inv-loop μ-loop
+first-atoms-requires c κs = search needs
 
 loop-holds : tie.Need-loop-holds Inv-loop μ-loop
-loop-holds c g T = (rw (c .before .before .before .pre .1, shifted-one mostAtoms _ (shl-level (c .before)), c .all .ensures, T .size) (run-start g _ _ (T .shown) (T .start)), λ e. absurd (omega (arith, e, shifted-one mostAtoms _ (shl-level (c .before)), pow-pos (c .before .before .before .args .i - 1))))
+loop-holds c g T =
+    let e : min (c .before .before .before .args .n) mostAtoms ≡ c .before .before .before .args .n = omega (arith, begins (c .before .before .before)) in
+    (rw (c .before .before .before .pre .1, shifted-one mostAtoms _ (shl-level (c .before)), c .first-atoms .ensures, e, T .size) (run-start g _ _ (T .shown) (T .start)), λ e. absurd (omega (arith, e, shifted-one mostAtoms _ (shl-level (c .before)), pow-pos (c .before .before .before .args .i - 1))))
 
 -- in a turn some atom waits
 small-in : (c : tie.In-loop Inv-loop μ-loop) → (first (c .before .loop .level) < mostAtoms) × (c .before .loop .d < mostAtoms)
@@ -122,7 +125,7 @@ from-atom-spec =
     μ-loop
     sub-level
     shl-level
-    all-requires
+    first-atoms-requires
     loop-holds
     cast-a
     sub-level-2

@@ -25,11 +25,11 @@ mul-s c = search needs
 array-copy-out-s : tie.Need-array-copy-out-s Inv-loop μ-loop
 array-copy-out-s c = search needs
 
-wide-requires : tie.Need-wide-requires Inv-loop μ-loop
-wide-requires c κs = search needs
+wide-byte-requires : tie.Need-wide-byte-requires Inv-loop μ-loop
+wide-byte-requires c κs = search needs
 
 mul-total : tie.Need-mul-total Inv-loop μ-loop
-mul-total c = let l = c .before .before .before .loop in omega (arith, four-bytes _ (l .k + 1) (byte-more (l .total) (l .k) (c .wide .result) (l .inv .2) (c .wide .ensures .1)) (omega arith))
+mul-total c = let l = c .before .before .before .loop in omega (arith, four-bytes _ (l .k + 1) (byte-more (l .total) (l .k) (c .wide-byte .result) (l .inv .2) (c .wide-byte .ensures .1)) (omega arith))
 
 add-k : tie.Need-add-k Inv-loop μ-loop
 add-k c = search needs
@@ -39,8 +39,8 @@ loop-less c = search needs
 
 loop-again : tie.Need-loop-again Inv-loop μ-loop
 loop-again c = let a = c .before .before .before .before .args in let l = c .before .before .before .loop in
-    let m = c .wide .ensures in
-    (omega arith, ap₂ _*_ (l .inv .1) (m .0) ∙ sym (products-grow (a .t1) (l .k)) ∙ ap (λ (n : ℕ). products (sitesIn (a .t1) n)) (sym (add-one (l .k))), byte-more (l .total) (l .k) (c .wide .result) (l .inv .2) (m .1))
+    let m = c .wide-byte .ensures in
+    (omega arith, ap₂ _*_ (l .inv .1) (m .0) ∙ sym (products-grow (a .t1) (l .k)) ∙ ap (λ (n : ℕ). products (sitesIn (a .t1) n)) (sym (add-one (l .k))), byte-more (l .total) (l .k) (c .wide-byte .result) (l .inv .2) (m .1))
 
 returns : tie.Need-returns Inv-loop μ-loop
 returns c = let a = c .before .before .args in let l = c .before .loop in let e : l .k ≡ a .n = omega arith in l .inv .1 ∙ ap (λ (n : ℕ). products (sitesIn (a .t1) n)) e
@@ -54,7 +54,7 @@ count-of-spec =
     loop-holds
     mul-s
     array-copy-out-s
-    wide-requires
+    wide-byte-requires
     mul-total
     add-k
     loop-less

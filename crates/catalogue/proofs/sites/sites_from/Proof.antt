@@ -55,13 +55,13 @@ fine : (c : tie.Else1 Inv-loop μ-loop) → let s = c .before .before .before .b
 fine c = sym (c .before .site-fault .ensures) ∙ c .if1 .left
 
 -- where the next site starts
-ended : (c : tie.After-wide Inv-loop μ-loop) → let s = c .before .before .before .before .before .before .before .before in let a = s .args in let l = c .before .before .before .before .before .loop in
-    c .before .site-at .result .first + 3 * c .wide .result ≡ siteEnd (siteAt (a .xs .now) (l .p))
+ended : (c : tie.After-wide-byte Inv-loop μ-loop) → let s = c .before .before .before .before .before .before .before .before in let a = s .args in let l = c .before .before .before .before .before .loop in
+    c .before .site-at .result .first + 3 * c .wide-byte .result ≡ siteEnd (siteAt (a .xs .now) (l .p))
 ended c =
     let x = c .before .site-at .result in
-    ap (λ (n : ℕ). x .first + 3 * n) (c .wide .ensures .0) ∙ ap siteEnd (c .before .site-at .ensures)
+    ap (λ (n : ℕ). x .first + 3 * n) (c .wide-byte .ensures .0) ∙ ap siteEnd (c .before .site-at .ensures)
 
-end : (c : tie.After-wide Inv-loop μ-loop) → let s = c .before .before .before .before .before .before .before .before in c .before .site-at .result .first + 3 * c .wide .result ≤ length (s .args .xs .now)
+end : (c : tie.After-wide-byte Inv-loop μ-loop) → let s = c .before .before .before .before .before .before .before .before in c .before .site-at .result .first + 3 * c .wide-byte .result ≤ length (s .args .xs .now)
 end c = let s = c .before .before .before .before .before .before .before .before in let l = c .before .before .before .before .before .loop in
     omega (arith, ended c, stands (book s) (core s) (s .args .xs .now) (sitesIn (l .sites) (l .n)) (l .p) (fine (c .before .before)) .0 .within)
 
@@ -90,11 +90,11 @@ array-set-from-sites c = omega (arith, c .before .before .before .before .before
 add-n : tie.Need-add-n Inv-loop μ-loop
 add-n c = omega (arith, c .before .before .before .before .before .before .before .pre .0)
 
-wide-requires : tie.Need-wide-requires Inv-loop μ-loop
-wide-requires c κs = search needs
+wide-byte-requires : tie.Need-wide-byte-requires Inv-loop μ-loop
+wide-byte-requires c κs = search needs
 
 mul-p : tie.Need-mul-p Inv-loop μ-loop
-mul-p c = omega (arith, c .wide .ensures .1)
+mul-p c = omega (arith, c .wide-byte .ensures .1)
 
 add-p : tie.Need-add-p Inv-loop μ-loop
 add-p c = omega (arith, end (c .before))
@@ -141,7 +141,7 @@ sites-from-spec =
     mul-sites
     array-set-from-sites
     add-n
-    wide-requires
+    wide-byte-requires
     mul-p
     add-p
     loop-less

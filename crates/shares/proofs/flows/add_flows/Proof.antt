@@ -21,36 +21,36 @@ abbrev μ-loop : tie.MeasureT-loop
 loop-holds : tie.Need-loop-holds Inv-loop μ-loop
 loop-holds c = (omega arith, λ n i d R. filled-none)
 
-mul-wide : tie.Need-mul-wide Inv-loop μ-loop
-mul-wide c = omega arith
+mul-wide-byte : tie.Need-mul-wide-byte Inv-loop μ-loop
+mul-wide-byte c = omega arith
 
-shared-slice-read-wide : tie.Need-shared-slice-read-wide Inv-loop μ-loop
-shared-slice-read-wide c = omega arith
+shared-slice-read-wide-byte : tie.Need-shared-slice-read-wide-byte Inv-loop μ-loop
+shared-slice-read-wide-byte c = omega arith
 
-wide-requires : tie.Need-wide-requires Inv-loop μ-loop
-wide-requires c κs = tt
+wide-byte-requires : tie.Need-wide-byte-requires Inv-loop μ-loop
+wide-byte-requires c κs = tt
 
-mul-wide-2 : tie.Need-mul-wide-2 Inv-loop μ-loop
-mul-wide-2 c = omega arith
+mul-wide-byte-2 : tie.Need-mul-wide-byte-2 Inv-loop μ-loop
+mul-wide-byte-2 c = omega arith
 
-add-wide : tie.Need-add-wide Inv-loop μ-loop
-add-wide c = omega arith
+add-wide-byte : tie.Need-add-wide-byte Inv-loop μ-loop
+add-wide-byte c = omega arith
 
-shared-slice-read-wide-2 : tie.Need-shared-slice-read-wide-2 Inv-loop μ-loop
-shared-slice-read-wide-2 c = omega arith
+shared-slice-read-wide-byte-2 : tie.Need-shared-slice-read-wide-byte-2 Inv-loop μ-loop
+shared-slice-read-wide-byte-2 c = omega arith
 
-wide-requires-2 : tie.Need-wide-requires-2 Inv-loop μ-loop
-wide-requires-2 c κs = tt
+wide-byte-requires-2 : tie.Need-wide-byte-requires-2 Inv-loop μ-loop
+wide-byte-requires-2 c κs = tt
 
 passed-requires : tie.Need-passed-requires Inv-loop μ-loop
 passed-requires c κs =
     let p = c .before .before .before .before .before .before .before .before .pre .0 in
-    there-fits (p .3) (c .before .before .before .before .before .loop .k) (c .before .before .before .before .loop-test .taken) (c .before .before .wide .result) (c .wide2 .result) (c .before .before .wide .ensures .0) (c .wide2 .ensures .0)
+    there-fits (p .3) (c .before .before .before .before .before .loop .k) (c .before .before .before .before .loop-test .taken) (c .before .before .wide-byte .result) (c .wide-byte2 .result) (c .before .before .wide-byte .ensures .0) (c .wide-byte2 .ensures .0)
 
 passed-requires-2 : tie.Need-passed-requires-2 Inv-loop μ-loop
 passed-requires-2 c κs =
     let p = c .before .before .before .before .before .before .before .before .before .pre .0 in
-    back-fits (p .3) (c .before .before .before .before .before .before .loop .k) (c .before .before .before .before .before .loop-test .taken) (c .before .before .before .wide .result) (c .before .wide2 .result) (c .before .before .before .wide .ensures .0) (c .before .wide2 .ensures .0)
+    back-fits (p .3) (c .before .before .before .before .before .before .loop .k) (c .before .before .before .before .before .loop-test .taken) (c .before .before .before .wide-byte .result) (c .before .wide-byte2 .result) (c .before .before .before .wide-byte .ensures .0) (c .before .wide-byte2 .ensures .0)
 
 -- what is added, and what it is added to
 adds : (c : tie.After-passed2 Inv-loop μ-loop) (n i d : ℕ)
@@ -58,8 +58,8 @@ adds : (c : tie.After-passed2 Inv-loop μ-loop) (n i d : ℕ)
     StartRows n (a .bonds .now) (a .row .now) (a .c .now) (a .t .now) i d
     → c .before .passed .result + c .passed2 .result ≡ carried (graphOf n (a .bonds .now)) i d (bondAt (a .bonds .now) (c .before .before .before .before .before .before .before .loop .k))
 adds c n i d R =
-    flows R (c .before .before .before .before .before .before .before .loop .k) (c .before .before .before .before .before .before .loop-test .taken) (c .before .before .before .before .wide .result) (c .before .before .wide2 .result) (c .before .before .before .before .wide .ensures .0)
-    (c .before .before .wide2 .ensures .0) (c .before .passed .result) (c .passed2 .result) (c .before .passed .ensures) (c .passed2 .ensures)
+    flows R (c .before .before .before .before .before .before .before .loop .k) (c .before .before .before .before .before .before .loop-test .taken) (c .before .before .before .before .wide-byte .result) (c .before .before .wide-byte2 .result) (c .before .before .before .before .wide-byte .ensures .0)
+    (c .before .before .wide-byte2 .ensures .0) (c .before .passed .result) (c .passed2 .result) (c .before .passed .ensures) (c .passed2 .ensures)
 
 small : (c : tie.After-passed2 Inv-loop μ-loop) → c .before .passed .result + c .passed2 .result ≤ full
 small c =
@@ -125,13 +125,13 @@ add-flows-spec =
     Inv-loop
     μ-loop
     loop-holds
-    mul-wide
-    shared-slice-read-wide
-    wide-requires
-    mul-wide-2
-    add-wide
-    shared-slice-read-wide-2
-    wide-requires-2
+    mul-wide-byte
+    shared-slice-read-wide-byte
+    wide-byte-requires
+    mul-wide-byte-2
+    add-wide-byte
+    shared-slice-read-wide-byte-2
+    wide-byte-requires-2
     passed-requires
     passed-requires-2
     add-s

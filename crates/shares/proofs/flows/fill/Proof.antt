@@ -43,11 +43,11 @@ by-level-requires c κs =
     let p = c .before .before .before .before .before .before .before .pre in
     (p .1 .small, start-below (p .1) (c .before .before .before .before .loop .i) (c .before .before .before .loop-test .taken) _ (c .before .row .ensures))
 
-element-copy-out-wide : tie.Need-element-copy-out-wide Inv-loop μ-loop
-element-copy-out-wide c = let p = c .before .before .before .before .before .before .before .before .pre in omega (arith, p .1 .small)
+element-copy-out-wide-byte : tie.Need-element-copy-out-wide-byte Inv-loop μ-loop
+element-copy-out-wide-byte c = let p = c .before .before .before .before .before .before .before .before .pre in omega (arith, p .1 .small)
 
-wide-requires : tie.Need-wide-requires Inv-loop μ-loop
-wide-requires c κs = tt
+wide-byte-requires : tie.Need-wide-byte-requires Inv-loop μ-loop
+wide-byte-requires c κs = tt
 
 add-start-requires : tie.Need-add-start-requires Inv-loop μ-loop
 add-start-requires c κs =
@@ -56,7 +56,7 @@ add-start-requires c κs =
     let l = r .before .before .before .loop in
     let p = r .before .before .before .before .before .before .pre in
     let low : l .d ≤ mostDenominator = omega (arith, r .before .if1 .left) in
-    (start-of (p .1) (l .i) (r .before .before .loop-test .taken) _ (r .row .ensures) (w .wide .ensures .0) (w .before .before .by-level .ensures), whole-at (p .0) (l .i) (l .d) (l .inv .2) low, l .inv .3 low)
+    (start-of (p .1) (l .i) (r .before .before .loop-test .taken) _ (r .row .ensures) (w .wide-byte .ensures .0) (w .before .before .by-level .ensures), whole-at (p .0) (l .i) (l .d) (l .inv .2) low, l .inv .3 low)
 
 add-i : tie.Need-add-i Inv-loop μ-loop
 add-i c = omega arith
@@ -90,8 +90,8 @@ fill-spec =
     add-row
     row-requires
     by-level-requires
-    element-copy-out-wide
-    wide-requires
+    element-copy-out-wide-byte
+    wide-byte-requires
     add-start-requires
     add-i
     loop-less

@@ -25,26 +25,26 @@ mul-x-3 c =
     let a = c .before .before .args in
     product-fits (at (a .c .now) (a .a)) (at (a .t .now) (a .b)) (omega arith) (c .before .before .pre .3)
 
-sub-wide : tie.Need-sub-wide
-sub-wide c = omega arith
+sub-wide-byte : tie.Need-sub-wide-byte
+sub-wide-byte c = omega arith
 
-element-copy-out-wide : tie.Need-element-copy-out-wide
-element-copy-out-wide c = omega arith
+element-copy-out-wide-byte : tie.Need-element-copy-out-wide-byte
+element-copy-out-wide-byte c = omega arith
 
-wide-requires : tie.Need-wide-requires
-wide-requires c κs = tt
+wide-byte-requires : tie.Need-wide-byte-requires
+wide-byte-requires c κs = tt
 
 add-if1 : tie.Need-add-if1
 add-if1 c = omega arith
 
-sub-wide-2 : tie.Need-sub-wide-2
-sub-wide-2 c = omega arith
+sub-wide-byte-2 : tie.Need-sub-wide-byte-2
+sub-wide-byte-2 c = omega arith
 
-element-copy-out-wide-2 : tie.Need-element-copy-out-wide-2
-element-copy-out-wide-2 c = omega arith
+element-copy-out-wide-byte-2 : tie.Need-element-copy-out-wide-byte-2
+element-copy-out-wide-byte-2 c = omega arith
 
-wide-requires-2 : tie.Need-wide-requires-2
-wide-requires-2 c κs = tt
+wide-byte-requires-2 : tie.Need-wide-byte-requires-2
+wide-byte-requires-2 c κs = tt
 
 returns : tie.Need-returns
 returns c =
@@ -65,12 +65,12 @@ passed-spec =
     mul-x-2
     element-copy-out-x-2
     mul-x-3
-    sub-wide
-    element-copy-out-wide
-    wide-requires
+    sub-wide-byte
+    element-copy-out-wide-byte
+    wide-byte-requires
     add-if1
-    sub-wide-2
-    element-copy-out-wide-2
-    wide-requires-2
+    sub-wide-byte-2
+    element-copy-out-wide-byte-2
+    wide-byte-requires-2
     returns
     returns-2)

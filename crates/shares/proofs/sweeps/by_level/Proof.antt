@@ -19,15 +19,15 @@ abbrev μ-loop : tie.MeasureT-loop
 loop-holds : tie.Need-loop-holds Inv-loop μ-loop
 loop-holds c = (omega arith, layered-start _ _ refl (zeros (suc mostAtoms)))
 
-element-copy-out-wide : tie.Need-element-copy-out-wide Inv-loop μ-loop
-element-copy-out-wide c = omega arith
+element-copy-out-wide-byte : tie.Need-element-copy-out-wide-byte Inv-loop μ-loop
+element-copy-out-wide-byte c = omega arith
 
-wide-requires : tie.Need-wide-requires Inv-loop μ-loop
-wide-requires c κs = tt
+wide-byte-requires : tie.Need-wide-byte-requires Inv-loop μ-loop
+wide-byte-requires c κs = tt
 
 -- the distance at hand
-near : (c : tie.After-wide Inv-loop μ-loop) → c .wide .result < mostAtoms
-near c = let l = c .before .before .before .loop in omega (arith, c .wide .ensures, c .before .before .before .before .pre .1 (l .j) (omega arith))
+near : (c : tie.After-wide-byte Inv-loop μ-loop) → c .wide-byte .result < mostAtoms
+near c = let l = c .before .before .before .loop in omega (arith, c .wide-byte .ensures, c .before .before .before .before .pre .1 (l .j) (omega arith))
 
 mul-sets : tie.Need-mul-sets Inv-loop μ-loop
 mul-sets c = omega (arith, near c)
@@ -53,7 +53,7 @@ loop-less c = omega arith
 loop-again : tie.Need-loop-again Inv-loop μ-loop
 loop-again c =
     let l = c .before .before .before .loop in
-    (omega arith, rw (add-one (l .j), shifted-one mostAtoms (l .j) (shl-sets c)) (layered-next (l .j) _ _ (l .inv .1) (c .wide .result) (c .wide .ensures .0) (near c)))
+    (omega arith, rw (add-one (l .j), shifted-one mostAtoms (l .j) (shl-sets c)) (layered-next (l .j) _ _ (l .inv .1) (c .wide-byte .result) (c .wide-byte .ensures .0) (near c)))
 
 returns : tie.Need-returns Inv-loop μ-loop
 returns c =
@@ -69,8 +69,8 @@ by-level-spec =
     Inv-loop
     μ-loop
     loop-holds
-    element-copy-out-wide
-    wide-requires
+    element-copy-out-wide-byte
+    wide-byte-requires
     mul-sets
     array-read-sets
     shl-sets
