@@ -12,7 +12,7 @@ pub fn measure(text: &[u8]) -> IndicesReply
     ensures { λ r. ⌜ r ≡ saidIndices (measureReply (now (text .entry))) ⌝ }
 {
     let mut bonds = [0u8; block::BYTES];
-    let seen = molfile::read(text, &mut bonds);
+    let seen = blockfile::read(text, &mut bonds);
     match seen {
         MolRead::Refused(r) => IndicesReply::Refused(r),
         MolRead::Block(x) => {

@@ -1,20 +1,13 @@
--- Laws. The promises of `read` and of `kept_bonds` determine the reply and what is lent, that of `rest_place` the place. Assumes nothing.
+-- Laws. The promise of `kept_bonds` determines the reply and what is lent, that of `rest_place` the place. Assumes nothing.
 use Prim.Native.Nat.{ℕ}
 use mathlib.Core.List.{List}
 use mathlib.Core.Path.{_≡_, sym, _∙_}
 use lib.ListN.{length}
-use Rattle.molfile.specs.Molfile.{restOf, keptReply, molfileReply}
-use Rattle.molfile.specs.Said.{saidMolfile, molfileBytes, saidKept, keptNumbers}
-use Rattle.molfile.specs.declared.MolRead.{MolRead}
+use Rattle.molfile.specs.Molfile.{restOf, keptReply}
+use Rattle.molfile.specs.Said.{saidKept, keptNumbers}
 use Rattle.molfile.specs.declared.KeptRead.{KeptRead}
 
 module _ (d out : List ℕ) where
-  pub unique-read : (r s : MolRead) → r ≡ saidMolfile d (molfileReply d (length out)) → s ≡ saidMolfile d (molfileReply d (length out)) → r ≡ s
-  unique-read r s p q = p ∙ sym q
-
-  pub unique-bytes : (a b : List ℕ) → a ≡ molfileBytes d out → b ≡ molfileBytes d out → a ≡ b
-  unique-bytes a b p q = p ∙ sym q
-
   pub unique-kept : (r s : KeptRead) → r ≡ saidKept d (keptReply d (length out)) → s ≡ saidKept d (keptReply d (length out)) → r ≡ s
   unique-kept r s p q = p ∙ sym q
 

@@ -1,20 +1,18 @@
-// V2000 molfiles: read as a block, hydrogens with one bond dropped.
+// V2000 molfiles: what is kept of one, hydrogens with one bond dropped. `blockfile` reads it as a block, `wholefile` as one molecule of up to 999 atoms.
 //
 // The lines of a file come once, in the order in which they stand. Marks of hydrogens, ends of bonds, weights and new numbers stand in arrays of one
 // size, so that any file takes the same stack. An atom's weight is 1 for each bond and 1 more for one that leads to an H, so that one pass over the
 // bonds says which H go. Line feeds are looked for in 16 bytes at a time.
 ghost use mathlib.Core.Path.{_≡_};
-ghost use Prim.Native.Nat.{_+_, _%_, _≤_};
+ghost use Prim.Native.Nat.{_+_, _≤_};
 ghost use lib.ListN.{length};
-ghost use lib.Seq.{sets};
 ghost use Rattle.reply.specs.Read.{read};
 ghost use Rattle.text.specs.Text.{threeAt, lineChars};
 ghost use Rattle.text.specs.Said.{fieldNumber};
-ghost use Rattle.molfile.specs.Molfile.{countsPlace, atomLinePlace, bondLinePlace, atomLineCount, bondLineCount, symbolAt, isH, oneH, hydrogenAt, inTurn, lineReply, headerReply, numbersReply, bondReply, keptReply, molfileReply};
-ghost use Rattle.molfile.specs.Said.{saidAnswer, saidMolfile, filledBonds, molfileBytes, saidKept, keptNumbers};
-ghost use Rattle.molfile.specs.Work.{most, markOf, saidLine, saidWalk, numbersAt, saidNumbers, countsReply, answerReply, lows, AtomsRead, BondsRead, RestRead, ListsRead};
+ghost use Rattle.molfile.specs.Molfile.{countsPlace, atomLinePlace, bondLinePlace, atomLineCount, bondLineCount, symbolAt, isH, oneH, hydrogenAt, inTurn, lineReply, headerReply, numbersReply, bondReply, keptReply};
+ghost use Rattle.molfile.specs.Said.{saidKept, keptNumbers};
+ghost use Rattle.molfile.specs.Work.{most, markOf, saidLine, saidWalk, numbersAt, saidNumbers, countsReply, AtomsRead, BondsRead, RestRead, ListsRead};
 use reply::Refusal;
-use reply::Reply;
 use text::BLANK;
 use text::Line;
 use text::NO_NUMBER;
@@ -337,32 +335,6 @@ fn lists(d: &[u8], x: Numbers, marks: &mut [u8], ones: &mut [u16], twos: &mut [u
     }
 }
 
-// The answer for a block: its refusals, 9 for a lent output too short, or its bytes.
-fn answer(n: usize, xs: &[u8], out: &mut [u8]) -> MolRead
-    ensures reply { λ r. ⌜ r ≡ saidAnswer n (now (xs .entry)) (answerReply n (now (xs .entry)) (length (now (out .entry)))) ⌝ }
-    ensures bytes { λ _. ⌜
-        now (out .exit) ≡ filledBonds (answerReply n (now (xs .entry)) (length (now (out .entry)))) (now (xs .entry)) (now (out .entry))
-        ⌝ }
-{
-    let reply = block::check(n, xs);
-    match reply {
-        Reply::Refused(r) => MolRead::Refused(r),
-        Reply::Fine => {
-            if out.len() < xs.len() {
-                return MolRead::Refused(Refusal {
-                    number: 9,
-                    place: 0,
-                });
-            }
-            text::put(out, 0, xs);
-            MolRead::Block(Counts {
-                atoms: n,
-                bonds: xs.len() / 2,
-            })
-        }
-    }
-}
-
 // What is kept of a file whose counts line is read.
 fn listed(text: &[u8], x: Numbers, out: &mut [u16]) -> KeptRead
     requires { ⌜ (x ≡ numbersAt (now text) (countsPlace (now text))) × (countsReply (now text) ≡ read tt) ⌝ }
@@ -398,42 +370,5 @@ pub fn kept_bonds(text: &[u8], out: &mut [u16]) -> KeptRead
     match seen {
         NumbersRead::Refused(r) => KeptRead::Refused(r),
         NumbersRead::Read(x) => listed(text, x, out),
-    }
-}
-
-fn low(x: u16) -> u8
-    ensures { λ r. ⌜ r ≡ x % 256 ⌝ }
-{
-    (x % 256) as u8
-}
-
-// The last byte of each number, at the front of what is lent.
-fn narrow(xs: &[u16], out: &mut [u8])
-    requires { ⌜ length (now xs) ≤ length (now out) ⌝ }
-    ensures { λ _. ⌜ now (out .exit) ≡ sets (now (out .entry)) 0 (lows (now (xs .entry))) ⌝ }
-{
-    let mut i: usize = 0;
-    while i < xs.len() {
-        out[i] = low(xs[i]);
-        i += 1;
-    }
-}
-
-// Reads a molfile as a block: how many atoms and bonds it has, its bonds at the front of the lent output, two bytes each, and later bytes stay. Or it is a
-// refusal, and no byte changes: 25 to 27 of its lines in file order, the block's over the kept bonds, then 9 where fewer bytes are lent than these take.
-pub fn read(text: &[u8], out: &mut [u8]) -> MolRead
-    ensures reply { λ r. ⌜ r ≡ saidMolfile (now (text .entry)) (molfileReply (now (text .entry)) (length (now (out .entry)))) ⌝ }
-    ensures bytes { λ _. ⌜ now (out .exit) ≡ molfileBytes (now (text .entry)) (now (out .entry)) ⌝ }
-{
-    let mut pairs = [0u16; PAIRS];
-    let seen = kept_bonds(text, &mut pairs);
-    match seen {
-        KeptRead::Refused(r) => MolRead::Refused(r),
-        KeptRead::Of(k) => {
-            let numbers = k.numbers;
-            let mut bytes = [0u8; PAIRS];
-            narrow(&pairs[..numbers], &mut bytes);
-            answer(k.atoms, &bytes[..numbers], out)
-        }
     }
 }

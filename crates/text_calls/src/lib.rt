@@ -15,7 +15,7 @@ fn unlent_molfile(text: &[u8]) -> u64
     ensures { λ r. ⌜ r ≡ coded (unlentMolfile (now (text .entry))) ⌝ }
 {
     let mut none = [0u8; 1];
-    let answer = molfile::read(text, &mut none);
+    let answer = blockfile::read(text, &mut none);
     match answer {
         MolRead::Refused(r) => code_of(r),
         MolRead::Block(_) => 9,
@@ -30,7 +30,7 @@ pub fn read_molfile(text: &[u8], bonds: &mut [u8], counts: &mut [u64]) -> u64
     if counts.len() < 2 {
         return unlent_molfile(text);
     }
-    let answer = molfile::read(text, bonds);
+    let answer = blockfile::read(text, bonds);
     match answer {
         MolRead::Refused(r) => code_of(r),
         MolRead::Block(block) => {

@@ -1,15 +1,15 @@
--- `molfile::answer` meets its contract: each return is one way through the definition.
+-- `blockfile::answer` meets its contract: each return is one way through the definition.
 use mathlib.Core.Path.{_≡_, refl, sym, ap, _∙_}
 use lib.ListN.{length}
 use Rattle.reply.specs.Read.{read}
 use Rattle.block.specs.Block.{blockReply}
 use Rattle.molfile.specs.Said.{saidAnswer, filledBonds}
 use Rattle.molfile.proofs.Chains.{answer-refused, answer-short, answer-fine, stays, fills}
 use Rattle.text.proofs.Putting.{at-front}
 use Rattle.reply.specs.Chain.{fine-read, refused-read}
 use borrow.Author.Needs.{needs}
-use Rattle.molfile.proofs.answer.Statement.{statement}
-use Rattle.molfile.proofs.answer.Tie as tie
+use Rattle.blockfile.proofs.answer.Statement.{statement}
+use Rattle.blockfile.proofs.answer.Tie as tie
 
 abbrev start : tie.After-check → tie.Start
 start c = c .before .before .before

@@ -1,14 +1,14 @@
--- `molfile::narrow` meets its contract. The loop's invariant: the last bytes of the first i numbers are put.
+-- `blockfile::narrow` meets its contract. The loop's invariant: the last bytes of the first i numbers are put.
 use Prim.Native.Nat.{ℕ, _+_, _-_, _≤_, _<_}
 use mathlib.Core.Path.{_≡_, refl, sym, ap, _∙_}
 use lib.ListN.{length, getD, set, take, length-set}
 use lib.Seq.{sets}
 use native.Mathlib.Omega.{arith}
 use borrow.Author.Needs.{needs}
 use Rattle.molfile.specs.Work.{lows}
 use Rattle.molfile.proofs.Lows.{narrow-more, narrow-all}
-use Rattle.molfile.proofs.narrow.Statement.{statement}
-use Rattle.molfile.proofs.narrow.Tie as tie
+use Rattle.blockfile.proofs.narrow.Statement.{statement}
+use Rattle.blockfile.proofs.narrow.Tie as tie
 
 abbrev Inv-loop : tie.InvT-loop
 Inv-loop xs out₀ i₀ out i = (i ≤ length xs) × (length out ≡ length out₀) × (out ≡ sets out₀ 0 (take i (lows xs)))

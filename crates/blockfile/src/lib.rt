@@ -1,0 +1,78 @@
+// A molfile read as a block.
+ghost use mathlib.Core.Path.{_≡_};
+ghost use Prim.Native.Nat.{_%_, _≤_};
+ghost use lib.ListN.{length};
+ghost use lib.Seq.{sets};
+ghost use Rattle.molfile.specs.Molfile.{molfileReply};
+ghost use Rattle.molfile.specs.Said.{saidAnswer, saidMolfile, filledBonds, molfileBytes};
+ghost use Rattle.molfile.specs.Work.{answerReply, lows};
+use molfile::Counts;
+use molfile::KeptRead;
+use molfile::MolRead;
+use molfile::PAIRS;
+use molfile::kept_bonds;
+use reply::Refusal;
+use reply::Reply;
+
+// The answer for a block: its refusals, 9 for a lent output too short, or its bytes.
+fn answer(n: usize, xs: &[u8], out: &mut [u8]) -> MolRead
+    ensures reply { λ r. ⌜ r ≡ saidAnswer n (now (xs .entry)) (answerReply n (now (xs .entry)) (length (now (out .entry)))) ⌝ }
+    ensures bytes { λ _. ⌜
+        now (out .exit) ≡ filledBonds (answerReply n (now (xs .entry)) (length (now (out .entry)))) (now (xs .entry)) (now (out .entry))
+        ⌝ }
+{
+    let reply = block::check(n, xs);
+    match reply {
+        Reply::Refused(r) => MolRead::Refused(r),
+        Reply::Fine => {
+            if out.len() < xs.len() {
+                return MolRead::Refused(Refusal {
+                    number: 9,
+                    place: 0,
+                });
+            }
+            text::put(out, 0, xs);
+            MolRead::Block(Counts {
+                atoms: n,
+                bonds: xs.len() / 2,
+            })
+        }
+    }
+}
+
+fn low(x: u16) -> u8
+    ensures { λ r. ⌜ r ≡ x % 256 ⌝ }
+{
+    (x % 256) as u8
+}
+
+// The last byte of each number, at the front of what is lent.
+fn narrow(xs: &[u16], out: &mut [u8])
+    requires { ⌜ length (now xs) ≤ length (now out) ⌝ }
+    ensures { λ _. ⌜ now (out .exit) ≡ sets (now (out .entry)) 0 (lows (now (xs .entry))) ⌝ }
+{
+    let mut i: usize = 0;
+    while i < xs.len() {
+        out[i] = low(xs[i]);
+        i += 1;
+    }
+}
+
+// Reads a molfile as a block: how many atoms and bonds it has, its bonds at the front of the lent output, two bytes each, and later bytes stay. Or it is a
+// refusal, and no byte changes: 25 to 27 of its lines in file order, the block's over the kept bonds, then 9 where fewer bytes are lent than these take.
+pub fn read(text: &[u8], out: &mut [u8]) -> MolRead
+    ensures reply { λ r. ⌜ r ≡ saidMolfile (now (text .entry)) (molfileReply (now (text .entry)) (length (now (out .entry)))) ⌝ }
+    ensures bytes { λ _. ⌜ now (out .exit) ≡ molfileBytes (now (text .entry)) (now (out .entry)) ⌝ }
+{
+    let mut pairs = [0u16; PAIRS];
+    let seen = kept_bonds(text, &mut pairs);
+    match seen {
+        KeptRead::Refused(r) => MolRead::Refused(r),
+        KeptRead::Of(k) => {
+            let numbers = k.numbers;
+            let mut bytes = [0u8; PAIRS];
+            narrow(&pairs[..numbers], &mut bytes);
+            answer(k.atoms, &bytes[..numbers], out)
+        }
+    }
+}
