@@ -3,7 +3,6 @@ ghost use Prim.Native.Nat.{_≤_};
 ghost use lib.ListN.{length};
 use crate::libraries;
 use crate::typed;
-use block::DistanceReply;
 use judging::SheetWritten;
 use lines::row;
 use lines::row::FAR;
@@ -22,11 +21,7 @@ fn apart(deck: &[u8], row: Row) -> Row {
     let i = row.first(1, FAR);
     let l = row.first(2, FAR);
     let j = row.first(3, FAR);
-    let reply = climb::placed_distance(deck, k, i, l, j);
-    match reply {
-        DistanceReply::Refused(r) => told::refusal(r),
-        DistanceReply::Of(d) => told::one(d),
-    }
+    told::apart(climb::placed_distance(deck, k, i, l, j))
 }
 
 // The first bytes of a buffer are lent.

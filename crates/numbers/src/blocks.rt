@@ -4,52 +4,16 @@ ghost use lib.ListN.{length};
 use crate::values;
 use crate::written;
 use balaban::BalabanReply;
-use block::DistanceReply;
-use block::OneRow;
-use block::VertexReply;
 use half::PAIRS;
 use lines::row::FAR;
 use lines::row::Row;
 use lines::row::STAYS;
 use lines::told;
-use reply::Reply;
 use reply::wide;
 use sets::SetsReply;
 use shares::BONDS;
 use shares::SharesReply;
 use szeged::SzegedReply;
-
-// Nothing, or refused.
-fn of_reply(reply: Reply) -> Row {
-    match reply {
-        Reply::Refused(r) => told::refusal(r),
-        Reply::Fine => told::nothing(),
-    }
-}
-
-fn around(a: VertexReply) -> Row {
-    match a {
-        VertexReply::Refused(r) => told::refusal(r),
-        VertexReply::Of(x) => {
-            told::entries(&[x.sum, x.even, x.odd, x.evens, x.odds, x.ones, x.twos])
-        }
-    }
-}
-
-fn farthest(seen: OneRow) -> Row {
-    let reply = seen.reply;
-    match reply {
-        Reply::Refused(r) => told::refusal(r),
-        Reply::Fine => told::one(wide(seen.largest)),
-    }
-}
-
-fn apart(a: DistanceReply) -> Row {
-    match a {
-        DistanceReply::Refused(r) => told::refusal(r),
-        DistanceReply::Of(d) => told::one(d),
-    }
-}
 
 // The first entries of a buffer are lent.
 fn contributed(n: usize, bonds: &[u8], out: &mut [u64], lent: usize) -> SharesReply
@@ -111,9 +75,9 @@ fn got(i: usize, j: usize, d: u8) -> Row {
 // Of no number, or of an atom.
 fn of_atom(letter: u8, n: usize, bonds: &[u8], atom: usize) -> Row {
     match letter {
-        b'c' => of_reply(block::check(n, bonds)),
-        b'v' => around(block::vertex_sums(n, bonds, atom)),
-        b'r' => farthest(block::row(n, bonds, atom)),
+        b'c' => told::of_reply(block::check(n, bonds)),
+        b'v' => told::around(block::vertex_sums(n, bonds, atom)),
+        b'r' => told::farthest(block::row(n, bonds, atom)),
         b'j' => balaban(balaban::index(n, bonds)),
         b'h' => sets(sets::count_from(n, bonds, atom)),
         _ => szeged(letter, n, bonds),
@@ -124,7 +88,7 @@ fn reply_to(letter: u8, n: usize, bonds: &[u8], row: Row) -> Row {
     let i = row.first(0, FAR);
     let j = row.first(1, FAR);
     match letter {
-        b'a' => apart(block::distance(n, bonds, i, j)),
+        b'a' => told::apart(block::distance(n, bonds, i, j)),
         b'd' | b'e' => shared(letter, n, bonds, row.first(0, BONDS)),
         b'g' => got(i, j, row.first(2, FAR) as u8),
         _ => of_atom(letter, n, bonds, i),
