@@ -3,8 +3,12 @@ use crate::row::MOST;
 use crate::row::Row;
 use block::Indices;
 use block::IndicesReply;
+use block::OneRow;
+use block::VertexReply;
 use reply::NumberReply;
 use reply::Refusal;
+use reply::Reply;
+use reply::wide;
 
 pub fn nothing() -> Row {
     Row::none()
@@ -31,7 +35,7 @@ pub fn bytes(xs: &[u8]) -> Row {
     let mut values = [0u64; MOST];
     let mut i = 0;
     while i < xs.len() && i < MOST {
-        values[i] = reply::wide(xs[i]);
+        values[i] = wide(xs[i]);
         i += 1;
     }
     Row {
@@ -89,3 +93,27 @@ pub fn indices(letter: u8, m: IndicesReply) -> Row {
         IndicesReply::Of(x) => of_fields(letter, x),
     }
 }
+
+// Nothing, or refused.
+pub fn of_reply(reply: Reply) -> Row {
+    match reply {
+        Reply::Refused(r) => refusal(r),
+        Reply::Fine => nothing(),
+    }
+}
+
+pub fn around(a: VertexReply) -> Row {
+    match a {
+        VertexReply::Refused(r) => refusal(r),
+        VertexReply::Of(x) => { entries(&[x.sum, x.even, x.odd, x.evens, x.odds, x.ones, x.twos]) }
+    }
+}
+
+pub fn farthest(seen: OneRow) -> Row {
+    let reply = seen.reply;
+    match reply {
+        Reply::Refused(r) => refusal(r),
+        Reply::Fine => one(wide(seen.largest)),
+    }
+}
+

@@ -3,43 +3,15 @@ ghost use Prim.Native.Nat.{_≤_};
 ghost use lib.ListN.{length};
 use crate::values;
 use crate::written;
-use block::OneRow;
-use block::VertexReply;
 use half::PAIRS;
 use lines::row::FAR;
 use lines::row::Row;
 use lines::row::STAYS;
 use lines::told;
 use reply::NumberReply;
-use reply::Reply;
 use reply::wide;
 use sets::SetsReply;
 use shares::BONDS;
-
-// Nothing, or refused.
-fn of_reply(reply: Reply) -> Row {
-    match reply {
-        Reply::Refused(r) => told::refusal(r),
-        Reply::Fine => told::nothing(),
-    }
-}
-
-fn around(a: VertexReply) -> Row {
-    match a {
-        VertexReply::Refused(r) => told::refusal(r),
-        VertexReply::Of(x) => {
-            told::entries(&[x.sum, x.even, x.odd, x.evens, x.odds, x.ones, x.twos])
-        }
-    }
-}
-
-fn farthest(seen: OneRow) -> Row {
-    let reply = seen.reply;
-    match reply {
-        Reply::Refused(r) => told::refusal(r),
-        Reply::Fine => told::one(wide(seen.largest)),
-    }
-}
 
 // The first entries of a buffer are lent.
 fn contributed(n: usize, bonds: &[u8], out: &mut [u64], lent: usize) -> NumberReply
@@ -88,9 +60,9 @@ fn got(i: usize, j: usize, d: u8) -> Row {
 // Of no number, or of an atom.
 fn of_atom(letter: u8, n: usize, bonds: &[u8], atom: usize) -> Row {
     match letter {
-        b'c' => of_reply(block::check(n, bonds)),
-        b'v' => around(block::vertex_sums(n, bonds, atom)),
-        b'r' => farthest(block::row(n, bonds, atom)),
+        b'c' => told::of_reply(block::check(n, bonds)),
+        b'v' => told::around(block::vertex_sums(n, bonds, atom)),
+        b'r' => told::farthest(block::row(n, bonds, atom)),
         b'j' => told::number(balaban::index(n, bonds)),
         b'h' => sets(sets::count_from(n, bonds, atom)),
         _ => szeged(letter, n, bonds),
