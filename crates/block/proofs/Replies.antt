@@ -12,7 +12,6 @@ use Rattle.block.specs.Block.{mostAtoms, mostBytes, bondsOf, graphOf, bo
 use Rattle.block.specs.Drawn.{drawn-is}
 use Rattle.block.specs.Near.{ShowsGraph, Drawing, Admitting}
 use Rattle.block.specs.Opened.{drawnNear}
-use Rattle.block.specs.Rows.{noRow}
 use Rattle.block.specs.Told.{block-drawn, drawn-refused}
 use Rattle.block.specs.declared.Opened.{Opened}
 use Rattle.reply.specs.declared.Refusal.{Refusal}
@@ -71,10 +70,10 @@ module _ (n : ℕ) (xs : List ℕ) where
   reply-apart e c = rw (block-drawn n xs, said-fine (drawnReply n xs) e, c)
 
   -- the neighbours beside the reply
-  pub near-refused : (f : Refusal) → replies (Refused f) → noRow ≡ drawnNear n xs
+  pub near-refused : (old : List ℕ) (f : Refusal) → replies (Refused f) → old ≡ drawnNear n xs old
   unfolding drawnNear
-  near-refused f e = rw (said-refused (drawnReply n xs) f e, drawnNear)
+  near-refused old f e = rw (said-refused (drawnReply n xs) f e, drawnNear)
 
-  pub near-fine : (near : List ℕ) → replies Fine → ShowsGraph (graphOf n xs) near → near ≡ drawnNear n xs
+  pub near-fine : (old near : List ℕ) → replies Fine → ShowsGraph (graphOf n xs) near → near ≡ drawnNear n xs old
   unfolding drawnNear
-  near-fine near e D = rw (said-fine (drawnReply n xs) e, drawnNear) (drawn-is (graphOf n xs) near D)
+  near-fine old near e D = rw (said-fine (drawnReply n xs) e, drawnNear) (drawn-is (graphOf n xs) near D)

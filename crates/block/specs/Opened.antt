@@ -25,6 +25,13 @@ abbrev pub saidOpened : Read (List ℕ) → Opened
 saidOpened (refused r) = record { reply = Refused r; near = noRow }
 saidOpened (read near) = record { reply = Fine; near = near }
 
--- what is lent after it was read: the neighbours of a block that 1 to 6 do not refuse, else none
-unfoldable pub drawnNear : ℕ → List ℕ → List ℕ
-drawnNear n xs = saidOpened (drawnReply n xs then λ _. read (neighboursOf (graphOf n xs))) .near
+-- what is lent after it was read: its neighbours, and what it was where the block is refused; the first by 1 to 6 alone
+abbrev pub nearAfter : Read (List ℕ) → List ℕ → List ℕ
+nearAfter (refused r) old = old
+nearAfter (read near) old = near
+
+unfoldable pub drawnNear : ℕ → List ℕ → List ℕ → List ℕ
+drawnNear n xs old = nearAfter (drawnReply n xs then λ _. read (neighboursOf (graphOf n xs))) old
+
+unfoldable pub openedNear : ℕ → List ℕ → List ℕ → List ℕ
+openedNear n xs old = nearAfter (openedReply n xs) old

@@ -19,8 +19,9 @@ module _ (n : ℕ) (xs : List ℕ) where
   pub unique-check : (r s : Reply) → r ≡ saidReply (blockReply n xs) → s ≡ saidReply (blockReply n xs) → r ≡ s
   unique-check r s = unique
 
-  pub unique-drawn : (r s : Reply) (p q : List ℕ) → (r ≡ saidReply (drawnReply n xs)) × (p ≡ drawnNear n xs) → (s ≡ saidReply (drawnReply n xs)) × (q ≡ drawnNear n xs) → (r ≡ s) × (p ≡ q)
-  unique-drawn r s p q x y = (unique (x .0) (y .0), unique (x .1) (y .1))
+  -- the lent neighbours o before
+  pub unique-drawn : (o : List ℕ) (r s : Reply) (p q : List ℕ) → (r ≡ saidReply (drawnReply n xs)) × (p ≡ drawnNear n xs o) → (s ≡ saidReply (drawnReply n xs)) × (q ≡ drawnNear n xs o) → (r ≡ s) × (p ≡ q)
+  unique-drawn o r s p q x y = (unique (x .0) (y .0), unique (x .1) (y .1))
 
   pub unique-neighbours : (r s : Opened) → r ≡ saidOpened (openedReply n xs) → s ≡ saidOpened (openedReply n xs) → r ≡ s
   unique-neighbours r s = unique

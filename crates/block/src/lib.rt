@@ -119,17 +119,17 @@ fn draw(n: usize, bonds: &[u8], near: &mut [u64]) -> Reply
     bonding::build(n, bonds, near)
 }
 
-// Refusals 1 to 6 of a block, and in what is lent its neighbours, none where it is refused: so they are drawn where they are wanted.
+// Refusals 1 to 6 of a block, and in what is lent its neighbours. A refused block changes nothing that is lent.
 pub fn drawn(n: usize, bonds: &[u8], near: &mut Neighbours) -> Reply
     ensures reply { λ r. ⌜ r ≡ saidReply (drawnReply n (now (bonds .entry))) ⌝ }
-    ensures near { λ _. ⌜ now (near .exit) ≡ drawnNear n (now (bonds .entry)) ⌝ }
+    ensures near { λ _. ⌜ now (near .exit) ≡ drawnNear n (now (bonds .entry)) (now (near .entry)) ⌝ }
 {
-    *near = [0u64; ATOMS];
-    let reply = draw(n, bonds, near);
+    let mut sets = [0u64; ATOMS];
+    let reply = draw(n, bonds, &mut sets);
     let Reply::Fine = reply else {
-        *near = [0u64; ATOMS];
         return reply;
     };
+    *near = sets;
     reply
 }
 

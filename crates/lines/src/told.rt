@@ -116,4 +116,3 @@ pub fn farthest(seen: OneRow) -> Row {
         Reply::Fine => one(wide(seen.largest)),
     }
 }
-

@@ -9,7 +9,7 @@ use Rattle.reply.specs.declared.Refusal.{Refusal}
 use Rattle.reply.specs.declared.Reply.the-variants.{Fine, Refused}
 use Rattle.block.specs.Block.{graphOf, blockReply}
 use Rattle.block.specs.Index.{indicesOf, indicesReply, saidIndices}
-use Rattle.block.specs.Opened.{neighboursOf, drawnNear}
+use Rattle.block.specs.Opened.{neighboursOf, openedReply, drawnNear, openedNear}
 use Rattle.block.specs.Told.{fine-drawn}
 use Rattle.block.specs.declared.Indices.{Indices}
 use Rattle.block.specs.declared.IndicesReply.the-variants as measured
@@ -62,7 +62,15 @@ module _ (n : ℕ) (xs : List ℕ) where
       go (refused s) f = absurd (not-refused x s (sym f))
       go (read tt) f = (refl, same (indicesOf (graphOf n xs)) f)
 
-  -- WHAT OPENING TELLS: with the indices come the block's neighbours
-  pub fine-near : blockReply n xs ≡ read tt → drawnNear n xs ≡ neighboursOf (graphOf n xs)
+  -- WHAT OPENING TELLS: with the indices come the block's neighbours; a refusal leaves what is lent
+  pub near-kept : (old : List ℕ) (r : Refusal) → blockReply n xs ≡ refused r → old ≡ openedNear n xs old
+  unfolding openedNear openedReply
+  near-kept old r e = rw (e, openedNear)
+
+  pub fine-near : (old : List ℕ) → blockReply n xs ≡ read tt → openedNear n xs old ≡ neighboursOf (graphOf n xs)
+  unfolding openedNear openedReply
+  fine-near old f = rw (f, openedNear)
+
+  pub near-drawn : (old before : List ℕ) → blockReply n xs ≡ read tt → drawnNear n xs before ≡ openedNear n xs old
   unfolding drawnNear
-  fine-near f = rw (fine-drawn n xs f, drawnNear)
+  near-drawn old before f = rw (fine-drawn n xs f, drawnNear) (sym (fine-near old f))

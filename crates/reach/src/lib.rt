@@ -16,7 +16,7 @@ ghost use Rattle.reply.specs.Read.{read};
 ghost use Rattle.block.specs.Block.{mostAtoms, graphOf, drawnReply};
 ghost use Rattle.block.specs.Index.{indicesReply, saidIndices};
 ghost use Rattle.block.specs.Near.{around};
-ghost use Rattle.block.specs.Opened.{drawnNear};
+ghost use Rattle.block.specs.Opened.{drawnNear, openedNear};
 ghost use Rattle.half.specs.Half.{table};
 ghost use Rattle.reach.specs.Sums.{sumsReply, saidSums};
 ghost use Rattle.reach.specs.Reach.{Own, Reach, LowSums, fartherOf, Room, Added, Reached};
@@ -178,10 +178,10 @@ fn summed(n: usize, bonds: &[u8], k: usize, reached: &mut [u64]) -> IndicesReply
     })
 }
 
-// A block that is opened, its bonds read once: its indices or its refusal, and in what is lent what `block::drawn` says, its neighbours.
-pub fn opened(n: usize, bonds: &[u8], near: &mut Neighbours) -> IndicesReply
+// The indices of a block, or its refusal; and lent what `block::drawn` says.
+fn indices(n: usize, bonds: &[u8], near: &mut Neighbours) -> IndicesReply
     ensures reply { λ r. ⌜ r ≡ saidIndices (indicesReply n (now (bonds .entry))) ⌝ }
-    ensures near { λ _. ⌜ now (near .exit) ≡ drawnNear n (now (bonds .entry)) ⌝ }
+    ensures near { λ _. ⌜ now (near .exit) ≡ drawnNear n (now (bonds .entry)) (now (near .entry)) ⌝ }
 {
     let reply = block::drawn(n, bonds, near);
     match reply {
@@ -198,7 +198,23 @@ pub fn measure(n: usize, bonds: &[u8]) -> IndicesReply
     ensures { λ r. ⌜ r ≡ saidIndices (indicesReply n (now (bonds .entry))) ⌝ }
 {
     let mut near = [0u64; ATOMS];
-    opened(n, bonds, &mut near)
+    indices(n, bonds, &mut near)
+}
+
+// A block that is opened, its bonds read once: its indices, and in what is lent its neighbours; or its refusal, which changes nothing that is lent.
+pub fn opened(n: usize, bonds: &[u8], near: &mut Neighbours) -> IndicesReply
+    ensures reply { λ r. ⌜ r ≡ saidIndices (indicesReply n (now (bonds .entry))) ⌝ }
+    ensures near { λ _. ⌜ now (near .exit) ≡ openedNear n (now (bonds .entry)) (now (near .entry)) ⌝ }
+{
+    let mut sets = [0u64; ATOMS];
+    let reply = indices(n, bonds, &mut sets);
+    match reply {
+        IndicesReply::Refused(refusal) => IndicesReply::Refused(refusal),
+        IndicesReply::Of(x) => {
+            *near = sets;
+            IndicesReply::Of(x)
+        }
+    }
 }
 
 // What is left of so many levels of n atoms each, for each of the n atoms: a distance is how many levels an atom was not within reach.

@@ -4,6 +4,9 @@ use Rattle.block.proofs.Replies.{near-refused, near-fine}
 use Rattle.block.proofs.drawn.Statement.{statement}
 use Rattle.block.proofs.drawn.Tie as tie
 
+slice-aggregate-draw : tie.Need-slice-aggregate-draw
+slice-aggregate-draw c = search needs
+
 draw-requires : tie.Need-draw-requires
 draw-requires c κs = refl
 
@@ -15,16 +18,15 @@ enum-told-2 c = search needs
 
 returns : tie.Need-returns
 returns c =
-    let t = c .before in
-    let e = t .enum-told2 .given .1 in
-    let r = t .before .before .draw .ensures .replied in
-    (r, near-refused _ _ _ (sym e ∙ r))
+    let e = c .enum-told2 .given .1 in
+    let r = c .before .before .before .draw .ensures .replied in
+    (r, near-refused _ _ _ _ (sym e ∙ r))
 
 returns-2 : tie.Need-returns-2
 returns-2 c =
     let e = c .enum-told .given .1 in
-    let d = c .before .before .draw .ensures in
-    (d .replied, near-fine _ _ _ (sym e ∙ d .replied) (d .drawn e))
+    let d = c .before .before .before .draw .ensures in
+    (d .replied, near-fine _ _ _ _ (sym e ∙ d .replied) (d .drawn e))
 
 pub drawn-spec : {M : Type 1} → statement M
-drawn-spec = tie.close (tie.spec draw-requires enum-told enum-told-2 returns returns-2)
+drawn-spec = tie.close (tie.spec slice-aggregate-draw draw-requires enum-told enum-told-2 returns returns-2)

@@ -57,7 +57,7 @@ returns-3 c =
     let e = reply-fine (a .n) (a .bonds .now) f (length (a .out .now)) (omega (arith, i .if1 .left)) in (
       sym (ap saidReply e),
       bytes-put (a .n) (a .bonds .now) (a .number) (a .out .now) e
-          (all-put (a .n) (a .bonds .now) f (a .out .now) (a .number) _ x (c .before .before .before .before .before .before .before .put-head .ensures) _ (o .opened .ensures .1 ∙ fine-near (a .n) (a .bonds .now) f) (c .before .before .put-atoms .ensures)),
+          (all-put (a .n) (a .bonds .now) f (a .out .now) (a .number) _ x (c .before .before .before .before .before .before .before .put-head .ensures) _ (o .opened .ensures .1 ∙ fine-near (a .n) (a .bonds .now) _ f) (c .before .before .put-atoms .ensures)),
     )
 
 pub fill-spec : {M : Type 1} → statement M
