@@ -1,5 +1,5 @@
--- Definitions. Two parts joined by a bond, for any numbers: those that no assembly comes near count as the largest.
-use Prim.Native.Nat.{ℕ, min}
+-- Definitions. Two parts joined by a bond, for any numbers: of those that no assembly comes near the lowest binary digits count.
+use Prim.Native.Nat.{ℕ, _+_, _%_}
 use Rattle.joining.specs.Parts.{grow, joinSix}
 use Rattle.block.specs.declared.Indices.{Indices}
 use Rattle.block.specs.declared.Vertex.{Vertex}
@@ -11,31 +11,31 @@ mostCounted = 536870911
 abbrev pub mostField : ℕ
 mostField = 1152921504606846975
 
-unfoldable pub cutCounts : Vertex → Vertex
+abbrev pub cutCounts : Vertex → Vertex
 cutCounts v = record {
-  sum = min (v .sum) mostCounted;
-  even = min (v .even) mostCounted;
-  odd = min (v .odd) mostCounted;
-  evens = min (v .evens) mostCounted;
-  odds = min (v .odds) mostCounted;
-  ones = min (v .ones) mostCounted;
-  twos = min (v .twos) mostCounted;
-  farthest = min (v .farthest) mostCounted;
+  sum = v .sum % (mostCounted + 1);
+  even = v .even % (mostCounted + 1);
+  odd = v .odd % (mostCounted + 1);
+  evens = v .evens % (mostCounted + 1);
+  odds = v .odds % (mostCounted + 1);
+  ones = v .ones % (mostCounted + 1);
+  twos = v .twos % (mostCounted + 1);
+  farthest = v .farthest % (mostCounted + 1);
 }
 
-unfoldable pub cutFields : Indices → Indices
+abbrev pub cutFields : Indices → Indices
 cutFields x = record {
-  atoms = min (x .atoms) mostField;
-  w = min (x .w) mostField;
-  even = min (x .even) mostField;
-  odd = min (x .odd) mostField;
-  polarity = min (x .polarity) mostField;
-  largest = min (x .largest) mostField;
+  atoms = x .atoms % (mostField + 1);
+  w = x .w % (mostField + 1);
+  even = x .even % (mostField + 1);
+  odd = x .odd % (mostField + 1);
+  polarity = x .polarity % (mostField + 1);
+  largest = x .largest % (mostField + 1);
 }
 
 -- what an atom counts, and the six fields, once two are joined
 unfoldable pub grownOf : Vertex → ℕ → Vertex → Vertex
-grownOf v d o = grow (cutCounts v) (min d mostCounted) (cutCounts o)
+grownOf v d o = grow (cutCounts v) (d % (mostCounted + 1)) (cutCounts o)
 
 unfoldable pub joinedOf : Indices → Indices → Vertex → Vertex → Indices
 joinedOf x y c o = joinSix (cutFields x) (cutFields y) (cutCounts c) (cutCounts o)

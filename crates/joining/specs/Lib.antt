@@ -7,7 +7,7 @@
 -- | `Told`, `Fits`               | what is kept is what a table says; a placement is joined to an earlier one | `whole`: composing sums over all pairs |
 -- | `SmallSight`, `SmallPart`    | numbers of a byte or two, composed, stay small                             | `sight-held`, `six-held`               |
 -- | `grownOf`, `joinedOf`        | the joining rules, large numbers cut down                                  | `grown-small`, `joined-small`          |
--- | `SmallCounts`, `SmallFields` | numbers that are not cut down                                              | `counted-small`, `held-room`           |
+-- | `SmallCounts`, `SmallFields` | numbers that are not cut down                                              | `grown-small`, `joined-small`          |
 pub mod Parts
 pub mod Joining
 pub mod Table

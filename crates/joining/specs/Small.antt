@@ -1,6 +1,7 @@
 -- Work. Numbers that are not cut down: there joining is by the rules themselves.
-use Prim.Native.Nat.{ℕ, _^_, _≤_, min}
+use Prim.Native.Nat.{ℕ, _+_, _%_, _^_, _≤_}
 use mathlib.Core.Path.{_≡_, ap₂}
+use native.Mathlib.Nat.{mod-eq-of-lt}
 use native.Mathlib.Omega.{arith}
 use Rattle.joining.specs.Parts.{grow, joinSix}
 use Rattle.block.specs.declared.Indices.{Indices}
@@ -33,24 +34,14 @@ pub record SmallFields (x : Indices) : Type 0 where
   pub polarity : x .polarity ≤ mostField
   pub largest : x .largest ≤ mostField
 
--- what is cut down is small, and what is small stays as it is
-pub counted-small : (v : Vertex) → SmallCounts (cutCounts v)
-unfolding cutCounts
-counted-small v = record { sum = omega arith; even = omega arith; odd = omega arith; evens = omega arith; odds = omega arith; ones = omega arith; twos = omega arith; farthest = omega arith }
-
-pub held-room : (x : Indices) → SmallFields (cutFields x)
-unfolding cutFields
-held-room x = record { atoms = omega arith; w = omega arith; even = omega arith; odd = omega arith; polarity = omega arith; largest = omega arith }
-
-whole : {a n : ℕ} → a ≤ n → min a n ≡ a
-whole h = omega arith
+-- what is small stays as it is
+whole : {a n : ℕ} → a ≤ n → a % (n + 1) ≡ a
+whole h = mod-eq-of-lt (omega arith)
 
 small-counted : {v : Vertex} → SmallCounts v → cutCounts v ≡ v
-unfolding cutCounts
 small-counted s = rw (whole (s .sum), whole (s .even), whole (s .odd), whole (s .evens), whole (s .odds), whole (s .ones), whole (s .twos), whole (s .farthest))
 
 room-held : {x : Indices} → SmallFields x → cutFields x ≡ x
-unfolding cutFields
 room-held r = rw (whole (r .atoms), whole (r .w), whole (r .even), whole (r .odd), whole (r .polarity), whole (r .largest))
 
 pub grown-small : {v o : Vertex} {d : ℕ} → SmallCounts v → d ≤ mostCounted → SmallCounts o → grownOf v d o ≡ grow v d o

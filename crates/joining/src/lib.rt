@@ -1,24 +1,19 @@
-// What is counted from an atom, and the six fields, as they grow when two are joined by a bond. For any numbers: larger ones than can be are cut down.
+// What is counted from an atom, and the six fields, as they grow when two are joined by a bond. For any numbers: of larger ones than
+// can be the lowest binary digits count.
 use block::Indices;
 use block::Vertex;
 use reply::larger;
 ghost use mathlib.Core.Path.{_≡_};
-ghost use Prim.Native.Nat.{_+_, _*_, _^_, _<_, _≤_, min};
+ghost use Prim.Native.Nat.{_+_, _*_, _^_, _<_, _≤_};
 ghost use Rattle.graph.specs.Graph.{isAt};
 ghost use Rattle.joining.specs.Parts.{beyond, both, joinSix};
 ghost use Rattle.joining.specs.Joining.{mostCounted, mostField, cutCounts, cutFields, grownOf, joinedOf};
 ghost use Rattle.joining.specs.Small.{SmallCounts, Low, SmallFields};
 
-// The largest number that is counted from an atom, and the largest field: 2^29 - 1 and 2^60 - 1.
-const MOST_COUNTED: u64 = 536870911;
+// The digits that count, 29 of a number that is counted from an atom and 60 of a field: 2^29 and 2^60.
+const COUNTED: u64 = 536870912;
 
-const MOST_FIELD: u64 = 1152921504606846975;
-
-fn smaller(a: u64, b: u64) -> u64
-    ensures { λ r. ⌜ r ≡ min a b ⌝ }
-{
-    if a < b { a } else { b }
-}
+const FIELD: u64 = 1152921504606846976;
 
 fn times(a: u64, b: u64) -> u64
     requires { ⌜ (a ≤ 2 ^ 29) × (b ≤ 2 ^ 29) ⌝ }
@@ -38,14 +33,14 @@ fn cut(v: Vertex) -> Vertex
     ensures { λ r. ⌜ (r ≡ cutCounts v) × SmallCounts r ⌝ }
 {
     Vertex {
-        sum: smaller(v.sum, MOST_COUNTED),
-        even: smaller(v.even, MOST_COUNTED),
-        odd: smaller(v.odd, MOST_COUNTED),
-        evens: smaller(v.evens, MOST_COUNTED),
-        odds: smaller(v.odds, MOST_COUNTED),
-        ones: smaller(v.ones, MOST_COUNTED),
-        twos: smaller(v.twos, MOST_COUNTED),
-        farthest: smaller(v.farthest, MOST_COUNTED),
+        sum: v.sum % COUNTED,
+        even: v.even % COUNTED,
+        odd: v.odd % COUNTED,
+        evens: v.evens % COUNTED,
+        odds: v.odds % COUNTED,
+        ones: v.ones % COUNTED,
+        twos: v.twos % COUNTED,
+        farthest: v.farthest % COUNTED,
     }
 }
 
@@ -53,12 +48,12 @@ fn cut_fields(x: Indices) -> Indices
     ensures { λ r. ⌜ (r ≡ cutFields x) × SmallFields r ⌝ }
 {
     Indices {
-        atoms: smaller(x.atoms, MOST_FIELD),
-        w: smaller(x.w, MOST_FIELD),
-        even: smaller(x.even, MOST_FIELD),
-        odd: smaller(x.odd, MOST_FIELD),
-        polarity: smaller(x.polarity, MOST_FIELD),
-        largest: smaller(x.largest, MOST_FIELD),
+        atoms: x.atoms % FIELD,
+        w: x.w % FIELD,
+        even: x.even % FIELD,
+        odd: x.odd % FIELD,
+        polarity: x.polarity % FIELD,
+        largest: x.largest % FIELD,
     }
 }
 
@@ -121,7 +116,7 @@ fn with(v: Vertex, w: Vertex) -> Vertex
 pub fn grown(v: Vertex, d: u64, o: Vertex) -> Vertex
     ensures { λ r. ⌜ r ≡ grownOf v d o ⌝ }
 {
-    with(cut(v), farther(smaller(d, MOST_COUNTED), cut(o)))
+    with(cut(v), farther(d % COUNTED, cut(o)))
 }
 
 // The even distances across the joining bond: c is counted from one end, the four numbers from the other. With even and odd exchanged there, the odd ones.

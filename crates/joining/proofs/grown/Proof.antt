@@ -9,9 +9,6 @@ use Rattle.joining.proofs.grown.Tie as tie
 cut-requires : tie.Need-cut-requires
 cut-requires c κs = search needs
 
-smaller-requires : tie.Need-smaller-requires
-smaller-requires c κs = search needs
-
 cut-requires-2 : tie.Need-cut-requires-2
 cut-requires-2 c κs = search needs
 
@@ -23,9 +20,9 @@ with-requires c κs = search needs
 
 returns : tie.Need-returns
 unfolding grownOf grow
-returns c = rw (c .with .ensures, c .before .farther .ensures .0, c .before .before .cut2 .ensures .0, c .before .before .before .smaller .ensures, c .before .before .before .before .cut .ensures .0) refl
+returns c = rw (c .with .ensures, c .before .farther .ensures .0, c .before .before .cut2 .ensures .0, c .before .before .before .cut .ensures .0) refl
 
 pub grown-spec : {M : Type 1} → statement M
 grown-spec =
     tie.close
-    (tie.spec cut-requires smaller-requires cut-requires-2 farther-requires with-requires returns)
+    (tie.spec cut-requires cut-requires-2 farther-requires with-requires returns)
