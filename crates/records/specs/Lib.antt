@@ -9,6 +9,7 @@
 -- | `recordReply kinds d at`   | refusals 11, 12, 13 of the record at a place                                  | `taken`: what holds of a record that is taken |
 pub mod Bytes
 pub mod Records
+pub mod Words
 pub mod Stored
 pub mod Taken
 pub mod Longer

@@ -1,19 +1,19 @@
 // Bytes, little-endian numbers and records: refusals 11 to 13.
 mod little;
 
+pub use little::little_at;
 pub use little::put_little;
 ghost use mathlib.Core.Bool.{not};
 ghost use mathlib.Core.Path.{_≡_};
 ghost use mathlib.Core.List.{[], _∷_};
-ghost use Prim.Native.Nat.{_+_, _≤_, min};
+ghost use Prim.Native.Nat.{_+_, _≤_};
 ghost use lib.Dec.{eqb};
 ghost use lib.ListN.{length};
 ghost use Rattle.reply.specs.Read.{saidReply};
-ghost use Rattle.records.specs.Bytes.{byteAt, little, le16, PartOf};
+ghost use Rattle.records.specs.Bytes.{byteAt, le16, PartOf};
 ghost use Rattle.records.specs.Records.{headBytes, lengthAt, sheetKind, sheetAt, wanted, isWrong, lengthReply, recordReply};
 use reply::Refusal;
 use reply::Reply;
-use reply::wide;
 
 // The bytes of a record's head: payload length and kind.
 pub const HEAD: usize = 4;
@@ -92,28 +92,6 @@ pub fn le16_at(d: &[u8], at: usize) -> u16
         return (byte_at(d, at) as u16) + 256 * (byte_at(d, at + 1) as u16);
     }
     0
-}
-
-fn up_to_eight(width: usize) -> usize
-    ensures { λ r. ⌜ r ≡ min width 8 ⌝ }
-{
-    if width < 8 { width } else { 8 }
-}
-
-// The little-endian number of some bytes at a place, at most eight of them: the last byte first, which weighs most.
-pub fn little_at(d: &[u8], at: usize, width: usize) -> u64
-    ensures { λ r. ⌜ r ≡ little (min width 8) (now (d .entry)) at ⌝ }
-{
-    if d.len() <= at {
-        return 0;
-    }
-    let mut n: u64 = 0;
-    let mut k = up_to_eight(width);
-    while 0 < k {
-        k -= 1;
-        n = 256 * n + wide(byte_at(d, at + k));
-    }
-    n
 }
 
 // The len bytes from a place on, fewer where the slice ends.

@@ -1,10 +1,14 @@
-// Numbers put into lent bytes. One of four or eight bytes that are there is told in bytes, one behind the other, so that they are stored at once.
+// Numbers put into lent bytes and read there. One of four or eight bytes that are there is told in bytes, one behind the other with no test between two, so that
+// they are stored or read at once.
 ghost use mathlib.Core.Bool.{true};
 ghost use mathlib.Core.Path.{_≡_};
-ghost use Prim.Native.Nat.{_+_, _%_, _≤_, _<_};
+ghost use Prim.Native.Nat.{_+_, _*_, _%_, _^_, _≤_, _<_, min};
 ghost use lib.ListN.{length, set};
 ghost use lib.Seq.{sets};
-ghost use Rattle.records.specs.Bytes.{littleBytes};
+ghost use Rattle.records.specs.Bytes.{little, littleBytes};
+ghost use Rattle.records.specs.Words.{fourAt};
+use super::byte_at;
+use reply::wide;
 
 fn low(x: u64) -> u8
     ensures { λ r. ⌜ r ≡ x % 256 ⌝ }
@@ -84,4 +88,53 @@ pub fn put_little(out: &mut [u8], at: usize, width: usize, n: u64)
         return;
     }
     put_bytes(out, at, width, n);
+}
+
+fn get4(d: &[u8], at: usize) -> u64
+    requires { ⌜ at + 4 ≤ length (now d) ⌝ }
+    ensures { λ r. ⌜ (r ≡ fourAt (now (d .entry)) at) × (r < 2 ^ 32) ⌝ }
+{
+    wide(d[at]) + 256 * wide(d[at + 1]) + 65536 * wide(d[at + 2]) + 16777216 * wide(d[at + 3])
+}
+
+fn get8(d: &[u8], at: usize) -> u64
+    requires { ⌜ at + 8 ≤ length (now d) ⌝ }
+    ensures { λ r. ⌜ r ≡ fourAt (now (d .entry)) at + 4294967296 * fourAt (now (d .entry)) (at + 4) ⌝ }
+{
+    get4(d, at) + 4294967296 * get4(d, at + 4)
+}
+
+fn up_to_eight(width: usize) -> usize
+    ensures { λ r. ⌜ r ≡ min width 8 ⌝ }
+{
+    if width < 8 { width } else { 8 }
+}
+
+// Byte by byte: the last first, which weighs most.
+fn get_bytes(d: &[u8], at: usize, width: usize) -> u64
+    ensures { λ r. ⌜ r ≡ little (min width 8) (now (d .entry)) at ⌝ }
+{
+    if d.len() <= at {
+        return 0;
+    }
+    let mut n: u64 = 0;
+    let mut k = up_to_eight(width);
+    while 0 < k {
+        k -= 1;
+        n = 256 * n + wide(byte_at(d, at + k));
+    }
+    n
+}
+
+// The little-endian number of some bytes at a place, at most eight of them.
+pub fn little_at(d: &[u8], at: usize, width: usize) -> u64
+    ensures { λ r. ⌜ r ≡ little (min width 8) (now (d .entry)) at ⌝ }
+{
+    if is_whole(d.len(), at, width, 8) {
+        return get8(d, at);
+    }
+    if is_whole(d.len(), at, width, 4) {
+        return get4(d, at);
+    }
+    get_bytes(d, at, width)
 }

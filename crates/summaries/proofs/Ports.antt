@@ -7,7 +7,8 @@ use lib.Seq.{getD-take, getD-drop}
 use mathlib.Core.Path.{_≡_, sym}
 use native.Mathlib.Omega.{arith}
 use Rattle.graph.specs.Graph.{Within}
-use Rattle.records.specs.Bytes.{little, part}
+use Rattle.records.specs.Bytes.{part}
+use Rattle.records.specs.Words.{little-small}
 use Rattle.assembly.specs.Placements.{mostPlacements}
 use Rattle.block.specs.declared.Indices.{Indices}
 use Rattle.block.specs.declared.Vertex.{Vertex}
@@ -32,16 +33,12 @@ lent-part {b} from n l = record {
 
 -- what a summary says is small
 module _ {s : List ℕ} (lent : LentBytes s) where
-  four : (at : ℕ) → little 4 s at < 2 ^ 32
-  unfolding little
-  four at = omega (arith, lent .byte at, lent .byte (at + 1), lent .byte (at + 1 + 1), lent .byte (at + 1 + 1 + 1))
-
   far-byte : (i j : ℕ) → farAt s i j < 2 ^ 8
   far-byte i j = omega (arith, far-few s i j)
 
   pub fields-bytes : SixBytes (storedFields s)
   unfolding storedFields
-  fields-bytes = record { atoms = omega arith; w = omega (arith, four 4, four 8); even = four 4; odd = four 8; polarity = four 12; largest = lent .byte 3 }
+  fields-bytes = let four = little-small s (lent .byte) 4 in record { atoms = omega arith; w = omega (arith, four 4, four 8); even = four 4; odd = four 8; polarity = four 12; largest = lent .byte 3 }
 
   kept : SmallPart (keptOf s)
   kept = record { six = fields-bytes; sight = vertex-bytes s; far = far-byte }

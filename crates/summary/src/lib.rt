@@ -3,16 +3,16 @@ use block::ATOMS;
 use block::Indices;
 use reach::size;
 use records::byte_at;
-use records::le16_at;
+use records::little_at;
 use records::part;
 use reply::wide;
 use sighted::Seen;
 use sighted::see;
 use sighted::set;
 ghost use mathlib.Core.Path.{_≡_};
-ghost use Prim.Native.Nat.{_*_, _^_, _<_};
+ghost use Prim.Native.Nat.{_*_};
 ghost use Rattle.half.specs.Half.{mostAtoms};
-ghost use Rattle.records.specs.Bytes.{byteAt, little, le16, PartOf};
+ghost use Rattle.records.specs.Bytes.{byteAt, PartOf};
 ghost use Rattle.summary.specs.Layout.{summaryHead, atomBytes, storedAtoms, storedFields, seenAt, storedDegree};
 
 // The bytes of the number, counts and fields that a summary opens with; those of an atom, which are the set of its neighbours; and those of a place for a summary.
@@ -28,19 +28,6 @@ fn byte(s: &[u8], at: usize) -> u64
     wide(byte_at(s, at))
 }
 
-fn two(s: &[u8], at: usize) -> u64
-    ensures { λ r. ⌜ (r ≡ le16 (now (s .entry)) at) × (r < 2 ^ 16) ⌝ }
-{
-    le16_at(s, at) as u64
-}
-
-fn four(s: &[u8], at: usize) -> u64
-    requires { ⌜ at < 2 ^ 16 ⌝ }
-    ensures { λ r. ⌜ (r ≡ little 4 (now (s .entry)) at) × (r < 2 ^ 32) ⌝ }
-{
-    two(s, at) + 65536 * two(s, at + 2)
-}
-
 // Its atoms, at most 64.
 pub fn atoms(s: &[u8]) -> usize
     ensures { λ r. ⌜ r ≡ storedAtoms (now (s .entry)) ⌝ }
@@ -53,14 +40,14 @@ pub fn atoms(s: &[u8]) -> usize
 pub fn fields(s: &[u8]) -> Indices
     ensures { λ r. ⌜ r ≡ storedFields (now (s .entry)) ⌝ }
 {
-    let even = four(s, 4);
-    let odd = four(s, 8);
+    let even = little_at(s, 4, 4);
+    let odd = little_at(s, 8, 4);
     Indices {
         atoms: atoms(s) as u64,
         w: even + odd,
         even,
         odd,
-        polarity: four(s, 12),
+        polarity: little_at(s, 12, 4),
         largest: byte(s, 3),
     }
 }

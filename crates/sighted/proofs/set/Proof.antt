@@ -6,7 +6,7 @@ use Rattle.graph.specs.Graph.{Within}
 use Rattle.reply.specs.Read.{isOutside}
 use Rattle.block.specs.Block.{mostAtoms}
 use Rattle.block.specs.Faults.{inside}
-use Rattle.sighted.proofs.Calls.{set-here}
+use Rattle.sighted.proofs.Looking.{set-here}
 use Rattle.sighted.proofs.set.Statement.{statement}
 use Rattle.sighted.proofs.set.Tie as tie
 

@@ -1,9 +1,5 @@
 -- `put_little` meets its contract.
-use Prim.Native.Nat.{ℕ}
-use mathlib.Core.Path.{sym, _∙_, ap}
-use lib.Seq.{sets}
 use borrow.Author.Needs.{needs}
-use Rattle.records.specs.Bytes.{littleBytes}
 use Rattle.records.proofs.little.put_little.Statement.{statement}
 use Rattle.records.proofs.little.put_little.Tie as tie
 
@@ -17,10 +13,7 @@ same-length : tie.Need-same-length
 same-length c = search needs
 
 returns : tie.Need-returns
-returns c =
-    let i = c .before .before .before .before in
-    let a = i .before .before .before .args in
-    c .before .before .put8 .ensures ∙ ap (λ (w : ℕ). sets (a .out .now) (a .at) (littleBytes w (a .n))) (sym (i .before .is-whole .ensures (i .if1 .taken) .0))
+returns c = let i = c .before .before .before .before in rw (i .before .is-whole .ensures (i .if1 .taken) .0) (c .before .before .put8 .ensures)
 
 is-whole-requires-2 : tie.Need-is-whole-requires-2
 is-whole-requires-2 c κs = search needs
@@ -32,10 +25,7 @@ same-length-2 : tie.Need-same-length-2
 same-length-2 c = search needs
 
 returns-2 : tie.Need-returns-2
-returns-2 c =
-    let i = c .before .before .before .before in
-    let a = i .before .before .before .before .before .args in
-    c .before .before .put4 .ensures ∙ ap (λ (w : ℕ). sets (a .out .now) (a .at) (littleBytes w (a .n))) (sym (i .before .is-whole2 .ensures (i .if2 .taken) .0))
+returns-2 c = let i = c .before .before .before .before in rw (i .before .is-whole2 .ensures (i .if2 .taken) .0) (c .before .before .put4 .ensures)
 
 put-bytes-requires : tie.Need-put-bytes-requires
 put-bytes-requires c κs = search needs

@@ -1,4 +1,4 @@
--- `records::little_at` meets its contract. The loop's invariant: n is the number of the bytes from k on.
+-- `get_bytes` meets its contract. The loop's invariant: n is the number of the bytes from k on.
 use Prim.Native.Nat.{_<_, min}
 use mathlib.Core.Path.{_≡_, sym, _∙_}
 use native.Mathlib.Omega.{arith}
@@ -6,8 +6,8 @@ use borrow.Author.Needs.{needs}
 use lib.ListN.{length}
 use denote.Ref.{now}
 use Rattle.records.proofs.Numbers.{Last, past, none-yet, room, one-before, all-read}
-use Rattle.records.proofs.little_at.Statement.{statement}
-use Rattle.records.proofs.little_at.Tie as tie
+use Rattle.records.proofs.little.get_bytes.Statement.{statement}
+use Rattle.records.proofs.little.get_bytes.Tie as tie
 
 abbrev Inv-loop : tie.InvT-loop
 Inv-loop d at width n₀ k₀ n k = (at < length d) × Last d at (min width 8) k n
@@ -56,8 +56,8 @@ returns-2 c =
     let z : l .k ≡ 0 = omega (arith, c .loop-test .left) in
     all-read (rw z at (l .inv .1))
 
-pub little-at-spec : {M : Type 1} → statement M
-little-at-spec =
+pub get-bytes-spec : {M : Type 1} → statement M
+get-bytes-spec =
     tie.close
     (tie.spec
     Inv-loop
