@@ -4,7 +4,7 @@ use mathlib.Core.Bool.{Bool, true, false, _||_, cond}
 use mathlib.Core.List.{List}
 use mathlib.Core.Path.{_≡_, refl, sym, _∙_, ap}
 use native.Mathlib.Omega.{arith}
-use borrow.Author.Tests.{ne-eqb, eq-eqb, eqb-true, eqb-false, ltb-true, ltb-false}
+use borrow.Author.Tests.{ne-eqb, eqb-true, eqb-false, ltb-true, ltb-false}
 use lib.Dec.{eqb, ltb}
 use Rattle.graph.specs.Assembly.{Join}
 use Rattle.assembly.specs.Placements.{mostPlacements, placementAt, joinOf, joinOn}
@@ -13,7 +13,7 @@ use Rattle.joining.specs.Parts.{Part, farIn}
 use Rattle.joining.specs.Whole.{far-on, far-off}
 use Rattle.joining.specs.Climb.{far-keeps, far-same}
 use Rattle.summaries.specs.Composing.{keptOn}
-use Rattle.climb.specs.Far.{farBy, earlierOf}
+use Rattle.climb.specs.Far.{farOf, farBy, earlierOf}
 
 pub earlier-low : (p k : ℕ) → 1 ≤ k → earlierOf p k < k
 earlier-low p k h = go (eqb p 0) refl (ltb k p) refl
@@ -93,26 +93,25 @@ module _ (parts : ℕ → Part) (joins : ℕ → Join) where
       (led m (joins (suc m) .parent) (joins (suc m) .site) l j
       ∙ sym (far-keeps parts joins n m (earlierOf (joins (suc m) .parent) (suc m)) (joins (suc m) .site) l j (omega arith) (omega (arith, earlier-low (joins (suc m) .parent) (suc m) (omega arith))) (omega arith)))
 
-  step-up : (n k i l j : ℕ) → l ≤ n → k < l → far n k i l j ≡ far n (earlierOf (joins l .parent) l) (joins l .site) k i + 1 + parts l .far (joins l .own) j
-  step-up n k i zero j h q = absurd (omega arith)
-  step-up n k i (suc m) j h q =
-      far-keeps parts joins n (suc m) k i (suc m) j h (omega arith) (omega arith)
-      ∙ far-on parts joins m k i (suc m) j (omega arith) refl
-      ∙ ap (λ (x : ℕ). x + 1 + parts (suc m) .far (joins (suc m) .own) j)
-      (led m (joins (suc m) .parent) (joins (suc m) .site) k i
-      ∙ sym (far-keeps parts joins n m (earlierOf (joins (suc m) .parent) (suc m)) (joins (suc m) .site) k i (omega arith) (omega (arith, earlier-low (joins (suc m) .parent) (suc m) (omega arith))) (omega arith)))
+  turn-round : (n k i l j : ℕ) → l ≤ n → k < l → far n k i l j ≡ far n l j k i
+  turn-round n k i zero j h q = absurd (omega arith)
+  turn-round n k i (suc m) j h q = omega (
+    arith,
+    far-keeps parts joins n (suc m) k i (suc m) j h (omega arith) (omega arith),
+    far-on parts joins m k i (suc m) j (omega arith) refl,
+    far-keeps parts joins n (suc m) (suc m) j k i h (omega arith) (omega arith),
+    far-off parts joins m (suc m) j k i refl (omega arith),
+  )
 
 -- over a book
 module _ (b xs : List ℕ) (k i l j : ℕ) where
-  pub within-one : k < mostPlacements → k ≡ l → farBy b xs k i l j ≡ keptOn b xs k .far i j
-  within-one h e = ap (λ (x : ℕ). farBy b xs k i x j) (sym e) ∙ far-same (keptOn b xs) (joinOn (placementAt xs)) (mostPlacements - 1) k i j (omega arith)
+  pub within-one : k < mostPlacements → k ≡ l → (q : Placement) → q ≡ placementAt xs k → farBy b xs k i l j ≡ farOf b (q .block) i j
+  within-one h e q f = rw f (ap (λ (x : ℕ). farBy b xs k i x j) (sym e) ∙ far-same (keptOn b xs) (joinOn (placementAt xs)) (mostPlacements - 1) k i j (omega arith))
 
   pub from-later : k < mostPlacements → l < k → (q : Placement) → q ≡ placementAt xs k
-      → farBy b xs k i l j ≡ keptOn b xs k .far (q .own) i + 1 + farBy b xs (earlierOf (q .parent) k) (q .site) l j
+      → farBy b xs k i l j ≡ farOf b (q .block) (q .own) i + 1 + farBy b xs (earlierOf (q .parent) k) (q .site) l j
   unfolding joinOf
   from-later h g q e = rw e (step-down (keptOn b xs) (joinOn (placementAt xs)) (mostPlacements - 1) k i l j (omega arith) g)
 
-  pub to-later : l < mostPlacements → k < l → (q : Placement) → q ≡ placementAt xs l
-      → farBy b xs k i l j ≡ farBy b xs (earlierOf (q .parent) l) (q .site) k i + 1 + keptOn b xs l .far (q .own) j
-  unfolding joinOf
-  to-later h g q e = rw e (step-up (keptOn b xs) (joinOn (placementAt xs)) (mostPlacements - 1) k i l j (omega arith) g)
+  pub turned-round : l < mostPlacements → k < l → farBy b xs k i l j ≡ farBy b xs l j k i
+  turned-round h g = turn-round (keptOn b xs) (joinOn (placementAt xs)) (mostPlacements - 1) k i l j (omega arith) g

@@ -9,18 +9,14 @@ use summary::seen;
 ghost use mathlib.Core.Path.{_≡_};
 ghost use Prim.Native.Nat.{_+_, _*_, _<_, max};
 ghost use Rattle.assembly.specs.Placements.{mostPlacements};
-ghost use Rattle.summaries.specs.Composing.{keptOn};
-ghost use Rattle.climb.specs.Far.{earlierOf, farBy, placedFar};
+ghost use Rattle.climb.specs.Far.{farOf, farBy, earlierOf, FirstLeg, placedFar};
 
-// The number of the atoms i and j of the placement at index k.
-fn inside(book: &[u8], xs: &[u8], k: usize, i: usize, j: usize) -> u64
-    ensures { λ r. ⌜ (r ≡ keptOn (now (book .entry)) (now (xs .entry)) k .far i j) × (r < 65) ⌝ }
+// The number of the atoms i and j of the block with a number.
+fn inside(book: &[u8], number: u16, i: usize, j: usize) -> u64
+    ensures { λ r. ⌜ (r ≡ farOf (now (book .entry)) number i j) × (r < 65) ⌝ }
 {
-    let q = placement_at(xs, k);
-    let s = summary_at(book, place_of(book, q.block as usize));
-    let all = seen(s, i);
-    let row = all.row;
-    steps(&row, j)
+    let all = seen(summary_at(book, place_of(book, number as usize)), i);
+    steps(&all.row, j)
 }
 
 // The index of the placement that a join at index k leads to. A parent that is none of the earlier placements counts as the first.
@@ -34,22 +30,46 @@ fn earlier(parent: u16, k: usize) -> usize
     p - 1
 }
 
+// The first part of the way between two placed atoms: its bonds, and the placement's index and the atom that it leads to.
+struct Leg {
+    bonds: u64,
+    onto: usize,
+    site: usize,
+}
+
+// From atom i of the placement at index k: all of the way where l is k, else that over the bond to its parent. It is not in climb, whose 32 frames would each hold a search.
+fn first_leg(book: &[u8], xs: &[u8], k: usize, i: usize, l: usize, j: usize) -> Leg
+    requires { ⌜ k < mostPlacements ⌝ }
+    ensures { λ r. ⌜ FirstLeg (now (book .entry)) (now (xs .entry)) k i l j r ⌝ }
+{
+    let q = placement_at(xs, k);
+    if k == l {
+        return Leg {
+            bonds: inside(book, q.block, i, j),
+            onto: l,
+            site: j,
+        };
+    }
+    let bonds = inside(book, q.block, q.own as usize, i) + 1;
+    let onto = earlier(q.parent, k);
+    let site = q.site as usize;
+    Leg { bonds, onto, site }
+}
+
 // The number of atom i of the placement at index k and atom j of that at index l. The larger index falls at each call.
 fn climb(book: &[u8], xs: &[u8], k: usize, i: usize, l: usize, j: usize) -> u64
     requires { ⌜ (k < mostPlacements) × (l < mostPlacements) ⌝ }
-    ensures { λ r. ⌜ (r ≡ farBy (now (book .entry)) (now (xs .entry)) k i l j) × (r < 65 * (max k l + 1)) ⌝ }
+    ensures { λ r. ⌜ (r ≡ farBy (now (book .entry)) (now (xs .entry)) k i l j) × (r < 66 * (max k l + 1)) ⌝ }
 {
-    if k == l {
-        return inside(book, xs, k, i, j);
-    }
     if k < l {
-        let q = placement_at(xs, l);
-        let rest = climb(book, xs, earlier(q.parent, l), q.site as usize, k, i);
-        return rest + 1 + inside(book, xs, l, q.own as usize, j);
+        let up = first_leg(book, xs, l, j, k, i);
+        return up.bonds + climb(book, xs, up.onto, up.site, k, i);
     }
-    let q = placement_at(xs, k);
-    let rest = climb(book, xs, earlier(q.parent, k), q.site as usize, l, j);
-    inside(book, xs, k, q.own as usize, i) + 1 + rest
+    let up = first_leg(book, xs, k, i, l, j);
+    if k == l {
+        return up.bonds;
+    }
+    up.bonds + climb(book, xs, up.onto, up.site, l, j)
 }
 
 // The number of atom i of placement number k and atom j of placement number l over a book and an assembly's payload, whatever their bytes; 0 where

@@ -4,22 +4,14 @@ use mathlib.Core.List.{List}
 use mathlib.Core.Path.{_≡_, _∙_, ap}
 use native.Mathlib.Omega.{arith}
 use borrow.Author.Needs.{needs}
-use Rattle.assembly.specs.Placements.{placementAt}
-use Rattle.assembly.specs.declared.Placement.{Placement}
 use Rattle.sighted.specs.Sighted.{stepsIn}
 use Rattle.sighted.specs.declared.Seen.{Seen}
 use Rattle.summary.specs.Layout.{farAt}
 use Rattle.shelf.specs.Shelf.{summaryAt, placeOf}
-use Rattle.summaries.specs.Composing.{keptOn}
 use Rattle.summaries.proofs.Small.{far-few}
+use Rattle.climb.specs.Far.{farOf}
 use Rattle.climb.proofs.inside.Statement.{statement}
 use Rattle.climb.proofs.inside.Tie as tie
-
-placement-at-requires : tie.Need-placement-at-requires
-placement-at-requires c κs = search needs
-
-cast-place-of : tie.Need-cast-place-of
-cast-place-of c = search needs
 
 place-of-requires : tie.Need-place-of-requires
 place-of-requires c κs = search needs
@@ -35,24 +27,14 @@ steps-requires c κs = search needs
 
 returns : tie.Need-returns
 returns c =
-    let a = c .before .before .before .before .before .before .before .before .before .before .args in
+    let a = c .before .before .before .before .before .before .before .args in
     let b = a .book .now in
-    let e : (c .steps .result ≡ keptOn b (a .xs .now) (a .k) .far (a .i) (a .j)) =
+    let e : (c .steps .result ≡ farOf b (a .number) (a .i) (a .j)) =
     c .steps .ensures
     ∙ ap (λ (s : Seen). stepsIn (s .row) (a .j)) (c .before .before .before .seen .ensures)
     ∙ ap (λ (s : List ℕ). farAt s (a .i) (a .j)) (c .before .before .before .before .summary-at .ensures .bytes)
-    ∙ ap (λ (x : ℕ). farAt (summaryAt b x) (a .i) (a .j)) (c .before .before .before .before .before .place-of .ensures)
-    ∙ ap (λ (q : Placement). farAt (summaryAt b (placeOf b (q .block))) (a .i) (a .j)) (c .before .before .before .before .before .before .before .placement-at .ensures) in
-    (e, omega (arith, e, far-few (summaryAt b (placeOf b (placementAt (a .xs .now) (a .k) .block))) (a .i) (a .j)))
+    ∙ ap (λ (x : ℕ). farAt (summaryAt b x) (a .i) (a .j)) (c .before .before .before .before .before .place-of .ensures) in
+    (e, omega (arith, e, far-few (summaryAt b (placeOf b (a .number))) (a .i) (a .j)))
 
 pub inside-spec : {M : Type 1} → statement M
-inside-spec =
-    tie.close
-    (tie.spec
-    placement-at-requires
-    cast-place-of
-    place-of-requires
-    summary-at-requires
-    seen-requires
-    steps-requires
-    returns)
+inside-spec = tie.close (tie.spec place-of-requires summary-at-requires seen-requires steps-requires returns)
