@@ -12,7 +12,7 @@ use Rattle.graph.specs.Tree.{enough-bonds}
 use Rattle.reply.specs.Read.{refused, read, saidNumber}
 use Rattle.reply.specs.Chain.{then-read}
 use Rattle.block.specs.Block.{graphOf, bondsOf, blockReply}
-use Rattle.block.specs.Told.{molecule, each-bond}
+use Rattle.block.specs.Told.{fine-drawn, molecule, each-bond}
 use Rattle.block.specs.Numbered.{ends-apart}
 use Rattle.reply.specs.declared.Refusal.{Refusal}
 use Rattle.balaban.specs.Balaban.{Largest, bound, term, bondCount, divisor, reckoned, balabanReply, Fine}
@@ -43,7 +43,7 @@ module _ (n : ℕ) (xs : List ℕ) where
         let m = molecule n xs fine in
         let hu = m .sound .ends u v b in
         let hv = far-end (m .sound) u v b in
-        let ne = ends-apart n xs fine u v b in
+        let ne = ends-apart n xs (fine-drawn n xs fine) u v b in
         largest-root (bound K) (vertexSum (graphOf n xs) u * vertexSum (graphOf n xs) v) (mul-le-mul (vertexSum-positive m hu hv ne) (vertexSum-positive m hv hu (λ e. ne (sym e))))
 
     -- the divisor is m - n + 2, with nothing cut off, and not 0

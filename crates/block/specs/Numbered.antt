@@ -6,7 +6,7 @@ use mathlib.Core.Logic.{inl, ⊎-elim}
 use mathlib.Core.Path.{_≡_, refl, sym, _∙_, ap, ap₂, subst}
 use native.Mathlib.Numerals.{add-one, add-two}
 use native.Mathlib.Omega.{arith}
-use borrow.Author.Tests.{ltb-false}
+use borrow.Author.Tests.{ltb-false, eqb-true, not-false}
 use lib.Dec.{eqb, ltb}
 use lib.ListN.{length, getD, drop, length-drop}
 use lib.Seq.{drop-cons}
@@ -17,7 +17,7 @@ use Rattle.graph.specs.Tree.{enough-bonds}
 use Rattle.reply.specs.Read.{read}
 use Rattle.reply.specs.Chain.{neither}
 use Rattle.block.specs.Block.{mostBytes, bondsOf, graphOf, drawnReply, blockReply}
-use Rattle.block.specs.Told.{passed, drawn-sound, fine-drawn, molecule, each-bond}
+use Rattle.block.specs.Told.{tested, drawn-sound, drawn-bonds, fine-drawn, molecule}
 
 -- bond k of the bytes, and the bonds from k on
 abbrev pub bondAt : List ℕ → ℕ → Bond
@@ -98,28 +98,34 @@ bond-listed (a ∷ (b ∷ xs)) (suc k) l =
     subst (λ (c : Bond). anyJoins (bond a b ∷ bondsOf xs) (c .one) (c .two) ≡ true) (next-bond a b xs k)
     (any-tail (bond a b) (bondsOf xs) (bondAt xs k .one) (bondAt xs k .two) (bond-listed xs k (omega arith)))
 
--- the ends of the bonds of a block, connected or not
-pub drawn-within : (n : ℕ) (xs : List ℕ) → drawnReply n xs ≡ read tt → (k : ℕ) → k < length xs / 2 → Within n (bondAt xs k .one) × Within n (bondAt xs k .two)
-unfolding bonded
-drawn-within n xs drawn k l =
-    let j = bond-listed xs k l in
-    let s = drawn-sound n xs drawn in
-    (s .ends (bondAt xs k .one) (bondAt xs k .two) j, far-end s (bondAt xs k .one) (bondAt xs k .two) j)
+-- the bonds of a block, connected or not
+module _ (n : ℕ) (xs : List ℕ) (drawn : drawnReply n xs ≡ read tt) where
+  pub drawn-within : (k : ℕ) → k < length xs / 2 → Within n (bondAt xs k .one) × Within n (bondAt xs k .two)
+  unfolding bonded
+  drawn-within k l =
+      let j = bond-listed xs k l in
+      let s = drawn-sound n xs drawn in
+      (s .ends (bondAt xs k .one) (bondAt xs k .two) j, far-end s (bondAt xs k .one) (bondAt xs k .two) j)
+
+  pub drawn-bytes : (length xs ≤ mostBytes) × (2 * length (bondsOf xs) ≡ length xs)
+  drawn-bytes =
+      let (even, few) = neither (not (eqb (length xs % 2) 0)) (ltb mostBytes (length xs)) (tested n xs drawn .bytes) in
+      (ltb-false mostBytes (length xs) few, omega (arith, bonds-length xs, eqb-true (length xs % 2) 0 (not-false (eqb (length xs % 2) 0) even)))
+
+  -- none joins an atom to itself
+  pub ends-apart : (u v : ℕ) → bonded (graphOf n xs) u v ≡ true → u ≡ v → ⊥
+  unfolding bonded
+  ends-apart =
+      drawn-bonds n xs drawn (λ bs. (u v : ℕ) → anyJoins bs u v ≡ true → u ≡ v → ⊥) (λ u v j e. any-none u v j)
+      (λ b bs new later u v j e. ⊎-elim (⊎-elim (λ q. new .differ (q .0 ∙ e ∙ sym (q .1))) (λ q. new .differ (q .0 ∙ sym e ∙ sym (q .1)))) (λ q. later u v q e) (any-out b bs u v j))
 
 -- the bonds of a block that is not refused
 module _ (n : ℕ) (xs : List ℕ) (fine : blockReply n xs ≡ read tt) where
   pub few-bytes : length xs ≤ mostBytes
-  few-bytes = ltb-false mostBytes (length xs) (neither (not (eqb (length xs % 2) 0)) (ltb mostBytes (length xs)) (passed n xs fine .bytes) .1)
+  few-bytes = drawn-bytes n xs (fine-drawn n xs fine) .0
 
   pub least-bonds : n ≤ length xs / 2 + 1
   least-bonds = omega (arith, enough-bonds (molecule n xs fine), bonds-length xs)
 
   pub bond-within : (k : ℕ) → k < length xs / 2 → Within n (bondAt xs k .one) × Within n (bondAt xs k .two)
   bond-within = drawn-within n xs (fine-drawn n xs fine)
-
-  -- none joins an atom to itself
-  pub ends-apart : (u v : ℕ) → bonded (graphOf n xs) u v ≡ true → u ≡ v → ⊥
-  unfolding bonded
-  ends-apart =
-      each-bond n xs fine (λ bs. (u v : ℕ) → anyJoins bs u v ≡ true → u ≡ v → ⊥) (λ u v j e. any-none u v j)
-      (λ b bs new later u v j e. ⊎-elim (⊎-elim (λ q. new .differ (q .0 ∙ e ∙ sym (q .1))) (λ q. new .differ (q .0 ∙ sym e ∙ sym (q .1)))) (λ q. later u v q e) (any-out b bs u v j))

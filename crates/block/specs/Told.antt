@@ -14,6 +14,7 @@ use Rattle.graph.specs.Farthest.{farthest}
 use Rattle.graph.specs.Bonds.{Joins, any-out, any-head, any-tail, any-none, bonded-sym}
 use Rattle.graph.specs.Connected.{connected-molecule}
 use Rattle.graph.specs.Distance.{not-true}
+use Rattle.graph.specs.Notions.{Plain}
 use Rattle.reply.specs.Read.{Read, refused, read, _then_, refuseIf, refuseFor, refusal, isOutside}
 use Rattle.reply.specs.Chain.{not-read, then-read, if-read, for-read}
 use Rattle.block.specs.Block.{mostAtoms, mostBytes, limit, bondsOf, graphOf, bondFault, bondsReply, blockReply, drawnReply}
@@ -148,6 +149,14 @@ module _ (n : ℕ) (xs : List ℕ) (drawn : drawnReply n xs ≡ read tt) where
   unfolding bonded
   drawn-sound = record { ends = bonds-ends n [] (bondsOf xs) (tested .bonds) }
 
+  -- induction over its bonds
+  pub drawn-bonds : (P : List Bond → Type 0) → P [] → ((b : Bond) (bs : List Bond) → NewBond n b bs → P bs → P (b ∷ bs)) → P (bondsOf xs)
+  drawn-bonds P none more = bonds-by n P none more [] (bondsOf xs) (tested .bonds)
+
+  pub drawn-plain : Plain n (bondsOf xs)
+  unfolding Plain
+  drawn-plain = drawn-bonds (Plain n) tt (λ b bs p rest. (record { one = p .one; two = p .two; apart = p .differ }, p .new, rest))
+
 module _ (n : ℕ) (xs : List ℕ) (fine : blockReply n xs ≡ read tt) where
   told : (u : Unit {0}) × (drawnReply n xs ≡ read u) × (refuseIf (not (connected (graphOf n xs))) 7 0 ≡ read tt)
   told = then-read (drawnReply n xs) _ (sym (block-drawn n xs) ∙ fine)
@@ -180,9 +189,8 @@ module _ (n : ℕ) (xs : List ℕ) (fine : blockReply n xs ≡ read tt) where
   unfolding degree
   few-bonds v = omega (arith, bonds-degrees n [] (bondsOf xs) (passed .bonds) v (omega arith))
 
-  -- induction over its bonds
   pub each-bond : (P : List Bond → Type 0) → P [] → ((b : Bond) (bs : List Bond) → NewBond n b bs → P bs → P (b ∷ bs)) → P (bondsOf xs)
-  each-bond P none more = bonds-by n P none more [] (bondsOf xs) (passed .bonds)
+  each-bond = drawn-bonds n xs fine-drawn
 
   -- the row of an atom, and what stands in it for an atom
   pub row-read : {a : ℕ} → Within n a → rowReply n xs a ≡ read (rowOf (graphOf n xs) a, farthest (graphOf n xs) a)

@@ -1,33 +1,32 @@
 -- One bond farther after the other: what holds before each turn, and what is found in the end. Assumes nothing.
-use Prim.Native.Nat.{ℕ, suc, _+_, _-_, _*_, _/_, _^_, _≤_, _<_, min}
+use Prim.Native.Nat.{ℕ, suc, _+_, _-_, _*_, _/_, _≤_, _<_}
 use mathlib.Core.Bool.{true}
 use mathlib.Core.List.{List}
 use mathlib.Core.Path.{_≡_, refl, sym, ap, ap₂, subst, _∙_}
 use native.Mathlib.Nat.{mul-le-mul, le-refl}
 use native.Mathlib.Numerals.{add-one}
 use native.Mathlib.Omega.{arith}
-use lib.Count.{ones, onesIn, ones-cat}
+use lib.Count.{ones}
 use lib.ListN.{length}
-use lib.Pow.{pow-pos}
 use Rattle.graph.specs.Graph.{Graph, Within, Sound, Molecule, connected, distance, sum, total, itself, each, evenOf, oddOf, isAt}
 use Rattle.graph.specs.Farthest.{largest}
 use Rattle.graph.specs.Bounds.{tame-odd, tame-at}
 use Rattle.graph.specs.Parts.{parts-of}
 use Rattle.graph.specs.Connected.{connected-molecule}
-use Rattle.graph.specs.Distance.{distance-self}
-use Rattle.graph.specs.Sums.{sum-cong, sum-const, sum-none, sumPairs-add, sumPairs-cong}
+use Rattle.graph.specs.Sums.{sumPairs-add, sumPairs-cong}
 use Rattle.reply.specs.Read.{read, refusal}
 use Rattle.reply.specs.declared.Refusal.{Refusal}
 use Rattle.block.specs.Block.{mostAtoms, graphOf, drawnReply}
 use Rattle.block.specs.Index.{indicesOf, indicesReply, saidIndices}
 use Rattle.block.specs.Near.{around}
+use Rattle.block.specs.Opened.{neighboursOf}
 use Rattle.block.specs.Told.{block-drawn, drawn-atoms, drawn-sound}
 use Rattle.block.specs.declared.Indices.{Indices}
 use Rattle.block.specs.declared.IndicesReply.the-variants.{Of, Refused}
-use Rattle.reach.specs.Reach.{Own, Reach, LowSums, Room, Added, Reached, LevelsUpTo, upTo, fartherOf}
+use Rattle.reach.specs.Reach.{Joined, Reach, LowSums, Room, Added, Reached, LevelsUpTo, firstLevel, upTo, fartherOf}
 use Rattle.reach.specs.declared.Both.{Both}
-use Rattle.reach.proofs.Touching.{reach-none}
-use Rattle.reach.proofs.Summing.{up-next, up-none, up-most, up-more, up-all, met-all, deeper, apart, room, all-connected, last-is, count-reach, one-farther}
+use Rattle.reach.proofs.Beginning.{first-below, first-deep, reach-first, up-first, first-wanting}
+use Rattle.reach.proofs.Summing.{up-next, up-most, up-more, up-all, met-all, deeper, apart, room, all-connected, last-is, count-reach, one-farther}
 
 pub record Level (n : ℕ) (xs : List ℕ) (k : ℕ) (near sets reached : List ℕ) (s : Both) (met d : ℕ) : Type 0 where
   pub near-size : length near ≡ mostAtoms
@@ -44,11 +43,6 @@ pub record Turned (n : ℕ) (xs : List ℕ) (d : ℕ) (near sets : List ℕ) (me
   pub reach : Reach (graphOf n xs) (suc d) near
   pub wide : Reach (graphOf n xs) (suc d) sets
   pub met-is : met ≡ sum n (λ v. ones (around near v))
-
--- a set of one atom
-ones-alone : (p : ℕ) → ones (2 ^ p) ≡ 1
-unfolding ones onesIn
-ones-alone p = let e : 1 * 2 ^ p + 0 ≡ 2 ^ p = omega arith in ap ones (sym e) ∙ ones-cat p 1 0 (pow-pos p)
 
 cube : {n c : ℕ} → n ≤ mostAtoms → c ≤ mostAtoms → n * (n * c) ≤ mostAtoms * (mostAtoms * mostAtoms)
 cube l h = mul-le-mul l (mul-le-mul l h)
@@ -67,33 +61,27 @@ module _ (n : ℕ) (xs : List ℕ) (drawn : drawnReply n xs ≡ read tt) where
   sound : Sound g
   sound = drawn-sound n xs drawn
 
-  pub level-start : (k : ℕ) (near reached : List ℕ) → k ≤ n → Own n near → ((v : ℕ) → Within k v → around reached v ≡ 1)
-      → Level n xs k near near reached (record { all = 0; odd = 0; threes = 0 }) n 0
+  pub level-start : (k : ℕ) (near sets reached : List ℕ) → near ≡ neighboursOf g → k ≤ n → Joined n near sets → ((v : ℕ) → Within k v → around reached v ≡ firstLevel xs)
+      → Level n xs k sets sets reached (record { all = length xs; odd = length xs; threes = 0 }) (n + length xs) (firstLevel xs)
   unfolding oddOf isAt
-  level-start k near reached h O one = record {
-    near-size = O .size;
-    sets-size = O .size;
+  level-start k near sets reached e h J one = record {
+    near-size = J .size;
+    sets-size = J .size;
     reach = R;
     wide = R;
     upto = record {
-      all-is = sym (up-none g itself refl);
-      odd-is = sym (up-none g oddOf refl);
-      threes-is = sym (up-none g (isAt 3) refl);
-      met-is = sym (sym (count-reach g 0 near R) ∙ sum-cong n own ∙ sum-const n 1 ∙ omega arith);
-      below = omega (arith, few);
-      deep = λ none. none 1 1 first first (distance-self sound first);
+      all-is = omega (arith, up-first n xs drawn itself);
+      odd-is = omega (arith, up-first n xs drawn oddOf);
+      threes-is = omega (arith, up-first n xs drawn (isAt 3));
+      met-is = omega (arith, up-first n xs drawn each);
+      below = first-below n xs drawn;
+      deep = first-deep n xs drawn;
     };
-    counts = record { wanting = λ v w. omega (arith, one v w, own v (omega arith), one-farther g 0 near R v (omega arith), sum-cong n {f = λ u. min (distance g v u) 0} {h = λ u. 0} (λ u b. omega arith), sum-none n) };
+    counts = record { wanting = λ v w. omega (arith, one v w, first-wanting n xs drawn v (omega arith)) };
   }
     where
-      R : Reach g 0 near
-      R = reach-none g sound near O
-
-      own : (v : ℕ) → Within n v → ones (around near v) ≡ 1
-      own v w = ap ones (O .own v w) ∙ ones-alone (v - 1)
-
-      first : Within n 1
-      first = omega (arith, few)
+      R : Reach g (firstLevel xs) sets
+      R = reach-first n xs drawn near sets e J
 
   module _ {k : ℕ} {near sets reached : List ℕ} {s : Both} {met d : ℕ} (L : Level n xs k near sets reached s met d) where
     module _ (more : met < n * n) where
@@ -111,7 +99,7 @@ module _ (n : ℕ) (xs : List ℕ) (drawn : drawnReply n xs ≡ read tt) where
       }
 
       pub spare : Room k reached
-      spare = let h : suc d ≤ mostAtoms = omega (arith, deepest) in record { room = λ v w. omega (arith, L .counts .wanting v w, mul-le-mul (few .high) h) }
+      spare = let h : d ≤ mostAtoms = omega (arith, deepest) in record { room = λ v w. omega (arith, L .counts .wanting v w, mul-le-mul (few .high) h) }
 
       -- one bond farther
       module _ {near′ sets′ : List ℕ} {met′ : ℕ} (T : Turned n xs d near′ sets′ met′) where
@@ -135,7 +123,7 @@ module _ (n : ℕ) (xs : List ℕ) (drawn : drawnReply n xs ≡ read tt) where
             gain (f (suc d)) u (upTo g f (suc d)) met (met′ - met)
             (ap (λ (m : ℕ). upTo g f (suc d) + f (suc d) * m) (L .upto .met-is) ∙ up-next g f d ∙ ap₂ (λ (x y : ℕ). x + f (suc d) * y) (sym e) (sym here ∙ k))
 
-        pub level-next : k ≤ n → (met′ ≡ met → ⊥) → (reached′ : List ℕ) → Added k near′ reached reached′ → Level n xs k near′ sets′ reached′ (fartherOf s (d + 1) (met′ - met)) met′ (d + 1)
+        pub level-next : k ≤ n → (met′ ≡ met → ⊥) → (reached′ : List ℕ) → Added k near reached reached′ → Level n xs k near′ sets′ reached′ (fartherOf s (d + 1) (met′ - met)) met′ (d + 1)
         level-next h ne reached′ A = rw (add-one d) (record {
           near-size = T .near-size;
           sets-size = T .sets-size;
@@ -149,7 +137,7 @@ module _ (n : ℕ) (xs : List ℕ) (drawn : drawnReply n xs ≡ read tt) where
             below = shallow;
             deep = deeper g d (omega (arith, here, L .upto .met-is, grows));
           };
-          counts = record { wanting = λ v w. omega (arith, A .added v w, L .counts .wanting v w, one-farther g (suc d) near′ (T .reach) v (omega arith)) };
+          counts = record { wanting = λ v w. omega (arith, A .added v w, L .counts .wanting v w, one-farther g d near (L .reach) v (omega arith)) };
         })
 
     -- no pair is left

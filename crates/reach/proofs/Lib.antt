@@ -4,5 +4,6 @@ pub mod Leaving
 pub mod Touching
 pub mod Summing
 pub mod Digits
+pub mod Beginning
 pub mod Levels
 pub mod Reply

@@ -4,7 +4,6 @@ use mathlib.Core.Bool.{cond}
 use mathlib.Core.List.{List}
 use mathlib.Core.Path.{_≡_, refl, sym, ap, _∙_}
 use native.Mathlib.Decide.{decLt}
-use native.Mathlib.Numerals.{add-one}
 use native.Mathlib.Omega.{arith}
 use borrow.Author.Tests.{lt-ltb, le-ltb}
 use lib.Dec.{ltb}
@@ -48,23 +47,22 @@ module _ (n : ℕ) (xs : List ℕ) where
       unfolding indicesOf
       last-is = ap (λ (y : Indices). y .largest) e
 
-      left-is : (v : ℕ) → Within n v → around reached v + vertexSum g v ≡ n * (x .largest + 1)
+      left-is : (v : ℕ) → Within n v → around reached v + vertexSum g v ≡ n * x .largest
       left-is v w =
-          rw (add-one (x .largest))
-          (ap (λ (y : ℕ). around reached v + y) (sym (all-wanting g (x .largest) (λ i j a b. omega (arith, last-is, largest-over (molecule n xs fine) i j a b)) v w))
-          ∙ R .wanting v w)
+          ap (λ (y : ℕ). around reached v + y) (sym (all-wanting g (x .largest) (λ i j a b. omega (arith, last-is, largest-over (molecule n xs fine) i j a b)) v w))
+          ∙ R .wanting v w
 
-      pub sums-fit : (n ≤ mostAtoms) × (x .largest + 1 ≤ mostAtoms) × ((v : ℕ) → Within n v → around reached v ≤ n * (x .largest + 1))
+      pub sums-fit : (n ≤ mostAtoms) × (x .largest ≤ mostAtoms) × ((v : ℕ) → Within n v → around reached v ≤ n * x .largest)
       sums-fit =
           let f = few-atoms n xs fine in
           (f .high, omega (arith, last-is, largest-below (molecule n xs fine) (f .low)), λ v w. omega (arith, left-is v w))
 
-      pub sums-fine : (at : List ℕ) → at ≡ table mostAtoms (λ i. cond (ltb i n) (n * (x .largest + 1) - getD reached i 0) 0)
+      pub sums-fine : (at : List ℕ) → at ≡ table mostAtoms (λ i. cond (ltb i n) (n * x .largest - getD reached i 0) 0)
           → (p : Reply) → p ≡ reply.Fine → record { reply = p; at = at } ≡ saidSums (sumsReply n xs)
       unfolding sumsReply vertexSumsOf
       sums-fine at q p d = rw fine (λ j. record { reply = d j; at = (q ∙ table-cong mostAtoms (λ i. here i (decLt i n))) j })
         where
-          here : (i : ℕ) → Dec (i < n) → cond (ltb i n) (n * (x .largest + 1) - getD reached i 0) 0 ≡ cond (ltb i n) (vertexSum g (suc i)) 0
+          here : (i : ℕ) → Dec (i < n) → cond (ltb i n) (n * x .largest - getD reached i 0) 0 ≡ cond (ltb i n) (vertexSum g (suc i)) 0
           here i (yes l) =
               let k : suc i - 1 ≡ i = omega arith in
               let w = rw k at (left-is (suc i) (record { low = omega arith; high = omega arith })) in

@@ -1,5 +1,5 @@
 -- Sums over the pairs within reach. Assumes nothing.
-use Prim.Native.Nat.{ℕ, zero, suc, _+_, _-_, _*_, _≤_, _<_, min}
+use Prim.Native.Nat.{ℕ, suc, _+_, _-_, _*_, _≤_, _<_, min}
 use mathlib.Core.Bool.{Bool, true, false, cond}
 use mathlib.Core.Path.{_≡_, refl, sym, ap, _∙_}
 use native.Mathlib.Decide.{ℕ-discrete, decLt}
@@ -21,13 +21,13 @@ use Rattle.reach.specs.Reach.{Reach, upTo}
 use Rattle.reach.proofs.Digits.{count-atoms}
 
 -- what is counted of a distance x up to d
-abbrev short : (ℕ → ℕ) → ℕ → ℕ → ℕ
+abbrev pub short : (ℕ → ℕ) → ℕ → ℕ → ℕ
 short f d x = cond (leb x d) (f x) 0
 
-short-in : (f : ℕ → ℕ) (d x : ℕ) → x ≤ d → short f d x ≡ f x
+pub short-in : (f : ℕ → ℕ) (d x : ℕ) → x ≤ d → short f d x ≡ f x
 short-in f d x l = rw (le-leb x d l)
 
-short-out : (f : ℕ → ℕ) (d x : ℕ) → d < x → short f d x ≡ 0
+pub short-out : (f : ℕ → ℕ) (d x : ℕ) → d < x → short f d x ≡ 0
 short-out f d x l = rw (lt-leb x d l)
 
 -- one bond farther: those that come are all at d + 1
@@ -40,12 +40,12 @@ short-next f d x = elim (decLt d x) [
   | no h ↦ rw (short-in f (suc d) x (omega arith), short-in each d x (omega arith), short-in f d x (omega arith), short-in each (suc d) x (omega arith)) refl
 ]
 
+pub sum-mixed : (k c : ℕ) (p q : ℕ → ℕ) → sum k (λ j. p j + c * q j) ≡ sum k p + c * sum k q
+sum-mixed k c p q = sum-add k p (λ j. c * q j) ∙ ap (λ (x : ℕ). sum k p + x) (sum-scale k c q)
+
 module _ (g : Graph) where
   abbrev n : ℕ
   n = g .atoms
-
-  sum-mixed : (k c : ℕ) (p q : ℕ → ℕ) → sum k (λ j. p j + c * q j) ≡ sum k p + c * sum k q
-  sum-mixed k c p q = sum-add k p (λ j. c * q j) ∙ ap (λ (x : ℕ). sum k p + x) (sum-scale k c q)
 
   up-mixed : (f : ℕ → ℕ) (d e c : ℕ) → upTo g f d + c * upTo g each e ≡ sum n (λ i. sum n (λ j. short f d (distance g i j) + c * short each e (distance g i j)))
   unfolding upTo
@@ -58,15 +58,6 @@ module _ (g : Graph) where
       up-mixed f (suc d) d (f (suc d))
       ∙ sum-cong n (λ i w. sum-cong n (λ j v. short-next f d (distance g i j)))
       ∙ sym (up-mixed f d (suc d) (f (suc d)))
-
-  -- what is 0 at distance 0 adds up to 0 there
-  pub up-none : (f : ℕ → ℕ) → f 0 ≡ 0 → upTo g f 0 ≡ 0
-  unfolding upTo
-  up-none f z = sum-cong n (λ i w. sum-cong n (λ j v. at (distance g i j)) ∙ sum-const n 0 ∙ omega arith) ∙ sum-const n 0 ∙ omega arith
-    where
-      at : (x : ℕ) → short f 0 x ≡ 0
-      at zero = z
-      at (suc x) = short-out f 0 (suc x) (omega arith)
 
   -- no more than all of them
   pub up-most : (f : ℕ → ℕ) (d c : ℕ) → ((x : ℕ) → x ≤ d → f x ≤ c) → upTo g f d ≤ n * (n * c)
@@ -195,6 +186,6 @@ module _ (g : Graph) where
       at : (x : ℕ) → short each d x + min x (suc d) ≡ min x d + 1
       at x = elim (decLt d x) [ yes l ↦ omega (arith, short-out each d x l) | no l ↦ omega (arith, short-in each d x (omega arith)) ]
 
-  pub all-wanting : (d : ℕ) → All d → (v : ℕ) → Within n v → sum n (λ w. min (distance g v w) (suc d)) ≡ vertexSum g v
+  pub all-wanting : (d : ℕ) → All d → (v : ℕ) → Within n v → sum n (λ w. min (distance g v w) d) ≡ vertexSum g v
   unfolding vertex
   all-wanting d a v h = sum-cong n (λ w b. let l = a v w h b in omega arith)

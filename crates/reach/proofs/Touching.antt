@@ -11,20 +11,19 @@ use borrow.Author.Tests.{eq-eqb, ne-eqb, eqb-true, le-leb, leb-true}
 use lib.Bits.{bitOr, or-lt}
 use lib.Dec.{eqb, leb}
 use lib.ListN.{length, getD, set, length-set}
-use lib.Pow.{pow-lt}
 use lib.Seq.{getD-set-same, getD-set-other}
 use Rattle.graph.specs.Graph.{Graph, Bond, Within, Sound, anyJoins, bonded, distance}
 use Rattle.graph.specs.Bonds.{both, both-true, one-of, first-of, second-of, same-test, any-out, any-head, any-tail, any-none, bonded-sym}
-use Rattle.graph.specs.Distance.{distance-self, sound-sym, sound-zero, sound-bond, sound-parent}
+use Rattle.graph.specs.Distance.{distance-self, sound-sym, sound-bond, sound-parent}
 use Rattle.graph.specs.Walk.{far-end}
 use Rattle.graph.specs.Sets.{has}
-use Rattle.graph.specs.SetLaws.{has-or, has-alone}
+use Rattle.graph.specs.SetLaws.{has-or}
 use Rattle.reply.specs.Read.{read}
 use Rattle.block.specs.Block.{mostAtoms, bondsOf, graphOf, drawnReply}
 use Rattle.block.specs.Near.{around}
 use Rattle.block.specs.Numbered.{rest, rest-cons, rest-none, drawn-within}
 use Rattle.block.specs.Told.{drawn-atoms, drawn-sound}
-use Rattle.reach.specs.Reach.{Own, Reach, touched}
+use Rattle.reach.specs.Reach.{Reach, touched}
 
 -- touched says whether there is such an atom
 touched-out : (bs : List Bond) (p : ℕ → Bool) (v : ℕ) → touched bs p v ≡ true → (u : ℕ) × (anyJoins bs v u ≡ true) × (p u ≡ true)
@@ -164,18 +163,3 @@ reach-joined g d old sets near e O R = record {
     less : (x : ℕ) (t : Bool) → leb x d ≡ t → (t || leb x (suc d)) ≡ leb x (suc d)
     less x true h = sym (le-leb x (suc d) (omega (arith, leb-true x d h)))
     less x false h = refl
-
--- each atom alone: those no bond away
-pub reach-none : (g : Graph) → Sound g → (sets : List ℕ) → Own (g .atoms) sets → Reach g 0 sets
-reach-none g s sets O = record {
-  fits = λ v a. rw (O .own v a) (pow-lt (omega arith));
-  holds = λ v w a b. ap (λ (x : ℕ). has x w) (O .own v a) ∙ has-alone v w (a .low) (b .low) ∙ at v w a b (ℕ-discrete w v);
-}
-  where
-    at : (v w : ℕ) → Within (g .atoms) v → Within (g .atoms) w → Dec (w ≡ v) → eqb w v ≡ leb (distance g v w) 0
-    at v w a b (yes e) = eq-eqb w v e ∙ sym (le-leb (distance g v w) 0 (omega (arith, distance-self s b, ap (λ (x : ℕ). distance g x w) e)))
-    at v w a b (no ne) = ne-eqb w v ne ∙ sym (lt-zero (leb (distance g v w) 0) refl)
-      where
-        lt-zero : (t : Bool) → leb (distance g v w) 0 ≡ t → t ≡ false
-        lt-zero true h = absurd (ne (sym (sound-zero s a w (omega (arith, leb-true (distance g v w) 0 h)))))
-        lt-zero false h = refl

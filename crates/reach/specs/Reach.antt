@@ -1,8 +1,9 @@
 -- Work. The atoms within reach of each atom, as sets, and sums over the ordered pairs within reach.
-use Prim.Native.Nat.{ℕ, suc, _+_, _*_, _^_, _≤_, _<_, min}
+use Prim.Native.Nat.{ℕ, _+_, _*_, _^_, _≤_, _<_, min}
 use mathlib.Core.Bool.{Bool, false, _&&_, _||_, cond}
 use mathlib.Core.List.{List, [], _∷_}
 use mathlib.Core.Path.{_≡_}
+use lib.Bits.{bitOr}
 use lib.Count.{ones}
 use lib.Dec.{eqb, leb}
 use lib.ListN.{length}
@@ -12,10 +13,14 @@ use Rattle.block.specs.Block.{mostAtoms}
 use Rattle.block.specs.Near.{around}
 use Rattle.reach.specs.declared.Both.{Both}
 
--- the set of each of n atoms has that atom alone
-pub record Own (n : ℕ) (sets : List ℕ) : Type 0 where
+-- the set of each of n atoms has that atom and its neighbours
+pub record Joined (n : ℕ) (near sets : List ℕ) : Type 0 where
   pub size : length sets ≡ mostAtoms
-  pub own : (v : ℕ) → Within n v → around sets v ≡ alone v
+  pub joined : (v : ℕ) → Within n v → around sets v ≡ bitOr (around near v) (alone v)
+
+-- how many bonds away its atoms are at most: one, where there is a bond
+abbrev pub firstLevel : List ℕ → ℕ
+firstLevel xs = min 1 (length xs)
 
 -- the set of each atom has exactly the atoms at most d bonds away
 pub record Reach (g : Graph) (d : ℕ) (sets : List ℕ) : Type 0 where
@@ -59,7 +64,7 @@ pub record Added (n : ℕ) (sets old new : List ℕ) : Type 0 where
   pub size : length new ≡ length old
   pub added : (v : ℕ) → Within n v → around new v ≡ around old v + ones (around sets v)
 
--- the numbers of atoms within reach of each of the first k, at 0 to d bonds together; what is wanting to all atoms is the vertex sum, once all are
--- within reach
+-- the numbers of atoms within reach of each of the first k, at less than d bonds together; what is wanting to all atoms is the vertex sum, once all
+-- are at most d bonds away
 pub record Reached (g : Graph) (k d : ℕ) (reached : List ℕ) : Type 0 where
-  pub wanting : (v : ℕ) → Within k v → around reached v + sum (g .atoms) (λ w. min (distance g v w) (suc d)) ≡ g .atoms * suc d
+  pub wanting : (v : ℕ) → Within k v → around reached v + sum (g .atoms) (λ w. min (distance g v w) d) ≡ g .atoms * d

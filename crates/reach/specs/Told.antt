@@ -7,7 +7,7 @@ use Rattle.reply.specs.Read.{Read, refused, read, _then_, saidReply}
 use Rattle.reply.specs.Chain.{fine-read, refused-read}
 use Rattle.reply.specs.declared.Refusal.{Refusal}
 use Rattle.reply.specs.declared.Reply.the-variants.{Fine, Refused}
-use Rattle.block.specs.Block.{graphOf, blockReply}
+use Rattle.block.specs.Block.{graphOf, drawnReply, blockReply}
 use Rattle.block.specs.Index.{indicesOf, indicesReply, saidIndices}
 use Rattle.block.specs.Opened.{neighboursOf, openedReply, drawnNear, openedNear}
 use Rattle.block.specs.Told.{fine-drawn}
@@ -71,6 +71,9 @@ module _ (n : ℕ) (xs : List ℕ) where
   unfolding openedNear openedReply
   fine-near old f = rw (f, openedNear)
 
-  pub near-drawn : (old before : List ℕ) → blockReply n xs ≡ read tt → drawnNear n xs before ≡ openedNear n xs old
+  pub drawn-near : (old : List ℕ) → drawnReply n xs ≡ read tt → drawnNear n xs old ≡ neighboursOf (graphOf n xs)
   unfolding drawnNear
-  near-drawn old before f = rw (fine-drawn n xs f, drawnNear) (sym (fine-near old f))
+  drawn-near old d = rw (d, drawnNear)
+
+  pub near-drawn : (old before : List ℕ) → blockReply n xs ≡ read tt → drawnNear n xs before ≡ openedNear n xs old
+  near-drawn old before f = drawn-near before (fine-drawn n xs f) ∙ sym (fine-near old f)

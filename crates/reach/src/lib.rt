@@ -1,9 +1,10 @@
 // A block measured by reach: for each atom the set of the atoms at most d bonds away, one bond farther at a time. No distance is stored.
 //
-// One bond farther an atom reaches what its neighbours reached, so each set takes in those of its neighbours, bond by bond. How many atoms the sets
-// have together, level by level, gives how many ordered pairs lie at each distance, and so W, both parts and the polarity, each twice; the last level
-// is the largest distance. The atoms that an atom has not reached, all levels together, are its vertex sum. The loops go by the number of bonds and
-// of atoms and by no distance: that is why this is faster than a search from each atom.
+// Each atom with its neighbours, as they were drawn, comes first. One bond farther an atom reaches what its neighbours reached, so each set takes in
+// those of its neighbours, bond by bond. How many atoms the sets have together, level by level, gives how many ordered pairs lie at each distance,
+// and so W, both parts and the polarity, each twice; the last level is the largest distance. The atoms that an atom has not reached, all levels
+// together, are its vertex sum. The loops go by the number of bonds and of atoms and by no distance: that is why this is faster than a search from
+// each atom.
 ghost use mathlib.Core.Path.{_≡_};
 ghost use Prim.Native.Nat.{ℕ, suc, _*_, _-_, _≤_, _<_};
 ghost use lib.Bits.{bitOr};
@@ -16,10 +17,10 @@ ghost use Rattle.reply.specs.Read.{read};
 ghost use Rattle.block.specs.Block.{mostAtoms, graphOf, drawnReply};
 ghost use Rattle.block.specs.Index.{indicesReply, saidIndices};
 ghost use Rattle.block.specs.Near.{around};
-ghost use Rattle.block.specs.Opened.{drawnNear, openedNear};
+ghost use Rattle.block.specs.Opened.{neighboursOf, drawnNear, openedNear};
 ghost use Rattle.half.specs.Half.{table};
 ghost use Rattle.reach.specs.Sums.{sumsReply, saidSums};
-ghost use Rattle.reach.specs.Reach.{Own, Reach, LowSums, fartherOf, Room, Added, Reached};
+ghost use Rattle.reach.specs.Reach.{Joined, Reach, LowSums, firstLevel, fartherOf, Room, Added, Reached};
 use block::ATOMS;
 use block::Indices;
 use block::IndicesReply;
@@ -43,18 +44,25 @@ pub struct VertexSums {
     pub at: [u64; ATOMS],
 }
 
-// Each of n atoms alone.
-fn alone(n: usize) -> Sets
+// Each of n atoms with its neighbours.
+fn joined(near: &Neighbours, n: usize) -> Sets
     requires { ⌜ n ≤ mostAtoms ⌝ }
-    ensures { λ r. ⌜ Own n r ⌝ }
+    ensures { λ r. ⌜ Joined n (now (near .entry)) r ⌝ }
 {
     let mut sets = [0u64; ATOMS];
     let mut i = 0;
     while i < n {
-        sets[i] = 1u64 << i;
+        sets[i] = near[i] | 1u64 << i;
         i += 1;
     }
     sets
+}
+
+// How far they reach: one bond, where there is a bond.
+fn first(bonds: &[u8]) -> u64
+    ensures { λ r. ⌜ r ≡ firstLevel (now (bonds .entry)) ⌝ }
+{
+    if bonds.len() == 0 { 0 } else { 1 }
 }
 
 // One bond farther: to the set of each atom come those of its neighbours.
@@ -133,25 +141,28 @@ fn farther(s: Both, d: u64, pairs: u64) -> Both
     }
 }
 
-// The indices of a block that 1 to 6 do not refuse, or 7 where a level adds nothing before all pairs are met. And lent, from 1 for each of the first k
-// atoms on, how many atoms were within its reach, all levels together.
-fn summed(n: usize, bonds: &[u8], k: usize, reached: &mut [u64]) -> IndicesReply
-    requires { ⌜ (drawnReply n (now bonds) ≡ read tt) × (k ≤ n) × (k ≤ length (now reached))
-        × ((v : ℕ) → Within k v → around (now reached) v ≡ 1) ⌝ }
+// The indices of a block that 1 to 6 do not refuse, or 7 where a level adds nothing before all pairs are met. As many ordered pairs are one bond
+// apart as the bonds have ends, a byte each: the first level needs no counting. And lent, for each of the first k atoms, how many atoms were within
+// its reach, all levels before the last together.
+fn summed(n: usize, bonds: &[u8], drawn: &Neighbours, k: usize, reached: &mut [u64]) -> IndicesReply
+    requires { ⌜ (drawnReply n (now bonds) ≡ read tt) × (now drawn ≡ neighboursOf (graphOf n (now bonds))) × (k ≤ n) × (k ≤ length (now reached))
+        × ((v : ℕ) → Within k v → around (now reached) v ≡ firstLevel (now bonds)) ⌝ }
     ensures reply { λ r. ⌜ r ≡ saidIndices (indicesReply n (now (bonds .entry))) ⌝ }
     ensures reached { λ r. ⌜ ((x : Indices) → r ≡ IndicesReply.Of x → Reached (graphOf n (now (bonds .entry))) k (x .largest) (now (reached .exit))) ⌝ }
 {
     let pairs = n as u64 * n as u64;
-    let mut near = alone(n);
+    let ends = bonds.len() as u64;
+    let mut near = joined(drawn, n);
     let mut sets = near;
     let mut s = Both {
-        all: 0,
-        odd: 0,
+        all: ends,
+        odd: ends,
         threes: 0,
     };
-    let mut met = n as u64;
-    let mut d: u64 = 0;
+    let mut met = n as u64 + ends;
+    let mut d = first(bonds);
     while met < pairs {
+        count(&near, k, reached);
         spread(&near, n, bonds, &mut sets);
         let more = settled(&sets, n, &mut near);
         if more == met {
@@ -160,7 +171,6 @@ fn summed(n: usize, bonds: &[u8], k: usize, reached: &mut [u64]) -> IndicesReply
                 place: 0,
             });
         }
-        count(&near, k, reached);
         d += 1;
         s = farther(s, d, more - met);
         met = more;
@@ -188,7 +198,7 @@ fn indices(n: usize, bonds: &[u8], near: &mut Neighbours) -> IndicesReply
         Reply::Refused(refusal) => IndicesReply::Refused(refusal),
         Reply::Fine => {
             let mut none = [0u64; 0];
-            summed(n, bonds, 0, &mut none)
+            summed(n, bonds, near, 0, &mut none)
         }
     }
 }
@@ -244,15 +254,17 @@ pub fn vertex_sums(n: usize, bonds: &[u8]) -> VertexSums
             at: [0u64; ATOMS],
         };
     };
-    let mut reached = [1u64; ATOMS];
-    let answer = summed(n, bonds, n, &mut reached);
+    // Before the first level each atom has reached itself.
+    let own = first(bonds);
+    let mut reached = [own; ATOMS];
+    let answer = summed(n, bonds, &near, n, &mut reached);
     match answer {
         IndicesReply::Refused(refusal) => VertexSums {
             reply: Reply::Refused(refusal),
             at: [0u64; ATOMS],
         },
         IndicesReply::Of(indices) => {
-            let at = left(n, indices.largest + 1, &reached);
+            let at = left(n, indices.largest, &reached);
             VertexSums { reply, at }
         }
     }

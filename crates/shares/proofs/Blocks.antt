@@ -12,7 +12,7 @@ use Rattle.block.specs.Block.{mostAtoms, mostBytes, bondsOf, graphOf, blockRepl
 use Rattle.block.specs.Rows.{rowOf, farOf, halfTable}
 use Rattle.block.specs.Opened.{neighboursOf, openedReply, saidOpened}
 use Rattle.block.specs.Drawn.{neighbour-fits, has-neighbour}
-use Rattle.block.specs.Told.{few-atoms, molecule, each-bond, entry-at, farthest-at}
+use Rattle.block.specs.Told.{few-atoms, fine-drawn, drawn-plain, molecule, entry-at, farthest-at}
 use Rattle.block.specs.Halved.{table-row}
 use Rattle.block.specs.Numbered.{few-bytes}
 use Rattle.block.specs.Lent.{zeros}
@@ -45,8 +45,7 @@ module _ (n : ℕ) (xs : List ℕ) (v : Opened) (is : v ≡ saidOpened (openedRe
 
 module _ (n : ℕ) (xs : List ℕ) (fine : blockReply n xs ≡ read tt) where
   pub plain : Plain n (bondsOf xs)
-  unfolding Plain
-  plain = each-bond n xs fine (Plain n) tt (λ b bs p rest. (record { one = p .one; two = p .two; apart = p .differ }, p .new, rest))
+  plain = drawn-plain n xs (fine-drawn n xs fine)
 
   pub few : n ≤ mostAtoms
   few = few-atoms n xs fine .high

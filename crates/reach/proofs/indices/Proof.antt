@@ -2,6 +2,7 @@ use mathlib.Core.Path.{sym, _∙_}
 use native.Mathlib.Omega.{arith}
 use borrow.Author.Needs.{needs}
 use Rattle.reply.specs.Chain.{fine-read, refused-read}
+use Rattle.reach.specs.Told.{drawn-near}
 use Rattle.reach.proofs.Reply.{refused-reply}
 use Rattle.reach.proofs.indices.Statement.{statement}
 use Rattle.reach.proofs.indices.Tie as tie
@@ -20,13 +21,15 @@ slice-aggregate-summed c = search needs
 
 summed-requires : tie.Need-summed-requires
 summed-requires c κs =
-    (fine-read _ (sym (c .before .before .before .drawn .ensures .0) ∙ c .before .enum-told .given .1), omega arith, omega arith, λ v w. absurd (omega arith))
+    let d = c .before .before .before .before .drawn .ensures in
+    let f = fine-read _ (sym (d .0) ∙ c .before .before .enum-told .given .1) in
+    (f, d .1 ∙ drawn-near _ _ _ f, omega arith, omega arith, λ v w. absurd (omega arith))
 
 returns : tie.Need-returns
 returns c = let d = c .before .before .before .drawn .ensures in (refused-reply _ _ _ (refused-read _ _ (sym (d .0) ∙ c .before .reply .given .1)), d .1)
 
 returns-2 : tie.Need-returns-2
-returns-2 c = (c .before .summed .ensures .0, c .before .before .before .before .before .drawn .ensures .1)
+returns-2 c = (c .before .summed .ensures .0, c .before .before .before .before .before .before .drawn .ensures .1)
 
 pub indices-spec : {M : Type 1} → statement M
 indices-spec = tie.close (tie.spec drawn-requires enum-known-reply enum-told slice-aggregate-summed summed-requires returns returns-2)

@@ -7,7 +7,7 @@ use Rattle.reply.specs.Read.{read}
 use Rattle.reply.specs.Chain.{fine-read, refused-read}
 use Rattle.block.specs.Block.{mostAtoms, drawnReply}
 use Rattle.block.specs.Told.{drawn-atoms, drawn-refused}
-use Rattle.reach.specs.Told.{indices-refused, indices-fine}
+use Rattle.reach.specs.Told.{indices-refused, indices-fine, drawn-near}
 use Rattle.reach.proofs.Reply.{sums-refused, sums-fine, sums-fit}
 use Rattle.reach.proofs.vertex_sums.Statement.{statement}
 use Rattle.reach.proofs.vertex_sums.Tie as tie
@@ -29,13 +29,18 @@ returns c =
 drawn : (c : tie.After-enum-told) → let a = c .before .before .before .before .before .args in drawnReply (a .n) (a .bonds .now) ≡ read tt
 drawn c = fine-read _ (sym (c .before .before .drawn .ensures .0) ∙ c .enum-told .given .1)
 
+first-requires : tie.Need-first-requires
+first-requires c κs = search needs
+
 slice-aggregate-summed : tie.Need-slice-aggregate-summed
 slice-aggregate-summed c = search needs
 
 summed-requires : tie.Need-summed-requires
 summed-requires c κs =
-    let w = drawn-atoms _ _ (drawn (c .before)) in
-    (drawn (c .before), omega arith, omega arith, λ v x. getD-replicate mostAtoms (v - 1) 1 0 (omega arith))
+    let t = c .before .before .before in
+    let f = drawn t in
+    let w = drawn-atoms _ _ f in
+    (f, t .before .before .drawn .ensures .1 ∙ drawn-near _ _ _ f, omega arith, omega arith, λ v x. getD-replicate mostAtoms (v - 1) _ 0 (omega arith) ∙ c .before .before .first .ensures)
 
 enum-known-answer : tie.Need-enum-known-answer
 enum-known-answer c = search needs
@@ -43,17 +48,10 @@ enum-known-answer c = search needs
 enum-known-answer-2 : tie.Need-enum-known-answer-2
 enum-known-answer-2 c = search needs
 
-add-left : tie.Need-add-left
-add-left c =
-    let s = c .before .before .before .before .before .summed .ensures in
-    let a = c .before .before .answer2 .given .1 in
-    let (f, e) = indices-fine _ _ _ (sym (s .0) ∙ a) in
-    omega (arith, sums-fit _ _ f _ e _ (s .1 _ a) .1)
-
 left-requires : tie.Need-left-requires
 left-requires c κs =
-    let s = c .before .before .before .before .before .before .summed .ensures in
-    let a = c .before .before .before .answer2 .given .1 in
+    let s = c .before .before .before .before .before .summed .ensures in
+    let a = c .before .before .answer2 .given .1 in
     let (f, e) = indices-fine _ _ _ (sym (s .0) ∙ a) in
     sums-fit _ _ f _ e _ (s .1 _ a)
 
@@ -62,10 +60,10 @@ returns-2 c = sums-refused _ _ _ (indices-refused _ _ _ (sym (c .before .before 
 
 returns-3 : tie.Need-returns-3
 returns-3 c =
-    let s = c .before .before .before .before .before .before .before .summed .ensures in
-    let a = c .before .before .before .before .answer2 .given .1 in
+    let s = c .before .before .before .before .before .before .summed .ensures in
+    let a = c .before .before .before .answer2 .given .1 in
     let (f, e) = indices-fine _ _ _ (sym (s .0) ∙ a) in
-    sums-fine _ _ f _ e _ (s .1 _ a) _ (c .left .ensures) _ (c .before .before .before .before .before .before .before .before .before .enum-told .given .1)
+    sums-fine _ _ f _ e _ (s .1 _ a) _ (c .left .ensures) _ (c .before .before .before .before .before .before .before .before .before .before .enum-told .given .1)
 
 pub vertex-sums-spec : {M : Type 1} → statement M
 vertex-sums-spec =
@@ -75,11 +73,11 @@ vertex-sums-spec =
     enum-told
     enum-told-2
     returns
+    first-requires
     slice-aggregate-summed
     summed-requires
     enum-known-answer
     enum-known-answer-2
-    add-left
     left-requires
     returns-2
     returns-3)

@@ -1,26 +1,34 @@
 use Prim.Native.Nat.{_-_, _^_, _≤_}
 use mathlib.Core.Path.{_≡_}
 use native.Mathlib.Omega.{arith}
+use lib.Bits.{bitOr}
+use lib.ListN.{getD}
 use Rattle.graph.specs.SetLaws.{shifted-one}
 use Rattle.block.specs.Block.{mostAtoms}
 use Rattle.reach.proofs.Leaving.{Leaves, leaves-none, leaves-more}
-use Rattle.reach.proofs.alone.Statement.{statement}
-use Rattle.reach.proofs.alone.Tie as tie
+use Rattle.reach.proofs.joined.Statement.{statement}
+use Rattle.reach.proofs.joined.Tie as tie
 
 abbrev Inv-loop : tie.InvT-loop
-Inv-loop n sets₀ i₀ sets i = (i ≤ n) × Leaves (λ p. 2 ^ p) sets i
+Inv-loop near n sets₀ i₀ sets i = (i ≤ n) × Leaves (λ p. bitOr (getD near p 0) (2 ^ p)) sets i
 
 abbrev μ-loop : tie.MeasureT-loop
-μ-loop n sets₀ i₀ sets i = n - i
+μ-loop near n sets₀ i₀ sets i = n - i
 
 loop-holds : tie.Need-loop-holds Inv-loop μ-loop
 loop-holds c = (omega arith, leaves-none _)
 
+mul-sets : tie.Need-mul-sets Inv-loop μ-loop
+mul-sets c = omega arith
+
+element-copy-out-sets : tie.Need-element-copy-out-sets Inv-loop μ-loop
+element-copy-out-sets c = omega arith
+
 shl-sets : tie.Need-shl-sets Inv-loop μ-loop
 shl-sets c = omega arith
 
-mul-sets : tie.Need-mul-sets Inv-loop μ-loop
-mul-sets c = omega arith
+mul-sets-2 : tie.Need-mul-sets-2 Inv-loop μ-loop
+mul-sets-2 c = omega arith
 
 array-write-sets : tie.Need-array-write-sets Inv-loop μ-loop
 array-write-sets c = omega arith
@@ -33,14 +41,14 @@ loop-less c = omega arith
 
 loop-again : tie.Need-loop-again Inv-loop μ-loop
 loop-again c =
-    let l = c .before .loop in
+    let l = c .before .before .loop in
     (omega arith, rw (shifted-one mostAtoms (l .i) (omega arith)) (leaves-more _ _ (l .i) (omega arith) (l .inv .1)))
 
 returns : tie.Need-returns Inv-loop μ-loop
 returns c =
     let e : c .before .loop .i ≡ c .before .before .args .n = omega arith in
     let L = rw e at (c .before .loop .inv .1) in
-    record { size = L .size; own = λ v w. L .done (v - 1) (omega arith) }
+    record { size = L .size; joined = λ v w. L .done (v - 1) (omega arith) }
 
-pub alone-spec : {M : Type 1} → statement M
-alone-spec = tie.close (tie.spec Inv-loop μ-loop loop-holds shl-sets mul-sets array-write-sets add-i loop-less loop-again returns)
+pub joined-spec : {M : Type 1} → statement M
+joined-spec = tie.close (tie.spec Inv-loop μ-loop loop-holds mul-sets element-copy-out-sets shl-sets mul-sets-2 array-write-sets add-i loop-less loop-again returns)
