@@ -46,6 +46,11 @@ class Architecture(unittest.TestCase):
                 code = "".join(text(os.path.join(at, file)) for file in os.listdir(at) if file.endswith(".rt"))
                 self.assertRegex(code, rf"\bfn {name}\b", f"{crate}::{name}")
 
+    def test_proofs_are_short(self):
+        """What `search needs` closes stands in the list at the end of its proof: `docs/needs --write` puts it there."""
+        said = subprocess.run([os.path.join(ROOT, "docs", "needs")], capture_output=True, text=True)
+        self.assertEqual((said.returncode, said.stdout, said.stderr), (0, "", ""))
+
     def test_refusals(self):
         """The crates that the page says refuse have every number, each in its code or its definitions."""
         said = re.search(r"^Refusals come from (.*?); 9 from", PAGE, re.M)[1]
