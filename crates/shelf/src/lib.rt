@@ -18,9 +18,9 @@ ghost use mathlib.Core.Path.{_≡_};
 ghost use Prim.Native.Nat.{_*_, _<_};
 ghost use Rattle.reply.specs.Read.{saidReply};
 ghost use Rattle.records.specs.Bytes.{le16, PartOf};
-ghost use Rattle.assembly.specs.Placements.{placementAt, atomSite, laterFault, fault, shelfReply};
+ghost use Rattle.assembly.specs.Placements.{placementAt, atomSite, fault, shelfReply};
 ghost use Rattle.summary.specs.Layout.{summaryBytes};
-ghost use Rattle.shelf.specs.Shelf.{placesIn, placeOf, shelfIn};
+ghost use Rattle.shelf.specs.Shelf.{summaryAt, placesIn, placeOf, sitesIn, shelfIn};
 
 // The summary at a place.
 pub fn summary_at(book: &[u8], i: usize) -> &[u8]
@@ -59,47 +59,40 @@ pub fn place_of(book: &[u8], number: usize) -> usize
     n
 }
 
-// What is asked of the block with a number at its atom a.
-fn site_of(book: &[u8], number: u16, a: u8) -> JoinSite
-    ensures { λ r. ⌜ r ≡ atomSite (shelfIn (now (book .entry)) .sites number) a ⌝ }
+// What is asked of the block at a place at its atom a.
+fn site_at(book: &[u8], i: usize, a: u8) -> JoinSite
+    ensures { λ r. ⌜ r ≡ atomSite (sitesIn (summaryAt (now (book .entry)) i)) a ⌝ }
 {
-    let s = summary_at(book, place_of(book, number as usize));
+    let s = summary_at(book, i);
     JoinSite {
         atoms: atoms(s),
         ends: ends(s, a as usize),
     }
 }
 
-// What is wrong with a later placement, at index k: 23, 24, 18, 19, or 0.
-fn later_fault(book: &[u8], xs: &[u8], k: usize) -> usize
-    ensures { λ r. ⌜ r ≡ laterFault (shelfIn (now (book .entry))) (placementAt (now (xs .entry))) k ⌝ }
+// What is wrong with the placement at index k: 16, with the first one 17, with a later one 23, 24, 18 or 19; or 0.
+fn fault_of(book: &[u8], xs: &[u8], k: usize) -> usize
+    ensures { λ r. ⌜ r ≡ fault (shelfIn (now (book .entry))) (placementAt (now (xs .entry))) k ⌝ }
 {
     let q = placement_at(xs, k);
+    let i = place_of(book, q.block as usize);
+    if book.len() / SUMMARY <= i {
+        return 16;
+    }
+    if k == 0 {
+        return first_fault(q);
+    }
     let parent = q.parent as usize;
     if is_outside(k, parent) {
         return parent_fault(parent);
     }
     let onto = placement_at(xs, parent - 1);
     join_fault(
-        site_of(book, onto.block, q.site),
-        site_of(book, q.block, q.own),
+        site_at(book, place_of(book, onto.block as usize), q.site),
+        site_at(book, i, q.own),
         xs,
         k,
     )
-}
-
-// What is wrong with the placement at index k: 16, what first_fault or later_fault says, or 0.
-fn fault_of(book: &[u8], xs: &[u8], k: usize) -> usize
-    ensures { λ r. ⌜ r ≡ fault (shelfIn (now (book .entry))) (placementAt (now (xs .entry))) k ⌝ }
-{
-    let q = placement_at(xs, k);
-    if book.len() / SUMMARY <= place_of(book, q.block as usize) {
-        return 16;
-    }
-    if k == 0 {
-        return first_fault(q);
-    }
-    later_fault(book, xs, k)
 }
 
 // Refusals 15 to 19, 23 and 24 of an assembly's payload over a book.

@@ -1,14 +1,17 @@
 -- `shelf::fault_of` meets its contract. Assumes nothing.
-use Prim.Native.Nat.{ℕ}
+use Prim.Native.Nat.{ℕ, _-_}
 use mathlib.Core.Bool.{true}
-use mathlib.Core.Path.{_≡_, sym, ap, _∙_}
+use mathlib.Core.Path.{_≡_, sym, ap, ap₂, _∙_}
 use native.Mathlib.Omega.{arith}
-use borrow.Author.Tests.{lt-ltb, le-ltb}
-use Rattle.assembly.specs.Placements.{placementAt, Shelf, firstFault}
-use Rattle.assembly.specs.declared.Placement.{Placement}
-use Rattle.assembly.proofs.Faults.{no-block, is-first, is-later}
-use Rattle.shelf.specs.Shelf.{placesIn, placeOf, shelfIn}
 use borrow.Author.Needs.{needs}
+use borrow.Author.Tests.{lt-ltb, le-ltb}
+use Rattle.reply.specs.Read.{isOutside}
+use Rattle.block.specs.Faults.{inside}
+use Rattle.assembly.specs.Placements.{placementAt, atomSite, Shelf, firstFault, parentFault, joinFault, joinOn, sitesOn, laterFault, fault}
+use Rattle.assembly.specs.declared.Placement.{Placement}
+use Rattle.assembly.specs.declared.JoinSite.{JoinSite}
+use Rattle.assembly.proofs.Faults.{no-parent, has-parent, no-block, is-first, is-later}
+use Rattle.shelf.specs.Shelf.{summaryAt, placesIn, placeOf, sitesIn, shelfIn}
 use Rattle.shelf.proofs.fault_of.Statement.{statement}
 use Rattle.shelf.proofs.fault_of.Tie as tie
 
@@ -23,6 +26,29 @@ place-is c = let s = c .before .before .before .before .before in c .place-of .e
 
 has : (c : tie.Else1) → let s = c .before .before .before .before .before .before in shelf s .has (placed s (s .args .k) .block) ≡ true
 has c = let s = c .before .before .before .before .before .before in lt-ltb (placeOf (s .args .book .now) (placed s (s .args .k) .block)) (placesIn (s .args .book .now)) (omega (arith, place-is (c .before), c .if1 .left))
+
+-- with a later placement
+later : (c : tie.Else2) → let s = c .before .before .before .before .before .before .before in fault (shelf s) (placed s) (s .args .k) ≡ laterFault (shelf s) (placed s) (s .args .k)
+later c = let s = c .before .before .before .before .before .before .before in is-later (shelf s) (placed s) (s .args .k) (has (c .before)) (c .if2 .left)
+
+outside-is : (c : tie.After-is-outside) → let s = c .before .before .before .before .before .before .before .before .before in c .is-outside .result ≡ isOutside (s .args .k) (placed s (s .args .k) .parent)
+outside-is c = let s = c .before .before .before .before .before .before .before .before .before in c .is-outside .ensures ∙ ap (λ (q : Placement). isOutside (s .args .k) (q .parent)) (c .before .before .before .before .before .before .placement-at .ensures)
+
+-- what is asked of both blocks
+there-site : (c : tie.After-site-at) → let s = c .before .before .before .before .before .before .before .before .before .before .before .before .before .before in let q = placed s (s .args .k) in c .site-at .result ≡ atomSite (sitesOn (shelf s) (placed s) (q .parent - 1)) (q .site)
+there-site c =
+    let s = c .before .before .before .before .before .before .before .before .before .before .before .before .before .before in
+    let q = c .before .before .before .before .before .before .before .before .before .before .before .placement-at in
+    c .site-at .ensures
+    ∙ ap (λ (x : ℕ). atomSite (sitesIn (summaryAt (s .args .book .now) x)) (q .result .site)) (c .before .place-of2 .ensures)
+    ∙ ap (λ (o : Placement). atomSite (shelf s .sites (o .block)) (q .result .site)) (c .before .before .before .placement-at2 .ensures)
+    ∙ ap (λ (q : Placement). atomSite (sitesOn (shelf s) (placed s) (q .parent - 1)) (q .site)) (q .ensures)
+
+here-site : (c : tie.After-site-at2) → let s = c .before .before .before .before .before .before .before .before .before .before .before .before .before .before .before in let q = placed s (s .args .k) in c .site-at2 .result ≡ atomSite (sitesOn (shelf s) (placed s) (s .args .k)) (q .own)
+here-site c =
+    let s = c .before .before .before .before .before .before .before .before .before .before .before .before .before .before .before in
+    c .site-at2 .ensures
+    ∙ ap₂ (λ (x : ℕ) (q : Placement). atomSite (sitesIn (summaryAt (s .args .book .now) x)) (q .own)) (place-is (c .before .before .before .before .before .before .before .before .before .before)) (c .before .before .before .before .before .before .before .before .before .before .before .before .placement-at .ensures)
 
 placement-at-requires : tie.Need-placement-at-requires
 placement-at-requires c κs = search needs
@@ -43,11 +69,47 @@ returns-2 : tie.Need-returns-2
 returns-2 c = let s = c .before .before .before .before .before .before .before .before in
     c .first-fault .ensures ∙ ap firstFault (c .before .before .before .before .before .placement-at .ensures) ∙ sym (is-first (shelf s) (placed s) (s .args .k) (has (c .before .before)) (c .before .if2 .taken))
 
-later-fault-requires : tie.Need-later-fault-requires
-later-fault-requires c κs = search needs
+cast-parent : tie.Need-cast-parent
+cast-parent c = search needs
+
+is-outside-requires : tie.Need-is-outside-requires
+is-outside-requires c κs = search needs
+
+parent-fault-requires : tie.Need-parent-fault-requires
+parent-fault-requires c κs = search needs
 
 returns-3 : tie.Need-returns-3
-returns-3 c = let s = c .before .before .before .before .before .before .before .before in c .later-fault .ensures ∙ sym (is-later (shelf s) (placed s) (s .args .k) (has (c .before .before)) (c .before .if2 .left))
+returns-3 c = let s = c .before .before .before .before .before .before .before .before .before .before .before in
+    c .parent-fault .ensures
+    ∙ ap (λ (q : Placement). parentFault (q .parent)) (c .before .before .before .before .before .before .before .before .placement-at .ensures)
+    ∙ sym (later (c .before .before .before .before) ∙ no-parent (shelf s) (placed s) (s .args .k) (sym (outside-is (c .before .before)) ∙ c .before .if3 .taken))
+
+sub-placement-at : tie.Need-sub-placement-at
+sub-placement-at c = inside (c .before .before .before .before .before .before .before .before .before .before .args .k) (c .before .before .before .before .before .before .before .placement-at .result .parent) (sym (c .before .is-outside .ensures) ∙ c .if3 .left) .low
+
+placement-at-requires-2 : tie.Need-placement-at-requires-2
+placement-at-requires-2 c κs = search needs
+
+cast-place-of-2 : tie.Need-cast-place-of-2
+cast-place-of-2 c = search needs
+
+place-of-requires-2 : tie.Need-place-of-requires-2
+place-of-requires-2 c κs = search needs
+
+site-at-requires : tie.Need-site-at-requires
+site-at-requires c κs = search needs
+
+site-at-requires-2 : tie.Need-site-at-requires-2
+site-at-requires-2 c κs = search needs
+
+join-fault-requires : tie.Need-join-fault-requires
+join-fault-requires c κs = search needs
+
+returns-4 : tie.Need-returns-4
+returns-4 c = let s = c .before .before .before .before .before .before .before .before .before .before .before .before .before .before .before .before in
+    c .join-fault .ensures
+    ∙ ap₂ (λ (t h : JoinSite). joinFault t h (joinOn (placed s)) (s .args .k)) (there-site (c .before .before)) (here-site (c .before))
+    ∙ sym (later (c .before .before .before .before .before .before .before .before .before) ∙ has-parent (shelf s) (placed s) (s .args .k) (sym (outside-is (c .before .before .before .before .before .before .before)) ∙ c .before .before .before .before .before .before .if3 .left))
 
 pub fault-of-spec : {M : Type 1} → statement M
 fault-of-spec =
@@ -59,5 +121,15 @@ fault-of-spec =
     returns
     first-fault-requires
     returns-2
-    later-fault-requires
-    returns-3)
+    cast-parent
+    is-outside-requires
+    parent-fault-requires
+    returns-3
+    sub-placement-at
+    placement-at-requires-2
+    cast-place-of-2
+    place-of-requires-2
+    site-at-requires
+    site-at-requires-2
+    join-fault-requires
+    returns-4)

@@ -1,17 +1,14 @@
--- `shelf::site_of` meets its contract. Assumes nothing.
+-- `shelf::site_at` meets its contract. Assumes nothing.
 use Prim.Native.Nat.{ℕ}
 use mathlib.Core.List.{List}
 use mathlib.Core.Path.{_≡_, refl, ap, _∙_}
 use Rattle.assembly.specs.Placements.{atomSite}
 use Rattle.assembly.specs.declared.JoinSite.{JoinSite}
 use Rattle.summary.specs.Layout.{storedAtoms, storedDegree}
-use Rattle.shelf.specs.Shelf.{sitesIn, summaryAt}
+use Rattle.shelf.specs.Shelf.{sitesIn}
 use borrow.Author.Needs.{needs}
-use Rattle.shelf.proofs.site_of.Statement.{statement}
-use Rattle.shelf.proofs.site_of.Tie as tie
-
-place-of-requires : tie.Need-place-of-requires
-place-of-requires c κs = search needs
+use Rattle.shelf.proofs.site_at.Statement.{statement}
+use Rattle.shelf.proofs.site_at.Tie as tie
 
 summary-at-requires : tie.Need-summary-at-requires
 summary-at-requires c κs = search needs
@@ -24,11 +21,11 @@ ends-requires c κs = search needs
 
 returns : tie.Need-returns
 returns c =
-    let a = c .before .before .before .before .before .args in
+    let a = c .before .before .before .before .args in
     let r = c .before .before .summary-at .result in
     let both : _≡_ {A = JoinSite} (record { atoms = c .before .atoms .result; ends = c .ends .result }) (atomSite (sitesIn (r .now)) (a .a)) = rw (c .before .atoms .ensures, c .ends .ensures) refl in
-    both ∙ ap (λ (l : List ℕ). atomSite (sitesIn l) (a .a)) (c .before .before .summary-at .ensures .bytes ∙ ap (summaryAt (a .book .now)) (c .before .before .before .place-of .ensures))
+    both ∙ ap (λ (l : List ℕ). atomSite (sitesIn l) (a .a)) (c .before .before .summary-at .ensures .bytes)
 
-pub site-of-spec : {M : Type 1} → statement M
-site-of-spec =
-    tie.close (tie.spec place-of-requires summary-at-requires atoms-requires ends-requires returns)
+pub site-at-spec : {M : Type 1} → statement M
+site-at-spec =
+    tie.close (tie.spec summary-at-requires atoms-requires ends-requires returns)
