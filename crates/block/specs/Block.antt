@@ -6,7 +6,9 @@ use lib.Dec.{eqb, leb, ltb}
 use lib.ListN.{length}
 use Rattle.graph.specs.Graph.{Graph, Bond, bond, anyJoins, connected, degree}
 pub use Rattle.half.specs.Half.{mostAtoms}
-use Rattle.reply.specs.Read.{Read, read, _then_, refuseIf, refuseFor, isOutside}
+use Rattle.reply.specs.Read.{Read, read, _then_, refuseIf, refuseFor, isOutside, saidCounts}
+use Rattle.reply.specs.declared.Counts.{Counts}
+use Rattle.reply.specs.declared.CountsReply.{CountsReply}
 
 -- the most bonds of an atom, and the most bytes that the bonds take: two bytes a bond, which is one of the bonds of two atoms
 abbrev pub limit : ℕ
@@ -50,3 +52,10 @@ drawnReply n xs =
     refuseIf (isOutside mostAtoms n) 1 0 then λ _.
     refuseIf (not (eqb (length xs % 2) 0) || ltb mostBytes (length xs)) 2 0 then λ _.
     bondsReply n [] (bondsOf xs)
+
+-- how many atoms and bonds a molecule has, and how the code says them
+abbrev pub countsOf : Graph → Counts
+countsOf g = record { atoms = g .atoms; bonds = length (g .bonds) }
+
+abbrev pub saidMolecule : Read Graph → CountsReply
+saidMolecule answer = saidCounts (answer then λ g. read (countsOf g))

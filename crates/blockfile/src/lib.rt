@@ -6,16 +6,16 @@ ghost use lib.Seq.{sets};
 ghost use Rattle.molfile.specs.Molfile.{molfileReply};
 ghost use Rattle.molfile.specs.Said.{saidAnswer, saidMolfile, filledBonds, molfileBytes};
 ghost use Rattle.molfile.specs.Work.{answerReply, lows};
-use molfile::Counts;
 use molfile::KeptRead;
-use molfile::MolRead;
 use molfile::PAIRS;
 use molfile::kept_bonds;
+use reply::Counts;
+use reply::CountsReply;
 use reply::Refusal;
 use reply::Reply;
 
 // The answer for a block: its refusals, 9 for a lent output too short, or its bytes.
-fn answer(n: usize, xs: &[u8], out: &mut [u8]) -> MolRead
+fn answer(n: usize, xs: &[u8], out: &mut [u8]) -> CountsReply
     ensures reply { λ r. ⌜ r ≡ saidAnswer n (now (xs .entry)) (answerReply n (now (xs .entry)) (length (now (out .entry)))) ⌝ }
     ensures bytes { λ _. ⌜
         now (out .exit) ≡ filledBonds (answerReply n (now (xs .entry)) (length (now (out .entry)))) (now (xs .entry)) (now (out .entry))
@@ -23,16 +23,16 @@ fn answer(n: usize, xs: &[u8], out: &mut [u8]) -> MolRead
 {
     let reply = block::check(n, xs);
     match reply {
-        Reply::Refused(r) => MolRead::Refused(r),
+        Reply::Refused(r) => CountsReply::Refused(r),
         Reply::Fine => {
             if out.len() < xs.len() {
-                return MolRead::Refused(Refusal {
+                return CountsReply::Refused(Refusal {
                     number: 9,
                     place: 0,
                 });
             }
             text::put(out, 0, xs);
-            MolRead::Block(Counts {
+            CountsReply::Of(Counts {
                 atoms: n,
                 bonds: xs.len() / 2,
             })
@@ -60,14 +60,14 @@ fn narrow(xs: &[u16], out: &mut [u8])
 
 // Reads a molfile as a block: how many atoms and bonds it has, its bonds at the front of the lent output, two bytes each, and later bytes stay. Or it is a
 // refusal, and no byte changes: 25 to 27 of its lines in file order, the block's over the kept bonds, then 9 where fewer bytes are lent than these take.
-pub fn read(text: &[u8], out: &mut [u8]) -> MolRead
+pub fn read(text: &[u8], out: &mut [u8]) -> CountsReply
     ensures reply { λ r. ⌜ r ≡ saidMolfile (now (text .entry)) (molfileReply (now (text .entry)) (length (now (out .entry)))) ⌝ }
     ensures bytes { λ _. ⌜ now (out .exit) ≡ molfileBytes (now (text .entry)) (now (out .entry)) ⌝ }
 {
     let mut pairs = [0u16; PAIRS];
     let seen = kept_bonds(text, &mut pairs);
     match seen {
-        KeptRead::Refused(r) => MolRead::Refused(r),
+        KeptRead::Refused(r) => CountsReply::Refused(r),
         KeptRead::Of(k) => {
             let numbers = k.numbers;
             let mut bytes = [0u8; PAIRS];

@@ -6,6 +6,7 @@ use mathlib.Core.List.{List, [], _∷_, _++_}
 use lib.Dec.{ltb}
 use lib.ListN.{length, drop}
 use Rattle.reply.specs.Read.{Read, refused, read, _then_, refuseIf, refusal}
+use Rattle.reply.specs.declared.Counts.{Counts}
 use Rattle.reply.specs.declared.Refusal.{Refusal}
 use Rattle.reply.specs.declared.Reply.{Reply}
 use Rattle.reply.specs.declared.Reply.the-variants as reply
@@ -42,6 +43,10 @@ outAfter (read xs) old = over xs old
 -- an answer that is one number, as it is lent out
 abbrev pub numberList : Read ℕ → Read (List ℕ)
 numberList answer = answer then λ n. read (n ∷ [])
+
+-- one that is how many atoms and bonds there are
+abbrev pub countsList : Read Counts → Read (List ℕ)
+countsList answer = answer then λ c. read (c .atoms ∷ c .bonds ∷ [])
 
 -- what a function that lends its answer out promises: its reply, and the output after the call
 pub record Lent {A : Type 0} (answer : Read (List A)) (old : List A) (reply : ℕ) (new : List A) : Type 0 where

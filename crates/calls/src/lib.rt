@@ -1,6 +1,6 @@
 // How the library replies to C, for every crate of C functions (`.._calls`):
 //   code_of, reply_code    a refusal, a reply as one number
-//   give, give_number, give_indices   numbers, the number or the fields of a reply at the front of a lent output; 9 where they do not fit
+//   give, give_number, give_counts, give_indices   numbers, the number, the counts or the fields of a reply at the front of a lent output; 9 where they do not fit
 //   unlent                 what a function over a block says that lacks an output
 //   sheet_for              the sheet that a caller's number means
 // A promise is `r ≡ coded answer`, `Lent answer out r out′` for one output, `Beside answer one two out more r out′ more′` for two (specs/Convention, Beside).
@@ -8,13 +8,14 @@
 ghost use mathlib.Core.Path.{_≡_};
 ghost use Prim.Native.Nat.{_≤_};
 ghost use lib.ListN.{length};
-ghost use Rattle.reply.specs.Read.{read, toldNumber};
+ghost use Rattle.reply.specs.Read.{read, toldNumber, toldCounts};
 ghost use Rattle.sheets.specs.Sheets.{fieldsOf};
-ghost use Rattle.calls.specs.Convention.{code, coded, replyCode, over, numberList, Lent};
+ghost use Rattle.calls.specs.Convention.{code, coded, replyCode, over, numberList, countsList, Lent};
 ghost use Rattle.calls.specs.Blocks.{toldIndices, fieldsList, unlentReply, sheetFor};
 use block::Indices;
 use block::IndicesReply;
 use records::Sheet;
+use reply::CountsReply;
 use reply::NumberReply;
 use reply::Refusal;
 use reply::Reply;
@@ -71,6 +72,19 @@ pub fn give_number(out: &mut [u64], reply: NumberReply) -> u64
         NumberReply::Refused(r) => code_of(r),
         NumberReply::Of(n) => {
             let numbers = [n];
+            give(out, &numbers)
+        }
+    }
+}
+
+// The same with how many atoms and bonds a reply tells.
+pub fn give_counts(out: &mut [u64], reply: CountsReply) -> u64
+    ensures { λ r. ⌜ Lent (countsList (toldCounts reply)) (now (out .entry)) r (now (out .exit)) ⌝ }
+{
+    match reply {
+        CountsReply::Refused(r) => code_of(r),
+        CountsReply::Of(x) => {
+            let numbers = [x.atoms as u64, x.bonds as u64];
             give(out, &numbers)
         }
     }

@@ -10,7 +10,6 @@ use lines::row::Row;
 use lines::told;
 use matched::MatchReply;
 use records::Sheet;
-use whole::MoleculeReply;
 
 // What stands in a lent buffer before it is written to.
 const STAYS: u8 = row::STAYS as u8;
@@ -53,10 +52,7 @@ const SMALL: usize = 64;
 fn written_out(deck: &[u8]) -> Row {
     let mut out = [0u16; SMALL];
     let reply = whole::bonds(deck, &mut out);
-    match reply {
-        MoleculeReply::Refused(r) => told::refusal(r),
-        MoleculeReply::Of(x) => told::two(x.atoms as u64, x.bonds as u64),
-    }
+    told::counts(reply)
 }
 
 // Whether a deck is the molecule of so many atoms whose atoms 1 and 2 are bonded, by the matching of these to the first atoms of the first two placements: nothing

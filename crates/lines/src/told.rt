@@ -5,6 +5,7 @@ use block::Indices;
 use block::IndicesReply;
 use block::OneRow;
 use block::VertexReply;
+use reply::CountsReply;
 use reply::NumberReply;
 use reply::Refusal;
 use reply::Reply;
@@ -50,7 +51,6 @@ pub fn one(x: u64) -> Row {
     entries(&[x])
 }
 
-// Two numbers, as of atoms and of bonds.
 pub fn two(x: u64, y: u64) -> Row {
     entries(&[x, y])
 }
@@ -65,6 +65,13 @@ pub fn number(reply: NumberReply) -> Row {
     match reply {
         NumberReply::Refused(r) => refusal(r),
         NumberReply::Of(x) => one(x),
+    }
+}
+
+pub fn counts(reply: CountsReply) -> Row {
+    match reply {
+        CountsReply::Refused(r) => refusal(r),
+        CountsReply::Of(x) => two(x.atoms as u64, x.bonds as u64),
     }
 }
 

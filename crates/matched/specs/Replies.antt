@@ -9,18 +9,17 @@ use lib.Seq.{sets, sets-eq, length-sets, take-at}
 use Rattle.graph.specs.Graph.{Graph}
 use Rattle.reply.specs.Read.{Read, refused, read, refusal}
 use Rattle.reply.specs.declared.Refusal.{Refusal}
-use Rattle.block.specs.Block.{graphOf}
+use Rattle.reply.specs.declared.Counts.{Counts}
+use Rattle.reply.specs.declared.CountsReply.{CountsReply}
+use Rattle.reply.specs.declared.CountsReply.the-variants.{Of}
+use Rattle.block.specs.Block.{graphOf, countsOf}
 use Rattle.deck.specs.Deck.{Deck, deckReply}
 use Rattle.deck.specs.Molecule.{moleculeOf}
 use Rattle.deck.specs.declared.Form.the-variants.{Composed}
 use Rattle.whole.specs.Whole.{pairNumbers, wholeReply, numbersAfter}
 use Rattle.whole.specs.Work.{mostNumbers}
-use Rattle.whole.specs.Said.{countsOf}
 use Rattle.whole.specs.Laws.{pairs-length, pairs-back}
 use Rattle.whole.specs.Replies.{molecule-bonds, molecule-few, whole-read}
-use Rattle.whole.specs.declared.Counts.{Counts}
-use Rattle.whole.specs.declared.MoleculeReply.{MoleculeReply}
-use Rattle.whole.specs.declared.MoleculeReply.the-variants as whole
 use Rattle.matched.specs.Matched.{partners, matchPlace, no, answerAt, matchAnswer, matchReply}
 use Rattle.matched.specs.Said.{saidWhether, saidMatch}
 use Rattle.matched.specs.declared.MatchReply.the-variants as told
@@ -29,7 +28,7 @@ use Rattle.matched.specs.declared.MatchReply.the-variants as told
 pub whole-told : (d : List ℕ) (n : ℕ) (k : Deck) → deckReply Composed d ≡ read k → mostNumbers ≤ n → wholeReply d n ≡ read (moleculeOf d k)
 whole-told d n k e h = whole-read d n k e (omega (arith, h, molecule-few d n k e, ap length (molecule-bonds d n k e)))
 
-pub counted : (x : Counts) (m : MoleculeReply) (g : Graph) → m ≡ whole.Of x → m ≡ whole.Of (countsOf g) → x ≡ countsOf g
+pub counted : (x : Counts) (m : CountsReply) (g : Graph) → m ≡ Of x → m ≡ Of (countsOf g) → x ≡ countsOf g
 counted x m g e f = cc
 
 pub after-length : (answer : Read Graph) (out : List ℕ) → length (numbersAfter answer out) ≡ length out

@@ -19,11 +19,11 @@ ghost use Rattle.matched.specs.Work.{isTaken, isAmiss};
 ghost use Rattle.matched.specs.Said.{saidWhether, saidMatch};
 use deck::Form;
 use deck::Layout;
+use reply::CountsReply;
 use reply::Refusal;
 use reply::Reply;
 use reply::is_outside;
 use reply::wide_two;
-use whole::MoleculeReply;
 
 // The most atoms of a deck's molecule, and the most numbers that its bonds take.
 const ATOMS: usize = 2048;
@@ -275,8 +275,8 @@ fn answer_in(
 {
     let reply = whole::bonds(d, numbers);
     match reply {
-        MoleculeReply::Refused(r) => MatchReply::Refused(r),
-        MoleculeReply::Of(c) => {
+        CountsReply::Refused(r) => MatchReply::Refused(r),
+        CountsReply::Of(c) => {
             if c.atoms != n {
                 return MatchReply::No(0);
             }

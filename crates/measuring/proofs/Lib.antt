@@ -1,3 +1,3 @@
--- Laws that the proof cites.
+-- Laws that the proofs cite.
 pub mod Fits
 pub mod Texts

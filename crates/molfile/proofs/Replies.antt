@@ -1,25 +1,15 @@
 -- Laws. What the reader's reply says of its definition. Assumes nothing.
-use Prim.Native.Nat.{ℕ, _/_}
+use Prim.Native.Nat.{ℕ}
 use mathlib.Core.List.{List}
 use mathlib.Core.Path.{_≡_, refl, ap}
 use native.Mathlib.Omega.{arith}
 use lib.ListN.{length}
 use Rattle.reply.specs.Read.{Read, refused, read}
 use Rattle.reply.specs.declared.Refusal.{Refusal}
-use Rattle.molfile.specs.Said.{saidAnswer, saidKept}
-use Rattle.molfile.specs.declared.Counts.{Counts}
+use Rattle.molfile.specs.Said.{saidKept}
 use Rattle.molfile.specs.declared.Kept.{Kept}
-use Rattle.molfile.specs.declared.MolRead.the-variants as mol
 use Rattle.molfile.specs.declared.KeptRead.the-variants as kept
 use Rattle.molfile.specs.Molfile.{keptAtoms, bytesOf}
-
-pub mol-refused : (n : ℕ) (xs : List ℕ) (R : Read (Unit {0})) {r : Refusal} → saidAnswer n xs R ≡ mol.Refused r → R ≡ refused r
-mol-refused n xs (refused s) e = ap refused (cc)
-mol-refused n xs (read u) e = let z : _≡_ {A = ℕ} 0 1 = cc in absurd (omega arith)
-
-pub mol-block : (n : ℕ) (xs : List ℕ) (R : Read (Unit {0})) {c : Counts} → saidAnswer n xs R ≡ mol.Block c → (R ≡ read tt) × (n ≡ c .atoms) × (length xs / 2 ≡ c .bonds)
-mol-block n xs (refused s) e = let z : _≡_ {A = ℕ} 0 1 = cc in absurd (omega arith)
-mol-block n xs (read u) e = (refl, cc, cc)
 
 pub kept-refused : (d : List ℕ) (R : Read (Unit {0})) {r : Refusal} → saidKept d R ≡ kept.Refused r → R ≡ refused r
 kept-refused d (refused s) e = ap refused (cc)

@@ -2,19 +2,17 @@
 use Prim.Native.Nat.{ℕ, _/_}
 use mathlib.Core.List.{List, _++_}
 use lib.ListN.{length, drop}
-use Rattle.reply.specs.Read.{Read, refused, read}
+use Rattle.reply.specs.Read.{Read, refused, read, _then_, saidCounts}
+use Rattle.reply.specs.declared.CountsReply.{CountsReply}
 use Rattle.molfile.specs.Molfile.{keptAtoms, bytesOf, keptReply, molfileReply}
-use Rattle.molfile.specs.declared.MolRead.{MolRead}
-use Rattle.molfile.specs.declared.MolRead.the-variants.{Refused, Block}
 use Rattle.molfile.specs.declared.KeptRead.{KeptRead}
 use Rattle.molfile.specs.declared.KeptRead.the-variants as kept
 
--- a block of n atoms whose bonds take these bytes
-abbrev pub saidAnswer : ℕ → List ℕ → Read (Unit {0}) → MolRead
-saidAnswer n xs (refused r) = Refused r
-saidAnswer n xs (read u) = Block (record { atoms = n; bonds = length xs / 2 })
+-- so many atoms, and bonds that take these numbers, two each
+abbrev pub saidAnswer : ℕ → List ℕ → Read (Unit {0}) → CountsReply
+saidAnswer n xs answer = saidCounts (answer then λ _. read (record { atoms = n; bonds = length xs / 2 }))
 
-abbrev pub saidMolfile : List ℕ → Read (Unit {0}) → MolRead
+abbrev pub saidMolfile : List ℕ → Read (Unit {0}) → CountsReply
 saidMolfile d = saidAnswer (keptAtoms d) (bytesOf d)
 
 -- what is kept of a file: so many atoms, and so many numbers of bonds

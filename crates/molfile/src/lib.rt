@@ -22,17 +22,6 @@ mod ending;
 
 pub use ending::rest_place;
 
-// What a molfile holds once hydrogens are dropped.
-pub struct Counts {
-    pub atoms: usize,
-    pub bonds: usize,
-}
-
-pub enum MolRead {
-    Refused(Refusal),
-    Block(Counts),
-}
-
 // How many atoms of a molfile are kept, and how many numbers their bonds take, two each.
 pub struct Kept {
     pub atoms: usize,

@@ -2,17 +2,10 @@
 use Prim.Native.Nat.{ℕ}
 use mathlib.Core.List.{List}
 use lib.ListN.{length}
-use Rattle.graph.specs.Graph.{Graph}
 use Rattle.reply.specs.Read.{Read, refused, read, _then_, saidNumber}
 use Rattle.reply.specs.declared.NumberReply.{NumberReply}
-use Rattle.neighbours.specs.declared.NeighboursRead.{NeighboursRead}
-use Rattle.neighbours.specs.declared.NeighboursRead.the-variants.{Refused, Block}
 use Rattle.neighbours.specs.declared.Shape.{Shape}
 use Rattle.neighbours.specs.declared.Shape.the-variants as shape
-
-abbrev pub saidNeighboursRead : Read Graph → NeighboursRead
-saidNeighboursRead (refused r) = Refused r
-saidNeighboursRead (read g) = Block (record { atoms = g .atoms; bonds = length (g .bonds) })
 
 -- a text's length
 abbrev pub saidNeighboursWritten : Read (List ℕ) → NumberReply

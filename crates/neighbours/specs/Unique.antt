@@ -4,13 +4,14 @@ use mathlib.Core.List.{List}
 use mathlib.Core.Path.{_≡_}
 use Rattle.reply.specs.Chain.{unique}
 use Rattle.reply.specs.declared.NumberReply.{NumberReply}
+use Rattle.reply.specs.declared.CountsReply.{CountsReply}
+use Rattle.block.specs.Block.{saidMolecule}
 use Rattle.adjacency.specs.Neighbours.{neighboursReply, bytesAfter}
 use Rattle.adjacency.specs.Written.{neighboursWriteReply, textAfter}
-use Rattle.neighbours.specs.Said.{saidNeighboursRead, saidNeighboursWritten}
-use Rattle.neighbours.specs.declared.NeighboursRead.{NeighboursRead}
+use Rattle.neighbours.specs.Said.{saidNeighboursWritten}
 
 module _ (text : List ℕ) (room : ℕ) where
-  pub unique-read : (r s : NeighboursRead) → r ≡ saidNeighboursRead (neighboursReply text room) → s ≡ saidNeighboursRead (neighboursReply text room) → r ≡ s
+  pub unique-read : (r s : CountsReply) → r ≡ saidMolecule (neighboursReply text room) → s ≡ saidMolecule (neighboursReply text room) → r ≡ s
   unique-read r s = unique
 
   pub unique-read-bytes : (out p q : List ℕ) → p ≡ bytesAfter (neighboursReply text room) out → q ≡ bytesAfter (neighboursReply text room) out → p ≡ q

@@ -7,14 +7,16 @@ ghost use mathlib.Core.Path.{_≡_};
 ghost use Prim.Native.Nat.{_≤_};
 ghost use lib.ListN.{length};
 ghost use Rattle.reply.specs.Read.{refusal};
-ghost use Rattle.block.specs.Block.{mostAtoms};
+ghost use Rattle.block.specs.Block.{mostAtoms, saidMolecule};
 ghost use Rattle.adjacency.specs.Neighbours.{bondsIn, blockOf, neighboursReply, bytesAfter};
 ghost use Rattle.adjacency.specs.Written.{textBy, neighboursWriteReply, textAfter};
 ghost use Rattle.adjacency.specs.Work.{stepsAt, FewBonds, Sized, keptReply, givenReply, joinedIn, longest};
-ghost use Rattle.neighbours.specs.Said.{saidNeighboursRead, saidNeighboursWritten};
+ghost use Rattle.neighbours.specs.Said.{saidNeighboursWritten};
 use block::ATOMS;
 use block::BYTES;
 use block::Neighbours;
+use reply::Counts;
+use reply::CountsReply;
 use reply::NumberReply;
 use reply::Refusal;
 use reply::Reply;
@@ -22,18 +24,6 @@ use reply::Reply;
 mod bonds;
 mod scan;
 mod writing;
-
-// How many atoms and bonds a block has.
-pub struct Counts {
-    pub atoms: usize,
-    pub bonds: usize,
-}
-
-// A block's counts, or why there is none.
-pub enum NeighboursRead {
-    Refused(Refusal),
-    Block(Counts),
-}
 
 // The first number from a place on, where it stands, and the place behind it.
 struct Token {
@@ -54,29 +44,29 @@ struct Reach {
     pub high: bool,
 }
 
-fn refused(number: usize, place: usize) -> NeighboursRead
-    ensures { λ r. ⌜ r ≡ NeighboursRead.Refused (refusal number place) ⌝ }
+fn refused(number: usize, place: usize) -> CountsReply
+    ensures { λ r. ⌜ r ≡ CountsReply.Refused (refusal number place) ⌝ }
 {
-    NeighboursRead::Refused(Refusal { number, place })
+    CountsReply::Refused(Refusal { number, place })
 }
 
 // 3 to 7 of bonds after which a label above n stands, or none, then 9.
-fn kept(n: usize, bonds: &[u8], high: bool, out: &mut [u8]) -> NeighboursRead
+fn kept(n: usize, bonds: &[u8], high: bool, out: &mut [u8]) -> CountsReply
     requires { ⌜ Sized n (now bonds) ⌝ }
-    ensures reply { λ r. ⌜ r ≡ saidNeighboursRead (keptReply n (now (bonds .entry)) high (length (now (out .entry)))) ⌝ }
+    ensures reply { λ r. ⌜ r ≡ saidMolecule (keptReply n (now (bonds .entry)) high (length (now (out .entry)))) ⌝ }
     ensures bytes { λ r. ⌜
         now (out .exit) ≡ bytesAfter (keptReply n (now (bonds .entry)) high (length (now (out .entry)))) (now (out .entry))
         ⌝ }
 {
     let reply = bonds::judged(n, bonds, high);
     match reply {
-        Reply::Refused(refusal) => NeighboursRead::Refused(refusal),
+        Reply::Refused(refusal) => CountsReply::Refused(refusal),
         Reply::Fine => {
             if out.len() < bonds.len() {
                 return refused(9, 0);
             }
             text::put(out, 0, bonds);
-            NeighboursRead::Block(Counts {
+            CountsReply::Of(Counts {
                 atoms: n,
                 bonds: bonds.len() / 2,
             })
@@ -85,9 +75,9 @@ fn kept(n: usize, bonds: &[u8], high: bool, out: &mut [u8]) -> NeighboursRead
 }
 
 // 3 to 7 of the numbers from a place on, then 9, where 1 and 2 do not refuse.
-fn bonds_of(text: &[u8], at: usize, n: usize, out: &mut [u8]) -> NeighboursRead
+fn bonds_of(text: &[u8], at: usize, n: usize, out: &mut [u8]) -> CountsReply
     requires { ⌜ (at ≤ length (now text)) × FewBonds n (stepsAt 0 (now text) at) ⌝ }
-    ensures reply { λ r. ⌜ r ≡ saidNeighboursRead (blockOf n (stepsAt 0 (now (text .entry)) at) (length (now (out .entry)))) ⌝ }
+    ensures reply { λ r. ⌜ r ≡ saidMolecule (blockOf n (stepsAt 0 (now (text .entry)) at) (length (now (out .entry)))) ⌝ }
     ensures bytes { λ r. ⌜
         now (out .exit) ≡ bytesAfter (blockOf n (stepsAt 0 (now (text .entry)) at) (length (now (out .entry)))) (now (out .entry))
         ⌝ }
@@ -99,9 +89,9 @@ fn bonds_of(text: &[u8], at: usize, n: usize, out: &mut [u8]) -> NeighboursRead
 }
 
 // 1 to 7 of the numbers from a place on, after the count n, then 9; `count` of them are bonds.
-fn block_of(text: &[u8], at: usize, n: usize, count: usize, out: &mut [u8]) -> NeighboursRead
+fn block_of(text: &[u8], at: usize, n: usize, count: usize, out: &mut [u8]) -> CountsReply
     requires { ⌜ (at ≤ length (now text)) × (count ≡ length (bondsIn (stepsAt 0 (now text) at))) ⌝ }
-    ensures reply { λ r. ⌜ r ≡ saidNeighboursRead (blockOf n (stepsAt 0 (now (text .entry)) at) (length (now (out .entry)))) ⌝ }
+    ensures reply { λ r. ⌜ r ≡ saidMolecule (blockOf n (stepsAt 0 (now (text .entry)) at) (length (now (out .entry)))) ⌝ }
     ensures bytes { λ r. ⌜
         now (out .exit) ≡ bytesAfter (blockOf n (stepsAt 0 (now (text .entry)) at) (length (now (out .entry)))) (now (out .entry))
         ⌝ }
@@ -119,8 +109,8 @@ fn block_of(text: &[u8], at: usize, n: usize, count: usize, out: &mut [u8]) -> N
 }
 
 // The block of a text. The bonds stand at the front of the lent bytes, two bytes each, and later bytes stay; a refusal changes none.
-pub fn read(text: &[u8], out: &mut [u8]) -> NeighboursRead
-    ensures reply { λ r. ⌜ r ≡ saidNeighboursRead (neighboursReply (now (text .entry)) (length (now (out .entry)))) ⌝ }
+pub fn read(text: &[u8], out: &mut [u8]) -> CountsReply
+    ensures reply { λ r. ⌜ r ≡ saidMolecule (neighboursReply (now (text .entry)) (length (now (out .entry)))) ⌝ }
     ensures bytes { λ r. ⌜
         now (out .exit) ≡ bytesAfter (neighboursReply (now (text .entry)) (length (now (out .entry)))) (now (out .entry))
         ⌝ }
@@ -135,7 +125,7 @@ pub fn read(text: &[u8], out: &mut [u8]) -> NeighboursRead
     }
     let shape = scan::shape(text, count.next);
     match shape {
-        Shape::Refused(refusal) => NeighboursRead::Refused(refusal),
+        Shape::Refused(refusal) => CountsReply::Refused(refusal),
         Shape::Bonds(k) => block_of(text, count.next, count.value, k, out),
     }
 }

@@ -5,7 +5,6 @@ use lines::row::STAYS;
 use lines::told;
 use sdfile::Step;
 use sdfile::Value;
-use wholefile::WholeRead;
 
 // A place; the first byte of the record of an SDF from there, how many it has, and where the next begins; nothing where all are done.
 fn data_record(reply: Step) -> Row {
@@ -30,10 +29,7 @@ const SMALL: usize = 64;
 fn whole(text: &[u8]) -> Row {
     let mut out = [STAYS as u16; SMALL];
     let reply = wholefile::read_whole(text, &mut out);
-    match reply {
-        WholeRead::Refused(r) => told::refusal(r),
-        WholeRead::Molecule(x) => told::two(x.atoms as u64, x.bonds as u64),
-    }
+    told::counts(reply)
 }
 
 // The reply to a question, which is known by its first letter.

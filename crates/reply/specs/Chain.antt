@@ -3,11 +3,14 @@ use Prim.Native.Nat.{ℕ, zero, suc, max}
 use mathlib.Core.Bool.{Bool, true, false, _||_, true≢false}
 use mathlib.Core.Path.{_≡_, refl, sym, _∙_, ap}
 use native.Mathlib.Omega.{arith}
-use Rattle.reply.specs.Read.{Read, refused, read, _then_, refuseIf, refuseFor, refusal, isOutside, saidReply, saidNumber, toldNumber}
+use Rattle.reply.specs.Read.{Read, refused, read, _then_, refuseIf, refuseFor, refusal, isOutside, saidReply, saidNumber, toldNumber, saidCounts, toldCounts}
 use Rattle.reply.specs.declared.Refusal.{Refusal}
 use Rattle.reply.specs.declared.Reply.{Reply}
 use Rattle.reply.specs.declared.Reply.the-variants.{Fine, Refused}
 use Rattle.reply.specs.declared.NumberReply.{NumberReply}
+use Rattle.reply.specs.declared.Counts.{Counts}
+use Rattle.reply.specs.declared.CountsReply.{CountsReply}
+use Rattle.reply.specs.declared.CountsReply.the-variants as counts
 
 pub not-read : {A : Type 0} {r : Refusal} {a : A} → refused r ≡ read a → ⊥
 not-read e = let z : _≡_ {A = ℕ} 0 1 = cc in omega arith
@@ -42,6 +45,19 @@ refused-read (read u) r e = let z : _≡_ {A = ℕ} 0 1 = cc in absurd (omega ar
 pub number-told : (a : NumberReply) (x : Read ℕ) → a ≡ saidNumber x → toldNumber a ≡ x
 number-told a (refused r) e = ap toldNumber e
 number-told a (read n) e = ap toldNumber e
+
+pub counts-told : (a : CountsReply) (x : Read Counts) → a ≡ saidCounts x → toldCounts a ≡ x
+counts-told a (refused r) e = ap toldCounts e
+counts-told a (read c) e = ap toldCounts e
+
+-- and of an answer that has such counts
+pub counted-refused : {A : Type 0} (x : Read A) (f : A → Counts) {r : Refusal} → saidCounts (x then λ a. read (f a)) ≡ counts.Refused r → x ≡ refused r
+counted-refused (refused q) f e = ap refused (cc)
+counted-refused (read a) f e = let z : _≡_ {A = ℕ} 0 1 = cc in absurd (omega arith)
+
+pub counted-read : {A : Type 0} (x : Read A) (f : A → Counts) {c : Counts} → saidCounts (x then λ a. read (f a)) ≡ counts.Of c → (a : A) × (x ≡ read a) × (f a ≡ c)
+counted-read (refused q) f e = let z : _≡_ {A = ℕ} 0 1 = cc in absurd (omega arith)
+counted-read (read a) f e = (a, refl, cc)
 
 -- two answers that are both what a promise says are equal
 pub unique : {A : Type 0} {r s t : A} → r ≡ t → s ≡ t → r ≡ s

@@ -8,5 +8,6 @@
 -- | `isOutside n v`  | v is 0 or above n                                    | `unique-is-outside`                             |
 -- | `saidReply`      | how the code says a refusal or none                  | `fine-read`, `refused-read`                     |
 -- | `saidNumber`     | how it says a refusal or a number                    | `number-told`: `toldNumber` is its way back     |
+-- | `saidCounts`     | how it says a refusal or counts of atoms and bonds   | `counts-told`: `toldCounts` is its way back     |
 pub mod Read
 pub mod Chain

@@ -7,6 +7,9 @@ use Rattle.reply.specs.declared.Reply.{Reply}
 use Rattle.reply.specs.declared.Reply.the-variants.{Fine, Refused}
 use Rattle.reply.specs.declared.NumberReply.{NumberReply}
 use Rattle.reply.specs.declared.NumberReply.the-variants as number
+use Rattle.reply.specs.declared.Counts.{Counts}
+use Rattle.reply.specs.declared.CountsReply.{CountsReply}
+use Rattle.reply.specs.declared.CountsReply.the-variants as counts
 
 abbrev pub refusal : ℕ → ℕ → Refusal
 refusal n p = record { number = n; place = p }
@@ -53,3 +56,12 @@ saidNumber (read n) = number.Of n
 abbrev pub toldNumber : NumberReply → Read ℕ
 toldNumber (number.Refused r) = refused r
 toldNumber (number.Of n) = read n
+
+-- the same of how many atoms and bonds there are
+abbrev pub saidCounts : Read Counts → CountsReply
+saidCounts (refused r) = counts.Refused r
+saidCounts (read c) = counts.Of c
+
+abbrev pub toldCounts : CountsReply → Read Counts
+toldCounts (counts.Refused r) = refused r
+toldCounts (counts.Of c) = read c

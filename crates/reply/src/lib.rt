@@ -1,4 +1,4 @@
-// What every part of the library answers with: fine, a number, or a refusal. And what all of them do with small numbers.
+// What every part of the library answers with: fine, a number, how many atoms and bonds there are, or a refusal. And what all of them do with small numbers.
 ghost use mathlib.Core.Path.{_≡_};
 ghost use Prim.Native.Nat.{_≤_, max};
 ghost use Rattle.reply.specs.Read.{refusal, isOutside};
@@ -19,6 +19,17 @@ pub enum Reply {
 pub enum NumberReply {
     Refused(Refusal),
     Of(u64),
+}
+
+// How many atoms and bonds a molecule has; that, or refused.
+pub struct Counts {
+    pub atoms: usize,
+    pub bonds: usize,
+}
+
+pub enum CountsReply {
+    Refused(Refusal),
+    Of(Counts),
 }
 
 // A refusal at place 0.

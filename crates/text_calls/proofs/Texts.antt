@@ -1,24 +1,22 @@
 -- Laws. Neighbour texts with the numbers beside them: each case of the reply. Assumes nothing.
 use Prim.Native.Nat.{ℕ, _≤_, _<_}
-use mathlib.Core.Bool.{Bool, true, false, not}
+use mathlib.Core.Bool.{Bool, not}
 use mathlib.Core.List.{List, []}
-use mathlib.Core.Path.{_≡_, refl, sym, _∙_, ap, ap₂}
+use mathlib.Core.Path.{_≡_, refl, sym, _∙_, ap}
 use lib.Dec.{ltb}
-use lib.ListN.{length, set}
+use lib.ListN.{length}
 use Rattle.graph.specs.Graph.{Graph, connected}
 use Rattle.reply.specs.Read.{Read, refused, read, _then_, refuseIf, isOutside, toldNumber}
-use Rattle.reply.specs.declared.Refusal.{Refusal}
 use Rattle.reply.specs.declared.NumberReply.{NumberReply}
 use Rattle.block.specs.Block.{mostAtoms, mostBytes, bondsOf, blockReply}
-use Rattle.adjacency.specs.Neighbours.{CountRead, numbers, bytesReply, atomCountReply, Step, steps, bondsIn, stepsReply, bondsLength, molecule, blockOf, neighboursReply, bytesAfter}
+use Rattle.adjacency.specs.Neighbours.{bondListBytes, CountRead, numbers, bytesReply, atomCountReply, Step, steps, bondsIn, stepsReply, bondsLength, molecule, blockOf, neighboursReply, bytesAfter}
 use Rattle.adjacency.specs.Written.{writtenText, neighboursWriteReply, textAfter}
 use Rattle.adjacency.specs.Blocks.{bytes-length}
 use Rattle.neighbours.specs.Said.{saidNeighboursWritten}
-use Rattle.neighbours.specs.declared.Counts.{Counts}
-use Rattle.calls.specs.Convention.{code, coded, outAfter, numberList, Lent, thenNine}
+use Rattle.calls.specs.Convention.{coded, outAfter, numberList, Lent, thenNine}
 use Rattle.calls.specs.Blocks.{unlentReply}
-use Rattle.calls.proofs.Laws.{both-put, nine-behind, beside-lacking, beside-refused, beside-fine, beside-number}
-use Rattle.text_calls.specs.Texts.{unlentText, TextRead, TextWritten}
+use Rattle.calls.proofs.Laws.{nine-behind, beside-lacking, beside-number}
+use Rattle.text_calls.specs.Texts.{TextWritten}
 
 -- READING. What comes before 9, whatever the room is.
 nine-last : (A B C D : Read (Unit {0})) (g : Graph) (s t : Bool)
@@ -29,42 +27,26 @@ nine-last (read u) (refused r) C D g s t = refl
 nine-last (read u) (read v) (refused r) D g s t = refl
 nine-last (read u) (read v) (read w) D g s t = nine-behind D s (λ _. g) ∙ sym (nine-behind D t (λ _. g))
 
-block-nine : (n : ℕ) (ss : List Step) (room : ℕ) → thenNine (blockOf n ss 1) ≡ thenNine (blockOf n ss room)
+block-nine : (n : ℕ) (ss : List Step) (some room : ℕ) → thenNine (blockOf n ss some) ≡ thenNine (blockOf n ss room)
 unfolding blockOf
-block-nine n ss room =
+block-nine n ss some room =
     nine-last (refuseIf (isOutside mostAtoms n) 1 0) (refuseIf (ltb mostBytes (bondsLength (bondsIn ss))) 2 0) (stepsReply n [] ss) (refuseIf (not (connected (molecule n ss))) 7 0) (molecule n ss)
-    (ltb 1 (bondsLength (bondsIn ss))) (ltb room (bondsLength (bondsIn ss)))
+    (ltb some (bondsLength (bondsIn ss))) (ltb room (bondsLength (bondsIn ss)))
 
-any-room : (t : List ℕ) (room : ℕ) → unlentText t ≡ thenNine (neighboursReply t room)
+pub any-room : (t : List ℕ) (some room : ℕ) → thenNine (neighboursReply t some) ≡ thenNine (neighboursReply t room)
 unfolding neighboursReply
-any-room t room = go (bytesReply t) (atomCountReply (length t) (numbers t))
+any-room t some room = go (bytesReply t) (atomCountReply (length t) (numbers t))
   where
     go : (A : Read (Unit {0})) (B : Read CountRead)
-        → thenNine (A then λ _. B then λ c. blockOf (c .count) (steps (c .rest)) 1)
+        → thenNine (A then λ _. B then λ c. blockOf (c .count) (steps (c .rest)) some)
         ≡ thenNine (A then λ _. B then λ c. blockOf (c .count) (steps (c .rest)) room)
     go (refused r) B = refl
     go (read u) (refused r) = refl
-    go (read u) (read c) = block-nine (c .count) (steps (c .rest)) room
+    go (read u) (read c) = block-nine (c .count) (steps (c .rest)) some room
 
--- the case that a text is not refused: what one byte of room tells
-pub nine-told : (t : List ℕ) (g : Graph) → neighboursReply t 1 ≡ read g → 9 ≡ coded (unlentText t)
-nine-told t g e = rw e refl
-
-pub refusal-told : (t : List ℕ) (r : Refusal) (x : ℕ) → neighboursReply t 1 ≡ refused r → x ≡ code r → x ≡ coded (unlentText t)
-refusal-told t r x e q = rw e q
-
-module _ (t bonds counts : List ℕ) where
-  pub read-lacking : (x : ℕ) → length counts < 2 → x ≡ coded (unlentText t) → TextRead t bonds counts x bonds counts
-  read-lacking x h q = beside-lacking (neighboursReply t (length bonds)) 2 _ _ bonds counts x h (q ∙ ap coded (any-room t (length bonds)))
-
-  pub read-refused : (bonds′ : List ℕ) (r : Refusal) (x : ℕ) → 2 ≤ length counts → neighboursReply t (length bonds) ≡ refused r
-      → bonds′ ≡ bytesAfter (neighboursReply t (length bonds)) bonds → x ≡ code r → TextRead t bonds counts x bonds′ counts
-  read-refused bonds′ r x h e b q = beside-refused (neighboursReply t (length bonds)) 2 _ _ bonds counts r x h e (b ∙ rw e refl) q
-
-  pub read-fine : (bonds′ : List ℕ) (c : Counts) (g : Graph) → 2 ≤ length counts → neighboursReply t (length bonds) ≡ read g → g .atoms ≡ c .atoms → length (g .bonds) ≡ c .bonds
-      → bonds′ ≡ bytesAfter (neighboursReply t (length bonds)) bonds → TextRead t bonds counts 0 bonds′ (set (set counts 0 (c .atoms)) 1 (c .bonds))
-  read-fine bonds′ c g h e n m b =
-      beside-fine (neighboursReply t (length bonds)) 2 _ _ bonds counts g h e (b ∙ rw (e, bytes-length (g .bonds)) refl) (both-put (c .atoms) (c .bonds) counts h ∙ rw (← n, ← m) refl)
+pub bytes-filled : (R : Read Graph) (out : List ℕ) → bytesAfter R out ≡ outAfter (R then λ g. read (bondListBytes (g .bonds))) out
+bytes-filled (refused r) out = refl
+bytes-filled (read g) out = rw (bytes-length (g .bonds)) refl
 
 -- WRITING.
 module _ (n : ℕ) (xs out told : List ℕ) where

@@ -7,7 +7,6 @@ use Rattle.block.specs.Block.{bondsOf}
 use Rattle.molfile.specs.Molfile.{keptAtoms, bytesOf, molfileReply}
 use Rattle.wholefile.specs.Whole.{wholeFileReply}
 use Rattle.molwriter.specs.Written.{molfileText, molfileWriteReply}
-use Rattle.calls.specs.Convention.{thenNine}
 use Rattle.calls.specs.Beside.{withRoom, Beside}
 
 -- reading: the bonds go out, and the numbers of atoms and of bonds
@@ -18,10 +17,6 @@ abbrev pub MolfileRead : List ℕ → List ℕ → List ℕ → ℕ → List ℕ
 MolfileRead d bonds counts =
     Beside (readReply d (length bonds) (length counts)) (λ _. bytesOf d) (λ _. keptAtoms d ∷ length (bytesOf d) / 2 ∷ []) bonds counts
 
--- the file's refusal and the block's, then 9: no bond takes one byte
-abbrev pub unlentMolfile : List ℕ → Read ℕ
-unlentMolfile d = thenNine (molfileReply d 1)
-
 -- reading as one molecule: the same, as numbers of 16 bits
 abbrev pub wholeReadReply : List ℕ → ℕ → ℕ → Read (Unit {0})
 wholeReadReply d room entries = withRoom entries 2 (wholeFileReply d room)
@@ -29,10 +24,6 @@ wholeReadReply d room entries = withRoom entries 2 (wholeFileReply d room)
 abbrev pub WholeFileRead : List ℕ → List ℕ → List ℕ → ℕ → List ℕ → List ℕ → Type 0
 WholeFileRead d bonds counts =
     Beside (wholeReadReply d (length bonds) (length counts)) (λ _. bytesOf d) (λ _. keptAtoms d ∷ length (bytesOf d) / 2 ∷ []) bonds counts
-
--- the file's refusal and the molecule's, then 9: no bond takes one number
-abbrev pub unlentWhole : List ℕ → Read ℕ
-unlentWhole d = thenNine (wholeFileReply d 1)
 
 -- writing: the text goes out, and its length
 abbrev pub writtenReply : ℕ → List ℕ → ℕ → ℕ → Read ℕ

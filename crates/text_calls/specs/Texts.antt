@@ -6,7 +6,6 @@ use Rattle.graph.specs.Graph.{Graph}
 use Rattle.reply.specs.Read.{Read}
 use Rattle.adjacency.specs.Neighbours.{bondListBytes, neighboursReply}
 use Rattle.adjacency.specs.Written.{neighboursWriteReply}
-use Rattle.calls.specs.Convention.{thenNine}
 use Rattle.calls.specs.Beside.{withRoom, Beside}
 
 -- reading: the bonds go out, and the numbers of atoms and of bonds
@@ -16,10 +15,6 @@ textReply t room entries = withRoom entries 2 (neighboursReply t room)
 abbrev pub TextRead : List ℕ → List ℕ → List ℕ → ℕ → List ℕ → List ℕ → Type 0
 TextRead t bonds counts =
     Beside (textReply t (length bonds) (length counts)) (λ g. bondListBytes (g .bonds)) (λ g. g .atoms ∷ length (g .bonds) ∷ []) bonds counts
-
--- the text's refusal and the block's, then 9: no bond takes one byte
-abbrev pub unlentText : List ℕ → Read ℕ
-unlentText t = thenNine (neighboursReply t 1)
 
 -- writing: the text goes out, and its length
 abbrev pub toldReply : ℕ → List ℕ → ℕ → ℕ → Read (List ℕ)

@@ -5,7 +5,6 @@
 -- | `pairNumbers`  | bonds as numbers, two each                             | `pairs-length`       |
 -- | `numbersAfter` | the lent numbers after the call                        | `unique-numbers`     |
 pub mod Whole
-pub mod Said
 pub mod Work
 pub mod Laws
 pub mod Joins

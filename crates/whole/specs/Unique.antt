@@ -4,13 +4,13 @@ use mathlib.Core.List.{List}
 use mathlib.Core.Path.{_≡_, sym, _∙_}
 use lib.ListN.{length}
 use Rattle.graph.specs.Assembly.{startAt}
+use Rattle.reply.specs.declared.CountsReply.{CountsReply}
+use Rattle.block.specs.Block.{saidMolecule}
 use Rattle.deck.specs.Deck.{Deck}
 use Rattle.deck.specs.Molecule.{graphAt}
 use Rattle.whole.specs.Whole.{wholeReply, numbersAfter}
-use Rattle.whole.specs.Said.{saidMolecule}
-use Rattle.whole.specs.declared.MoleculeReply.{MoleculeReply}
 
-pub unique-bonds : (d : List ℕ) (n : ℕ) {a b : MoleculeReply} → a ≡ saidMolecule (wholeReply d n) → b ≡ saidMolecule (wholeReply d n) → a ≡ b
+pub unique-bonds : (d : List ℕ) (n : ℕ) {a b : CountsReply} → a ≡ saidMolecule (wholeReply d n) → b ≡ saidMolecule (wholeReply d n) → a ≡ b
 unique-bonds d n p q = p ∙ sym q
 
 pub unique-numbers : (d out : List ℕ) {a b : List ℕ} → a ≡ numbersAfter (wholeReply d (length out)) out → b ≡ numbersAfter (wholeReply d (length out)) out → a ≡ b

@@ -6,29 +6,19 @@ ghost use Prim.Native.Nat.{_+_, _*_, _≤_, _<_};
 ghost use lib.ListN.{length, set};
 ghost use lib.Seq.{sets};
 ghost use Rattle.graph.specs.Assembly.{startAt};
-ghost use Rattle.block.specs.Block.{mostBytes};
+ghost use Rattle.block.specs.Block.{mostBytes, saidMolecule};
 ghost use Rattle.deck.specs.Molecule.{graphAt, joinAt};
 ghost use Rattle.deck.specs.Sound.{WholeDeck};
 ghost use Rattle.deck.specs.Placed.{deckOf};
 ghost use Rattle.whole.specs.Whole.{pairNumbers, wholeReply, numbersAfter};
-ghost use Rattle.whole.specs.Said.{saidMolecule};
 ghost use Rattle.whole.specs.Work.{mostStart, mostBrought, mostNumbers, overAtoms, overNumbers, blockNumbers, joinsOf, joining, brought, bondsBefore};
 use deck::Form;
 use deck::Layout;
+use reply::Counts;
+use reply::CountsReply;
 use reply::Refusal;
 use reply::Reply;
 use reply::wide;
-
-// How many atoms and bonds a molecule has.
-pub struct Counts {
-    pub atoms: usize,
-    pub bonds: usize,
-}
-
-pub enum MoleculeReply {
-    Refused(Refusal),
-    Of(Counts),
-}
 
 // Puts a number at a place, where there is room.
 fn put(out: &mut [u16], at: usize, x: u16)
@@ -165,26 +155,26 @@ fn put_all(d: &[u8], deck: Layout, out: &mut [u16])
 
 // The molecule of a deck without a sheet: how many atoms and bonds it has, and its bonds at the front of the lent numbers, two each; later numbers stay. Or
 // the deck's refusal, then 9 where fewer numbers are lent than the bonds take, and no number changes.
-pub fn bonds(d: &[u8], out: &mut [u16]) -> MoleculeReply
+pub fn bonds(d: &[u8], out: &mut [u16]) -> CountsReply
     ensures reply { λ r. ⌜ r ≡ saidMolecule (wholeReply (now (d .entry)) (length (now (out .entry)))) ⌝ }
     ensures numbers { λ _. ⌜ now (out .exit) ≡ numbersAfter (wholeReply (now (d .entry)) (length (now (out .entry)))) (now (out .entry)) ⌝ }
 {
     let read = compose::read_deck(d, Form::Composed);
     let reply = read.reply;
     match reply {
-        Reply::Refused(r) => MoleculeReply::Refused(r),
+        Reply::Refused(r) => CountsReply::Refused(r),
         Reply::Fine => {
             let deck = read.layout;
             let m = bond_count(d, deck);
             if out.len() < 2 * m {
-                return MoleculeReply::Refused(Refusal {
+                return CountsReply::Refused(Refusal {
                     number: 9,
                     place: 0,
                 });
             }
             let atoms = start_of(d, deck, deck.placements as u16);
             put_all(d, deck, out);
-            MoleculeReply::Of(Counts { atoms, bonds: m })
+            CountsReply::Of(Counts { atoms, bonds: m })
         }
     }
 }

@@ -7,7 +7,7 @@ use Rattle.reply.specs.Read.{Read}
 use Rattle.whole.specs.Whole.{pairNumbers, wholeReply}
 use Rattle.matched.specs.declared.MatchReply.{MatchReply}
 use Rattle.matched.specs.declared.MatchReply.the-variants as told
-use Rattle.calls.specs.Convention.{mostPlace, code, thenNine}
+use Rattle.calls.specs.Convention.{mostPlace, code}
 use Rattle.calls.specs.Beside.{withRoom, Beside}
 
 -- the bonds go out, and the numbers of atoms and of bonds
@@ -16,10 +16,6 @@ outReply d room entries = withRoom entries 2 (wholeReply d room)
 
 abbrev pub WrittenOut : List ℕ → List ℕ → List ℕ → ℕ → List ℕ → List ℕ → Type 0
 WrittenOut d bonds counts = Beside (outReply d (length bonds) (length counts)) (λ g. pairNumbers (g .bonds)) (λ g. g .atoms ∷ length (g .bonds) ∷ []) bonds counts
-
--- the deck's refusal, then 9
-abbrev pub unlentWhole : List ℕ → Read ℕ
-unlentWhole d = thenNine (wholeReply d 1)
 
 -- a matching: 0 for yes, 255 for no with the first place that fails
 abbrev pub matchCode : MatchReply → ℕ

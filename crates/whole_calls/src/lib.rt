@@ -2,41 +2,23 @@
 ghost use mathlib.Core.Path.{_≡_};
 ghost use Rattle.matched.specs.Matched.{matchReply};
 ghost use Rattle.matched.specs.Said.{saidMatch};
-ghost use Rattle.calls.specs.Convention.{coded};
-ghost use Rattle.whole_calls.specs.Replies.{unlentWhole, WrittenOut, matchCode};
+ghost use Rattle.whole_calls.specs.Replies.{WrittenOut, matchCode};
 use calls::code_of;
+use calls::give_counts;
 use deck_calls::verdict_code;
 use judging::Verdict;
 use matched::MatchReply;
-use whole::MoleculeReply;
-
-// The deck's refusal, and 9 where it has none.
-fn unlent_whole(deck: &[u8]) -> u64
-    ensures { λ r. ⌜ r ≡ coded (unlentWhole (now (deck .entry))) ⌝ }
-{
-    let mut none = [0u16; 1];
-    let answer = whole::bonds(deck, &mut none);
-    match answer {
-        MoleculeReply::Refused(r) => code_of(r),
-        MoleculeReply::Of(_) => 9,
-    }
-}
 
 pub fn written_out(deck: &[u8], bonds: &mut [u16], counts: &mut [u64]) -> u64
     ensures { λ r. ⌜ WrittenOut (now (deck .entry)) (now (bonds .entry)) (now (counts .entry)) r (now (bonds .exit)) (now (counts .exit)) ⌝ }
 {
     if counts.len() < 2 {
-        return unlent_whole(deck);
+        let mut none = [0u16; 1];
+        let lacking = whole::bonds(deck, &mut none);
+        return give_counts(counts, lacking);
     }
     let answer = whole::bonds(deck, bonds);
-    match answer {
-        MoleculeReply::Refused(r) => code_of(r),
-        MoleculeReply::Of(x) => {
-            counts[0] = x.atoms as u64;
-            counts[1] = x.bonds as u64;
-            0
-        }
-    }
+    give_counts(counts, answer)
 }
 
 // What a matching is told, as one number.

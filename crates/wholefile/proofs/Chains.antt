@@ -1,17 +1,16 @@
 -- Laws. The answer for atoms and bonds, case by case. Assumes nothing.
 use Prim.Native.Nat.{ℕ, _<_, _≤_}
-use mathlib.Core.List.{List, [], _++_}
+use mathlib.Core.List.{List, []}
 use mathlib.Core.Logic.{_≢_}
-use mathlib.Core.Path.{_≡_, refl, sym, _∙_, ap}
+use mathlib.Core.Path.{_≡_, refl}
 use borrow.Author.Tests.{eq-eqb, ne-eqb, lt-ltb, le-ltb}
 use lib.ListN.{length}
-use Rattle.reply.specs.Read.{Read, refused, read, refusal}
+use Rattle.reply.specs.Read.{refused, read, refusal}
 use Rattle.reply.specs.declared.Refusal.{Refusal}
 use Rattle.block.specs.Block.{bondsOf, bondsReply}
 use Rattle.molfile.specs.Molfile.{linesReply, keptAtoms, bytesOf}
-use Rattle.molfile.specs.Said.{filledBonds}
+use Rattle.molfile.specs.Said.{saidAnswer, filledBonds}
 use Rattle.wholefile.specs.Whole.{moleculeReply, wholeFileReply}
-use Rattle.wholefile.specs.Said.{saidAsMolecule}
 
 module _ (n : ℕ) (xs : List ℕ) (room : ℕ) where
   pub no-atom : n ≡ 0 → moleculeReply n xs room ≡ refused (refusal 1 0)
@@ -44,7 +43,7 @@ module _ (d : List ℕ) (room : ℕ) where
 
 -- the same atoms and bonds
 pub record Alike (n n′ : ℕ) (xs ys out : List ℕ) : Type 0 where
-  pub reply : saidAsMolecule n xs (moleculeReply n xs (length out)) ≡ saidAsMolecule n′ ys (moleculeReply n′ ys (length out))
+  pub reply : saidAnswer n xs (moleculeReply n xs (length out)) ≡ saidAnswer n′ ys (moleculeReply n′ ys (length out))
   pub numbers : filledBonds (moleculeReply n xs (length out)) xs out ≡ filledBonds (moleculeReply n′ ys (length out)) ys out
 
 pub alike : (n n′ : ℕ) (xs ys out : List ℕ) → n ≡ n′ → xs ≡ ys → Alike n n′ xs ys out

@@ -2,4 +2,3 @@
 pub mod Looking
 pub mod Listing
 pub mod Chains
-pub mod Replies

@@ -1,23 +1,12 @@
--- Definitions. How the code says a molfile's molecule.
-use Prim.Native.Nat.{ℕ, _/_}
+-- Definitions. What is lent after reading, and what bonds say of two atoms.
+use Prim.Native.Nat.{ℕ}
 use mathlib.Core.List.{List}
 use lib.ListN.{length}
 use Rattle.graph.specs.Graph.{Bond, anyJoins, degree}
-use Rattle.reply.specs.Read.{Read, refused, read}
-use Rattle.molfile.specs.Molfile.{keptAtoms, bytesOf}
+use Rattle.molfile.specs.Molfile.{bytesOf}
 use Rattle.molfile.specs.Said.{filledBonds}
 use Rattle.wholefile.specs.Whole.{wholeFileReply}
-use Rattle.wholefile.specs.declared.WholeRead.{WholeRead}
-use Rattle.wholefile.specs.declared.WholeRead.the-variants.{Refused, Molecule}
 use Rattle.wholefile.specs.declared.Seen.{Seen}
-
--- a molecule of n atoms whose bonds are these numbers
-abbrev pub saidAsMolecule : ℕ → List ℕ → Read (Unit {0}) → WholeRead
-saidAsMolecule n xs (refused r) = Refused r
-saidAsMolecule n xs (read u) = Molecule (record { atoms = n; bonds = length xs / 2 })
-
-abbrev pub saidWhole : List ℕ → Read (Unit {0}) → WholeRead
-saidWhole d = saidAsMolecule (keptAtoms d) (bytesOf d)
 
 -- the lent numbers afterwards: those of the kept bonds, and later ones as they were; a refusal changes none
 abbrev pub wholeNumbers : List ℕ → List ℕ → List ℕ

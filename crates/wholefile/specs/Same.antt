@@ -1,23 +1,21 @@
 -- Laws. A file that is read as a block is read whole as the same molecule. Assumes nothing.
 use Prim.Native.Nat.{ℕ}
-use mathlib.Core.List.{List, []}
-use mathlib.Core.Path.{_≡_, refl, sym, _∙_, ap}
+use mathlib.Core.List.{List}
+use mathlib.Core.Path.{_≡_, sym, _∙_, ap}
 use native.Mathlib.Omega.{arith}
 use borrow.Author.Tests.{ne-eqb}
-use lib.Dec.{eqb, ltb}
+use lib.Dec.{ltb}
 use lib.ListN.{length}
 use Rattle.reply.specs.Read.{Read, refused, read, _then_, refuseIf}
-use Rattle.reply.specs.Chain.{not-read, then-read}
-use Rattle.block.specs.Block.{bondsOf, bondsReply, blockReply}
+use Rattle.reply.specs.Chain.{then-read, counted-read}
+use Rattle.reply.specs.declared.Counts.{Counts}
+use Rattle.reply.specs.declared.CountsReply.the-variants.{Of}
+use Rattle.block.specs.Block.{blockReply}
 use Rattle.block.specs.Told.{passed, few-atoms}
 use Rattle.molfile.specs.Molfile.{linesReply, keptAtoms, bytesOf, molfileReply}
 use Rattle.molfile.specs.Said.{saidMolfile, molfileBytes, filledBonds}
-use Rattle.molfile.specs.declared.Counts.{Counts}
-use Rattle.molfile.specs.declared.MolRead.the-variants as mol
-use Rattle.molfile.proofs.Replies.{mol-block}
 use Rattle.wholefile.specs.Whole.{moleculeReply, wholeFileReply}
-use Rattle.wholefile.specs.Said.{saidWhole, wholeNumbers}
-use Rattle.wholefile.specs.declared.WholeRead.the-variants as whole
+use Rattle.wholefile.specs.Said.{wholeNumbers}
 
 -- a block that is not refused is a molecule
 block-molecule : (n : ℕ) (xs : List ℕ) (room : ℕ) → blockReply n xs ≡ read tt → moleculeReply n xs room ≡ refuseIf (ltb room (length xs)) 9 0
@@ -36,9 +34,9 @@ whole-read d room e =
     rw a (block-molecule n xs room f ∙ g)
 
 -- where `read` gives a block into so many bytes, `read_whole` gives the same atoms and bonds into as many numbers
-pub whole-same : (d out : List ℕ) (c : Counts) → saidMolfile d (molfileReply d (length out)) ≡ mol.Block c
-    → (saidWhole d (wholeFileReply d (length out)) ≡ whole.Molecule c) × (wholeNumbers d out ≡ molfileBytes d out)
+pub whole-same : (d out : List ℕ) (c : Counts) → saidMolfile d (molfileReply d (length out)) ≡ Of c
+    → (saidMolfile d (wholeFileReply d (length out)) ≡ Of c) × (wholeNumbers d out ≡ molfileBytes d out)
 whole-same d out c e =
-    let t = mol-block (keptAtoms d) (bytesOf d) (molfileReply d (length out)) e in
-    let w = whole-read d (length out) (t .0) in
-    (ap (saidWhole d) w ∙ (λ i. whole.Molecule (record { atoms = t .1 i; bonds = t .2 i })), ap (λ (m : Read (Unit {0})). filledBonds m (bytesOf d) out) (w ∙ sym (t .0)))
+    let (u, r, n) = counted-read (molfileReply d (length out)) _ e in
+    let w = whole-read d (length out) r in
+    (ap (saidMolfile d) w ∙ ap Of n, ap (λ (m : Read (Unit {0})). filledBonds m (bytesOf d) out) (w ∙ sym r))

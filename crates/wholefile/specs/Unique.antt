@@ -4,12 +4,13 @@ use mathlib.Core.List.{List}
 use mathlib.Core.Path.{_≡_}
 use lib.ListN.{length}
 use Rattle.reply.specs.Chain.{unique}
+use Rattle.reply.specs.declared.CountsReply.{CountsReply}
+use Rattle.molfile.specs.Said.{saidMolfile}
 use Rattle.wholefile.specs.Whole.{wholeFileReply}
-use Rattle.wholefile.specs.Said.{saidWhole, wholeNumbers}
-use Rattle.wholefile.specs.declared.WholeRead.{WholeRead}
+use Rattle.wholefile.specs.Said.{wholeNumbers}
 
 module _ (d out : List ℕ) where
-  pub unique-whole : (r s : WholeRead) → r ≡ saidWhole d (wholeFileReply d (length out)) → s ≡ saidWhole d (wholeFileReply d (length out)) → r ≡ s
+  pub unique-whole : (r s : CountsReply) → r ≡ saidMolfile d (wholeFileReply d (length out)) → s ≡ saidMolfile d (wholeFileReply d (length out)) → r ≡ s
   unique-whole r s = unique
 
   pub unique-numbers : (a b : List ℕ) → a ≡ wholeNumbers d out → b ≡ wholeNumbers d out → a ≡ b

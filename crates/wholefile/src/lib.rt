@@ -11,22 +11,18 @@ ghost use Rattle.reply.specs.Read.{saidReply};
 ghost use Rattle.block.specs.Block.{bondsOf, bondFault, bondsReply};
 ghost use Rattle.block.specs.Numbered.{bondAt};
 ghost use Rattle.block.proofs.Reading.{before};
-ghost use Rattle.molfile.specs.Said.{filledBonds};
+ghost use Rattle.molfile.specs.Said.{saidAnswer, saidMolfile, filledBonds};
 ghost use Rattle.wholefile.specs.Whole.{moleculeReply, wholeFileReply};
-ghost use Rattle.wholefile.specs.Said.{saidAsMolecule, saidWhole, wholeNumbers, seenBy};
+ghost use Rattle.wholefile.specs.Said.{wholeNumbers, seenBy};
 use block::LIMIT;
-use molfile::Counts;
 use molfile::KeptRead;
 use molfile::PAIRS;
+use reply::Counts;
+use reply::CountsReply;
 use reply::Refusal;
 use reply::Reply;
 use reply::is_outside;
 use reply::wide_two;
-
-pub enum WholeRead {
-    Refused(Refusal),
-    Molecule(Counts),
-}
 
 // What the bonds before say of two atoms: whether one of them joins these, and how many ends each has.
 struct Seen {
@@ -142,30 +138,30 @@ fn put(out: &mut [u16], xs: &[u16])
 }
 
 // The answer for n atoms and the bonds between them: 1 for no atom, 3 to 6, 9 for a lent output too short, or the numbers of the bonds.
-fn answer(n: usize, xs: &[u16], out: &mut [u16]) -> WholeRead
-    ensures reply { λ r. ⌜ r ≡ saidAsMolecule n (now (xs .entry)) (moleculeReply n (now (xs .entry)) (length (now (out .entry)))) ⌝ }
+fn answer(n: usize, xs: &[u16], out: &mut [u16]) -> CountsReply
+    ensures reply { λ r. ⌜ r ≡ saidAnswer n (now (xs .entry)) (moleculeReply n (now (xs .entry)) (length (now (out .entry)))) ⌝ }
     ensures numbers { λ _. ⌜
         now (out .exit) ≡ filledBonds (moleculeReply n (now (xs .entry)) (length (now (out .entry)))) (now (xs .entry)) (now (out .entry))
         ⌝ }
 {
     if n == 0 {
-        return WholeRead::Refused(Refusal {
+        return CountsReply::Refused(Refusal {
             number: 1,
             place: 0,
         });
     }
     let reply = bonds(n, xs);
     match reply {
-        Reply::Refused(r) => WholeRead::Refused(r),
+        Reply::Refused(r) => CountsReply::Refused(r),
         Reply::Fine => {
             if out.len() < xs.len() {
-                return WholeRead::Refused(Refusal {
+                return CountsReply::Refused(Refusal {
                     number: 9,
                     place: 0,
                 });
             }
             put(out, xs);
-            WholeRead::Molecule(Counts {
+            CountsReply::Of(Counts {
                 atoms: n,
                 bonds: xs.len() / 2,
             })
@@ -176,14 +172,14 @@ fn answer(n: usize, xs: &[u16], out: &mut [u16]) -> WholeRead
 // Reads a molfile as one molecule: how many atoms and bonds it has, its bonds at the front of the lent output, two numbers each, and later numbers stay. Or
 // it is a refusal, and no number changes: 25 to 27 of its lines in file order, 1 where no atom is kept, 3 to 6 of the kept bonds one by one, then 9 where
 // fewer numbers are lent than these take. How many bonds there are and whether paths lead to all atoms is not asked.
-pub fn read_whole(text: &[u8], out: &mut [u16]) -> WholeRead
-    ensures reply { λ r. ⌜ r ≡ saidWhole (now (text .entry)) (wholeFileReply (now (text .entry)) (length (now (out .entry)))) ⌝ }
+pub fn read_whole(text: &[u8], out: &mut [u16]) -> CountsReply
+    ensures reply { λ r. ⌜ r ≡ saidMolfile (now (text .entry)) (wholeFileReply (now (text .entry)) (length (now (out .entry)))) ⌝ }
     ensures numbers { λ _. ⌜ now (out .exit) ≡ wholeNumbers (now (text .entry)) (now (out .entry)) ⌝ }
 {
     let mut pairs = [0u16; PAIRS];
     let seen = molfile::kept_bonds(text, &mut pairs);
     match seen {
-        KeptRead::Refused(r) => WholeRead::Refused(r),
+        KeptRead::Refused(r) => CountsReply::Refused(r),
         KeptRead::Of(k) => {
             let numbers = k.numbers;
             answer(k.atoms, &pairs[..numbers], out)

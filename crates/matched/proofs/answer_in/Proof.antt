@@ -9,7 +9,8 @@ use lib.ListN.{length, take}
 use lib.Seq.{length-take-le}
 use Rattle.graph.specs.Graph.{Graph}
 use Rattle.reply.specs.Read.{Read, read}
-use Rattle.block.specs.Block.{graphOf}
+use Rattle.reply.specs.declared.Counts.{Counts}
+use Rattle.block.specs.Block.{graphOf, countsOf, saidMolecule}
 use Rattle.deck.specs.Molecule.{moleculeOf}
 use Rattle.deck.specs.Sound.{whole}
 use Rattle.deck.specs.Sized.{atoms-few}
@@ -19,9 +20,7 @@ use Rattle.matched.specs.Matched.{partners, matchPlace, answerAt}
 use Rattle.matched.specs.Said.{saidWhether}
 use Rattle.whole.specs.Whole.{wholeReply, numbersAfter}
 use Rattle.whole.specs.Work.{mostNumbers}
-use Rattle.whole.specs.Said.{countsOf, saidMolecule}
 use Rattle.whole.specs.Replies.{molecule-few}
-use Rattle.whole.specs.declared.Counts.{Counts}
 use Rattle.matched.specs.Replies.{whole-told, counted, after-length, read-back, answer-other, answer-same}
 use Rattle.matched.proofs.answer_in.Statement.{statement}
 use Rattle.matched.proofs.answer_in.Tie as tie

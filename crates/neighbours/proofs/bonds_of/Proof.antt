@@ -5,7 +5,7 @@ use lib.ListN.{length, take}
 use Rattle.adjacency.specs.Neighbours.{bondListBytes}
 use Rattle.adjacency.specs.Work.{stepsAt, until}
 use Rattle.adjacency.specs.Blocks.{bytes-length, front, fits, in-size, kept-is}
-use Rattle.neighbours.specs.Said.{saidNeighboursRead}
+use Rattle.block.specs.Block.{saidMolecule}
 use borrow.Author.Needs.{needs}
 use Rattle.neighbours.proofs.bonds_of.Statement.{statement}
 use Rattle.neighbours.proofs.bonds_of.Tie as tie
@@ -37,7 +37,7 @@ returns c =
     let f = c .before .before .before .before .before .before in
     let a = c .before .before .before .before .before .before .before .before .before .before .args in
     let e = rw (sym (bytes-are f), sym (f .fill .ensures .stopped)) at (kept-is (a .n) (stepsAt 0 (a .text .now) (a .at)) (length (a .out .now)) (c .before .before .before .before .before .before .before .before .before .before .pre .1)) in
-    (c .before .before .kept .ensures .0 ∙ ap saidNeighboursRead e, c .before .before .kept .ensures .1 ∙ rw e)
+    (c .before .before .kept .ensures .0 ∙ ap saidMolecule e, c .before .before .kept .ensures .1 ∙ rw e)
 
 pub bonds-of-spec : {M : Type 1} → statement M
 bonds-of-spec = tie.close (tie.spec slice-aggregate-fill fill-requires array-share-prefix-bytes slice-aggregate-kept kept-requires same-length returns)

@@ -6,8 +6,8 @@ use lib.ListN.{length}
 use Rattle.block.proofs.Replies.{said-fine, said-refused}
 use Rattle.text.proofs.Putting.{at-front}
 use Rattle.adjacency.specs.Blocks.{kept-bad, kept-short, kept-all, stays, half, put-in}
-use Rattle.neighbours.specs.Said.{saidNeighboursRead}
-use Rattle.neighbours.specs.declared.NeighboursRead.the-variants.{Block}
+use Rattle.block.specs.Block.{saidMolecule}
+use Rattle.reply.specs.declared.CountsReply.the-variants.{Of}
 use borrow.Author.Needs.{needs}
 use Rattle.neighbours.proofs.kept.Statement.{statement}
 use Rattle.neighbours.proofs.kept.Tie as tie
@@ -29,7 +29,7 @@ returns c =
     let a = c .before .before .before .before .before .before .before .args in
     let j = said-fine _ (sym (c .before .before .enum-told .given .1) ∙ c .before .before .before .before .judged .ensures) in
     let e = kept-short (a .n) (a .bonds .now) (a .high) (length (a .out .now)) j (omega (arith, c .before .if1 .taken)) in
-    (c .refused .ensures ∙ sym (ap saidNeighboursRead e), stays (a .out .now) e)
+    (c .refused .ensures ∙ sym (ap saidMolecule e), stays (a .out .now) e)
 
 put-requires : tie.Need-put-requires
 put-requires c κs = search needs
@@ -38,7 +38,7 @@ returns-2 : tie.Need-returns-2
 returns-2 c =
     let a = c .before .before .before .before .before .before .args in
     let e = kept-bad (a .n) (a .bonds .now) (a .high) (length (a .out .now)) _ (said-refused _ _ (sym (c .before .reply .given .1) ∙ c .before .before .before .judged .ensures)) in
-    (sym (ap saidNeighboursRead e), stays (a .out .now) e)
+    (sym (ap saidMolecule e), stays (a .out .now) e)
 
 same-length : tie.Need-same-length
 same-length c = search needs
@@ -50,7 +50,7 @@ returns-3 c =
     let j = said-fine _ (sym (c .before .before .before .before .before .enum-told .given .1) ∙ c .before .before .before .before .before .before .before .judged .ensures) in
     let h : length (a .bonds .now) ≤ length (a .out .now) = omega (arith, c .before .before .before .before .if1 .left) in
     let e = kept-all (a .n) (a .bonds .now) (a .high) (length (a .out .now)) j h in
-    (ap (λ (k : ℕ). Block (record { atoms = a .n; bonds = k })) (half (a .n) (a .bonds .now) s) ∙ sym (ap saidNeighboursRead e), put-in (a .n) (a .bonds .now) s (a .out .now) e (at-front (c .before .before .put .ensures) h .1))
+    (ap (λ (k : ℕ). Of (record { atoms = a .n; bonds = k })) (half (a .n) (a .bonds .now) s) ∙ sym (ap saidMolecule e), put-in (a .n) (a .bonds .now) s (a .out .now) e (at-front (c .before .before .put .ensures) h .1))
 
 pub kept-spec : {M : Type 1} → statement M
 kept-spec = tie.close (tie.spec judged-requires enum-known-reply enum-told refused-requires returns put-requires returns-2 same-length returns-3)

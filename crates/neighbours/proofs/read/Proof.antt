@@ -4,7 +4,7 @@ use native.Mathlib.Omega.{arith}
 use lib.ListN.{length}
 use Rattle.adjacency.specs.Turns.{shaped-refused, shaped-read}
 use Rattle.neighbours.proofs.Shapes.{shape-refused, shape-bonds}
-use Rattle.neighbours.specs.Said.{saidNeighboursRead}
+use Rattle.block.specs.Block.{saidMolecule}
 use Rattle.adjacency.specs.Blocks.{stays, reply-fault, reply-none, reply-shape, reply-block}
 use borrow.Author.Needs.{needs}
 use Rattle.neighbours.proofs.read.Statement.{statement}
@@ -21,7 +21,7 @@ returns c =
     let a = c .before .before .before .before .before .args in
     let f = c .before .before .fault .ensures in
     let e = reply-fault (a .text .now) (length (a .out .now)) (omega (arith, f, c .before .if1 .taken)) in
-    (c .refused .ensures ∙ rw f (sym (ap saidNeighboursRead e)), stays (a .out .now) e)
+    (c .refused .ensures ∙ rw f (sym (ap saidMolecule e)), stays (a .out .now) e)
 
 number-requires : tie.Need-number-requires
 number-requires c κs = search needs
@@ -33,7 +33,7 @@ returns-2 : tie.Need-returns-2
 returns-2 c =
     let a = c .before .before .before .before .before .before .before .before .args in
     let e = reply-none (a .text .now) (length (a .out .now)) (omega (arith, c .before .before .before .before .before .fault .ensures, c .before .before .before .before .if1 .left)) (c .before .before .before .number .ensures .past (c .before .if2 .taken)) in
-    (c .refused2 .ensures ∙ sym (ap saidNeighboursRead e), stays (a .out .now) e)
+    (c .refused2 .ensures ∙ sym (ap saidMolecule e), stays (a .out .now) e)
 
 shape-requires : tie.Need-shape-requires
 shape-requires c κs = c .before .before .number .ensures .here (c .if2 .left) .within
@@ -56,7 +56,7 @@ returns-3 c =
     let x = c .before .before .before .before .before .before .number .ensures .here (c .before .before .before .before .if2 .left) in
     let j = shaped-refused _ 0 0 _ _ (shape-refused _ _ (sym (c .before .shape2 .given .1) ∙ c .before .before .before .shape .ensures)) in
     let e = reply-shape (a .text .now) (length (a .out .now)) (omega (arith, c .before .before .before .before .before .before .before .before .fault .ensures, c .before .before .before .before .before .before .before .if1 .left)) _ _ _ (x .same) _ j in
-    (sym (ap saidNeighboursRead e), stays (a .out .now) e)
+    (sym (ap saidMolecule e), stays (a .out .now) e)
 
 same-length : tie.Need-same-length
 same-length c = search needs
@@ -67,7 +67,7 @@ returns-4 c =
     let x = c .before .before .before .before .before .before .before .before .before .before .number .ensures .here (c .before .before .before .before .before .before .before .before .if2 .left) in
     let j = shaped-read _ _ _ (shape-bonds _ _ (sym (c .before .before .before .before .before .shape3 .given .1) ∙ c .before .before .before .before .before .before .before .shape .ensures)) in
     let e = reply-block (a .text .now) (length (a .out .now)) (omega (arith, c .before .before .before .before .before .before .before .before .before .before .before .before .fault .ensures, c .before .before .before .before .before .before .before .before .before .before .before .if1 .left)) _ _ _ (x .same) (j .0) in
-    (c .before .before .block-of .ensures .0 ∙ sym (ap saidNeighboursRead e), c .before .before .block-of .ensures .1 ∙ sym (rw e))
+    (c .before .before .block-of .ensures .0 ∙ sym (ap saidMolecule e), c .before .before .block-of .ensures .1 ∙ sym (rw e))
 
 pub read-spec : {M : Type 1} → statement M
 read-spec =

@@ -1,52 +1,40 @@
 -- `text_calls::read_molfile` meets its contract.
-use mathlib.Core.Path.{sym, _∙_}
+use mathlib.Core.Path.{_∙_}
 use native.Mathlib.Omega.{arith}
 use denote.Ref.{now}
 use lib.ListN.{length}
-use Rattle.molfile.specs.Molfile.{keptAtoms, bytesOf, molfileReply}
-use Rattle.molfile.proofs.Replies.{mol-refused, mol-block}
-use Rattle.text_calls.proofs.MolfileReplies.{read-lacking, read-refused, read-fine}
 use borrow.Author.Needs.{needs}
+use Rattle.molfile.specs.Molfile.{bytesOf, molfileReply}
+use Rattle.calls.proofs.Laws.{counts-short, counts-beside}
+use Rattle.text_calls.proofs.MolfileReplies.{any-room, bonds-filled}
 use Rattle.text_calls.proofs.read_molfile.Statement.{statement}
 use Rattle.text_calls.proofs.read_molfile.Tie as tie
 
-unlent-molfile-requires : tie.Need-unlent-molfile-requires
-unlent-molfile-requires c κs = search needs
-
-returns : tie.Need-returns
-returns c =
-    let s = c .before .before .before .before .before in
-    read-lacking (now (s .args .text)) (now (s .args .bonds)) (now (s .args .counts)) (c .unlent-molfile .result) (omega arith) (c .unlent-molfile .ensures)
+slice-aggregate-read : tie.Need-slice-aggregate-read
+slice-aggregate-read c = search needs
 
 read-requires : tie.Need-read-requires
 read-requires c κs = search needs
 
-enum-known-answer : tie.Need-enum-known-answer
-enum-known-answer c = search needs
-
-code-of-requires : tie.Need-code-of-requires
-code-of-requires c κs = search needs
-
-enum-known-answer-2 : tie.Need-enum-known-answer-2
-enum-known-answer-2 c = search needs
-
-slice-write-counts : tie.Need-slice-write-counts
-slice-write-counts c = search needs
-
-slice-write-counts-2 : tie.Need-slice-write-counts-2
-slice-write-counts-2 c = search needs
+give-counts-requires : tie.Need-give-counts-requires
+give-counts-requires c κs = search needs
 
 same-length : tie.Need-same-length
 same-length c = search needs
 
-returns-2 : tie.Need-returns-2
-returns-2 c =
-    let m = c .before .before .before .before .before .before in
+returns : tie.Need-returns
+returns c =
+    let m = c .before .before .before .before .before in
     let s = m .before .before .before .before .before .before in
     let d = now (s .args .text) in
     let out = now (s .args .bonds) in
-    read-refused (keptAtoms d) (bytesOf d) (molfileReply d (length out)) out (now (s .args .counts)) _ _ (c .code-of .result) (omega arith)
-    (mol-refused (keptAtoms d) (bytesOf d) (molfileReply d (length out)) (sym (m .read .ensures .0) ∙ c .before .before .answer .given .1)) (m .read .ensures .1) (c .code-of .ensures)
+    counts-short (molfileReply d (length out)) _ _ out (now (s .args .counts)) _ (c .before .before .give-counts .ensures) (molfileReply d 1) (omega (arith, m .before .before .if1 .taken)) (any-room d 1 (length out)) (m .read .ensures .0)
+
+read-requires-2 : tie.Need-read-requires-2
+read-requires-2 c κs = search needs
+
+give-counts-requires-2 : tie.Need-give-counts-requires-2
+give-counts-requires-2 c κs = search needs
 
 same-length-2 : tie.Need-same-length-2
 same-length-2 c = search needs
@@ -54,30 +42,25 @@ same-length-2 c = search needs
 same-length-3 : tie.Need-same-length-3
 same-length-3 c = search needs
 
-returns-3 : tie.Need-returns-3
-returns-3 c =
-    let m = c .before .before .before .before .before in
+returns-2 : tie.Need-returns-2
+returns-2 c =
+    let m = c .before .before .before .before .before .before in
     let s = m .before .before .before .before .before .before in
     let d = now (s .args .text) in
     let out = now (s .args .bonds) in
-    let g = c .before .answer2 .given in
-    let r = mol-block (keptAtoms d) (bytesOf d) (molfileReply d (length out)) (sym (m .read .ensures .0) ∙ g .1) in
-    read-fine (keptAtoms d) (bytesOf d) (molfileReply d (length out)) out (now (s .args .counts)) _ (g .0 .0) (omega arith) r (m .read .ensures .1)
+    counts-beside (molfileReply d (length out)) _ _ out (now (s .args .counts)) _ (c .before .before .give-counts2 .ensures) (omega (arith, m .before .before .if1 .left)) (m .read2 .ensures .0) (m .read2 .ensures .1 ∙ bonds-filled (molfileReply d (length out)) (bytesOf d) out)
 
 pub read-molfile-spec : {M : Type 1} → statement M
 read-molfile-spec =
     tie.close
     (tie.spec
-    unlent-molfile-requires
-    returns
+    slice-aggregate-read
     read-requires
-    enum-known-answer
-    code-of-requires
-    enum-known-answer-2
-    slice-write-counts
-    slice-write-counts-2
+    give-counts-requires
     same-length
-    returns-2
+    returns
+    read-requires-2
+    give-counts-requires-2
     same-length-2
     same-length-3
-    returns-3)
+    returns-2)

@@ -9,6 +9,8 @@ use lib.ListN.{length}
 use lib.Seq.{sets}
 use Rattle.graph.specs.Graph.{Bond, Graph}
 use Rattle.reply.specs.Read.{Read, read}
+use Rattle.reply.specs.declared.CountsReply.the-variants.{Of}
+use Rattle.block.specs.Block.{saidMolecule}
 use Rattle.deck.specs.Deck.{deckReply}
 use Rattle.deck.specs.Sound.{whole}
 use Rattle.deck.specs.declared.Form.the-variants.{Composed}
@@ -16,8 +18,6 @@ use Rattle.deck.proofs.Parts.{deck-stopped}
 use Rattle.deck.specs.Placed.{deckOf}
 use Rattle.deck.proofs.Reading.{deck-read}
 use Rattle.whole.specs.Whole.{pairNumbers, numbersAfter}
-use Rattle.whole.specs.Said.{saidMolecule}
-use Rattle.whole.specs.declared.MoleculeReply.the-variants as told
 use Rattle.whole.specs.Replies.{whole-refused, molecule-bonds, molecule-atoms, whole-short, whole-read}
 use Rattle.whole.proofs.bonds.Statement.{statement}
 use Rattle.whole.proofs.bonds.Tie as tie
@@ -78,7 +78,7 @@ returns-3 c =
     let h = whole-read (now (a .d)) (length (a .out .now)) _ e (omega (arith, c .before .before .before .before .before .before .if1 .left, b .ensures .0)) in
     let x = molecule-bonds (now (a .d)) (length (a .out .now)) _ e in
     let y = molecule-atoms (now (a .d)) (length (a .out .now)) _ e in (
-      ap₂ (λ (n m : ℕ). told.Of (record { atoms = n; bonds = m })) (c .before .before .before .before .start-of .ensures .0 ∙ sym y) (b .ensures .0 ∙ sym (ap length x)) ∙ sym (ap saidMolecule h),
+      ap₂ (λ (n m : ℕ). Of (record { atoms = n; bonds = m })) (c .before .before .before .before .start-of .ensures .0 ∙ sym y) (b .ensures .0 ∙ sym (ap length x)) ∙ sym (ap saidMolecule h),
       c .before .before .put-all .ensures ∙ ap (λ (l : List Bond). sets (a .out .now) 0 (pairNumbers l)) (sym x) ∙ sym (ap (λ (x : Read Graph). numbersAfter x (a .out .now)) h),
     )
 

@@ -7,7 +7,7 @@ use Rattle.reply.specs.Read.{read}
 use Rattle.reply.specs.Chain.{fine-read, refused-read}
 use Rattle.block.specs.Block.{bondsOf, bondsReply}
 use Rattle.molfile.proofs.Chains.{stays, fills}
-use Rattle.wholefile.specs.Said.{saidAsMolecule}
+use Rattle.molfile.specs.Said.{saidAnswer}
 use Rattle.wholefile.proofs.Looking.{put-front}
 use Rattle.wholefile.proofs.Chains.{no-atom, bond-refused, too-short, all-fine}
 use borrow.Author.Needs.{needs}
@@ -24,7 +24,7 @@ returns : tie.Need-returns
 returns c =
     let a = c .before .before .before .args in
     let e = no-atom (a .n) (a .xs .now) (length (a .out .now)) (omega (arith, c .if1 .taken)) in
-    (sym (ap (saidAsMolecule (a .n) (a .xs .now)) e), sym (stays (a .xs .now) (a .out .now) e))
+    (sym (ap (saidAnswer (a .n) (a .xs .now)) e), sym (stays (a .xs .now) (a .out .now) e))
 
 bonds-requires : tie.Need-bonds-requires
 bonds-requires c κs = search needs
@@ -40,7 +40,7 @@ returns-2 c =
     let b = c .before .before .before in
     let a = start b .args in
     let e = too-short (a .n) (a .xs .now) (length (a .out .now)) (λ z. omega (arith, b .before .if1 .left)) (fine (c .before)) (omega (arith, c .if2 .taken)) in
-    (sym (ap (saidAsMolecule (a .n) (a .xs .now)) e), sym (stays (a .xs .now) (a .out .now) e))
+    (sym (ap (saidAnswer (a .n) (a .xs .now)) e), sym (stays (a .xs .now) (a .out .now) e))
 
 put-requires : tie.Need-put-requires
 put-requires c κs = search needs
@@ -51,7 +51,7 @@ returns-3 c =
     let a = start b .args in
     let g = c .before .reply .given in
     let e = bond-refused (a .n) (a .xs .now) (length (a .out .now)) (λ z. omega (arith, b .before .if1 .left)) (g .0 .0) (refused-read _ _ (sym (b .bonds .ensures) ∙ g .1)) in
-    (sym (ap (saidAsMolecule (a .n) (a .xs .now)) e), sym (stays (a .xs .now) (a .out .now) e))
+    (sym (ap (saidAnswer (a .n) (a .xs .now)) e), sym (stays (a .xs .now) (a .out .now) e))
 
 same-length : tie.Need-same-length
 same-length c = search needs
@@ -62,7 +62,7 @@ returns-4 c =
     let b = f .before .before .before in
     let a = start b .args in
     let e = all-fine (a .n) (a .xs .now) (length (a .out .now)) (λ z. omega (arith, b .before .if1 .left)) (fine (f .before)) (omega (arith, f .if2 .left)) in
-    (sym (ap (saidAsMolecule (a .n) (a .xs .now)) e), put-front (a .xs .now) (a .out .now) _ (c .before .before .put .ensures) (omega (arith, f .if2 .left)) ∙ sym (fills (a .xs .now) (a .out .now) e))
+    (sym (ap (saidAnswer (a .n) (a .xs .now)) e), put-front (a .xs .now) (a .out .now) _ (c .before .before .put .ensures) (omega (arith, f .if2 .left)) ∙ sym (fills (a .xs .now) (a .out .now) e))
 
 pub answer-spec : {M : Type 1} → statement M
 answer-spec =

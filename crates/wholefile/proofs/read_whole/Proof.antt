@@ -4,11 +4,10 @@ use mathlib.Core.Path.{_≡_, refl, sym, ap, _∙_}
 use lib.ListN.{length, take, replicate}
 use native.Mathlib.Omega.{arith}
 use Rattle.molfile.specs.Molfile.{keptAtoms, bytesOf}
-use Rattle.molfile.specs.Said.{filledBonds}
+use Rattle.molfile.specs.Said.{saidMolfile, filledBonds}
 use Rattle.molfile.specs.Work.{most}
 use Rattle.molfile.proofs.Chains.{stays}
 use Rattle.molfile.proofs.Fronts.{Front, front, front-refused, taken}
-use Rattle.wholefile.specs.Said.{saidWhole}
 use Rattle.wholefile.proofs.Chains.{whole-no-line, whole-answer, alike}
 use borrow.Author.Needs.{needs}
 use Rattle.wholefile.proofs.read_whole.Statement.{statement}
@@ -55,7 +54,7 @@ returns c =
     let out = s .args .out .now in
     let g = c .before .seen .given in
     let e = whole-no-line d (length out) (g .0 .0) (front-refused d (replicate (2 * most) 0) (g .0 .0) refl (sym (b .kept-bonds .ensures .0) ∙ g .1)) in
-    (sym (ap (saidWhole d) e), sym (stays (bytesOf d) out e))
+    (sym (ap (saidMolfile d) e), sym (stays (bytesOf d) out e))
 
 same-length : tie.Need-same-length
 same-length c = search needs
@@ -71,7 +70,7 @@ returns-2 c =
     let out = s .args .out .now in
     let e = whole-answer d (length out) (F .fine) in
     let t = alike (a .atoms) (keptAtoms d) (take (a .numbers) (call k .kept-bonds .last .1 .0)) (bytesOf d) out (sym (F .atoms-are)) (F .numbers-are) in
-    (q .answer .ensures .0 ∙ t .reply ∙ sym (ap (saidWhole d) e), q .answer .ensures .1 ∙ t .numbers ∙ ap (λ m. filledBonds m (bytesOf d) out) (sym e))
+    (q .answer .ensures .0 ∙ t .reply ∙ sym (ap (saidMolfile d) e), q .answer .ensures .1 ∙ t .numbers ∙ ap (λ m. filledBonds m (bytesOf d) out) (sym e))
 
 pub read-whole-spec : {M : Type 1} → statement M
 read-whole-spec =
