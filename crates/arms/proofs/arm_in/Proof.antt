@@ -4,14 +4,8 @@ use Rattle.arms.proofs.Keeping.{arm-kept}
 use Rattle.arms.proofs.arm_in.Statement.{statement}
 use Rattle.arms.proofs.arm_in.Tie as tie
 
-fields-requires : tie.Need-fields-requires
-fields-requires c κs = search needs
-
-seen-requires : tie.Need-seen-requires
-seen-requires c κs = search needs
-
 returns : tie.Need-returns
 returns c = let a = c .before .before .before .before .args in arm-kept (a .s .now) (a .a) _ _ (c .before .before .fields .ensures) (c .before .seen .ensures)
 
 pub arm-in-spec : {M : Type 1} → statement M
-arm-in-spec = tie.close (tie.spec fields-requires seen-requires returns)
+arm-in-spec = tie.close (tie.spec (λ c κs. search needs) (λ c κs. search needs) returns)

@@ -15,32 +15,8 @@ Inv-loop s atoms six ends₀ k₀ ends k = (length ends ≡ mostArms) × (k ≤ 
 abbrev μ-loop : tie.MeasureT-loop
 μ-loop s atoms six ends₀ k₀ ends k = mostArms - k
 
-fields-requires : tie.Need-fields-requires Inv-loop μ-loop
-fields-requires c κs = search needs
-
 loop-holds : tie.Need-loop-holds Inv-loop μ-loop
 loop-holds c = (refl, omega arith, λ j h. absurd (omega arith))
-
-array-read-port-in : tie.Need-array-read-port-in Inv-loop μ-loop
-array-read-port-in c = search needs
-
-cast-port-in : tie.Need-cast-port-in Inv-loop μ-loop
-cast-port-in c = search needs
-
-port-in-requires : tie.Need-port-in-requires Inv-loop μ-loop
-port-in-requires c κs = search needs
-
-mul-ends : tie.Need-mul-ends Inv-loop μ-loop
-mul-ends c = search needs
-
-array-set-from-ends : tie.Need-array-set-from-ends Inv-loop μ-loop
-array-set-from-ends c = search needs
-
-add-k : tie.Need-add-k Inv-loop μ-loop
-add-k c = search needs
-
-loop-less : tie.Need-loop-less Inv-loop μ-loop
-loop-less c = search needs
 
 loop-again : tie.Need-loop-again Inv-loop μ-loop
 loop-again c =
@@ -58,18 +34,5 @@ returns c =
 
 pub core-in-spec : {M : Type 1} → statement M
 core-in-spec =
-    tie.close
-    (tie.spec
-    Inv-loop
-    μ-loop
-    fields-requires
-    loop-holds
-    array-read-port-in
-    cast-port-in
-    port-in-requires
-    mul-ends
-    array-set-from-ends
-    add-k
-    loop-less
-    loop-again
-    returns)
+    tie.close (tie.spec Inv-loop μ-loop (λ c κs. search needs) loop-holds (λ c. search needs) (λ c. search needs) (λ c κs. search needs) (λ c. search needs)
+    (λ c. search needs) (λ c. search needs) (λ c. search needs) loop-again returns)

@@ -7,17 +7,8 @@ use Rattle.arms.specs.Arms.{coreIn}
 use Rattle.arms.proofs.core_of.Statement.{statement}
 use Rattle.arms.proofs.core_of.Tie as tie
 
-opened-requires : tie.Need-opened-requires
-opened-requires c κs = search needs
-
-slice-aggregate-core-in : tie.Need-slice-aggregate-core-in
-slice-aggregate-core-in c = search needs
-
-core-in-requires : tie.Need-core-in-requires
-core-in-requires c κs = search needs
-
 returns : tie.Need-returns
 returns c = c .core-in .ensures ∙ ap (λ (s : List ℕ). coreIn s (c .before .before .before .before .args .atoms)) (c .before .before .opened .ensures)
 
 pub core-of-spec : {M : Type 1} → statement M
-core-of-spec = tie.close (tie.spec opened-requires slice-aggregate-core-in core-in-requires returns)
+core-of-spec = tie.close (tie.spec (λ c κs. search needs) (λ c. search needs) (λ c κs. search needs) returns)

@@ -19,24 +19,6 @@ abbrev μ-loop : tie.MeasureT-loop
 loop-holds : tie.Need-loop-holds Inv-loop μ-loop
 loop-holds c = (refl, omega arith, λ i h. absurd (omega arith))
 
-array-read-step-to : tie.Need-array-read-step-to Inv-loop μ-loop
-array-read-step-to c = search needs
-
-cast-step-to : tie.Need-cast-step-to Inv-loop μ-loop
-cast-step-to c = search needs
-
-step-to-requires : tie.Need-step-to-requires Inv-loop μ-loop
-step-to-requires c κs = search needs
-
-array-write-near : tie.Need-array-write-near Inv-loop μ-loop
-array-write-near c = search needs
-
-add-j : tie.Need-add-j Inv-loop μ-loop
-add-j c = search needs
-
-loop-less : tie.Need-loop-less Inv-loop μ-loop
-loop-less c = search needs
-
 loop-again : tie.Need-loop-again Inv-loop μ-loop
 loop-again c =
     let l = c .before .before .loop in
@@ -55,16 +37,5 @@ returns c =
 
 pub near-in-spec : {M : Type 1} → statement M
 near-in-spec =
-    tie.close
-    (tie.spec
-    Inv-loop
-    μ-loop
-    loop-holds
-    array-read-step-to
-    cast-step-to
-    step-to-requires
-    array-write-near
-    add-j
-    loop-less
-    loop-again
-    returns)
+    tie.close (tie.spec Inv-loop μ-loop loop-holds (λ c. search needs) (λ c. search needs) (λ c κs. search needs) (λ c. search needs) (λ c. search needs)
+    (λ c. search needs) loop-again returns)

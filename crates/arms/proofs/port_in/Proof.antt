@@ -4,14 +4,8 @@ use Rattle.arms.proofs.Keeping.{port-kept}
 use Rattle.arms.proofs.port_in.Statement.{statement}
 use Rattle.arms.proofs.port_in.Tie as tie
 
-seen-requires : tie.Need-seen-requires
-seen-requires c κs = search needs
-
-near-in-requires : tie.Need-near-in-requires
-near-in-requires c κs = search needs
-
 returns : tie.Need-returns
 returns c = let a = c .before .before .before .before .before .before .args in port-kept (a .s .now) (a .atoms) (a .a) _ _ (c .before .before .before .before .seen .ensures) (c .before .near-in .ensures)
 
 pub port-in-spec : {M : Type 1} → statement M
-port-in-spec = tie.close (tie.spec seen-requires near-in-requires returns)
+port-in-spec = tie.close (tie.spec (λ c κs. search needs) (λ c κs. search needs) returns)

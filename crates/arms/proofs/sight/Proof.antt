@@ -15,41 +15,8 @@ Inv-loop k ends arms v₀ m₀ v m = (m ≤ k) × (v ≡ sightFrom ends arms k v
 abbrev μ-loop : tie.MeasureT-loop
 μ-loop k ends arms v₀ m₀ v m = k - m
 
-mul-own : tie.Need-mul-own Inv-loop μ-loop
-mul-own c = search needs
-
-array-copy-out-own : tie.Need-array-copy-out-own Inv-loop μ-loop
-array-copy-out-own c = search needs
-
 loop-holds : tie.Need-loop-holds Inv-loop μ-loop
 loop-holds c = (omega arith, sight-start _ _ _ _)
-
-mul-end : tie.Need-mul-end Inv-loop μ-loop
-mul-end c = search needs
-
-array-copy-out-end : tie.Need-array-copy-out-end Inv-loop μ-loop
-array-copy-out-end c = search needs
-
-mul-arm : tie.Need-mul-arm Inv-loop μ-loop
-mul-arm c = search needs
-
-array-copy-out-arm : tie.Need-array-copy-out-arm Inv-loop μ-loop
-array-copy-out-arm c = search needs
-
-array-read-wide : tie.Need-array-read-wide Inv-loop μ-loop
-array-read-wide c = search needs
-
-wide-requires : tie.Need-wide-requires Inv-loop μ-loop
-wide-requires c κs = search needs
-
-grown-requires : tie.Need-grown-requires Inv-loop μ-loop
-grown-requires c κs = search needs
-
-add-m : tie.Need-add-m Inv-loop μ-loop
-add-m c = search needs
-
-loop-less : tie.Need-loop-less Inv-loop μ-loop
-loop-less c = search needs
 
 loop-again : tie.Need-loop-again Inv-loop μ-loop
 loop-again c =
@@ -65,21 +32,5 @@ returns c =
 
 pub sight-spec : {M : Type 1} → statement M
 sight-spec =
-    tie.close
-    (tie.spec
-    Inv-loop
-    μ-loop
-    mul-own
-    array-copy-out-own
-    loop-holds
-    mul-end
-    array-copy-out-end
-    mul-arm
-    array-copy-out-arm
-    array-read-wide
-    wide-requires
-    grown-requires
-    add-m
-    loop-less
-    loop-again
-    returns)
+    tie.close (tie.spec Inv-loop μ-loop (λ c. search needs) (λ c. search needs) loop-holds (λ c. search needs) (λ c. search needs) (λ c. search needs)
+    (λ c. search needs) (λ c. search needs) (λ c κs. search needs) (λ c κs. search needs) (λ c. search needs) (λ c. search needs) loop-again returns)

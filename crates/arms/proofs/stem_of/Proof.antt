@@ -21,32 +21,8 @@ Inv-loop m arms n ends from₀ six₀ k₀ from six k = (k ≤ n) × (six ≡ si
 abbrev μ-loop : tie.MeasureT-loop
 μ-loop m arms n ends from₀ six₀ k₀ from six k = n - k
 
-within-requires : tie.Need-within-requires Inv-loop μ-loop
-within-requires c κs = search needs
-
-array-copy-out-first : tie.Need-array-copy-out-first Inv-loop μ-loop
-array-copy-out-first c = search needs
-
 loop-holds : tie.Need-loop-holds Inv-loop μ-loop
 loop-holds c = let a = c .before .before .before .before .before .args in (omega arith, six-start (a .core) (a .t2), sight-first (a .core) (a .t2))
-
-mul-arm : tie.Need-mul-arm Inv-loop μ-loop
-mul-arm c = search needs
-
-array-copy-out-arm : tie.Need-array-copy-out-arm Inv-loop μ-loop
-array-copy-out-arm c = search needs
-
-joined-requires : tie.Need-joined-requires Inv-loop μ-loop
-joined-requires c κs = search needs
-
-add-k : tie.Need-add-k Inv-loop μ-loop
-add-k c = search needs
-
-sight-requires : tie.Need-sight-requires Inv-loop μ-loop
-sight-requires c κs = search needs
-
-loop-less : tie.Need-loop-less Inv-loop μ-loop
-loop-less c = search needs
 
 loop-again : tie.Need-loop-again Inv-loop μ-loop
 loop-again c =
@@ -63,18 +39,5 @@ returns c =
 
 pub stem-of-spec : {M : Type 1} → statement M
 stem-of-spec =
-    tie.close
-    (tie.spec
-    Inv-loop
-    μ-loop
-    within-requires
-    array-copy-out-first
-    loop-holds
-    mul-arm
-    array-copy-out-arm
-    joined-requires
-    add-k
-    sight-requires
-    loop-less
-    loop-again
-    returns)
+    tie.close (tie.spec Inv-loop μ-loop (λ c κs. search needs) (λ c. search needs) loop-holds (λ c. search needs) (λ c. search needs) (λ c κs. search needs)
+    (λ c. search needs) (λ c κs. search needs) (λ c. search needs) loop-again returns)

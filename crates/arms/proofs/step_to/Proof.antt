@@ -11,9 +11,6 @@ use Rattle.sighted.specs.Sighted.{stepsIn}
 use Rattle.arms.proofs.step_to.Statement.{statement}
 use Rattle.arms.proofs.step_to.Tie as tie
 
-is-outside-requires : tie.Need-is-outside-requires
-is-outside-requires c κs = search needs
-
 returns : tie.Need-returns
 unfolding stepsIn
 returns c = let e = sym (c .before .is-outside .ensures) ∙ c .if1 .taken in rw e
@@ -35,4 +32,4 @@ unfolding stepsIn
 returns-2 c = rw (is-inside (c .before))
 
 pub step-to-spec : {M : Type 1} → statement M
-step-to-spec = tie.close (tie.spec is-outside-requires returns sub-result element-copy-out-result returns-2)
+step-to-spec = tie.close (tie.spec (λ c κs. search needs) returns sub-result element-copy-out-result returns-2)

@@ -29,25 +29,10 @@ returns c = let l = c .before .before in
     let a = l .before .args in
     sym (l .loop .inv .1 ∙ find-over (a .t1) (a .count) (a .number) (l .loop .i) (omega (arith, length-take (a .count) (a .t1))))
 
-mul-b : tie.Need-mul-b Inv-loop μ-loop
-mul-b c = search needs
-
-array-copy-out-b : tie.Need-array-copy-out-b Inv-loop μ-loop
-array-copy-out-b c = search needs
-
-cast-if2 : tie.Need-cast-if2 Inv-loop μ-loop
-cast-if2 c = search needs
-
 returns-2 : tie.Need-returns-2 Inv-loop μ-loop
 returns-2 c = let l = c .before .before .before .before .before in
     let a = l .before .args in
     sym (l .loop .inv .1 ∙ find-here (a .t1) (a .count) (a .number) (l .loop .i) (more (c .before .before .before)) (c .if2 .taken))
-
-add-i : tie.Need-add-i Inv-loop μ-loop
-add-i c = search needs
-
-loop-less : tie.Need-loop-less Inv-loop μ-loop
-loop-less c = search needs
 
 loop-again : tie.Need-loop-again Inv-loop μ-loop
 loop-again c = let l = c .before .before .before .before .before in
@@ -61,17 +46,5 @@ returns-3 c = let l = c .before in
 
 pub find-block-spec : {M : Type 1} → statement M
 find-block-spec =
-    tie.close
-    (tie.spec
-    Inv-loop
-    μ-loop
-    loop-holds
-    returns
-    mul-b
-    array-copy-out-b
-    cast-if2
-    returns-2
-    add-i
-    loop-less
-    loop-again
-    returns-3)
+    tie.close (tie.spec Inv-loop μ-loop loop-holds returns (λ c. search needs) (λ c. search needs) (λ c. search needs) returns-2 (λ c. search needs)
+    (λ c. search needs) loop-again returns-3)

@@ -21,20 +21,10 @@ returns-2 c =
     let e : a .k - 1 ≡ 0 = omega arith in
     sym (lt-leb limit (a .ends + joinsOn joins (a .k - 1) (a .p) (a .a)) (omega (arith, ap (λ (n : ℕ). joinsOn joins n (a .p) (a .a)) e, joins-none joins (a .p) (a .a))))
 
-sub-joins-on : tie.Need-sub-joins-on
-sub-joins-on c = search needs
-
-joins-on-requires : tie.Need-joins-on-requires
-joins-on-requires c κs = search needs
-
-add-result : tie.Need-add-result
-add-result c = search needs
-
 returns-3 : tie.Need-returns-3
 returns-3 c =
     let a = c .before .before .before .before .args in
     ap (λ (n : ℕ). leb limit (a .ends + n)) (c .joins-on .ensures) ∙ full-min limit (a .ends) (joinsOn (joinOn (placementAt (a .xs .now))) (a .k - 1) (a .p) (a .a))
 
 pub is-full-spec : {M : Type 1} → statement M
-is-full-spec =
-    tie.close (tie.spec returns returns-2 sub-joins-on joins-on-requires add-result returns-3)
+is-full-spec = tie.close (tie.spec returns returns-2 (λ c. search needs) (λ c κs. search needs) (λ c. search needs) returns-3)

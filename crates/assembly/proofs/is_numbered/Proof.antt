@@ -7,11 +7,8 @@ use Rattle.assembly.proofs.is_numbered.Tie as tie
 returns : tie.Need-returns
 returns c = simp (eq-eqb (c .before .args .number) 0 (c .if1 .taken))
 
-cast-result : tie.Need-cast-result
-cast-result c = search needs
-
 returns-2 : tie.Need-returns-2
 returns-2 c = simp (ne-eqb (c .before .before .args .number) 0 (c .before .if1 .left))
 
 pub is-numbered-spec : {M : Type 1} → statement M
-is-numbered-spec = tie.close (tie.spec returns cast-result returns-2)
+is-numbered-spec = tie.close (tie.spec returns (λ c. search needs) returns-2)

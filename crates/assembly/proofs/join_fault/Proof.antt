@@ -57,41 +57,14 @@ past-end xs k n h = rw (List·getD-eq-default xs 0 {n = 2 + 6 * k + 4} (omega ar
 returns : tie.Need-returns
 returns c = let s = c .before .before in let a = s .args in sym (no-site (a .there) (a .here) (joins s) (a .k) (past-end (a .xs .now) (a .k) (a .there .atoms) (omega arith)))
 
-placement-at-requires : tie.Need-placement-at-requires
-placement-at-requires c κs = search needs
-
-cast-is-outside : tie.Need-cast-is-outside
-cast-is-outside c = search needs
-
-is-outside-requires : tie.Need-is-outside-requires
-is-outside-requires c κs = search needs
-
 returns-2 : tie.Need-returns-2
 returns-2 c = let s = c .before .before .before .before .before .before in let a = s .args in sym (no-site (a .there) (a .here) (joins s) (a .k) (sym (site-is (c .before)) ∙ c .if2 .taken))
-
-cast-is-outside-2 : tie.Need-cast-is-outside-2
-cast-is-outside-2 c = search needs
-
-is-outside-requires-2 : tie.Need-is-outside-requires-2
-is-outside-requires-2 c κs = search needs
 
 returns-3 : tie.Need-returns-3
 returns-3 c = let s = c .before .before .before .before .before .before .before .before .before in let a = s .args in sym (no-own (a .there) (a .here) (joins s) (a .k) (has-site (c .before .before .before)) (sym (own-is (c .before)) ∙ c .if3 .taken))
 
-cast-is-full : tie.Need-cast-is-full
-cast-is-full c = search needs
-
-is-full-requires : tie.Need-is-full-requires
-is-full-requires c κs = search needs
-
 returns-4 : tie.Need-returns-4
 returns-4 c = let s = c .before .before .before .before .before .before .before .before .before .before .before .before in let a = s .args in sym (full-site (a .there) (a .here) (joins s) (a .k) (has-site (c .before .before .before .before .before .before)) (has-own (c .before .before .before)) (sym (full-is (c .before)) ∙ c .if4 .taken))
-
-add-is-full : tie.Need-add-is-full
-add-is-full c = search needs
-
-is-full-requires-2 : tie.Need-is-full-requires-2
-is-full-requires-2 c κs = search needs
 
 returns-5 : tie.Need-returns-5
 returns-5 c = let s = c .before .before .before .before .before .before .before .before .before .before .before .before .before .before in let a = s .args in sym (full-own (a .there) (a .here) (joins s) (a .k) (has-site (c .before .before .before .before .before .before .before .before)) (has-own (c .before .before .before .before .before)) (free (c .before .before)) (sym (own-full-is (c .before)) ∙ c .if5 .taken))
@@ -101,20 +74,5 @@ returns-6 c = let s = c .before .before .before .before .before .before .before 
 
 pub join-fault-spec : {M : Type 1} → statement M
 join-fault-spec =
-    tie.close
-    (tie.spec
-    returns
-    placement-at-requires
-    cast-is-outside
-    is-outside-requires
-    returns-2
-    cast-is-outside-2
-    is-outside-requires-2
-    returns-3
-    cast-is-full
-    is-full-requires
-    returns-4
-    add-is-full
-    is-full-requires-2
-    returns-5
-    returns-6)
+    tie.close (tie.spec returns (λ c κs. search needs) (λ c. search needs) (λ c κs. search needs) returns-2 (λ c. search needs) (λ c κs. search needs) returns-3
+    (λ c. search needs) (λ c κs. search needs) returns-4 (λ c. search needs) (λ c κs. search needs) returns-5 returns-6)

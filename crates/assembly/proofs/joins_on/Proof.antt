@@ -32,37 +32,10 @@ turn c = let l = c .before .before .before .before .before .before .before in
 loop-holds : tie.Need-loop-holds Inv-loop μ-loop
 loop-holds c = (sym (joins-none (joinOn (placementAt (c .before .args .xs .now))) (c .before .args .p) (c .before .args .a)), omega arith, omega arith)
 
-add-k : tie.Need-add-k Inv-loop μ-loop
-add-k c = search needs
-
-placement-at-requires : tie.Need-placement-at-requires Inv-loop μ-loop
-placement-at-requires c κs = search needs
-
-cast-one-if : tie.Need-cast-one-if Inv-loop μ-loop
-cast-one-if c = search needs
-
-one-if-requires : tie.Need-one-if-requires Inv-loop μ-loop
-one-if-requires c κs = search needs
-
-add-one-if : tie.Need-add-one-if Inv-loop μ-loop
-add-one-if c = search needs
-
-one-if-requires-2 : tie.Need-one-if-requires-2 Inv-loop μ-loop
-one-if-requires-2 c κs = search needs
-
-add-total : tie.Need-add-total Inv-loop μ-loop
-add-total c = search needs
-
-add-total-2 : tie.Need-add-total-2 Inv-loop μ-loop
-add-total-2 c = search needs
-
 returns : tie.Need-returns Inv-loop μ-loop
 returns c = let l = c .before .before .before .before .before .before .before .before in
     let a = l .before .before .args in
     omega (arith, turn (c .before), c .if1 .taken, joins-most (joinOn (placementAt (a .xs .now))) (a .p) (a .a) (l .loop .k + 1) (a .last) (omega arith))
-
-loop-less : tie.Need-loop-less Inv-loop μ-loop
-loop-less c = search needs
 
 loop-again : tie.Need-loop-again Inv-loop μ-loop
 loop-again c = (turn (c .before), omega arith, omega arith)
@@ -75,20 +48,5 @@ returns-2 c = let l = c .before in
 
 pub joins-on-spec : {M : Type 1} → statement M
 joins-on-spec =
-    tie.close
-    (tie.spec
-    Inv-loop
-    μ-loop
-    loop-holds
-    add-k
-    placement-at-requires
-    cast-one-if
-    one-if-requires
-    add-one-if
-    one-if-requires-2
-    add-total
-    add-total-2
-    returns
-    loop-less
-    loop-again
-    returns-2)
+    tie.close (tie.spec Inv-loop μ-loop loop-holds (λ c. search needs) (λ c κs. search needs) (λ c. search needs) (λ c κs. search needs) (λ c. search needs)
+    (λ c κs. search needs) (λ c. search needs) (λ c. search needs) returns (λ c. search needs) loop-again returns-2)

@@ -17,13 +17,10 @@ sum-of-requires-2 c κs = let p = c .before .pre in (p .2, p .3)
 mul-largest : tie.Need-mul-largest
 mul-largest c = let l = mul-le-mul (c .before .sum-of .ensures .1) (c .sum-of2 .ensures .1) in omega arith
 
-largest-requires : tie.Need-largest-requires
-largest-requires c κs = search needs
-
 returns : tie.Need-returns
 returns c =
     let r = c .largest .ensures in
     (r .0 ∙ ap₂ (λ (x y : ℕ). largestRoot (bound 1) (x * y)) (c .before .before .sum-of .ensures .0) (c .before .sum-of2 .ensures .0), r .1)
 
 pub brings-spec : {M : Type 1} → statement M
-brings-spec = tie.close (tie.spec sum-of-requires sum-of-requires-2 mul-largest largest-requires returns)
+brings-spec = tie.close (tie.spec sum-of-requires sum-of-requires-2 mul-largest (λ c κs. search needs) returns)

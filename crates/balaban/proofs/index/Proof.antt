@@ -10,15 +10,6 @@ use Rattle.balaban.proofs.Reply.{refused-reply, fine-reply}
 use Rattle.balaban.proofs.index.Statement.{statement}
 use Rattle.balaban.proofs.index.Tie as tie
 
-vertex-sums-requires : tie.Need-vertex-sums-requires
-vertex-sums-requires c κs = search needs
-
-enum-known-reply : tie.Need-enum-known-reply
-enum-known-reply c = search needs
-
-enum-told : tie.Need-enum-told
-enum-told c = search needs
-
 -- the block is fine, and the sums are its vertex sums
 told : (c : tie.After-enum-told) → let a = c .before .before .before .before .args in
     (blockReply (a .n) (a .bonds .now) ≡ read tt) × (c .before .before .vertex-sums .result .at ≡ vertexSumsOf (graphOf (a .n) (a .bonds .now)))
@@ -34,4 +25,4 @@ returns-2 : tie.Need-returns-2
 returns-2 c = fine-reply _ _ (told (c .before .before .before) .0) _ (c .reckon .ensures)
 
 pub index-spec : {M : Type 1} → statement M
-index-spec = tie.close (tie.spec vertex-sums-requires enum-known-reply enum-told reckon-requires returns returns-2)
+index-spec = tie.close (tie.spec (λ c κs. search needs) (λ c. search needs) (λ c. search needs) reckon-requires returns returns-2)

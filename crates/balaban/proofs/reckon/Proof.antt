@@ -15,21 +15,6 @@ abbrev μ-loop : tie.MeasureT-loop
 loop-holds : tie.Need-loop-holds Inv-loop μ-loop
 loop-holds c = adding-none (c .before .pre)
 
-mul-brings : tie.Need-mul-brings Inv-loop μ-loop
-mul-brings c = omega arith
-
-shared-slice-read-brings : tie.Need-shared-slice-read-brings Inv-loop μ-loop
-shared-slice-read-brings c = omega arith
-
-mul-brings-2 : tie.Need-mul-brings-2 Inv-loop μ-loop
-mul-brings-2 c = omega arith
-
-add-brings : tie.Need-add-brings Inv-loop μ-loop
-add-brings c = omega arith
-
-shared-slice-read-brings-2 : tie.Need-shared-slice-read-brings-2 Inv-loop μ-loop
-shared-slice-read-brings-2 c = omega arith
-
 brings-requires : tie.Need-brings-requires Inv-loop μ-loop
 brings-requires c κs = ends (c .before .before .before .before .before .pre) (c .before .before .before .loop .k) (c .before .before .loop-test .taken)
 
@@ -38,12 +23,6 @@ add-total c =
     let A = c .before .before .before .before .loop .inv in
     let T = c .before .before .before .before .before .before .pre in
     omega (arith, A .low, A .done, few-bytes _ _ (T .fine), c .brings .ensures .1)
-
-add-k : tie.Need-add-k Inv-loop μ-loop
-add-k c = omega arith
-
-loop-less : tie.Need-loop-less Inv-loop μ-loop
-loop-less c = omega arith
 
 loop-again : tie.Need-loop-again Inv-loop μ-loop
 loop-again c =
@@ -59,20 +38,5 @@ returns c = let A = c .before .before .loop .inv in reckoned-is (c .before .befo
 
 pub reckon-spec : {M : Type 1} → statement M
 reckon-spec =
-    tie.close
-    (tie.spec
-    Inv-loop
-    μ-loop
-    loop-holds
-    mul-brings
-    shared-slice-read-brings
-    mul-brings-2
-    add-brings
-    shared-slice-read-brings-2
-    brings-requires
-    add-total
-    add-k
-    loop-less
-    loop-again
-    divided-requires
-    returns)
+    tie.close (tie.spec Inv-loop μ-loop loop-holds (λ c. omega arith) (λ c. omega arith) (λ c. omega arith) (λ c. omega arith) (λ c. omega arith)
+    brings-requires add-total (λ c. omega arith) (λ c. omega arith) loop-again divided-requires returns)

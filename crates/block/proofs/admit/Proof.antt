@@ -13,15 +13,6 @@ use Rattle.block.proofs.admit.Tie as tie
 draw-requires : tie.Need-draw-requires
 draw-requires c κs = c .before .before .before .pre
 
-enum-told : tie.Need-enum-told
-enum-told c = search needs
-
-enum-told-2 : tie.Need-enum-told-2
-enum-told-2 c = search needs
-
-same-length : tie.Need-same-length
-same-length c = search needs
-
 returns : tie.Need-returns
 returns c =
     let e = c .enum-told2 .given .1 in
@@ -39,20 +30,11 @@ task c =
 connected-requires : tie.Need-connected-requires
 connected-requires c κs = (c .before .before .before .before .before .before .before .before .before .args .bonds .now, task (c .before))
 
-refused-requires : tie.Need-refused-requires
-refused-requires c κs = search needs
-
-same-length-2 : tie.Need-same-length-2
-same-length-2 c = search needs
-
 returns-2 : tie.Need-returns-2
 returns-2 c =
     let t = c .before .before .before in
     let r = reply-fine _ _ (fine t) (sym (c .before .connected .ensures _ (task t)) ∙ c .if1 .taken) in
     record { replied = t .enum-told .given .1 ∙ r; ready = λ e. record { fine = said-fine _ r; shown = task t .shown } }
-
-same-length-3 : tie.Need-same-length-3
-same-length-3 c = search needs
 
 returns-3 : tie.Need-returns-3
 returns-3 c =
@@ -61,16 +43,5 @@ returns-3 c =
 
 pub admit-spec : {M : Type 1} → statement M
 admit-spec =
-    tie.close
-    (tie.spec
-    draw-requires
-    enum-told
-    enum-told-2
-    same-length
-    returns
-    connected-requires
-    refused-requires
-    same-length-2
-    returns-2
-    same-length-3
-    returns-3)
+    tie.close (tie.spec draw-requires (λ c. search needs) (λ c. search needs) (λ c. search needs) returns connected-requires (λ c κs. search needs)
+    (λ c. search needs) returns-2 (λ c. search needs) returns-3)

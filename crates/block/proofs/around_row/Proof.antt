@@ -6,22 +6,10 @@ use Rattle.block.proofs.Summing.{vertex-total}
 use Rattle.block.proofs.around_row.Statement.{statement}
 use Rattle.block.proofs.around_row.Tie as tie
 
-within-requires : tie.Need-within-requires
-within-requires c κs = search needs
-
-along-requires : tie.Need-along-requires
-along-requires c κs = search needs
-
-add-t6 : tie.Need-add-t6
-add-t6 c = search needs
-
-wide-requires : tie.Need-wide-requires
-wide-requires c κs = search needs
-
 returns : tie.Need-returns
 returns c =
     let d = c .before in
     vertex-total _ _ _ _ _ (d .before .along .ensures) (c .wide .ensures .0) ∙ ap (λ (m : ℕ). vertexBy m (entry (d .before .before .before .args .row .now)) (d .before .before .before .args .farthest)) (d .before .before .within .ensures .0)
 
 pub around-row-spec : {M : Type 1} → statement M
-around-row-spec = tie.close (tie.spec within-requires along-requires add-t6 wide-requires returns)
+around-row-spec = tie.close (tie.spec (λ c κs. search needs) (λ c κs. search needs) (λ c. search needs) (λ c κs. search needs) returns)

@@ -3,9 +3,6 @@ use borrow.Author.Needs.{needs}
 use Rattle.block.proofs.check.Statement.{statement}
 use Rattle.block.proofs.check.Tie as tie
 
-slice-aggregate-admit : tie.Need-slice-aggregate-admit
-slice-aggregate-admit c = search needs
-
 admit-requires : tie.Need-admit-requires
 admit-requires c κs = refl
 
@@ -13,4 +10,4 @@ returns : tie.Need-returns
 returns c = c .before .admit .ensures .replied
 
 pub check-spec : {M : Type 1} → statement M
-check-spec = tie.close (tie.spec slice-aggregate-admit admit-requires returns)
+check-spec = tie.close (tie.spec (λ c. search needs) admit-requires returns)

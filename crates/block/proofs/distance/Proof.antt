@@ -9,21 +9,6 @@ use Rattle.block.proofs.Answers.{distance-refused, distance-first, dist
 use Rattle.block.proofs.distance.Statement.{statement}
 use Rattle.block.proofs.distance.Tie as tie
 
-table-requires : tie.Need-table-requires
-table-requires c κs = search needs
-
-enum-known-reply : tie.Need-enum-known-reply
-enum-known-reply c = search needs
-
-enum-told : tie.Need-enum-told
-enum-told c = search needs
-
-is-outside-requires : tie.Need-is-outside-requires
-is-outside-requires c κs = search needs
-
-is-outside-requires-2 : tie.Need-is-outside-requires-2
-is-outside-requires-2 c κs = search needs
-
 -- the block is fine
 fine : (c : tie.After-enum-told) → let a = c .before .before .before .before .before .before .args in blockReply (a .n) (a .bonds .now) ≡ read tt
 fine c = fine-read _ (sym (opened-reply _ _ _ (c .before .before .table .ensures .0)) ∙ c .enum-told .given .1)
@@ -33,12 +18,6 @@ returns c =
     let o = c .before .is-outside .ensures in
     ⊎-elim (λ t. distance-first _ _ _ _ (fine (c .before .before)) (sym o ∙ t .taken)) (λ t. distance-second _ _ _ _ (fine (c .before .before)) (sym o ∙ t .0 .left) (sym (t .1 .ensures) ∙ t .2 .taken))
     (c .if1 .came)
-
-get-requires : tie.Need-get-requires
-get-requires c κs = search needs
-
-wide-requires : tie.Need-wide-requires
-wide-requires c κs = search needs
 
 returns-2 : tie.Need-returns-2
 returns-2 c = distance-refused _ _ _ _ _ (refused-read _ _ (sym (opened-reply _ _ _ (c .before .before .before .table .ensures .0)) ∙ c .before .reply .given .1))
@@ -51,15 +30,5 @@ returns-3 c =
 
 pub distance-spec : {M : Type 1} → statement M
 distance-spec =
-    tie.close
-    (tie.spec
-    table-requires
-    enum-known-reply
-    enum-told
-    is-outside-requires
-    is-outside-requires-2
-    returns
-    get-requires
-    wide-requires
-    returns-2
-    returns-3)
+    tie.close (tie.spec (λ c κs. search needs) (λ c. search needs) (λ c. search needs) (λ c κs. search needs) (λ c κs. search needs) returns
+    (λ c κs. search needs) (λ c κs. search needs) returns-2 returns-3)

@@ -12,12 +12,6 @@ use Rattle.block.proofs.Replies.{reply-one, reply-odd, reply-long, repl
 use Rattle.block.proofs.draw.Statement.{statement}
 use Rattle.block.proofs.draw.Tie as tie
 
-is-outside-requires : tie.Need-is-outside-requires
-is-outside-requires c κs = search needs
-
-refused-requires : tie.Need-refused-requires
-refused-requires c κs = search needs
-
 returns : tie.Need-returns
 returns c = draw-refused _ _ _ _ (c .refused .ensures) (reply-one _ _ (sym (c .before .before .is-outside .ensures) ∙ c .before .if1 .taken))
 
@@ -25,17 +19,11 @@ returns c = draw-refused _ _ _ _ (c .refused .ensures) (reply-one _ _ (sym (c .b
 sized : (c : tie.Else1) → isOutside mostAtoms (c .before .before .before .before .args .n) ≡ false
 sized c = sym (c .before .is-outside .ensures) ∙ c .if1 .left
 
-refused-requires-2 : tie.Need-refused-requires-2
-refused-requires-2 c κs = search needs
-
 returns-2 : tie.Need-returns-2
 returns-2 c = draw-refused _ _ _ _ (c .refused2 .ensures) (reply-odd _ _ (sized (c .before .before)) (ne-eqb _ _ (c .before .if2 .taken)))
 
 paired : (c : tie.Else2) → eqb (length (c .before .before .before .before .before .args .bonds .now) % 2) 0 ≡ true
 paired c = eq-eqb _ _ (c .if2 .left)
-
-refused-requires-3 : tie.Need-refused-requires-3
-refused-requires-3 c κs = search needs
 
 returns-3 : tie.Need-returns-3
 returns-3 c = draw-refused _ _ _ _ (c .refused3 .ensures) (reply-long _ _ (sized (c .before .before .before)) (paired (c .before .before)) (lt-ltb _ _ (c .before .if3 .taken)))
@@ -46,9 +34,6 @@ few c = le-ltb _ _ (c .if3 .left)
 build-requires : tie.Need-build-requires
 build-requires c κs = (inside mostAtoms _ (sized (c .before .before .before)) .high, c .before .before .before .before .before .before .before .pre)
 
-same-length : tie.Need-same-length
-same-length c = search needs
-
 returns-4 : tie.Need-returns-4
 returns-4 c =
     let d = c .before .before .before .before in
@@ -56,4 +41,6 @@ returns-4 c =
     record { replied = reply-bonds _ _ (sized (d .before .before)) (paired (d .before)) (few d) _ (b .replied); drawn = b .drawn }
 
 pub draw-spec : {M : Type 1} → statement M
-draw-spec = tie.close (tie.spec is-outside-requires refused-requires returns refused-requires-2 returns-2 refused-requires-3 returns-3 build-requires same-length returns-4)
+draw-spec =
+    tie.close (tie.spec (λ c κs. search needs) (λ c κs. search needs) returns (λ c κs. search needs) returns-2 (λ c κs. search needs) returns-3 build-requires
+    (λ c. search needs) returns-4)

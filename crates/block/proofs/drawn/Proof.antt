@@ -4,17 +4,8 @@ use Rattle.block.proofs.Replies.{near-refused, near-fine}
 use Rattle.block.proofs.drawn.Statement.{statement}
 use Rattle.block.proofs.drawn.Tie as tie
 
-slice-aggregate-draw : tie.Need-slice-aggregate-draw
-slice-aggregate-draw c = search needs
-
 draw-requires : tie.Need-draw-requires
 draw-requires c κs = refl
-
-enum-told : tie.Need-enum-told
-enum-told c = search needs
-
-enum-told-2 : tie.Need-enum-told-2
-enum-told-2 c = search needs
 
 returns : tie.Need-returns
 returns c =
@@ -29,4 +20,4 @@ returns-2 c =
     (d .replied, near-fine _ _ _ _ (sym e ∙ d .replied) (d .drawn e))
 
 pub drawn-spec : {M : Type 1} → statement M
-drawn-spec = tie.close (tie.spec slice-aggregate-draw draw-requires enum-told enum-told-2 returns returns-2)
+drawn-spec = tie.close (tie.spec (λ c. search needs) draw-requires (λ c. search needs) (λ c. search needs) returns returns-2)

@@ -5,17 +5,8 @@ use Rattle.block.proofs.Replies.{said-refused}
 use Rattle.block.proofs.neighbours.Statement.{statement}
 use Rattle.block.proofs.neighbours.Tie as tie
 
-slice-aggregate-admit : tie.Need-slice-aggregate-admit
-slice-aggregate-admit c = search needs
-
 admit-requires : tie.Need-admit-requires
 admit-requires c κs = refl
-
-enum-told : tie.Need-enum-told
-enum-told c = search needs
-
-enum-told-2 : tie.Need-enum-told-2
-enum-told-2 c = search needs
 
 returns : tie.Need-returns
 returns c =
@@ -28,4 +19,4 @@ returns-2 c =
     opened-fine _ _ _ (c .before .before .before .admit .ensures .ready e) e
 
 pub neighbours-spec : {M : Type 1} → statement M
-neighbours-spec = tie.close (tie.spec slice-aggregate-admit admit-requires enum-told enum-told-2 returns returns-2)
+neighbours-spec = tie.close (tie.spec (λ c. search needs) admit-requires (λ c. search needs) (λ c. search needs) returns returns-2)

@@ -6,17 +6,8 @@ use Rattle.block.proofs.Replies.{said-refused}
 use Rattle.block.proofs.pair_counts.Statement.{statement}
 use Rattle.block.proofs.pair_counts.Tie as tie
 
-slice-aggregate-admit : tie.Need-slice-aggregate-admit
-slice-aggregate-admit c = search needs
-
 admit-requires : tie.Need-admit-requires
 admit-requires c κs = refl
-
-enum-told : tie.Need-enum-told
-enum-told c = search needs
-
-enum-told-2 : tie.Need-enum-told-2
-enum-told-2 c = search needs
 
 returns : tie.Need-returns
 returns c =
@@ -26,17 +17,8 @@ returns c =
 ready : (c : tie.After-enum-told) → let s = c .before .before .before .before .before .before .args in ReadyBlock (s .n) (s .bonds .now) (c .before .before .before .admit .last .1 .1 .0)
 ready c = c .before .before .before .admit .ensures .ready (c .enum-told .given .1)
 
-slice-aggregate-from-all : tie.Need-slice-aggregate-from-all
-slice-aggregate-from-all c = search needs
-
-slice-aggregate-from-all-2 : tie.Need-slice-aggregate-from-all-2
-slice-aggregate-from-all-2 c = search needs
-
 from-all-requires : tie.Need-from-all-requires
 from-all-requires c κs = ((_, ready (c .before .before .before)), refl)
-
-count-pairs-requires : tie.Need-count-pairs-requires
-count-pairs-requires c κs = search needs
 
 returns-2 : tie.Need-returns-2
 returns-2 c =
@@ -46,4 +28,5 @@ returns-2 c =
 
 pub pair-counts-spec : {M : Type 1} → statement M
 pair-counts-spec =
-    tie.close (tie.spec slice-aggregate-admit admit-requires enum-told enum-told-2 returns slice-aggregate-from-all slice-aggregate-from-all-2 from-all-requires count-pairs-requires returns-2)
+    tie.close (tie.spec (λ c. search needs) admit-requires (λ c. search needs) (λ c. search needs) returns (λ c. search needs) (λ c. search needs)
+    from-all-requires (λ c κs. search needs) returns-2)

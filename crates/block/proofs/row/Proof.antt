@@ -11,25 +11,13 @@ use Rattle.block.proofs.Replies.{said-refused}
 use Rattle.block.proofs.row.Statement.{statement}
 use Rattle.block.proofs.row.Tie as tie
 
-slice-aggregate-admit : tie.Need-slice-aggregate-admit
-slice-aggregate-admit c = search needs
-
 admit-requires : tie.Need-admit-requires
 admit-requires c κs = refl
-
-enum-told : tie.Need-enum-told
-enum-told c = search needs
-
-enum-told-2 : tie.Need-enum-told-2
-enum-told-2 c = search needs
 
 returns : tie.Need-returns
 returns c =
     let e = c .enum-told2 .given .1 in
     row-refused _ _ _ _ _ (said-refused _ _ (sym e ∙ c .before .before .before .admit .ensures .replied)) e refl refl
-
-is-outside-requires : tie.Need-is-outside-requires
-is-outside-requires c κs = search needs
 
 -- the block is fine, and i is one of its atoms
 ready : (c : tie.After-enum-told) → let s = c .before .before .before .before .before .before .args in ReadyBlock (s .n) (s .bonds .now) (c .before .before .before .admit .last .1 .1 .0)
@@ -44,12 +32,6 @@ atom c = inside _ _ (sym (c .before .is-outside .ensures) ∙ c .if1 .left)
 task : (c : tie.Else1) → let s = c .before .before .before .before .before .before .before .before .args in SearchTask (graphOf (s .n) (s .bonds .now)) (c .before .before .before .before .before .admit .last .1 .1 .0) (s .n) (s .i)
 task c = record { shown = ready (c .before .before) .shown; size = refl; start = atom c }
 
-slice-aggregate-from-atom : tie.Need-slice-aggregate-from-atom
-slice-aggregate-from-atom c = search needs
-
-slice-aggregate-from-atom-2 : tie.Need-slice-aggregate-from-atom-2
-slice-aggregate-from-atom-2 c = search needs
-
 from-atom-requires : tie.Need-from-atom-requires
 from-atom-requires c κs = ((_, task (c .before .before)), refl)
 
@@ -63,16 +45,5 @@ returns-3 c =
 
 pub row-spec : {M : Type 1} → statement M
 row-spec =
-    tie.close
-    (tie.spec
-    slice-aggregate-admit
-    admit-requires
-    enum-told
-    enum-told-2
-    returns
-    is-outside-requires
-    returns-2
-    slice-aggregate-from-atom
-    slice-aggregate-from-atom-2
-    from-atom-requires
-    returns-3)
+    tie.close (tie.spec (λ c. search needs) admit-requires (λ c. search needs) (λ c. search needs) returns (λ c κs. search needs) returns-2 (λ c. search needs)
+    (λ c. search needs) from-atom-requires returns-3)

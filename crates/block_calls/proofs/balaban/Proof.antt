@@ -6,15 +6,6 @@ use Rattle.calls.proofs.Laws.{lent-number}
 use Rattle.block_calls.proofs.balaban.Statement.{statement}
 use Rattle.block_calls.proofs.balaban.Tie as tie
 
-index-requires : tie.Need-index-requires
-index-requires c κs = search needs
-
-give-number-requires : tie.Need-give-number-requires
-give-number-requires c κs = search needs
-
-same-length : tie.Need-same-length
-same-length c = search needs
-
 returns : tie.Need-returns
 returns c =
     let m = c .before .before .before .before in
@@ -22,4 +13,4 @@ returns c =
     lent-number _ (balabanReply (a .atoms) (now (a .bonds))) (m .index .ensures) (c .before .before .give-number .ensures)
 
 pub balaban-spec : {M : Type 1} → statement M
-balaban-spec = tie.close (tie.spec index-requires give-number-requires same-length returns)
+balaban-spec = tie.close (tie.spec (λ c κs. search needs) (λ c κs. search needs) (λ c. search needs) returns)

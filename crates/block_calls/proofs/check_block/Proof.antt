@@ -7,16 +7,10 @@ use Rattle.calls.proofs.Laws.{reply-coded}
 use Rattle.block_calls.proofs.check_block.Statement.{statement}
 use Rattle.block_calls.proofs.check_block.Tie as tie
 
-check-requires : tie.Need-check-requires
-check-requires c κs = search needs
-
-reply-code-requires : tie.Need-reply-code-requires
-reply-code-requires c κs = search needs
-
 returns : tie.Need-returns
 returns c =
     let a = c .before .before .before .args in
     c .reply-code .ensures ∙ reply-coded _ (blockReply (a .atoms) (now (a .bonds))) (c .before .check .ensures)
 
 pub check-block-spec : {M : Type 1} → statement M
-check-block-spec = tie.close (tie.spec check-requires reply-code-requires returns)
+check-block-spec = tie.close (tie.spec (λ c κs. search needs) (λ c κs. search needs) returns)

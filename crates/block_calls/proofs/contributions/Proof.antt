@@ -11,25 +11,10 @@ use Rattle.block_calls.proofs.Both.{block-lacking, block-given, shares-
 use Rattle.block_calls.proofs.contributions.Statement.{statement}
 use Rattle.block_calls.proofs.contributions.Tie as tie
 
-unlent-requires : tie.Need-unlent-requires
-unlent-requires c κs = search needs
-
 returns : tie.Need-returns
 returns c =
     let a = c .before .before .before .before .before .args in
     block-lacking (a .atoms) (now (a .bonds)) (sharesReply (a .atoms) (now (a .bonds)) (length (now (a .shares)))) _ (now (a .shares)) (now (a .denominator)) (c .unlent .result) (omega arith) (c .unlent .ensures)
-
-contributions-requires : tie.Need-contributions-requires
-contributions-requires c κs = search needs
-
-give-number-requires : tie.Need-give-number-requires
-give-number-requires c κs = search needs
-
-same-length : tie.Need-same-length
-same-length c = search needs
-
-same-length-2 : tie.Need-same-length-2
-same-length-2 c = search needs
 
 returns-2 : tie.Need-returns-2
 returns-2 c =
@@ -42,12 +27,4 @@ returns-2 c =
 
 pub contributions-spec : {M : Type 1} → statement M
 contributions-spec =
-    tie.close
-    (tie.spec
-    unlent-requires
-    returns
-    contributions-requires
-    give-number-requires
-    same-length
-    same-length-2
-    returns-2)
+    tie.close (tie.spec (λ c κs. search needs) returns (λ c κs. search needs) (λ c κs. search needs) (λ c. search needs) (λ c. search needs) returns-2)

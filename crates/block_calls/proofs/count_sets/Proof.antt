@@ -20,24 +20,6 @@ sets-told : (a : SetsReply) (R : Read Sets) → a ≡ saidSets R → toldSets a 
 sets-told a (refused r) e = ap toldSets e
 sets-told a (read s) e = ap toldSets e
 
-count-requires : tie.Need-count-requires
-count-requires c κs = search needs
-
-enum-known-answer : tie.Need-enum-known-answer
-enum-known-answer c = search needs
-
-code-of-requires : tie.Need-code-of-requires
-code-of-requires c κs = search needs
-
-enum-known-answer-2 : tie.Need-enum-known-answer-2
-enum-known-answer-2 c = search needs
-
-slice-aggregate-give : tie.Need-slice-aggregate-give
-slice-aggregate-give c = search needs
-
-give-requires : tie.Need-give-requires
-give-requires c κs = search needs
-
 returns : tie.Need-returns
 returns c =
     let s = c .before .before .before .before .before .before .before in
@@ -45,9 +27,6 @@ returns c =
     lent-refused _ (now (s .args .counts)) (c .code-of .result)
     (ap (λ (R : Read Sets). R then λ x. read (setsNumbers x)) (sym (sets-told _ (setsReply (s .args .atoms) (now (s .args .bonds))) (m .count .ensures)) ∙ ap toldSets (c .before .before .answer .given .1)))
     (c .code-of .ensures)
-
-same-length : tie.Need-same-length
-same-length c = search needs
 
 returns-2 : tie.Need-returns-2
 returns-2 c =
@@ -61,14 +40,5 @@ returns-2 c =
 
 pub count-sets-spec : {M : Type 1} → statement M
 count-sets-spec =
-    tie.close
-    (tie.spec
-    count-requires
-    enum-known-answer
-    code-of-requires
-    enum-known-answer-2
-    slice-aggregate-give
-    give-requires
-    returns
-    same-length
-    returns-2)
+    tie.close (tie.spec (λ c κs. search needs) (λ c. search needs) (λ c κs. search needs) (λ c. search needs) (λ c. search needs) (λ c κs. search needs) returns
+    (λ c. search needs) returns-2)

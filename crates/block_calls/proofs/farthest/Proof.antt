@@ -12,27 +12,6 @@ use Rattle.calls.proofs.Laws.{lent-refused, lent-read}
 use Rattle.block_calls.proofs.farthest.Statement.{statement}
 use Rattle.block_calls.proofs.farthest.Tie as tie
 
-row-requires : tie.Need-row-requires
-row-requires c κs = search needs
-
-enum-known-reply : tie.Need-enum-known-reply
-enum-known-reply c = search needs
-
-code-of-requires : tie.Need-code-of-requires
-code-of-requires c κs = search needs
-
-enum-told : tie.Need-enum-told
-enum-told c = search needs
-
-wide-requires : tie.Need-wide-requires
-wide-requires c κs = search needs
-
-slice-aggregate-give : tie.Need-slice-aggregate-give
-slice-aggregate-give c = search needs
-
-give-requires : tie.Need-give-requires
-give-requires c κs = search needs
-
 -- what the row told, once its reply is known
 told : (c : tie.After-row) (q : Reply) → c .row .result .reply ≡ q → let a = c .before .before .before .args in rowReply (a .atoms) (now (a .bonds)) (a .atom) ≡ rowSaid q (c .row .result .row) (c .row .result .largest)
 told c q e =
@@ -43,9 +22,6 @@ returns : tie.Need-returns
 returns c =
     let m = c .before .before .before .before in
     lent-refused _ (now (m .before .before .before .args .largest)) (c .code-of .result) (ap (λ (R : Read (List ℕ × ℕ)). R then λ x. read (x .1 ∷ [])) (told m _ (c .before .before .reply .given .1))) (c .code-of .ensures)
-
-same-length : tie.Need-same-length
-same-length c = search needs
 
 returns-2 : tie.Need-returns-2
 returns-2 c =
@@ -58,15 +34,5 @@ returns-2 c =
 
 pub farthest-spec : {M : Type 1} → statement M
 farthest-spec =
-    tie.close
-    (tie.spec
-    row-requires
-    enum-known-reply
-    code-of-requires
-    enum-told
-    wide-requires
-    slice-aggregate-give
-    give-requires
-    returns
-    same-length
-    returns-2)
+    tie.close (tie.spec (λ c κs. search needs) (λ c. search needs) (λ c κs. search needs) (λ c. search needs) (λ c κs. search needs) (λ c. search needs)
+    (λ c κs. search needs) returns (λ c. search needs) returns-2)

@@ -10,20 +10,10 @@ use Rattle.block_calls.proofs.give_values.Tie as tie
 returns : tie.Need-returns
 returns c = let s = c .before in lent-lacking (valuesList (s .args .v)) (now (s .args .out)) (omega arith)
 
-slice-write-out : tie.Need-slice-write-out
-slice-write-out c = search needs
-
-slice-write-out-2 : tie.Need-slice-write-out-2
-slice-write-out-2 c = search needs
-
-same-length : tie.Need-same-length
-same-length c = search needs
-
 returns-2 : tie.Need-returns-2
 returns-2 c =
     let s = c .before in
     lent-over (valuesList (s .args .v)) (now (s .args .out)) _ (omega arith) (both-put (s .args .v .even) (s .args .v .odd) (now (s .args .out)) (omega arith))
 
 pub give-values-spec : {M : Type 1} → statement M
-give-values-spec =
-    tie.close (tie.spec returns slice-write-out slice-write-out-2 same-length returns-2)
+give-values-spec = tie.close (tie.spec returns (λ c. search needs) (λ c. search needs) (λ c. search needs) returns-2)

@@ -7,15 +7,6 @@ use Rattle.calls.proofs.Blocks.{lent-fields}
 use Rattle.block_calls.proofs.indices.Statement.{statement}
 use Rattle.block_calls.proofs.indices.Tie as tie
 
-measure-requires : tie.Need-measure-requires
-measure-requires c κs = search needs
-
-give-indices-requires : tie.Need-give-indices-requires
-give-indices-requires c κs = search needs
-
-same-length : tie.Need-same-length
-same-length c = search needs
-
 returns : tie.Need-returns
 returns c =
     let m = c .before .before .before .before in
@@ -23,4 +14,4 @@ returns c =
     lent-fields Five _ (indicesReply (a .atoms) (now (a .bonds))) (m .measure .ensures) (c .before .before .give-indices .ensures)
 
 pub indices-spec : {M : Type 1} → statement M
-indices-spec = tie.close (tie.spec measure-requires give-indices-requires same-length returns)
+indices-spec = tie.close (tie.spec (λ c κs. search needs) (λ c κs. search needs) (λ c. search needs) returns)

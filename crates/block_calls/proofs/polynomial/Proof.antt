@@ -11,21 +11,6 @@ use Rattle.calls.proofs.Laws.{lent-refused, lent-read}
 use Rattle.block_calls.proofs.polynomial.Statement.{statement}
 use Rattle.block_calls.proofs.polynomial.Tie as tie
 
-polynomial-requires : tie.Need-polynomial-requires
-polynomial-requires c κs = search needs
-
-enum-known-answer : tie.Need-enum-known-answer
-enum-known-answer c = search needs
-
-code-of-requires : tie.Need-code-of-requires
-code-of-requires c κs = search needs
-
-enum-known-answer-2 : tie.Need-enum-known-answer-2
-enum-known-answer-2 c = search needs
-
-give-values-requires : tie.Need-give-values-requires
-give-values-requires c κs = search needs
-
 returns : tie.Need-returns
 returns c =
     let s = c .before .before .before .before .before .before .before in
@@ -33,9 +18,6 @@ returns c =
     lent-refused _ (now (s .args .values)) (c .code-of .result)
     (ap (λ (R : Read Values). R then λ v. read (valuesList v)) (sym (values-told _ (polynomialReply (s .args .atoms) (now (s .args .bonds)) (s .args .x)) (m .polynomial .ensures)) ∙ ap toldValues (c .before .before .answer .given .1)))
     (c .code-of .ensures)
-
-same-length : tie.Need-same-length
-same-length c = search needs
 
 returns-2 : tie.Need-returns-2
 returns-2 c =
@@ -49,13 +31,5 @@ returns-2 c =
 
 pub polynomial-spec : {M : Type 1} → statement M
 polynomial-spec =
-    tie.close
-    (tie.spec
-    polynomial-requires
-    enum-known-answer
-    code-of-requires
-    enum-known-answer-2
-    give-values-requires
-    returns
-    same-length
+    tie.close (tie.spec (λ c κs. search needs) (λ c. search needs) (λ c κs. search needs) (λ c. search needs) (λ c κs. search needs) returns (λ c. search needs)
     returns-2)

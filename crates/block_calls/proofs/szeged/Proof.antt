@@ -11,25 +11,10 @@ use Rattle.block_calls.proofs.Both.{block-lacking, block-given, szeged-
 use Rattle.block_calls.proofs.szeged.Statement.{statement}
 use Rattle.block_calls.proofs.szeged.Tie as tie
 
-unlent-requires : tie.Need-unlent-requires
-unlent-requires c κs = search needs
-
 returns : tie.Need-returns
 returns c =
     let a = c .before .before .before .before .before .args in
     block-lacking (a .atoms) (now (a .bonds)) (szegedReply (a .atoms) (now (a .bonds)) (length (now (a .terms)))) _ (now (a .terms)) (now (a .index)) (c .unlent .result) (omega arith) (c .unlent .ensures)
-
-terms-requires : tie.Need-terms-requires
-terms-requires c κs = search needs
-
-give-number-requires : tie.Need-give-number-requires
-give-number-requires c κs = search needs
-
-same-length : tie.Need-same-length
-same-length c = search needs
-
-same-length-2 : tie.Need-same-length-2
-same-length-2 c = search needs
 
 returns-2 : tie.Need-returns-2
 returns-2 c =
@@ -42,12 +27,4 @@ returns-2 c =
 
 pub szeged-spec : {M : Type 1} → statement M
 szeged-spec =
-    tie.close
-    (tie.spec
-    unlent-requires
-    returns
-    terms-requires
-    give-number-requires
-    same-length
-    same-length-2
-    returns-2)
+    tie.close (tie.spec (λ c κs. search needs) returns (λ c κs. search needs) (λ c κs. search needs) (λ c. search needs) (λ c. search needs) returns-2)

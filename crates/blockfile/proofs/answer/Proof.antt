@@ -17,23 +17,11 @@ start c = c .before .before .before
 fine : (c : tie.After-enum-told) → let a = start (c .before .before) .args in blockReply (a .n) (a .xs .now) ≡ read tt
 fine c = fine-read _ (sym (c .before .before .check .ensures) ∙ c .enum-told .given .1)
 
-check-requires : tie.Need-check-requires
-check-requires c κs = search needs
-
-enum-known-reply : tie.Need-enum-known-reply
-enum-known-reply c = search needs
-
-enum-told : tie.Need-enum-told
-enum-told c = search needs
-
 returns : tie.Need-returns
 returns c =
     let a = start (c .before .before .before) .args in
     let e = answer-short (a .n) (a .xs .now) (length (a .out .now)) (fine (c .before)) (c .if1 .taken) in
     (sym (ap (saidAnswer (a .n) (a .xs .now)) e), sym (stays (a .xs .now) (a .out .now) e))
-
-put-requires : tie.Need-put-requires
-put-requires c κs = search needs
 
 returns-2 : tie.Need-returns-2
 returns-2 c =
@@ -42,9 +30,6 @@ returns-2 c =
     let g = c .before .reply .given in
     let e = answer-refused (a .n) (a .xs .now) (length (a .out .now)) (g .0 .0) (refused-read _ _ (sym (b .check .ensures) ∙ g .1)) in
     (sym (ap (saidAnswer (a .n) (a .xs .now)) e), sym (stays (a .xs .now) (a .out .now) e))
-
-same-length : tie.Need-same-length
-same-length c = search needs
 
 returns-3 : tie.Need-returns-3
 returns-3 c =
@@ -55,13 +40,4 @@ returns-3 c =
 
 pub answer-spec : {M : Type 1} → statement M
 answer-spec =
-    tie.close
-    (tie.spec
-    check-requires
-    enum-known-reply
-    enum-told
-    returns
-    put-requires
-    returns-2
-    same-length
-    returns-3)
+    tie.close (tie.spec (λ c κs. search needs) (λ c. search needs) (λ c. search needs) returns (λ c κs. search needs) returns-2 (λ c. search needs) returns-3)

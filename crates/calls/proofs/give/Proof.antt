@@ -9,12 +9,6 @@ use Rattle.calls.proofs.give.Tie as tie
 returns : tie.Need-returns
 returns c = let s = c .before .before .before in lent-lacking (now (s .args .numbers)) (now (s .args .out)) (omega arith)
 
-put-requires : tie.Need-put-requires
-put-requires c κs = search needs
-
-same-length : tie.Need-same-length
-same-length c = search needs
-
 returns-2 : tie.Need-returns-2
 returns-2 c =
     let s = c .before .before .before .before .before .before .before in
@@ -22,4 +16,4 @@ returns-2 c =
     lent-over (now (s .args .numbers)) (now (s .args .out)) _ (omega arith) (p .put .ensures)
 
 pub give-spec : {M : Type 1} → statement M
-give-spec = tie.close (tie.spec returns put-requires same-length returns-2)
+give-spec = tie.close (tie.spec returns (λ c κs. search needs) (λ c. search needs) returns-2)

@@ -9,26 +9,8 @@ use Rattle.calls.proofs.Laws.{lent-refused, lent-read}
 use Rattle.calls.proofs.give_counts.Statement.{statement}
 use Rattle.calls.proofs.give_counts.Tie as tie
 
-enum-known-reply : tie.Need-enum-known-reply
-enum-known-reply c = search needs
-
-code-of-requires : tie.Need-code-of-requires
-code-of-requires c κs = search needs
-
-enum-known-reply-2 : tie.Need-enum-known-reply-2
-enum-known-reply-2 c = search needs
-
-slice-aggregate-give : tie.Need-slice-aggregate-give
-slice-aggregate-give c = search needs
-
-give-requires : tie.Need-give-requires
-give-requires c κs = search needs
-
 returns : tie.Need-returns
 returns c = lent-refused _ (now (c .before .before .before .before .before .args .out)) (c .code-of .result) (ap (λ (a : CountsReply). countsList (toldCounts a)) (c .before .before .reply .given .1)) (c .code-of .ensures)
-
-same-length : tie.Need-same-length
-same-length c = search needs
 
 returns-2 : tie.Need-returns-2
 returns-2 c =
@@ -38,13 +20,5 @@ returns-2 c =
 
 pub give-counts-spec : {M : Type 1} → statement M
 give-counts-spec =
-    tie.close
-    (tie.spec
-    enum-known-reply
-    code-of-requires
-    enum-known-reply-2
-    slice-aggregate-give
-    give-requires
-    returns
-    same-length
+    tie.close (tie.spec (λ c. search needs) (λ c κs. search needs) (λ c. search needs) (λ c. search needs) (λ c κs. search needs) returns (λ c. search needs)
     returns-2)

@@ -15,23 +15,11 @@ use Rattle.calls.proofs.give_fields.Tie as tie
 all : (c : tie.After-fields-of) → length (c .fields-of .result) ≡ length allWidths
 all c = ap length (c .fields-of .ensures) ∙ length-all _
 
-field-count-requires : tie.Need-field-count-requires
-field-count-requires c κs = search needs
-
-fields-of-requires : tie.Need-fields-of-requires
-fields-of-requires c κs = search needs
-
 array-share-prefix-numbers : tie.Need-array-share-prefix-numbers
 array-share-prefix-numbers c = there (c .before .before .before .before .args .sheet) _ (c .before .fields-of .result) (c .before .before .field-count .ensures) (all (c .before))
 
 slice-aggregate-give : tie.Need-slice-aggregate-give
 slice-aggregate-give c = lent (c .before .before .before .before .before .args .sheet) _ _ (c .before .before .before .field-count .ensures) (all (c .before .before))
-
-give-requires : tie.Need-give-requires
-give-requires c κs = search needs
-
-same-length : tie.Need-same-length
-same-length c = search needs
 
 returns : tie.Need-returns
 returns c =
@@ -42,12 +30,5 @@ returns c =
 
 pub give-fields-spec : {M : Type 1} → statement M
 give-fields-spec =
-    tie.close
-    (tie.spec
-    field-count-requires
-    fields-of-requires
-    array-share-prefix-numbers
-    slice-aggregate-give
-    give-requires
-    same-length
+    tie.close (tie.spec (λ c κs. search needs) (λ c κs. search needs) array-share-prefix-numbers slice-aggregate-give (λ c κs. search needs) (λ c. search needs)
     returns)

@@ -5,21 +5,8 @@ use Rattle.calls.specs.Convention.{replyCode}
 use Rattle.calls.proofs.reply_code.Statement.{statement}
 use Rattle.calls.proofs.reply_code.Tie as tie
 
-enum-told : tie.Need-enum-told
-enum-told c = search needs
-
-enum-known-reply : tie.Need-enum-known-reply
-enum-known-reply c = search needs
-
-code-of-requires : tie.Need-code-of-requires
-code-of-requires c κs = search needs
-
-returns : tie.Need-returns
-returns c = search needs
-
 returns-2 : tie.Need-returns-2
 returns-2 c = c .code-of .ensures ∙ ap replyCode (sym (c .before .before .reply .given .1))
 
 pub reply-code-spec : {M : Type 1} → statement M
-reply-code-spec =
-    tie.close (tie.spec enum-told enum-known-reply code-of-requires returns returns-2)
+reply-code-spec = tie.close (tie.spec (λ c. search needs) (λ c. search needs) (λ c κs. search needs) (λ c. search needs) returns-2)

@@ -10,18 +10,6 @@ use Rattle.calls.proofs.Blocks.{toldBlock, block-told}
 use Rattle.calls.proofs.unlent.Statement.{statement}
 use Rattle.calls.proofs.unlent.Tie as tie
 
-check-requires : tie.Need-check-requires
-check-requires c κs = search needs
-
-enum-told : tie.Need-enum-told
-enum-told c = search needs
-
-enum-known-reply : tie.Need-enum-known-reply
-enum-known-reply c = search needs
-
-code-of-requires : tie.Need-code-of-requires
-code-of-requires c κs = search needs
-
 returns : tie.Need-returns
 returns c =
     let s = c .before .before .before .before in
@@ -36,6 +24,4 @@ returns-2 c =
     (sym (ap toldBlock (c .before .before .reply .given .1)) ∙ block-told _ (blockReply (s .args .atoms) (now (s .args .bonds))) (c .before .before .before .before .check .ensures))
 
 pub unlent-spec : {M : Type 1} → statement M
-unlent-spec =
-    tie.close
-    (tie.spec check-requires enum-told enum-known-reply code-of-requires returns returns-2)
+unlent-spec = tie.close (tie.spec (λ c κs. search needs) (λ c. search needs) (λ c. search needs) (λ c κs. search needs) returns returns-2)

@@ -6,15 +6,6 @@ use Rattle.catalogue.proofs.Reading.{library-stops, library-ends, count
 use Rattle.catalogue.proofs.count.Statement.{statement}
 use Rattle.catalogue.proofs.count.Tie as tie
 
-read-library-requires : tie.Need-read-library-requires
-read-library-requires c κs = search needs
-
-enum-known-reply : tie.Need-enum-known-reply
-enum-known-reply c = search needs
-
-enum-told : tie.Need-enum-told
-enum-told c = search needs
-
 returns : tie.Need-returns
 returns c = let r = c .before .before .before .read-library in count-refused _ _ (library-stops _ (r .result) _ (r .ensures) (c .before .reply .given .1))
 
@@ -22,6 +13,4 @@ returns-2 : tie.Need-returns-2
 returns-2 c = let r = c .before .before .read-library in let (l, e, f) = library-ends _ (r .result) (r .ensures) (c .enum-told .given .1) in count-fine _ l _ e (ap (λ (x : LibraryRead). x .products) f)
 
 pub count-spec : {M : Type 1} → statement M
-count-spec =
-    tie.close
-    (tie.spec read-library-requires enum-known-reply enum-told returns returns-2)
+count-spec = tie.close (tie.spec (λ c κs. search needs) (λ c. search needs) (λ c. search needs) returns returns-2)

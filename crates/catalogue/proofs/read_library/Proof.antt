@@ -22,18 +22,6 @@ blocks : (c : tie.After-enum-told) → let a = c .before .before .before .before
     (k : Deck) × (openReply libraryKind (a .d .now) ≡ read k) × (c .before .before .open-deck .result ≡ saidDeck (read k))
 blocks c = let r = c .before .before .open-deck in deck-ended _ (r .result) (r .ensures) (c .enum-told .given .1)
 
-open-deck-requires : tie.Need-open-deck-requires
-open-deck-requires c κs = search needs
-
-enum-told : tie.Need-enum-told
-enum-told c = search needs
-
-enum-told-2 : tie.Need-enum-told-2
-enum-told-2 c = search needs
-
-library-refused-requires : tie.Need-library-refused-requires
-library-refused-requires c κs = search needs
-
 returns : tie.Need-returns
 returns c = let a = c .before .before .before .before .before .args in let q = c .before .enum-told2 .given in
     let r = c .before .before .before .open-deck in
@@ -53,12 +41,4 @@ returns-2 c = let d = c .before .before .before .before .before .before .before 
 
 pub read-library-spec : {M : Type 1} → statement M
 read-library-spec =
-    tie.close
-    (tie.spec
-    open-deck-requires
-    enum-told
-    enum-told-2
-    library-refused-requires
-    returns
-    read-record-requires
-    returns-2)
+    tie.close (tie.spec (λ c κs. search needs) (λ c. search needs) (λ c. search needs) (λ c κs. search needs) returns read-record-requires returns-2)

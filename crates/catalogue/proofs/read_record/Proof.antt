@@ -23,28 +23,13 @@ fine : (c : tie.After-enum-told) → let a = c .before .before .before .before .
     (ss : List Site) × (sitesReply (bookOf (a .d .now) (take (a .count) (a .blocks))) (payloadAt (a .d .now) (a .at)) (a .at) ≡ read ss) × (s .n ≡ length ss) × (s .sites ≡ siteTable ss)
 fine c = sites-ended _ (c .before .before .read-sites .result) (sites-are (c .before .before)) (c .enum-told .given .1)
 
-payload-at-requires : tie.Need-payload-at-requires
-payload-at-requires c κs = search needs
-
 read-sites-requires : tie.Need-read-sites-requires
 read-sites-requires c κs = subst (λ (l : List ℕ). libraryKind .fixed ≤ length l) (sym (c .payload-at .ensures .bytes)) (c .before .before .pre)
-
-enum-told : tie.Need-enum-told
-enum-told c = search needs
-
-enum-told-2 : tie.Need-enum-told-2
-enum-told-2 c = search needs
-
-library-refused-requires : tie.Need-library-refused-requires
-library-refused-requires c κs = search needs
 
 returns : tie.Need-returns
 returns c = let a = c .before .before .before .before .before .before .args in let q = c .before .enum-told2 .given in
     c .library-refused .ensures ∙ ap refusedLibrary (q .1)
     ∙ ap (tabledLibrary (a .blocks) (a .count)) (sym (after-refused (a .d .now) (take (a .count) (a .blocks)) (a .at) (a .end) (q .0 .0) (sites-stopped _ (c .before .before .before .read-sites .result) (q .0 .0) (sites-are (c .before .before .before)) (q .1))))
-
-library-refused-requires-2 : tie.Need-library-refused-requires-2
-library-refused-requires-2 c κs = search needs
 
 returns-2 : tie.Need-returns-2
 returns-2 c = let a = c .before .before .before .before .before .before .before .args in let (ss, e, n, t) = fine (c .before .before) in
@@ -61,15 +46,5 @@ returns-3 c = let a = c .before .before .before .before .before .before .before 
 
 pub read-record-spec : {M : Type 1} → statement M
 read-record-spec =
-    tie.close
-    (tie.spec
-    payload-at-requires
-    read-sites-requires
-    enum-told
-    enum-told-2
-    library-refused-requires
-    returns
-    library-refused-requires-2
-    returns-2
-    count-of-requires
-    returns-3)
+    tie.close (tie.spec (λ c κs. search needs) read-sites-requires (λ c. search needs) (λ c. search needs) (λ c κs. search needs) returns (λ c κs. search needs)
+    returns-2 count-of-requires returns-3)

@@ -5,14 +5,8 @@ use Rattle.deck_calls.specs.Replies.{verdictCode}
 use Rattle.claim_calls.proofs.judge_block.Statement.{statement}
 use Rattle.claim_calls.proofs.judge_block.Tie as tie
 
-of-block-requires : tie.Need-of-block-requires
-of-block-requires c κs = search needs
-
-verdict-code-requires : tie.Need-verdict-code-requires
-verdict-code-requires c κs = search needs
-
 returns : tie.Need-returns
 returns c = c .verdict-code .ensures ∙ ap verdictCode (c .before .of-block .ensures)
 
 pub judge-block-spec : {M : Type 1} → statement M
-judge-block-spec = tie.close (tie.spec of-block-requires verdict-code-requires returns)
+judge-block-spec = tie.close (tie.spec (λ c κs. search needs) (λ c κs. search needs) returns)

@@ -11,24 +11,6 @@ use Rattle.claim_calls.proofs.Spans.{toldValue, value-told}
 use Rattle.claim_calls.proofs.sdf_item.Statement.{statement}
 use Rattle.claim_calls.proofs.sdf_item.Tie as tie
 
-item-requires : tie.Need-item-requires
-item-requires c κs = search needs
-
-enum-known-answer : tie.Need-enum-known-answer
-enum-known-answer c = search needs
-
-code-of-requires : tie.Need-code-of-requires
-code-of-requires c κs = search needs
-
-enum-known-answer-2 : tie.Need-enum-known-answer-2
-enum-known-answer-2 c = search needs
-
-slice-aggregate-give : tie.Need-slice-aggregate-give
-slice-aggregate-give c = search needs
-
-give-requires : tie.Need-give-requires
-give-requires c κs = search needs
-
 returns : tie.Need-returns
 returns c =
     let s = c .before .before .before .before .before .before .before .before in
@@ -36,9 +18,6 @@ returns c =
     lent-refused _ (now (s .args .span)) (c .code-of .result)
     (ap (λ (R : Read Span). R then λ x. read (x .start ∷ x .len ∷ [])) (sym (value-told _ (itemReply (now (s .args .text)) (now (s .args .name))) (m .item .ensures)) ∙ ap toldValue (c .before .before .answer .given .1)))
     (c .code-of .ensures)
-
-same-length : tie.Need-same-length
-same-length c = search needs
 
 returns-2 : tie.Need-returns-2
 returns-2 c =
@@ -52,14 +31,5 @@ returns-2 c =
 
 pub sdf-item-spec : {M : Type 1} → statement M
 sdf-item-spec =
-    tie.close
-    (tie.spec
-    item-requires
-    enum-known-answer
-    code-of-requires
-    enum-known-answer-2
-    slice-aggregate-give
-    give-requires
-    returns
-    same-length
-    returns-2)
+    tie.close (tie.spec (λ c κs. search needs) (λ c. search needs) (λ c κs. search needs) (λ c. search needs) (λ c. search needs) (λ c κs. search needs) returns
+    (λ c. search needs) returns-2)

@@ -8,29 +8,11 @@ use Rattle.calls.proofs.Laws.{lent-refused, lent-read}
 use Rattle.claim_calls.proofs.sdf_record.Statement.{statement}
 use Rattle.claim_calls.proofs.sdf_record.Tie as tie
 
-record-requires : tie.Need-record-requires
-record-requires c κs = search needs
-
-enum-told : tie.Need-enum-told
-enum-told c = search needs
-
-enum-known-answer : tie.Need-enum-known-answer
-enum-known-answer c = search needs
-
-slice-aggregate-give : tie.Need-slice-aggregate-give
-slice-aggregate-give c = search needs
-
-give-requires : tie.Need-give-requires
-give-requires c κs = search needs
-
 returns : tie.Need-returns
 returns c =
     let m = c .before .before in
     let s = m .before .before .before in
     lent-refused (refusal 254 0) (now (s .args .span)) 254 (ap stepList (sym (m .record .ensures) ∙ c .enum-told .given .1)) refl
-
-same-length : tie.Need-same-length
-same-length c = search needs
 
 returns-2 : tie.Need-returns-2
 returns-2 c =
@@ -42,13 +24,5 @@ returns-2 c =
 
 pub sdf-record-spec : {M : Type 1} → statement M
 sdf-record-spec =
-    tie.close
-    (tie.spec
-    record-requires
-    enum-told
-    enum-known-answer
-    slice-aggregate-give
-    give-requires
-    returns
-    same-length
+    tie.close (tie.spec (λ c κs. search needs) (λ c. search needs) (λ c. search needs) (λ c. search needs) (λ c κs. search needs) returns (λ c. search needs)
     returns-2)

@@ -19,24 +19,12 @@ abbrev μ-loop : tie.MeasureT-loop
 loop-holds : tie.Need-loop-holds Inv-loop μ-loop
 loop-holds c = (asks-all _ _, omega arith)
 
-byte-at-requires : tie.Need-byte-at-requires Inv-loop μ-loop
-byte-at-requires c κs = search needs
-
-wide-requires : tie.Need-wide-requires Inv-loop μ-loop
-wide-requires c κs = search needs
-
 returns : tie.Need-returns Inv-loop μ-loop
 returns c =
     let w = c .before in
     let l = w .before .before .before .loop in
     let a = w .before .before .before .before .before .args in
     sym (l .inv .0 ∙ asks-here (a .field) (now (a .claims)) (l .at) (w .before .before .loop-test .taken) (sym (w .wide .ensures .0 ∙ w .before .byte-at .ensures) ∙ c .if1 .taken))
-
-size-at-requires : tie.Need-size-at-requires Inv-loop μ-loop
-size-at-requires c κs = search needs
-
-sub-if2 : tie.Need-sub-if2 Inv-loop μ-loop
-sub-if2 c = search needs
 
 -- the claim at the loop's place is of another field
 onward : (c : tie.After-size-at Inv-loop μ-loop) → let l = c .before .before .before .before .before in let a = l .before .before .args in
@@ -67,18 +55,5 @@ returns-3 c = let l = c .before .loop in let a = c .before .before .before .args
 
 pub is-asked-spec : {M : Type 1} → statement M
 is-asked-spec =
-    tie.close
-    (tie.spec
-    Inv-loop
-    μ-loop
-    loop-holds
-    byte-at-requires
-    wide-requires
-    returns
-    size-at-requires
-    sub-if2
-    returns-2
-    add-at
-    loop-less
-    loop-again
-    returns-3)
+    tie.close (tie.spec Inv-loop μ-loop loop-holds (λ c κs. search needs) (λ c κs. search needs) returns (λ c κs. search needs) (λ c. search needs) returns-2
+    add-at loop-less loop-again returns-3)

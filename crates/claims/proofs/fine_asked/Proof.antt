@@ -5,12 +5,6 @@ use borrow.Author.Needs.{needs}
 use Rattle.claims.proofs.fine_asked.Statement.{statement}
 use Rattle.claims.proofs.fine_asked.Tie as tie
 
-is-asked-requires : tie.Need-is-asked-requires
-is-asked-requires c κs = search needs
-
-fine-of-requires : tie.Need-fine-of-requires
-fine-of-requires c κs = search needs
-
 returns : tie.Need-returns
 returns c = λ a. c .fine-of .ensures
 
@@ -18,4 +12,4 @@ returns-2 : tie.Need-returns-2
 returns-2 c = λ a. absurd (true≢false (sym a ∙ sym (c .before .is-asked .ensures) ∙ c .if1 .left))
 
 pub fine-asked-spec : {M : Type 1} → statement M
-fine-asked-spec = tie.close (tie.spec is-asked-requires fine-of-requires returns returns-2)
+fine-asked-spec = tie.close (tie.spec (λ c κs. search needs) (λ c κs. search needs) returns returns-2)

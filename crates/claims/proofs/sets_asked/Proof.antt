@@ -5,20 +5,8 @@ use borrow.Author.Needs.{needs}
 use Rattle.claims.proofs.sets_asked.Statement.{statement}
 use Rattle.claims.proofs.sets_asked.Tie as tie
 
-is-asked-requires : tie.Need-is-asked-requires
-is-asked-requires c κs = search needs
-
-sets-of-requires : tie.Need-sets-of-requires
-sets-of-requires c κs = search needs
-
 returns : tie.Need-returns
 returns c = ((λ a. c .sets-of .ensures .0), (λ a. c .sets-of .ensures .1))
-
-is-asked-requires-2 : tie.Need-is-asked-requires-2
-is-asked-requires-2 c κs = search needs
-
-sets-of-requires-2 : tie.Need-sets-of-requires-2
-sets-of-requires-2 c κs = search needs
 
 returns-2 : tie.Need-returns-2
 returns-2 c = ((λ a. c .sets-of2 .ensures .0), (λ a. c .sets-of2 .ensures .1))
@@ -30,6 +18,4 @@ returns-3 c = (
 )
 
 pub sets-asked-spec : {M : Type 1} → statement M
-sets-asked-spec =
-    tie.close
-    (tie.spec is-asked-requires sets-of-requires returns is-asked-requires-2 sets-of-requires-2 returns-2 returns-3)
+sets-asked-spec = tie.close (tie.spec (λ c κs. search needs) (λ c κs. search needs) returns (λ c κs. search needs) (λ c κs. search needs) returns-2 returns-3)

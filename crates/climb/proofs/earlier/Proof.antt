@@ -6,9 +6,6 @@ use Rattle.block.specs.Faults.{inside}
 use Rattle.climb.proofs.earlier.Statement.{statement}
 use Rattle.climb.proofs.earlier.Tie as tie
 
-is-outside-requires : tie.Need-is-outside-requires
-is-outside-requires c κs = search needs
-
 returns : tie.Need-returns
 returns c = rw (sym (c .before .is-outside .ensures) ∙ c .if1 .taken)
 
@@ -19,4 +16,4 @@ returns-2 : tie.Need-returns-2
 returns-2 c = rw (sym (c .before .is-outside .ensures) ∙ c .if1 .left)
 
 pub earlier-spec : {M : Type 1} → statement M
-earlier-spec = tie.close (tie.spec is-outside-requires returns sub-result returns-2)
+earlier-spec = tie.close (tie.spec (λ c κs. search needs) returns sub-result returns-2)

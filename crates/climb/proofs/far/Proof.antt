@@ -11,15 +11,9 @@ use Rattle.climb.specs.Far.{placedFar}
 use Rattle.climb.proofs.far.Statement.{statement}
 use Rattle.climb.proofs.far.Tie as tie
 
-is-outside-requires : tie.Need-is-outside-requires
-is-outside-requires c κs = search needs
-
 returns : tie.Need-returns
 unfolding placedFar
 returns c = rw (sym (c .before .is-outside .ensures) ∙ c .if1 .taken)
-
-is-outside-requires-2 : tie.Need-is-outside-requires-2
-is-outside-requires-2 c κs = search needs
 
 returns-2 : tie.Need-returns-2
 unfolding placedFar
@@ -49,6 +43,4 @@ unfolding placedFar
 returns-3 c = rw (one (c .before), two (c .before)) (c .climb .ensures .0)
 
 pub far-spec : {M : Type 1} → statement M
-far-spec =
-    tie.close
-    (tie.spec is-outside-requires returns is-outside-requires-2 returns-2 sub-climb sub-climb-2 climb-requires returns-3)
+far-spec = tie.close (tie.spec (λ c κs. search needs) returns (λ c κs. search needs) returns-2 sub-climb sub-climb-2 climb-requires returns-3)

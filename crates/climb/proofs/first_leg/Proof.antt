@@ -9,12 +9,6 @@ use Rattle.climb.specs.Steps.{earlier-low, within-one, from-later}
 use Rattle.climb.proofs.first_leg.Statement.{statement}
 use Rattle.climb.proofs.first_leg.Tie as tie
 
-placement-at-requires : tie.Need-placement-at-requires
-placement-at-requires c κs = search needs
-
-inside-requires : tie.Need-inside-requires
-inside-requires c κs = search needs
-
 returns : tie.Need-returns
 returns c =
     let s = c .before .before .before .before .before in
@@ -26,21 +20,6 @@ returns c =
       low = λ h. absurd (omega (arith, h, c .before .if1 .taken));
       rest = λ h. absurd (omega (arith, h, c .before .if1 .taken));
     }
-
-cast-inside : tie.Need-cast-inside
-cast-inside c = search needs
-
-inside-requires-2 : tie.Need-inside-requires-2
-inside-requires-2 c κs = search needs
-
-add-bonds : tie.Need-add-bonds
-add-bonds c = search needs
-
-earlier-requires : tie.Need-earlier-requires
-earlier-requires c κs = search needs
-
-cast-site : tie.Need-cast-site
-cast-site c = search needs
 
 returns-2 : tie.Need-returns-2
 returns-2 c =
@@ -63,14 +42,5 @@ returns-2 c =
 
 pub first-leg-spec : {M : Type 1} → statement M
 first-leg-spec =
-    tie.close
-    (tie.spec
-    placement-at-requires
-    inside-requires
-    returns
-    cast-inside
-    inside-requires-2
-    add-bonds
-    earlier-requires
-    cast-site
-    returns-2)
+    tie.close (tie.spec (λ c κs. search needs) (λ c κs. search needs) returns (λ c. search needs) (λ c κs. search needs) (λ c. search needs)
+    (λ c κs. search needs) (λ c. search needs) returns-2)

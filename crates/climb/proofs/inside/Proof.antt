@@ -13,18 +13,6 @@ use Rattle.climb.specs.Far.{farOf}
 use Rattle.climb.proofs.inside.Statement.{statement}
 use Rattle.climb.proofs.inside.Tie as tie
 
-place-of-requires : tie.Need-place-of-requires
-place-of-requires c κs = search needs
-
-summary-at-requires : tie.Need-summary-at-requires
-summary-at-requires c κs = search needs
-
-seen-requires : tie.Need-seen-requires
-seen-requires c κs = search needs
-
-steps-requires : tie.Need-steps-requires
-steps-requires c κs = search needs
-
 returns : tie.Need-returns
 returns c =
     let a = c .before .before .before .before .before .before .before .args in
@@ -37,4 +25,4 @@ returns c =
     (e, omega (arith, e, far-few (summaryAt b (placeOf b (a .number))) (a .i) (a .j)))
 
 pub inside-spec : {M : Type 1} → statement M
-inside-spec = tie.close (tie.spec place-of-requires summary-at-requires seen-requires steps-requires returns)
+inside-spec = tie.close (tie.spec (λ c κs. search needs) (λ c κs. search needs) (λ c κs. search needs) (λ c κs. search needs) returns)

@@ -7,15 +7,6 @@ use Rattle.compose.specs.Fields.{behindReply}
 use Rattle.compose.proofs.behind.Statement.{statement}
 use Rattle.compose.proofs.behind.Tie as tie
 
-sheet-reply-requires : tie.Need-sheet-reply-requires
-sheet-reply-requires c κs = search needs
-
-enum-known-reply : tie.Need-enum-known-reply
-enum-known-reply c = search needs
-
-enum-told : tie.Need-enum-told
-enum-told c = search needs
-
 returns : tie.Need-returns
 unfolding behindReply
 returns c = let a = c .before .before .before .before .before .args in
@@ -27,5 +18,4 @@ returns-2 c = let a = c .before .before .before .before .args in
     rw (fine-read (sheetReply (a .form) (a .d .now) (a .sheet)) (sym (c .before .before .sheet-reply .ensures) ∙ c .enum-told .given .1)) refl
 
 pub behind-spec : {M : Type 1} → statement M
-behind-spec =
-    tie.close (tie.spec sheet-reply-requires enum-known-reply enum-told returns returns-2)
+behind-spec = tie.close (tie.spec (λ c κs. search needs) (λ c. search needs) (λ c. search needs) returns returns-2)

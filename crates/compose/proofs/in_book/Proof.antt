@@ -37,33 +37,12 @@ book c =
     let (short, f) = open-read assemblyKind d e in
     honest-read assemblyKind d (λ i. omega (arith, c .before .before .before .before .before .before .before .shared-slice-known .given i)) (s .args .book .now) _ (omega (arith, few-heads assemblyKind d f, s .pre .room)) (s .pre .none) f (c .before .before .before .before .open-book .ensures .1 ∙ book-short assemblyKind d (s .args .book .now) short) (c .before .before .before .book .given)
 
-open-book-requires : tie.Need-open-book-requires
-open-book-requires c κs = search needs
-
-enum-known-reply : tie.Need-enum-known-reply
-enum-known-reply c = search needs
-
-same-length : tie.Need-same-length
-same-length c = search needs
-
 returns : tie.Need-returns
 returns c =
     let s = c .before .before .before .before .before .before .before .before .before in
     let o = c .before .before .before .before .before .open-book in
     let r = c .before .reply .given in
     fields-refused (s .args .form) (s .args .d .now) (r .0 .0) (bad-blocks (s .args .form) (s .args .d .now) (r .0 .0) (deck-stopped _ (o .result) (r .0 .0) (o .ensures .0) (r .1)))
-
-enum-told : tie.Need-enum-told
-enum-told c = search needs
-
-payload-at-requires : tie.Need-payload-at-requires
-payload-at-requires c κs = search needs
-
-compose-requires : tie.Need-compose-requires
-compose-requires c κs = search needs
-
-enum-known-answer : tie.Need-enum-known-answer
-enum-known-answer c = search needs
 
 -- where the assembly stands
 at-is : (c : tie.After-enum-told) → c .before .before .before .before .open-book .result .layout .assembly ≡ blocks c .0 .assembly
@@ -85,15 +64,6 @@ refused-at-requires c κs =
       place-few (bookOf d (k .blocks)) (payloadAt d (k .assembly)) (q .0 .0) (is-refused (s .args .form) d k e _ _ (book t) (payload-is m) _ (m .compose .ensures) (q .0 .0) (q .1)),
     )
 
-enum-known-answer-2 : tie.Need-enum-known-answer-2
-enum-known-answer-2 c = search needs
-
-behind-requires : tie.Need-behind-requires
-behind-requires c κs = search needs
-
-same-length-2 : tie.Need-same-length-2
-same-length-2 c = search needs
-
 returns-2 : tie.Need-returns-2
 returns-2 c =
     let m = c .before .before .before .before in
@@ -105,9 +75,6 @@ returns-2 c =
     c .refused-at .ensures
     ∙ ap (λ (at : ℕ). saidComposed (refused (refusal (q .0 .0 .number) (placementPlace at (q .0 .0))))) (at-is t)
     ∙ placed-badly (s .args .form) d k e _ _ (book t) (payload-is m) _ (m .compose .ensures) (q .0 .0) (q .1)
-
-same-length-3 : tie.Need-same-length-3
-same-length-3 c = search needs
 
 returns-3 : tie.Need-returns-3
 returns-3 c =
@@ -123,20 +90,5 @@ returns-3 c =
 
 pub in-book-spec : {M : Type 1} → statement M
 in-book-spec =
-    tie.close
-    (tie.spec
-    open-book-requires
-    enum-known-reply
-    same-length
-    returns
-    enum-told
-    payload-at-requires
-    compose-requires
-    enum-known-answer
-    refused-at-requires
-    enum-known-answer-2
-    behind-requires
-    same-length-2
-    returns-2
-    same-length-3
-    returns-3)
+    tie.close (tie.spec (λ c κs. search needs) (λ c. search needs) (λ c. search needs) returns (λ c. search needs) (λ c κs. search needs) (λ c κs. search needs)
+    (λ c. search needs) refused-at-requires (λ c. search needs) (λ c κs. search needs) (λ c. search needs) returns-2 (λ c. search needs) returns-3)

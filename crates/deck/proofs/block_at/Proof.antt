@@ -8,15 +8,6 @@ use Rattle.deck.specs.Placed.{deckOf}
 use Rattle.deck.proofs.block_at.Statement.{statement}
 use Rattle.deck.proofs.block_at.Tie as tie
 
-placement-requires : tie.Need-placement-requires
-placement-requires c κs = search needs
-
-cast-find-block : tie.Need-cast-find-block
-cast-find-block c = search needs
-
-find-block-requires : tie.Need-find-block-requires
-find-block-requires c κs = search needs
-
 returns : tie.Need-returns
 unfolding placedIn
 returns c =
@@ -24,4 +15,4 @@ returns c =
     c .find-block .ensures ∙ ap (λ (q : Placement). find (deckOf (a .deck) .blocks) (q .block)) (c .before .before .before .placement .ensures)
 
 pub block-at-spec : {M : Type 1} → statement M
-block-at-spec = tie.close (tie.spec placement-requires cast-find-block find-block-requires returns)
+block-at-spec = tie.close (tie.spec (λ c κs. search needs) (λ c. search needs) (λ c κs. search needs) returns)

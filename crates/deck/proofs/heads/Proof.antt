@@ -30,9 +30,6 @@ left t =
 add-le16-at : tie.Need-add-le16-at Inv-loop μ-loop
 add-le16-at c = omega (arith, c .before .loop .inv)
 
-le16-at-requires : tie.Need-le16-at-requires Inv-loop μ-loop
-le16-at-requires c κs = search needs
-
 returns : tie.Need-returns Inv-loop μ-loop
 returns c =
     let t = c .before .before .before in
@@ -43,12 +40,6 @@ returns c =
 
 add-at : tie.Need-add-at Inv-loop μ-loop
 add-at c = omega (arith, c .before .before .before .before .loop .inv)
-
-le16-at-requires-2 : tie.Need-le16-at-requires-2 Inv-loop μ-loop
-le16-at-requires-2 c κs = search needs
-
-cast-at : tie.Need-cast-at Inv-loop μ-loop
-cast-at c = search needs
 
 add-at-2 : tie.Need-add-at-2 Inv-loop μ-loop
 add-at-2 c = omega (arith, c .before .before .before .before .before .loop .inv)
@@ -78,19 +69,5 @@ returns-2 c =
 
 pub heads-spec : {M : Type 1} → statement M
 heads-spec =
-    tie.close
-    (tie.spec
-    Inv-loop
-    μ-loop
-    loop-holds
-    add-le16-at
-    le16-at-requires
-    returns
-    add-at
-    le16-at-requires-2
-    cast-at
-    add-at-2
-    add-i
-    loop-less
-    loop-again
-    returns-2)
+    tie.close (tie.spec Inv-loop μ-loop loop-holds add-le16-at (λ c κs. search needs) returns add-at (λ c κs. search needs) (λ c. search needs) add-at-2 add-i
+    loop-less loop-again returns-2)

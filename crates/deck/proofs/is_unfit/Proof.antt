@@ -31,12 +31,6 @@ counted s =
 returns : tie.Need-returns
 returns c = simp (eq-eqb (c .before .args .number) 0 (c .if1 .taken))
 
-find-block-requires : tie.Need-find-block-requires
-find-block-requires c κs = search needs
-
-is-numbered-requires : tie.Need-is-numbered-requires
-is-numbered-requires c κs = search needs
-
 returns-2 : tie.Need-returns-2
 returns-2 c = rw (used-is (c .before) ∙ c .if2 .taken, ne-eqb (c .before .before .before .before .args .number) 0 (c .before .before .before .if1 .left))
 
@@ -45,5 +39,4 @@ returns-3 c = let a = c .before .before .before .before .args in
     rw (used-is (c .before) ∙ c .if2 .left, ne-eqb (a .number) 0 (c .before .before .before .if1 .left), counted (c .before .before .before .before))
 
 pub is-unfit-spec : {M : Type 1} → statement M
-is-unfit-spec =
-    tie.close (tie.spec returns find-block-requires is-numbered-requires returns-2 returns-3)
+is-unfit-spec = tie.close (tie.spec returns (λ c κs. search needs) (λ c κs. search needs) returns-2 returns-3)

@@ -22,32 +22,8 @@ span b = record { from = b .start; len = blockKind .fixed + blockKind .item * b 
 used-is : (c : tie.After-is-numbered) → let s = c .before .before .before in used (blocks s) (s .args .number) ≡ c .is-numbered .result
 used-is c = let s = c .before .before .before in sym (c .is-numbered .ensures ∙ ap (λ (b : BlockAt). isNumbered b (s .args .number)) (c .before .find-block .ensures))
 
-find-block-requires : tie.Need-find-block-requires
-find-block-requires c κs = search needs
-
-is-numbered-requires : tie.Need-is-numbered-requires
-is-numbered-requires c κs = search needs
-
-part-requires : tie.Need-part-requires
-part-requires c κs = search needs
-
 returns : tie.Need-returns
 returns c = let s = c .before .before .before .before .before in part-at (sym (no-payload (blocks s) (s .args .number) (used-is (c .before .before) ∙ not-true (c .before .before .is-numbered .result) (c .before .if1 .taken)))) (c .part .ensures)
-
-cast-part : tie.Need-cast-part
-cast-part c = search needs
-
-cast-part-2 : tie.Need-cast-part-2
-cast-part-2 c = search needs
-
-mul-part : tie.Need-mul-part
-mul-part c = search needs
-
-add-part : tie.Need-add-part
-add-part c = search needs
-
-part-requires-2 : tie.Need-part-requires-2
-part-requires-2 c κs = search needs
 
 returns-2 : tie.Need-returns-2
 returns-2 c = let s = c .before .before .before .before .before .before .before in
@@ -55,15 +31,5 @@ returns-2 c = let s = c .before .before .before .before .before .before .before 
 
 pub payload-of-spec : {M : Type 1} → statement M
 payload-of-spec =
-    tie.close
-    (tie.spec
-    find-block-requires
-    is-numbered-requires
-    part-requires
-    returns
-    cast-part
-    cast-part-2
-    mul-part
-    add-part
-    part-requires-2
-    returns-2)
+    tie.close (tie.spec (λ c κs. search needs) (λ c κs. search needs) (λ c κs. search needs) returns (λ c. search needs) (λ c. search needs) (λ c. search needs)
+    (λ c. search needs) (λ c κs. search needs) returns-2)

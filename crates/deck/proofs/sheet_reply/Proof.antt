@@ -23,26 +23,8 @@ fine c = fine-read _ (sym (record-is (c .before .before)) ∙ c .enum-told3 .giv
 whole : (c : tie.After-enum-told3) → let a = c .before .before .before .before .before .before .args in endAt (a .d .now) (a .at) ≤ length (a .d .now)
 whole c = let a = c .before .before .before .before .before .before .args in taken (a .d .now) (a .at) sheetKinds (fine c) .whole
 
-enum-told : tie.Need-enum-told
-enum-told c = search needs
-
-enum-told-2 : tie.Need-enum-told-2
-enum-told-2 c = search needs
-
-end-reply-requires : tie.Need-end-reply-requires
-end-reply-requires c κs = search needs
-
 returns : tie.Need-returns
 returns c = let a = c .before .before .before .before .args in c .end-reply .ensures ∙ ap saidReply (sym (composed-end (a .d .now) (a .at))) ∙ ap (λ (f : Form). saidReply (sheetReply f (a .d .now) (a .at))) (sym (c .before .enum-told2 .given .1))
-
-record-at-requires : tie.Need-record-at-requires
-record-at-requires c κs = search needs
-
-enum-told-3 : tie.Need-enum-told-3
-enum-told-3 c = search needs
-
-enum-told-4 : tie.Need-enum-told-4
-enum-told-4 c = search needs
 
 returns-2 : tie.Need-returns-2
 returns-2 c = let a = c .before .before .before .before .before .before .args in
@@ -53,17 +35,8 @@ returns-2 c = let a = c .before .before .before .before .before .before .args in
 add-end-reply : tie.Need-add-end-reply
 add-end-reply c = omega (arith, whole c)
 
-le16-at-requires : tie.Need-le16-at-requires
-le16-at-requires c κs = search needs
-
-cast-end-reply : tie.Need-cast-end-reply
-cast-end-reply c = search needs
-
 add-end-reply-2 : tie.Need-add-end-reply-2
 add-end-reply-2 c = omega (arith, c .le16-at .ensures, whole (c .before))
-
-end-reply-requires-2 : tie.Need-end-reply-requires-2
-end-reply-requires-2 c κs = search needs
 
 returns-3 : tie.Need-returns-3
 returns-3 c = let a = c .before .before .before .before .before .before .before .before .args in
@@ -74,19 +47,5 @@ returns-3 c = let a = c .before .before .before .before .before .before .before 
 
 pub sheet-reply-spec : {M : Type 1} → statement M
 sheet-reply-spec =
-    tie.close
-    (tie.spec
-    enum-told
-    enum-told-2
-    end-reply-requires
-    returns
-    record-at-requires
-    enum-told-3
-    enum-told-4
-    returns-2
-    add-end-reply
-    le16-at-requires
-    cast-end-reply
-    add-end-reply-2
-    end-reply-requires-2
-    returns-3)
+    tie.close (tie.spec (λ c. search needs) (λ c. search needs) (λ c κs. search needs) returns (λ c κs. search needs) (λ c. search needs) (λ c. search needs)
+    returns-2 add-end-reply (λ c κs. search needs) (λ c. search needs) add-end-reply-2 (λ c κs. search needs) returns-3)

@@ -5,14 +5,8 @@ use Rattle.deck_calls.specs.Replies.{verdictCode}
 use Rattle.deck_calls.proofs.judge.Statement.{statement}
 use Rattle.deck_calls.proofs.judge.Tie as tie
 
-judge-requires : tie.Need-judge-requires
-judge-requires c κs = search needs
-
-verdict-code-requires : tie.Need-verdict-code-requires
-verdict-code-requires c κs = search needs
-
 returns : tie.Need-returns
 returns c = c .verdict-code .ensures ∙ ap verdictCode (c .before .judge .ensures)
 
 pub judge-spec : {M : Type 1} → statement M
-judge-spec = tie.close (tie.spec judge-requires verdict-code-requires returns)
+judge-spec = tie.close (tie.spec (λ c κs. search needs) (λ c κs. search needs) returns)

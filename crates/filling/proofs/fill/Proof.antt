@@ -10,15 +10,6 @@ use Rattle.filling.proofs.Told.{reply-refused, reply-short, reply-fine,
 use Rattle.filling.proofs.fill.Statement.{statement}
 use Rattle.filling.proofs.fill.Tie as tie
 
-opened-requires : tie.Need-opened-requires
-opened-requires c κs = search needs
-
-enum-known-reply : tie.Need-enum-known-reply
-enum-known-reply c = search needs
-
-enum-known-reply-2 : tie.Need-enum-known-reply-2
-enum-known-reply-2 c = search needs
-
 returns : tie.Need-returns
 returns c =
     let o = c .before .before .before .before in
@@ -26,9 +17,6 @@ returns c =
     let (f, x) = indices-fine (a .n) (a .bonds .now) _ (sym (o .opened .ensures .0) ∙ c .before .before .reply2 .given .1) in
     let e = reply-short (a .n) (a .bonds .now) f (length (a .out .now)) (c .if1 .taken) in
     (sym (ap saidReply e), bytes-stay (a .n) (a .bonds .now) (a .number) (a .out .now) e)
-
-put-head-requires : tie.Need-put-head-requires
-put-head-requires c κs = search needs
 
 put-atoms-requires : tie.Need-put-atoms-requires
 put-atoms-requires c κs =
@@ -45,9 +33,6 @@ returns-2 c =
     let e = reply-refused (a .n) (a .bonds .now) (length (a .out .now)) (indices-refused (a .n) (a .bonds .now) _ (sym (o .opened .ensures .0) ∙ c .before .reply .given .1)) in
     (sym (ap saidReply e), bytes-stay (a .n) (a .bonds .now) (a .number) (a .out .now) e)
 
-same-length : tie.Need-same-length
-same-length c = search needs
-
 returns-3 : tie.Need-returns-3
 returns-3 c =
     let i = c .before .before .before .before .before .before .before .before .before in
@@ -62,14 +47,5 @@ returns-3 c =
 
 pub fill-spec : {M : Type 1} → statement M
 fill-spec =
-    tie.close
-    (tie.spec
-    opened-requires
-    enum-known-reply
-    enum-known-reply-2
-    returns
-    put-head-requires
-    put-atoms-requires
-    returns-2
-    same-length
-    returns-3)
+    tie.close (tie.spec (λ c κs. search needs) (λ c. search needs) (λ c. search needs) returns (λ c κs. search needs) put-atoms-requires returns-2
+    (λ c. search needs) returns-3)

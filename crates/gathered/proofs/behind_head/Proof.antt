@@ -6,18 +6,6 @@ use Rattle.gathered.proofs.Answers.{told-refused, told-read, behind-ref
 use Rattle.gathered.proofs.behind_head.Statement.{statement}
 use Rattle.gathered.proofs.behind_head.Tie as tie
 
-placed-requires : tie.Need-placed-requires
-placed-requires c κs = search needs
-
-enum-known-told : tie.Need-enum-known-told
-enum-known-told c = search needs
-
-enum-known-told-2 : tie.Need-enum-known-told-2
-enum-known-told-2 c = search needs
-
-ended-requires : tie.Need-ended-requires
-ended-requires c κs = search needs
-
 returns : tie.Need-returns
 returns c =
     let r = c .before .told .given in
@@ -29,6 +17,4 @@ returns-2 c =
     c .ended .ensures ∙ sym (ap saidIndices (behind-read _ _ (r .0 .0) (told-read _ (r .0 .0) (sym (c .before .before .before .before .placed .ensures) ∙ r .1))))
 
 pub behind-head-spec : {M : Type 1} → statement M
-behind-head-spec =
-    tie.close
-    (tie.spec placed-requires enum-known-told enum-known-told-2 ended-requires returns returns-2)
+behind-head-spec = tie.close (tie.spec (λ c κs. search needs) (λ c. search needs) (λ c. search needs) (λ c κs. search needs) returns returns-2)

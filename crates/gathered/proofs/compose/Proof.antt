@@ -8,20 +8,11 @@ use Rattle.gathered.proofs.Answers.{short-table, told-fault, record-tol
 use Rattle.gathered.proofs.compose.Statement.{statement}
 use Rattle.gathered.proofs.compose.Tie as tie
 
-refused-requires : tie.Need-refused-requires
-refused-requires c κs = search needs
-
 returns : tie.Need-returns
 returns c =
     let a = c .before .before .before .before .before .args in
     let e = short-table (now (a .table)) (a .queue) (a .sheet) (now (a .d)) (length (now (a .out))) (c .before .if1 .taken) in
     (c .refused .ensures ∙ sym (ap saidSheetWritten e), sym (ap (sheetOut (a .sheet) _) e))
-
-fault-requires : tie.Need-fault-requires
-fault-requires c κs = search needs
-
-refused-requires-2 : tie.Need-refused-requires-2
-refused-requires-2 c κs = search needs
 
 returns-2 : tie.Need-returns-2
 returns-2 c =
@@ -30,18 +21,6 @@ returns-2 c =
     let f = c .before .before .fault in
     let e = told-fault (now (a .table)) (a .queue) (a .sheet) (now (a .d)) (length (now (a .out))) (t .if1 .left) (f .result) (f .ensures) (c .before .if2 .taken) in
     (c .refused2 .ensures ∙ sym (ap saidSheetWritten e), sym (ap (sheetOut (a .sheet) _) e))
-
-composed-requires : tie.Need-composed-requires
-composed-requires c κs = search needs
-
-enum-known-told : tie.Need-enum-known-told
-enum-known-told c = search needs
-
-enum-known-told-2 : tie.Need-enum-known-told-2
-enum-known-told-2 c = search needs
-
-put-sheet-requires : tie.Need-put-sheet-requires
-put-sheet-requires c κs = search needs
 
 returns-3 : tie.Need-returns-3
 returns-3 c =
@@ -52,9 +31,6 @@ returns-3 c =
     let a = t .before .before .before .before .args in
     let e = record-told-refused (now (a .table)) (a .queue) (a .sheet) (now (a .d)) (length (now (a .out))) (t .if1 .left) (f .result) (f .ensures) (r .0 .0) (m .before .if2 .left) (sym (m .composed .ensures) ∙ r .1) in
     (sym (ap saidSheetWritten e), sym (ap (sheetOut (a .sheet) _) e))
-
-same-length : tie.Need-same-length
-same-length c = search needs
 
 returns-4 : tie.Need-returns-4
 returns-4 c =
@@ -68,17 +44,5 @@ returns-4 c =
 
 pub compose-spec : {M : Type 1} → statement M
 compose-spec =
-    tie.close
-    (tie.spec
-    refused-requires
-    returns
-    fault-requires
-    refused-requires-2
-    returns-2
-    composed-requires
-    enum-known-told
-    enum-known-told-2
-    put-sheet-requires
-    returns-3
-    same-length
-    returns-4)
+    tie.close (tie.spec (λ c κs. search needs) returns (λ c κs. search needs) (λ c κs. search needs) returns-2 (λ c κs. search needs) (λ c. search needs)
+    (λ c. search needs) (λ c κs. search needs) returns-3 (λ c. search needs) returns-4)

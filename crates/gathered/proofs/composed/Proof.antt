@@ -9,18 +9,6 @@ use Rattle.gathered.proofs.Answers.{record-refused, record-fine}
 use Rattle.gathered.proofs.composed.Statement.{statement}
 use Rattle.gathered.proofs.composed.Tie as tie
 
-record-at-requires : tie.Need-record-at-requires
-record-at-requires c κs = search needs
-
-enum-known-reply : tie.Need-enum-known-reply
-enum-known-reply c = search needs
-
-enum-told : tie.Need-enum-told
-enum-told c = search needs
-
-behind-head-requires : tie.Need-behind-head-requires
-behind-head-requires c κs = search needs
-
 returns : tie.Need-returns
 returns c =
     let a = c .before .before .before .before .before .before .args in
@@ -34,12 +22,4 @@ returns-2 c =
     ∙ sym (ap saidIndices (record-fine _ (a .d .now) (sym (once assemblyKind (a .d .now) 0) ∙ fine-read _ (sym (c .before .before .before .record-at .ensures) ∙ c .before .enum-told .given .1))))
 
 pub composed-spec : {M : Type 1} → statement M
-composed-spec =
-    tie.close
-    (tie.spec
-    record-at-requires
-    enum-known-reply
-    enum-told
-    behind-head-requires
-    returns
-    returns-2)
+composed-spec = tie.close (tie.spec (λ c κs. search needs) (λ c. search needs) (λ c. search needs) (λ c κs. search needs) returns returns-2)

@@ -10,15 +10,6 @@ use Rattle.gathered.proofs.Answers.{more-follows, none-follows}
 use Rattle.gathered.proofs.ended.Statement.{statement}
 use Rattle.gathered.proofs.ended.Tie as tie
 
-le16-at-requires : tie.Need-le16-at-requires
-le16-at-requires c κs = search needs
-
-cast-end : tie.Need-cast-end
-cast-end c = search needs
-
-add-end : tie.Need-add-end
-add-end c = search needs
-
 returns : tie.Need-returns
 returns c =
     let a = c .before .before .before .args in
@@ -31,4 +22,4 @@ returns-2 c =
     sym (ap saidIndices (none-follows (a .d .now) (a .all) (omega (arith, c .before .le16-at .ensures, c .if1 .left))))
 
 pub ended-spec : {M : Type 1} → statement M
-ended-spec = tie.close (tie.spec le16-at-requires cast-end add-end returns returns-2)
+ended-spec = tie.close (tie.spec (λ c κs. search needs) (λ c. search needs) (λ c. search needs) returns returns-2)

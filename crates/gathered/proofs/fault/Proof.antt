@@ -6,9 +6,6 @@ use Rattle.gathered.proofs.Answers.{too-long, too-short, both-fit}
 use Rattle.gathered.proofs.fault.Statement.{statement}
 use Rattle.gathered.proofs.fault.Tie as tie
 
-bytes-of-requires : tie.Need-bytes-of-requires
-bytes-of-requires c κs = search needs
-
 returns : tie.Need-returns
 returns c = let a = c .before .before .args in sym (too-long (a .sheet) (a .long) (a .output) (c .if1 .taken))
 
@@ -23,4 +20,4 @@ returns-3 c =
     sym (both-fit (a .sheet) (a .long) (a .output) (c .before .if1 .left) (omega (arith, c .if2 .left, c .before .before .bytes-of .ensures)))
 
 pub fault-spec : {M : Type 1} → statement M
-fault-spec = tie.close (tie.spec bytes-of-requires returns returns-2 returns-3)
+fault-spec = tie.close (tie.spec (λ c κs. search needs) returns returns-2 returns-3)

@@ -23,23 +23,11 @@ told-is c =
     let a = c .before .before .before .before .args in
     c .compose .ensures ∙ ap (λ (xs : List ℕ). saidIndices (composeTold (a .table .now) (a .queue) xs)) (c .before .payload-at .ensures .bytes)
 
-payload-at-requires : tie.Need-payload-at-requires
-payload-at-requires c κs = search needs
-
-compose-requires : tie.Need-compose-requires
-compose-requires c κs = search needs
-
-enum-known-told : tie.Need-enum-known-told
-enum-known-told c = search needs
-
 mul-t9 : tie.Need-mul-t9
 mul-t9 c =
     let s = c .before .before .before .before .before .before .before .before in
     let r = c .before .before .told .given in
     omega (arith, told-few (s .args .table .now) (s .args .queue) (payloadAt (s .args .d .now) 0) (r .0 .0) (told-refused (answer s) (r .0 .0) (sym (told-is (c .before .before .before .before)) ∙ r .1)))
-
-enum-known-told-2 : tie.Need-enum-known-told-2
-enum-known-told-2 c = search needs
 
 returns : tie.Need-returns
 returns c =
@@ -54,13 +42,4 @@ returns-2 c =
     placed-read (answer s) (r .0 .0) (told-read (answer s) (r .0 .0) (sym (told-is (c .before .before .before)) ∙ r .1))
 
 pub placed-spec : {M : Type 1} → statement M
-placed-spec =
-    tie.close
-    (tie.spec
-    payload-at-requires
-    compose-requires
-    enum-known-told
-    mul-t9
-    enum-known-told-2
-    returns
-    returns-2)
+placed-spec = tie.close (tie.spec (λ c κs. search needs) (λ c κs. search needs) (λ c. search needs) mul-t9 (λ c. search needs) returns returns-2)

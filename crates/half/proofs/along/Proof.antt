@@ -28,15 +28,6 @@ add-line c = omega (arith, c .before .before .start .ensures .1)
 element-copy-out-line : tie.Need-element-copy-out-line Inv-loop μ-loop
 element-copy-out-line c = let v = c .before .loop .inv in along-place _ _ _ (v .0) (v .1) (c .loop-test .taken) (v .3)
 
-array-write-line : tie.Need-array-write-line Inv-loop μ-loop
-array-write-line c = omega arith
-
-add-j : tie.Need-add-j Inv-loop μ-loop
-add-j c = omega arith
-
-loop-less : tie.Need-loop-less Inv-loop μ-loop
-loop-less c = omega arith
-
 loop-again : tie.Need-loop-again Inv-loop μ-loop
 loop-again c = let v = c .before .before .loop .inv in (v .0, omega arith, omega arith, v .3, along-next _ _ _ _ _ (v .0) (v .1) (c .before .loop-test .taken) (v .3) (v .4))
 
@@ -45,17 +36,5 @@ returns c = let e : c .before .loop .j ≡ mostAtoms = omega arith in (rw e at (
 
 pub along-spec : {M : Type 1} → statement M
 along-spec =
-    tie.close
-    (tie.spec
-    Inv-loop
-    μ-loop
-    start-requires
-    loop-holds
-    sub-line
-    add-line
-    element-copy-out-line
-    array-write-line
-    add-j
-    loop-less
-    loop-again
-    returns)
+    tie.close (tie.spec Inv-loop μ-loop start-requires loop-holds sub-line add-line element-copy-out-line (λ c. omega arith) (λ c. omega arith)
+    (λ c. omega arith) loop-again returns)

@@ -25,9 +25,6 @@ sub-line-2 c = c .before .before .loop .inv .low
 array-write-line : tie.Need-array-write-line Inv-loop μ-loop
 array-write-line c = omega (arith, c .before .before .loop .inv .high, c .before .before .loop .inv .most)
 
-sub-p : tie.Need-sub-p Inv-loop μ-loop
-sub-p c = omega arith
-
 sub-p-2 : tie.Need-sub-p-2 Inv-loop μ-loop
 sub-p-2 c = omega (arith, c .before .before .loop .inv .most, c .before .loop-test .taken)
 
@@ -37,9 +34,6 @@ add-p c = omega (arith, c .before .before .loop .inv .near, c .before .before .l
 add-j : tie.Need-add-j Inv-loop μ-loop
 add-j c = omega (arith, c .before .before .loop .inv .high, c .before .before .loop .inv .most)
 
-loop-less : tie.Need-loop-less Inv-loop μ-loop
-loop-less c = omega arith
-
 loop-again : tie.Need-loop-again Inv-loop μ-loop
 loop-again c = down-next (c .before .before .loop .inv) (c .before .loop-test .taken)
 
@@ -48,19 +42,5 @@ returns c = down-last (c .before .loop .inv) (c .loop-test .left)
 
 pub column-spec : {M : Type 1} → statement M
 column-spec =
-    tie.close
-    (tie.spec
-    Inv-loop
-    μ-loop
-    loop-holds
-    sub-line
-    element-copy-out-line
-    sub-line-2
-    array-write-line
-    sub-p
-    sub-p-2
-    add-p
-    add-j
-    loop-less
-    loop-again
-    returns)
+    tie.close (tie.spec Inv-loop μ-loop loop-holds sub-line element-copy-out-line sub-line-2 array-write-line (λ c. omega arith) sub-p-2 add-p add-j
+    (λ c. omega arith) loop-again returns)

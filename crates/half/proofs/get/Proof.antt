@@ -4,12 +4,6 @@ use Rattle.half.proofs.Pairs.{get-some, get-none}
 use Rattle.half.proofs.get.Statement.{statement}
 use Rattle.half.proofs.get.Tie as tie
 
-place-requires : tie.Need-place-requires
-place-requires c κs = search needs
-
-element-copy-out-result : tie.Need-element-copy-out-result
-element-copy-out-result c = search needs
-
 returns : tie.Need-returns
 returns c = get-some _ _ _ (c .before .before .place .ensures) _ (c .before .if1 .taken)
 
@@ -17,4 +11,4 @@ returns-2 : tie.Need-returns-2
 returns-2 c = get-none _ _ _ (c .before .place .ensures) _ (c .if1 .left)
 
 pub get-spec : {M : Type 1} → statement M
-get-spec = tie.close (tie.spec place-requires element-copy-out-result returns returns-2)
+get-spec = tie.close (tie.spec (λ c κs. search needs) (λ c. search needs) returns returns-2)

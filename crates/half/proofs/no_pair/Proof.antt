@@ -4,15 +4,9 @@ use Rattle.half.specs.Half.{noPair}
 use Rattle.half.proofs.no_pair.Statement.{statement}
 use Rattle.half.proofs.no_pair.Tie as tie
 
-is-outside-requires : tie.Need-is-outside-requires
-is-outside-requires c κs = search needs
-
 returns : tie.Need-returns
 unfolding noPair
 returns c = rw (sym (c .before .is-outside .ensures) ∙ c .if1 .taken)
-
-is-outside-requires-2 : tie.Need-is-outside-requires-2
-is-outside-requires-2 c κs = search needs
 
 returns-2 : tie.Need-returns-2
 unfolding noPair
@@ -23,4 +17,4 @@ unfolding noPair
 returns-3 c = rw (sym (c .before .before .before .is-outside .ensures) ∙ c .before .before .if1 .left, sym (c .before .is-outside2 .ensures) ∙ c .if2 .left)
 
 pub no-pair-spec : {M : Type 1} → statement M
-no-pair-spec = tie.close (tie.spec is-outside-requires returns is-outside-requires-2 returns-2 returns-3)
+no-pair-spec = tie.close (tie.spec (λ c κs. search needs) returns (λ c κs. search needs) returns-2 returns-3)

@@ -5,9 +5,6 @@ use Rattle.half.proofs.Pairs.{is-up, is-down}
 use Rattle.half.proofs.place.Statement.{statement}
 use Rattle.half.proofs.place.Tie as tie
 
-no-pair-requires : tie.Need-no-pair-requires
-no-pair-requires c κs = search needs
-
 returns : tie.Need-returns
 returns c = sym (none-place _ _ (sym (c .before .no-pair .ensures) ∙ c .if1 .taken))
 
@@ -24,6 +21,4 @@ returns-3 : tie.Need-returns-3
 returns-3 c = c .above2 .ensures ∙ sym (down-place (above-requires-2 (c .before) (c .above2 .lifetimes)))
 
 pub place-spec : {M : Type 1} → statement M
-place-spec =
-    tie.close
-    (tie.spec no-pair-requires returns above-requires above-requires-2 returns-2 returns-3)
+place-spec = tie.close (tie.spec (λ c κs. search needs) returns above-requires above-requires-2 returns-2 returns-3)

@@ -4,15 +4,6 @@ use Rattle.half.proofs.Pairs.{put-some, put-out, put-none}
 use Rattle.half.proofs.put.Statement.{statement}
 use Rattle.half.proofs.put.Tie as tie
 
-place-requires : tie.Need-place-requires
-place-requires c κs = search needs
-
-slice-write-half : tie.Need-slice-write-half
-slice-write-half c = search needs
-
-same-length : tie.Need-same-length
-same-length c = search needs
-
 returns : tie.Need-returns
 returns c = put-some _ _ _ (c .before .before .place .ensures) _ _ (c .before .if1 .taken)
 
@@ -23,5 +14,4 @@ returns-3 : tie.Need-returns-3
 returns-3 c = put-none _ _ _ (c .before .place .ensures) _ _ (c .if1 .left)
 
 pub put-spec : {M : Type 1} → statement M
-put-spec =
-    tie.close (tie.spec place-requires slice-write-half same-length returns returns-2 returns-3)
+put-spec = tie.close (tie.spec (λ c κs. search needs) (λ c. search needs) (λ c. search needs) returns returns-2 returns-3)

@@ -39,9 +39,6 @@ loop-holds c =
     let (l, h) = atom _ (inner (c .before .before .before)) in
     (store-first _ _ _ _ _ (c .before .within .ensures .1) l h (c .start .ensures .0), inner (c .before .before .before), c .before .before .if2 .left, c .before .within .ensures .0)
 
-element-copy-out-half : tie.Need-element-copy-out-half Inv-loop μ-loop
-element-copy-out-half c = omega arith
-
 slice-write-half : tie.Need-slice-write-half Inv-loop μ-loop
 slice-write-half c = let v = c .before .before .loop .inv in store-place (v .0) (c .before .loop-test .taken) (v .2)
 
@@ -50,12 +47,6 @@ add-p c =
     let v = c .before .before .loop .inv in
     let l : c .before .before .loop .j < mostAtoms = omega (arith, c .before .loop-test .taken, v .0 .few) in
     omega (arith, along-place _ _ _ (v .0 .first) (v .0 .low) l refl, v .0 .here)
-
-add-j : tie.Need-add-j Inv-loop μ-loop
-add-j c = omega arith
-
-loop-less : tie.Need-loop-less Inv-loop μ-loop
-loop-less c = omega arith
 
 loop-again : tie.Need-loop-again Inv-loop μ-loop
 loop-again c =
@@ -72,21 +63,5 @@ returns-3 c =
 
 pub put-row-spec : {M : Type 1} → statement M
 put-row-spec =
-    tie.close
-    (tie.spec
-    Inv-loop
-    μ-loop
-    is-outside-requires
-    returns
-    returns-2
-    within-requires
-    start-requires
-    loop-holds
-    element-copy-out-half
-    slice-write-half
-    add-p
-    add-j
-    loop-less
-    loop-again
-    same-length
-    returns-3)
+    tie.close (tie.spec Inv-loop μ-loop is-outside-requires returns returns-2 within-requires start-requires loop-holds (λ c. omega arith) slice-write-half
+    add-p (λ c. omega arith) (λ c. omega arith) loop-again same-length returns-3)

@@ -4,9 +4,6 @@ use Rattle.half.proofs.Lines.{atom, row-none, upto-end}
 use Rattle.half.proofs.row.Statement.{statement}
 use Rattle.half.proofs.row.Tie as tie
 
-is-outside-requires : tie.Need-is-outside-requires
-is-outside-requires c κs = search needs
-
 returns : tie.Need-returns
 returns c = row-none _ _ (sym (c .before .is-outside .ensures) ∙ c .if1 .taken)
 
@@ -20,4 +17,4 @@ returns-2 : tie.Need-returns-2
 returns-2 c = upto-end _ _ _ (c .along .ensures)
 
 pub row-spec : {M : Type 1} → statement M
-row-spec = tie.close (tie.spec is-outside-requires returns column-requires along-requires returns-2)
+row-spec = tie.close (tie.spec (λ c κs. search needs) returns column-requires along-requires returns-2)

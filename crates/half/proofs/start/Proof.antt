@@ -6,15 +6,6 @@ use Rattle.half.proofs.Pairs.{corner, start-low}
 use Rattle.half.proofs.start.Statement.{statement}
 use Rattle.half.proofs.start.Tie as tie
 
-sub-result : tie.Need-sub-result
-sub-result c = search needs
-
-mul-result : tie.Need-mul-result
-mul-result c = search needs
-
-sub-result-2 : tie.Need-sub-result-2
-sub-result-2 c = search needs
-
 mul-result-2 : tie.Need-mul-result-2
 mul-result-2 c = omega (arith, corner (c .args .i) (c .pre .0) (c .pre .1))
 
@@ -23,4 +14,4 @@ unfolding rowStart
 returns c = (refl, start-low (c .args .i) (c .pre .0) (c .pre .1))
 
 pub start-spec : {M : Type 1} → statement M
-start-spec = tie.close (tie.spec sub-result mul-result sub-result-2 mul-result-2 returns)
+start-spec = tie.close (tie.spec (λ c. search needs) (λ c. search needs) (λ c. search needs) mul-result-2 returns)

@@ -5,32 +5,9 @@ use borrow.Author.Needs.{needs}
 use Rattle.joining.proofs.joined.Statement.{statement}
 use Rattle.joining.proofs.joined.Tie as tie
 
-cut-fields-requires : tie.Need-cut-fields-requires
-cut-fields-requires c κs = search needs
-
-cut-fields-requires-2 : tie.Need-cut-fields-requires-2
-cut-fields-requires-2 c κs = search needs
-
-cut-requires : tie.Need-cut-requires
-cut-requires c κs = search needs
-
-cut-requires-2 : tie.Need-cut-requires-2
-cut-requires-2 c κs = search needs
-
-added-requires : tie.Need-added-requires
-added-requires c κs = search needs
-
 returns : tie.Need-returns
 unfolding joinedOf
 returns c = rw (c .added .ensures, c .before .cut2 .ensures .0, c .before .before .cut .ensures .0, c .before .before .before .cut-fields2 .ensures .0, c .before .before .before .before .cut-fields .ensures .0) refl
 
 pub joined-spec : {M : Type 1} → statement M
-joined-spec =
-    tie.close
-    (tie.spec
-    cut-fields-requires
-    cut-fields-requires-2
-    cut-requires
-    cut-requires-2
-    added-requires
-    returns)
+joined-spec = tie.close (tie.spec (λ c κs. search needs) (λ c κs. search needs) (λ c κs. search needs) (λ c κs. search needs) (λ c κs. search needs) returns)

@@ -7,21 +7,6 @@ use Rattle.judging.proofs.Judging.{composed-refused, composed-read, jud
 use Rattle.judging.proofs.judge.Statement.{statement}
 use Rattle.judging.proofs.judge.Tie as tie
 
-fields-requires : tie.Need-fields-requires
-fields-requires c κs = search needs
-
-enum-known-told : tie.Need-enum-known-told
-enum-known-told c = search needs
-
-enum-known-told-2 : tie.Need-enum-known-told-2
-enum-known-told-2 c = search needs
-
-first-wrong-requires : tie.Need-first-wrong-requires
-first-wrong-requires c κs = search needs
-
-compared-requires : tie.Need-compared-requires
-compared-requires c κs = search needs
-
 returns : tie.Need-returns
 returns c = judge-refused _ _ (composed-refused Judged _ _ (sym (c .before .told .given .1) ∙ c .before .before .before .fields .ensures))
 
@@ -32,13 +17,4 @@ returns-2 c =
     judge-read d k _ _ (c .before .first-wrong .result) _ e p q (c .before .first-wrong .ensures) (c .compared .ensures)
 
 pub judge-spec : {M : Type 1} → statement M
-judge-spec =
-    tie.close
-    (tie.spec
-    fields-requires
-    enum-known-told
-    enum-known-told-2
-    first-wrong-requires
-    compared-requires
-    returns
-    returns-2)
+judge-spec = tie.close (tie.spec (λ c κs. search needs) (λ c. search needs) (λ c. search needs) (λ c κs. search needs) (λ c κs. search needs) returns returns-2)

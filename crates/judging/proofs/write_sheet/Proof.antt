@@ -10,9 +10,6 @@ use Rattle.judging.proofs.Judging.{write-long, write-short, write-told}
 use Rattle.judging.proofs.write_sheet.Statement.{statement}
 use Rattle.judging.proofs.write_sheet.Tie as tie
 
-bytes-of-requires : tie.Need-bytes-of-requires
-bytes-of-requires c κs = search needs
-
 returns : tie.Need-returns
 returns c =
     let a = c .before .before .before .before .args in
@@ -25,27 +22,12 @@ returns-2 c =
     let e = write-short (a .sheet) (now (a .d)) (length (now (a .out))) (c .before .if1 .left) (omega (arith, c .if2 .taken, c .before .before .bytes-of .ensures)) in
     (sym (ap saidSheetWritten e), sym (ap (sheetOut (a .sheet) _) e))
 
-compose-requires : tie.Need-compose-requires
-compose-requires c κs = search needs
-
-enum-known-told : tie.Need-enum-known-told
-enum-known-told c = search needs
-
-enum-known-told-2 : tie.Need-enum-known-told-2
-enum-known-told-2 c = search needs
-
-put-sheet-requires : tie.Need-put-sheet-requires
-put-sheet-requires c κs = search needs
-
 returns-3 : tie.Need-returns-3
 returns-3 c =
     let t = c .before .before .before .before in
     let a = t .before .before .before .before .before .args in
     let e = write-told (a .sheet) (now (a .d)) (length (now (a .out))) (refused _) (t .before .if1 .left) (omega (arith, t .if2 .left, t .before .before .bytes-of .ensures)) (sym (c .before .told .given .1) ∙ c .before .before .before .compose .ensures) in
     (sym (ap saidSheetWritten e), sym (ap (sheetOut (a .sheet) _) e))
-
-same-length : tie.Need-same-length
-same-length c = search needs
 
 returns-4 : tie.Need-returns-4
 returns-4 c =
@@ -57,15 +39,5 @@ returns-4 c =
 
 pub write-sheet-spec : {M : Type 1} → statement M
 write-sheet-spec =
-    tie.close
-    (tie.spec
-    bytes-of-requires
-    returns
-    returns-2
-    compose-requires
-    enum-known-told
-    enum-known-told-2
-    put-sheet-requires
-    returns-3
-    same-length
-    returns-4)
+    tie.close (tie.spec (λ c κs. search needs) returns returns-2 (λ c κs. search needs) (λ c. search needs) (λ c. search needs) (λ c κs. search needs) returns-3
+    (λ c. search needs) returns-4)

@@ -15,17 +15,8 @@ use borrow.Author.Needs.{needs}
 use Rattle.library.proofs.fields_at.Statement.{statement}
 use Rattle.library.proofs.fields_at.Tie as tie
 
-payload-at-requires : tie.Need-payload-at-requires
-payload-at-requires c κs = search needs
-
 choose-requires : tie.Need-choose-requires
 choose-requires c κs = let h = c .before .before .pre .1 in (few h, λ k i. many h k i .low)
-
-arms-at-requires : tie.Need-arms-at-requires
-arms-at-requires c κs = search needs
-
-core-at-requires : tie.Need-core-at-requires
-core-at-requires c κs = search needs
 
 sub-k : tie.Need-sub-k
 sub-k c = one (c .before .before .before .before .before .pre .1)
@@ -35,12 +26,6 @@ mul-arm c = let h = c .before .before .before .before .before .pre .1 in omega (
 
 array-copy-out-arm : tie.Need-array-copy-out-arm
 array-copy-out-arm c = let h = c .before .before .before .before .before .pre .1 in omega (arith, few h, one h)
-
-stem-of-requires : tie.Need-stem-of-requires
-stem-of-requires c κs = search needs
-
-joined-requires : tie.Need-joined-requires
-joined-requires c κs = search needs
 
 returns : tie.Need-returns
 returns c l h q =
@@ -58,15 +43,5 @@ returns c l h q =
 
 pub fields-at-spec : {M : Type 1} → statement M
 fields-at-spec =
-    tie.close
-    (tie.spec
-    payload-at-requires
-    choose-requires
-    arms-at-requires
-    core-at-requires
-    sub-k
-    mul-arm
-    array-copy-out-arm
-    stem-of-requires
-    joined-requires
-    returns)
+    tie.close (tie.spec (λ c κs. search needs) choose-requires (λ c κs. search needs) (λ c κs. search needs) sub-k mul-arm array-copy-out-arm
+    (λ c κs. search needs) (λ c κs. search needs) returns)

@@ -18,15 +18,6 @@ library : (c : tie.After-enum-told) → let d = c .before .before .before .befor
     (l : Library) × (libraryReply d ≡ read l) × (r ≡ saidLibrary (read l))
 library c = let r = c .before .before .read-library in library-ends _ (r .result) (r .ensures) (c .enum-told .given .1)
 
-read-library-requires : tie.Need-read-library-requires
-read-library-requires c κs = search needs
-
-enum-known-reply : tie.Need-enum-known-reply
-enum-known-reply c = search needs
-
-enum-told : tie.Need-enum-told
-enum-told c = search needs
-
 returns : tie.Need-returns
 returns c = let a = c .before .before .before .before .before .before .args in let (l, e, f) = library (c .before .before) in product-done (a .d .now) (a .position) l e (omega (arith, ap (λ (x : LibraryRead). x .products) f, c .if1 .taken))
 
@@ -42,13 +33,4 @@ returns-3 c = let a = c .before .before .before .before .before .before .before 
     product-made (a .d .now) (a .position) l e h _ (c .fields-at .ensures l (held-read (a .d .now) l _ e f) h)
 
 pub product-spec : {M : Type 1} → statement M
-product-spec =
-    tie.close
-    (tie.spec
-    read-library-requires
-    enum-known-reply
-    enum-told
-    returns
-    fields-at-requires
-    returns-2
-    returns-3)
+product-spec = tie.close (tie.spec (λ c κs. search needs) (λ c. search needs) (λ c. search needs) returns fields-at-requires returns-2 returns-3)

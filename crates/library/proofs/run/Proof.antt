@@ -27,20 +27,8 @@ room c = omega (arith, c .before .before .before .if2 .left, c .before .before .
 returns : tie.Need-returns
 returns c = let a = c .before .before .before .args in let e = step-long (a .sheet) (a .d .now) (a .position) (length (a .out .now)) (c .if1 .taken) in (sym (ap (saidStep _) e), sym (ap (λ (x : Ran). x .out) (run-stops (a .sheet) (a .d .now) (a .position) (a .out .now) _ _ e)))
 
-bytes-of-requires : tie.Need-bytes-of-requires
-bytes-of-requires c κs = search needs
-
 returns-2 : tie.Need-returns-2
 returns-2 c = let a = c .before .before .before .before .before .args in let e = step-short (a .sheet) (a .d .now) (a .position) (length (a .out .now)) (c .before .before .if1 .left) (omega (arith, c .if2 .taken, c .before .bytes-of .ensures)) in (sym (ap (saidStep _) e), sym (ap (λ (x : Ran). x .out) (run-stops (a .sheet) (a .d .now) (a .position) (a .out .now) _ _ e)))
-
-read-library-requires : tie.Need-read-library-requires
-read-library-requires c κs = search needs
-
-enum-known-reply : tie.Need-enum-known-reply
-enum-known-reply c = search needs
-
-enum-told : tie.Need-enum-told
-enum-told c = search needs
 
 returns-3 : tie.Need-returns-3
 returns-3 c = let a = c .before .before .before .before .before .before .before .before .before .before .args in let (l, r, f) = library (c .before .before) in
@@ -54,9 +42,6 @@ returns-4 : tie.Need-returns-4
 returns-4 c = let a = c .before .before .before .before .before .before .before .before .before .args in let r = c .before .before .before .read-library in
     let e = step-product (a .sheet) (a .d .now) (a .position) (length (a .out .now)) (c .before .before .before .before .before .before .if1 .left) (omega (arith, c .before .before .before .before .if2 .left, c .before .before .before .before .before .bytes-of .ensures)) ∙ product-stops (a .d .now) (a .position) _ (library-stops _ (r .result) _ (r .ensures) (c .before .reply .given .1)) in (sym (ap (saidStep _) e), sym (ap (λ (x : Ran). x .out) (run-stops (a .sheet) (a .d .now) (a .position) (a .out .now) _ _ e)))
 
-same-length : tie.Need-same-length
-same-length c = search needs
-
 returns-5 : tie.Need-returns-5
 returns-5 c = let a = c .before .before .before .before .before .before .before .before .before .before .before .before .before .before .args in let (l, r, f) = library (c .before .before .before .before .before .before) in
     let e = made-step (a .sheet) (a .d .now) l r (a .position) (length (a .out .now)) (omega (arith, ap (λ (x : LibraryRead). x .products) f, c .before .before .before .before .if3 .left)) (room (c .before .before .before .before .before .before)) in
@@ -64,16 +49,5 @@ returns-5 c = let a = c .before .before .before .before .before .before .before 
 
 pub run-spec : {M : Type 1} → statement M
 run-spec =
-    tie.close
-    (tie.spec
-    returns
-    bytes-of-requires
-    returns-2
-    read-library-requires
-    enum-known-reply
-    enum-told
-    returns-3
-    run-read-requires
-    returns-4
-    same-length
-    returns-5)
+    tie.close (tie.spec returns (λ c κs. search needs) returns-2 (λ c κs. search needs) (λ c. search needs) (λ c. search needs) returns-3 run-read-requires
+    returns-4 (λ c. search needs) returns-5)

@@ -25,9 +25,6 @@ Inv-loop core all sites n many position sheet out₀ bytes p₀ at₀ out p at =
 abbrev μ-loop : tie.MeasureT-loop
 μ-loop core all sites n many position sheet out₀ bytes p₀ at₀ out p at = many - p
 
-bytes-of-requires : tie.Need-bytes-of-requires Inv-loop μ-loop
-bytes-of-requires c κs = search needs
-
 loop-holds : tie.Need-loop-holds Inv-loop μ-loop
 loop-holds c = let a = c .before .before .args in (refl, omega arith, λ d l bs xs t m. going-start (a .sheet) d (a .position) (a .out .now))
 
@@ -76,18 +73,5 @@ returns-2 c d l bs xs t m = let a = c .before .before .before .before .args in l
 
 pub run-over-spec : {M : Type 1} → statement M
 run-over-spec =
-    tie.close
-    (tie.spec
-    Inv-loop
-    μ-loop
-    bytes-of-requires
-    loop-holds
-    sub-if1
-    same-length
-    returns
-    staying-at-requires
-    turn-requires
-    loop-less
-    loop-again
-    same-length-2
-    returns-2)
+    tie.close (tie.spec Inv-loop μ-loop (λ c κs. search needs) loop-holds sub-if1 same-length returns staying-at-requires turn-requires loop-less loop-again
+    same-length-2 returns-2)

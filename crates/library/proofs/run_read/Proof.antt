@@ -16,31 +16,11 @@ kept : (c : tie.After-all-arms) → let a = c .before .before .before .before .b
 kept c = let a = c .before .before .before .before .before .before .before .args in let p = c .before .before .before .before .before .before .before .pre in
     spread-read (a .d .now) (p .0) (a .l) (p .1) (p .2) _ _ _ (c .before .before .payload-at .ensures .bytes) (c .before .core-at .ensures) (c .all-arms .ensures)
 
-payload-at-requires : tie.Need-payload-at-requires
-payload-at-requires c κs = search needs
-
-core-at-requires : tie.Need-core-at-requires
-core-at-requires c κs = search needs
-
-all-arms-requires : tie.Need-all-arms-requires
-all-arms-requires c κs = search needs
-
 run-over-requires : tie.Need-run-over-requires
 run-over-requires c κs = let p = c .before .before .before .before .before .before .before .before .before .pre in (_, p .0, _, _, kept (c .before .before), ap (λ (x : LibraryRead). x .products) (p .2))
-
-same-length : tie.Need-same-length
-same-length c = search needs
 
 returns : tie.Need-returns
 returns c = let p = c .before .before .before .before .before .before .before .before .before .before .before .before .pre in c .before .before .run-over .ensures _ (p .0) _ _ (kept (c .before .before .before .before .before)) (ap (λ (x : LibraryRead). x .products) (p .2))
 
 pub run-read-spec : {M : Type 1} → statement M
-run-read-spec =
-    tie.close
-    (tie.spec
-    payload-at-requires
-    core-at-requires
-    all-arms-requires
-    run-over-requires
-    same-length
-    returns)
+run-read-spec = tie.close (tie.spec (λ c κs. search needs) (λ c κs. search needs) (λ c κs. search needs) run-over-requires (λ c. search needs) returns)

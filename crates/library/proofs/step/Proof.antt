@@ -15,26 +15,8 @@ use Rattle.library.proofs.step.Tie as tie
 returns : tie.Need-returns
 returns c = let a = c .before .before .before .args in let e = step-long (a .sheet) (a .d .now) (a .position) (length (a .out .now)) (c .if1 .taken) in (sym (ap (saidStep (suc (a .position))) e), sym (ap (stepOut (a .sheet) _) e))
 
-bytes-of-requires : tie.Need-bytes-of-requires
-bytes-of-requires c κs = search needs
-
 returns-2 : tie.Need-returns-2
 returns-2 c = let a = c .before .before .before .before .before .args in let e = step-short (a .sheet) (a .d .now) (a .position) (length (a .out .now)) (c .before .before .if1 .left) (omega (arith, c .if2 .taken, c .before .bytes-of .ensures)) in (sym (ap (saidStep (suc (a .position))) e), sym (ap (stepOut (a .sheet) _) e))
-
-product-requires : tie.Need-product-requires
-product-requires c κs = search needs
-
-enum-known-told : tie.Need-enum-known-told
-enum-known-told c = search needs
-
-enum-told : tie.Need-enum-told
-enum-told c = search needs
-
-enum-known-told-2 : tie.Need-enum-known-told-2
-enum-known-told-2 c = search needs
-
-put-sheet-requires : tie.Need-put-sheet-requires
-put-sheet-requires c κs = search needs
 
 add-t17 : tie.Need-add-t17
 add-t17 c = let a = c .before .before .before .before .before .before .before .before .before .before .before .before .before .args in omega (arith, made-low (a .d .now) (a .position) _ (said-of _ _ (sym (c .before .before .before .before .before .before .before .product .ensures) ∙ c .before .before .before .before .before .told2 .given .1)))
@@ -45,27 +27,11 @@ returns-3 c = let a = c .before .before .before .before .before .before .before 
 returns-4 : tie.Need-returns-4
 returns-4 c = let a = c .before .before .before .before .before .before .before .before .args in let e = step-product (a .sheet) (a .d .now) (a .position) (length (a .out .now)) (c .before .before .before .before .before .if1 .left) (omega (arith, c .before .before .before .if2 .left, c .before .before .before .before .bytes-of .ensures)) ∙ said-done _ (sym (c .before .before .product .ensures) ∙ c .enum-told .given .1) in (sym (ap (saidStep (suc (a .position))) e), sym (ap (stepOut (a .sheet) _) e))
 
-same-length : tie.Need-same-length
-same-length c = search needs
-
 returns-5 : tie.Need-returns-5
 returns-5 c = let a = c .before .before .before .before .before .before .before .before .before .before .before .before .before .args in let e = step-product (a .sheet) (a .d .now) (a .position) (length (a .out .now)) (c .before .before .before .before .before .before .before .before .before .before .if1 .left) (omega (arith, c .before .before .before .before .before .before .before .before .if2 .left, c .before .before .before .before .before .before .before .before .before .bytes-of .ensures)) ∙ said-of _ _ (sym (c .before .before .before .before .before .before .before .product .ensures) ∙ c .before .before .before .before .before .told2 .given .1) in
     (ap stepped.Next (add-one (a .position)) ∙ sym (ap (saidStep (suc (a .position))) e), c .before .before .put-sheet .ensures ∙ sym (ap (stepOut (a .sheet) _) e))
 
 pub step-spec : {M : Type 1} → statement M
 step-spec =
-    tie.close
-    (tie.spec
-    returns
-    bytes-of-requires
-    returns-2
-    product-requires
-    enum-known-told
-    enum-told
-    enum-known-told-2
-    put-sheet-requires
-    add-t17
-    returns-3
-    returns-4
-    same-length
-    returns-5)
+    tie.close (tie.spec returns (λ c κs. search needs) returns-2 (λ c κs. search needs) (λ c. search needs) (λ c. search needs) (λ c. search needs)
+    (λ c κs. search needs) add-t17 returns-3 returns-4 (λ c. search needs) returns-5)

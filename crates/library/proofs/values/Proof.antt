@@ -24,23 +24,8 @@ counted : (c : tie.After-count-from) → let a = c .before .before .before .befo
 counted c = let a = c .before .before .before .before .before .before .before .before .args in let (l, e, f) = library (c .before .before .before) in
     c .count-from .ensures ∙ ap (λ (x : LibraryRead). min (length (a .row .now)) (x .products - a .position)) f
 
-read-library-requires : tie.Need-read-library-requires
-read-library-requires c κs = search needs
-
-enum-known-reply : tie.Need-enum-known-reply
-enum-known-reply c = search needs
-
-enum-told : tie.Need-enum-told
-enum-told c = search needs
-
-is-outside-requires : tie.Need-is-outside-requires
-is-outside-requires c κs = search needs
-
 returns : tie.Need-returns
 returns c = let a = c .before .before .before .before .before .before .before .args in let (l, e, f) = library (c .before .before) in values-no-field (a .d .now) (a .field) (a .position) (a .row .now) l e (sym (c .before .is-outside .ensures) ∙ c .if1 .taken)
-
-count-from-requires : tie.Need-count-from-requires
-count-from-requires c κs = search needs
 
 values-read-requires : tie.Need-values-read-requires
 values-read-requires c κs = let a = c .before .before .before .before .before .before .before .before .before .args in let (l, e, f) = library (c .before .before .before .before) in let n = counted (c .before) in
@@ -50,24 +35,11 @@ values-read-requires c κs = let a = c .before .before .before .before .before .
 returns-2 : tie.Need-returns-2
 returns-2 c = let a = c .before .before .before .before .before .before .args in let r = c .before .before .before .read-library in values-refused (a .d .now) (a .field) (a .position) (a .row .now) _ (library-stops _ (r .result) _ (r .ensures) (c .before .reply .given .1))
 
-same-length : tie.Need-same-length
-same-length c = search needs
-
 returns-3 : tie.Need-returns-3
 returns-3 c = let a = c .before .before .before .before .before .before .before .before .before .before .before .before .args in let (l, e, f) = library (c .before .before .before .before .before .before .before) in let n = counted (c .before .before .before .before) in
     values-filled (a .d .now) (a .field) (a .position) (a .row .now) l e (sym (c .before .before .before .before .before .before .is-outside .ensures) ∙ c .before .before .before .before .before .if1 .left) _ n _ (c .before .before .values-read .ensures l e f (omega (arith, n)))
 
 pub values-spec : {M : Type 1} → statement M
 values-spec =
-    tie.close
-    (tie.spec
-    read-library-requires
-    enum-known-reply
-    enum-told
-    is-outside-requires
-    returns
-    count-from-requires
-    values-read-requires
-    returns-2
-    same-length
-    returns-3)
+    tie.close (tie.spec (λ c κs. search needs) (λ c. search needs) (λ c. search needs) (λ c κs. search needs) returns (λ c κs. search needs)
+    values-read-requires returns-2 (λ c. search needs) returns-3)

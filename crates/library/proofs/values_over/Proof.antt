@@ -62,15 +62,4 @@ returns c d l bs xs t m = let a = c .before .before .before .args in let r = c .
 
 pub values-over-spec : {M : Type 1} → statement M
 values-over-spec =
-    tie.close
-    (tie.spec
-    Inv-loop
-    μ-loop
-    loop-holds
-    add-staying-at
-    staying-at-requires
-    turn-values-requires
-    loop-less
-    loop-again
-    same-length
-    returns)
+    tie.close (tie.spec Inv-loop μ-loop loop-holds add-staying-at staying-at-requires turn-values-requires loop-less loop-again same-length returns)

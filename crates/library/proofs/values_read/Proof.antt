@@ -13,32 +13,12 @@ kept : (c : tie.After-all-arms) → let a = c .before .before .before .before .b
 kept c = let a = c .before .before .before .before .before .before .before .args in let p = c .before .before .before .before .before .before .before .pre .0 in
     spread-read (a .d .now) (p .0) (a .l) (p .1) (p .2) _ _ _ (c .before .before .payload-at .ensures .bytes) (c .before .core-at .ensures) (c .all-arms .ensures)
 
-payload-at-requires : tie.Need-payload-at-requires
-payload-at-requires c κs = search needs
-
-core-at-requires : tie.Need-core-at-requires
-core-at-requires c κs = search needs
-
-all-arms-requires : tie.Need-all-arms-requires
-all-arms-requires c κs = search needs
-
 values-over-requires : tie.Need-values-over-requires
 values-over-requires c κs = let p = c .before .before .before .before .before .before .before .before .before .pre in ((_, p .0 .0, _, _, kept (c .before .before), p .0 .3), p .1)
-
-same-length : tie.Need-same-length
-same-length c = search needs
 
 returns : tie.Need-returns
 returns c k e f m = let a = c .before .before .before .before .before .before .before .before .before .before .before .before .args in
     c .before .before .values-over .ensures (a .d .now) k _ _ (spread-read (a .d .now) k (a .l) e f _ _ _ (c .before .before .before .before .before .before .before .payload-at .ensures .bytes) (c .before .before .before .before .before .before .core-at .ensures) (c .before .before .before .before .before .all-arms .ensures)) m
 
 pub values-read-spec : {M : Type 1} → statement M
-values-read-spec =
-    tie.close
-    (tie.spec
-    payload-at-requires
-    core-at-requires
-    all-arms-requires
-    values-over-requires
-    same-length
-    returns)
+values-read-spec = tie.close (tie.spec (λ c κs. search needs) (λ c κs. search needs) (λ c κs. search needs) values-over-requires (λ c. search needs) returns)

@@ -12,28 +12,10 @@ use Rattle.library_calls.proofs.Walking.{walked-lacking, walked-told, s
 use Rattle.library_calls.proofs.step.Statement.{statement}
 use Rattle.library_calls.proofs.step.Tie as tie
 
-sheet-for-requires : tie.Need-sheet-for-requires
-sheet-for-requires c κs = search needs
-
-unlent-step-requires : tie.Need-unlent-step-requires
-unlent-step-requires c κs = search needs
-
 returns : tie.Need-returns
 returns c = let a = c .before .before .before .before .before .before .args in
     walked-lacking (stepReply (sheetFor (a .kind)) (a .deck .now) (a .position) (length (a .out .now))) (stepOut (sheetFor (a .kind)) (a .out .now) (stepReply (sheetFor (a .kind)) (a .deck .now) (a .position) (length (a .out .now)))) (suc (a .position)) (a .out .now) (a .next .now) (omega arith) _
     (c .unlent-step .ensures ∙ ap (λ (s : Sheet). stepCode (withNext 0 (stepReply s (a .deck .now) (a .position) (length (a .out .now))))) (c .before .before .sheet-for .ensures))
-
-step-requires : tie.Need-step-requires
-step-requires c κs = search needs
-
-tell-requires : tie.Need-tell-requires
-tell-requires c κs = search needs
-
-same-length : tie.Need-same-length
-same-length c = search needs
-
-same-length-2 : tie.Need-same-length-2
-same-length-2 c = search needs
 
 returns-2 : tie.Need-returns-2
 returns-2 c = let a = c .before .before .before .before .before .before .before .before .before .before .before .before .before .args in let s = c .before .before .before .before .before .before .before .before .before .sheet-for .ensures in let w = c .before .before .before .before .before .before .step .ensures in let t = c .before .before .tell .ensures in
@@ -43,13 +25,5 @@ returns-2 c = let a = c .before .before .before .before .before .before .before 
 
 pub step-spec : {M : Type 1} → statement M
 step-spec =
-    tie.close
-    (tie.spec
-    sheet-for-requires
-    unlent-step-requires
-    returns
-    step-requires
-    tell-requires
-    same-length
-    same-length-2
-    returns-2)
+    tie.close (tie.spec (λ c κs. search needs) (λ c κs. search needs) returns (λ c κs. search needs) (λ c κs. search needs) (λ c. search needs)
+    (λ c. search needs) returns-2)

@@ -13,26 +13,8 @@ use Rattle.library_calls.proofs.unlent_step.Tie as tie
 returns : tie.Need-returns
 returns c = let a = c .before .before .args in sym (ap (λ (x : Read Product). stepCode (withNext 0 x)) (step-long (a .sheet) (a .deck .now) (a .position) (a .room) (c .if1 .taken)))
 
-bytes-of-requires : tie.Need-bytes-of-requires
-bytes-of-requires c κs = search needs
-
 returns-2 : tie.Need-returns-2
 returns-2 c = let a = c .before .before .before .before .args in sym (ap (λ (x : Read Product). stepCode (withNext 0 x)) (step-short (a .sheet) (a .deck .now) (a .position) (a .room) (c .before .before .if1 .left) (omega (arith, c .if2 .taken, c .before .bytes-of .ensures))))
-
-product-requires : tie.Need-product-requires
-product-requires c κs = search needs
-
-enum-known-answer : tie.Need-enum-known-answer
-enum-known-answer c = search needs
-
-code-of-requires : tie.Need-code-of-requires
-code-of-requires c κs = search needs
-
-enum-told : tie.Need-enum-told
-enum-told c = search needs
-
-enum-told-2 : tie.Need-enum-told-2
-enum-told-2 c = search needs
 
 returns-3 : tie.Need-returns-3
 returns-3 c = let a = c .before .before .before .before .before .before .before .before .before .args in c .code-of .ensures ∙ sym (ap (λ (x : Read Product). stepCode (withNext 0 x)) (step-product (a .sheet) (a .deck .now) (a .position) (a .room) (c .before .before .before .before .before .before .before .if1 .left) (omega (arith, c .before .before .before .before .before .if2 .left, c .before .before .before .before .before .before .bytes-of .ensures)) ∙ said-refused _ _ (sym (c .before .before .before .before .product .ensures) ∙ c .before .before .answer .given .1)))
@@ -45,16 +27,5 @@ returns-5 c = let a = c .before .before .before .before .before .before .before 
 
 pub unlent-step-spec : {M : Type 1} → statement M
 unlent-step-spec =
-    tie.close
-    (tie.spec
-    returns
-    bytes-of-requires
-    returns-2
-    product-requires
-    enum-known-answer
-    code-of-requires
-    enum-told
-    enum-told-2
-    returns-3
-    returns-4
-    returns-5)
+    tie.close (tie.spec returns (λ c κs. search needs) returns-2 (λ c κs. search needs) (λ c. search needs) (λ c κs. search needs) (λ c. search needs)
+    (λ c. search needs) returns-3 returns-4 returns-5)

@@ -11,24 +11,6 @@ use borrow.Author.Needs.{needs}
 use Rattle.line.proofs.deck_line.Statement.{statement}
 use Rattle.line.proofs.deck_line.Tie as tie
 
-enum-told : tie.Need-enum-told
-enum-told c = search needs
-
-compose-requires : tie.Need-compose-requires
-compose-requires c κs = search needs
-
-measured-line-requires : tie.Need-measured-line-requires
-measured-line-requires c κs = search needs
-
-enum-told-2 : tie.Need-enum-told-2
-enum-told-2 c = search needs
-
-judge-requires : tie.Need-judge-requires
-judge-requires c κs = search needs
-
-verdict-line-requires : tie.Need-verdict-line-requires
-verdict-line-requires c κs = search needs
-
 returns : tie.Need-returns
 returns c =
     let a = c .before .before .before .before .before .args in
@@ -44,4 +26,6 @@ returns-2 c =
     case (λ (f : Form). deckText f d) (a .form) Judged (c .verdict-line .result) (deck-fit (a .form) d) (c .before .before .enum-told2 .given .1) is
 
 pub deck-line-spec : {M : Type 1} → statement M
-deck-line-spec = tie.close (tie.spec enum-told compose-requires measured-line-requires enum-told-2 judge-requires verdict-line-requires returns returns-2)
+deck-line-spec =
+    tie.close (tie.spec (λ c. search needs) (λ c κs. search needs) (λ c κs. search needs) (λ c. search needs) (λ c κs. search needs) (λ c κs. search needs)
+    returns returns-2)

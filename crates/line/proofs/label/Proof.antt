@@ -10,21 +10,6 @@ use Rattle.line.proofs.Labels.{label-put, label-none}
 use Rattle.line.proofs.label.Statement.{statement}
 use Rattle.line.proofs.label.Tie as tie
 
-add-has-room : tie.Need-add-has-room
-add-has-room c = search needs
-
-has-room-requires : tie.Need-has-room-requires
-has-room-requires c κs = search needs
-
-put-requires : tie.Need-put-requires
-put-requires c κs = search needs
-
-put-requires-2 : tie.Need-put-requires-2
-put-requires-2 c κs = search needs
-
-same-length : tie.Need-same-length
-same-length c = search needs
-
 returns : tie.Need-returns
 returns c =
     let second = c .before .before in
@@ -41,13 +26,4 @@ returns-2 c =
     label-none (now (a .out)) (a .name) (now (a .words)) (omega (arith, full))
 
 pub label-spec : {M : Type 1} → statement M
-label-spec =
-    tie.close
-    (tie.spec
-    add-has-room
-    has-room-requires
-    put-requires
-    put-requires-2
-    same-length
-    returns
-    returns-2)
+label-spec = tie.close (tie.spec (λ c. search needs) (λ c κs. search needs) (λ c κs. search needs) (λ c κs. search needs) (λ c. search needs) returns returns-2)

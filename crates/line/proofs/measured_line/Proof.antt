@@ -7,18 +7,6 @@ use borrow.Author.Needs.{needs}
 use Rattle.line.proofs.measured_line.Statement.{statement}
 use Rattle.line.proofs.measured_line.Tie as tie
 
-enum-known-m : tie.Need-enum-known-m
-enum-known-m c = search needs
-
-refusal-line-requires : tie.Need-refusal-line-requires
-refusal-line-requires c κs = search needs
-
-enum-known-m-2 : tie.Need-enum-known-m-2
-enum-known-m-2 c = search needs
-
-indices-line-requires : tie.Need-indices-line-requires
-indices-line-requires c κs = search needs
-
 returns : tie.Need-returns
 returns c =
     let m = c .before .before .before .before .args .m in
@@ -32,12 +20,4 @@ returns-2 c =
     case measuredText m (measured.Of (is .0 .0)) (c .indices-line .result) (measured-fit m) (is .1) (c .indices-line .ensures)
 
 pub measured-line-spec : {M : Type 1} → statement M
-measured-line-spec =
-    tie.close
-    (tie.spec
-    enum-known-m
-    refusal-line-requires
-    enum-known-m-2
-    indices-line-requires
-    returns
-    returns-2)
+measured-line-spec = tie.close (tie.spec (λ c. search needs) (λ c κs. search needs) (λ c. search needs) (λ c κs. search needs) returns returns-2)

@@ -6,27 +6,6 @@ use borrow.Author.Needs.{needs}
 use Rattle.line.proofs.refusal_line.Statement.{statement}
 use Rattle.line.proofs.refusal_line.Tie as tie
 
-empty-requires : tie.Need-empty-requires
-empty-requires c κs = search needs
-
-slice-aggregate-named : tie.Need-slice-aggregate-named
-slice-aggregate-named c = search needs
-
-named-requires : tie.Need-named-requires
-named-requires c κs = search needs
-
-slice-aggregate-named-2 : tie.Need-slice-aggregate-named-2
-slice-aggregate-named-2 c = search needs
-
-named-requires-2 : tie.Need-named-requires-2
-named-requires-2 c κs = search needs
-
-slice-aggregate-with : tie.Need-slice-aggregate-with
-slice-aggregate-with c = search needs
-
-with-requires : tie.Need-with-requires
-with-requires c κs = search needs
-
 returns : tie.Need-returns
 unfolding refusalText
 returns c =
@@ -37,13 +16,5 @@ returns c =
 
 pub refusal-line-spec : {M : Type 1} → statement M
 refusal-line-spec =
-    tie.close
-    (tie.spec
-    empty-requires
-    slice-aggregate-named
-    named-requires
-    slice-aggregate-named-2
-    named-requires-2
-    slice-aggregate-with
-    with-requires
-    returns)
+    tie.close (tie.spec (λ c κs. search needs) (λ c. search needs) (λ c κs. search needs) (λ c. search needs) (λ c κs. search needs) (λ c. search needs)
+    (λ c κs. search needs) returns)

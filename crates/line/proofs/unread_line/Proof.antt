@@ -6,17 +6,8 @@ use borrow.Author.Needs.{needs}
 use Rattle.line.proofs.unread_line.Statement.{statement}
 use Rattle.line.proofs.unread_line.Tie as tie
 
-empty-requires : tie.Need-empty-requires
-empty-requires c κs = search needs
-
-slice-aggregate-with : tie.Need-slice-aggregate-with
-slice-aggregate-with c = search needs
-
-with-requires : tie.Need-with-requires
-with-requires c κs = search needs
-
 returns : tie.Need-returns
 returns c = shown (c .with .result) unreadText (lit≤ tt) (made (c .before .before .empty .ensures) (c .with .ensures) (lit≤ tt))
 
 pub unread-line-spec : {M : Type 1} → statement M
-unread-line-spec = tie.close (tie.spec empty-requires slice-aggregate-with with-requires returns)
+unread-line-spec = tie.close (tie.spec (λ c κs. search needs) (λ c. search needs) (λ c κs. search needs) returns)

@@ -8,30 +8,6 @@ use borrow.Author.Needs.{needs}
 use Rattle.line.proofs.verdict_line.Statement.{statement}
 use Rattle.line.proofs.verdict_line.Tie as tie
 
-enum-told : tie.Need-enum-told
-enum-told c = search needs
-
-empty-requires : tie.Need-empty-requires
-empty-requires c κs = search needs
-
-slice-aggregate-with : tie.Need-slice-aggregate-with
-slice-aggregate-with c = search needs
-
-with-requires : tie.Need-with-requires
-with-requires c κs = search needs
-
-enum-known-v : tie.Need-enum-known-v
-enum-known-v c = search needs
-
-differs-line-requires : tie.Need-differs-line-requires
-differs-line-requires c κs = search needs
-
-enum-known-v-2 : tie.Need-enum-known-v-2
-enum-known-v-2 c = search needs
-
-refusal-line-requires : tie.Need-refusal-line-requires
-refusal-line-requires c κs = search needs
-
 returns : tie.Need-returns
 returns c =
     let v = c .before .before .before .before .before .args .v in
@@ -51,16 +27,5 @@ returns-3 c =
 
 pub verdict-line-spec : {M : Type 1} → statement M
 verdict-line-spec =
-    tie.close
-    (tie.spec
-    enum-told
-    empty-requires
-    slice-aggregate-with
-    with-requires
-    enum-known-v
-    differs-line-requires
-    enum-known-v-2
-    refusal-line-requires
-    returns
-    returns-2
-    returns-3)
+    tie.close (tie.spec (λ c. search needs) (λ c κs. search needs) (λ c. search needs) (λ c κs. search needs) (λ c. search needs) (λ c κs. search needs)
+    (λ c. search needs) (λ c κs. search needs) returns returns-2 returns-3)

@@ -19,8 +19,4 @@ returns-2 : tie.Need-returns-2
 returns-2 c = later (c .before .args .place) (λ e. omega (arith, c .if1 .left, e))
 
 pub answer-at-spec : {M : Type 1} → statement M
-answer-at-spec =
-    tie.close
-    (tie.spec
-    returns
-    returns-2)
+answer-at-spec = tie.close (tie.spec returns returns-2)

@@ -25,18 +25,6 @@ use Rattle.matched.specs.Replies.{whole-told, counted, after-length, rea
 use Rattle.matched.proofs.answer_in.Statement.{statement}
 use Rattle.matched.proofs.answer_in.Tie as tie
 
-bonds-requires : tie.Need-bonds-requires
-bonds-requires c κs = search needs
-
-enum-known-reply : tie.Need-enum-known-reply
-enum-known-reply c = search needs
-
-enum-known-reply-2 : tie.Need-enum-known-reply-2
-enum-known-reply-2 c = search needs
-
-same-length : tie.Need-same-length
-same-length c = search needs
-
 -- what was written out, and its counts
 written : (c : tie.After-bonds) → let a = c .before .before .before .before .before .before .before .args in wholeReply (now (a .d)) (length (a .numbers .now)) ≡ read (moleculeOf (now (a .d)) (deckOf (a .deck)))
 written c = let s = c .before .before .before .before .before .before .before in whole-told (now (s .args .d)) _ (deckOf (s .args .deck)) (s .pre .0) (s .pre .2)
@@ -88,9 +76,6 @@ answer-placed-requires c κs =
       omega (arith, length-take-le (2 * r .reply2 .given .0 .0 .bonds) (r .before .before .before .before .bonds .last .1 .0) (room r), few r),
     )
 
-same-length-2 : tie.Need-same-length-2
-same-length-2 c = search needs
-
 returns-2 : tie.Need-returns-2
 returns-2 c =
     let b = c .before .before .before .before .before in
@@ -98,12 +83,6 @@ returns-2 c =
     let f = c .before .reply .given .1 in
     let z : _≡_ {A = ℕ} 0 1 = cc in
     absurd (omega arith)
-
-same-length-3 : tie.Need-same-length-3
-same-length-3 c = search needs
-
-same-length-4 : tie.Need-same-length-4
-same-length-4 c = search needs
 
 returns-3 : tie.Need-returns-3
 returns-3 c =
@@ -125,19 +104,5 @@ returns-3 c =
 
 pub answer-in-spec : {M : Type 1} → statement M
 answer-in-spec =
-    tie.close
-    (tie.spec
-    bonds-requires
-    enum-known-reply
-    enum-known-reply-2
-    same-length
-    returns
-    mul-end
-    slice-reshare-prefix-answer-placed
-    slice-aggregate-answer-placed
-    answer-placed-requires
-    same-length-2
-    returns-2
-    same-length-3
-    same-length-4
-    returns-3)
+    tie.close (tie.spec (λ c κs. search needs) (λ c. search needs) (λ c. search needs) (λ c. search needs) returns mul-end slice-reshare-prefix-answer-placed
+    slice-aggregate-answer-placed answer-placed-requires (λ c. search needs) returns-2 (λ c. search needs) (λ c. search needs) returns-3)

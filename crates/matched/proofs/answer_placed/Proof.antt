@@ -16,9 +16,6 @@ use Rattle.matched.specs.Laws.{partners-length}
 use Rattle.matched.proofs.answer_placed.Statement.{statement}
 use Rattle.matched.proofs.answer_placed.Tie as tie
 
-slice-relend-prefix-put-partners : tie.Need-slice-relend-prefix-put-partners
-slice-relend-prefix-put-partners c = search needs
-
 slice-aggregate-put-partners : tie.Need-slice-aggregate-put-partners
 slice-aggregate-put-partners c = sym (length-take-le _ _ (search needs))
 
@@ -29,20 +26,8 @@ put-partners-requires c κs =
     let n = length-take-le (a .n) (a .to .now) (s .pre .2) in
     (s .pre .0, omega (arith, n, s .pre .3))
 
-slice-reshare-prefix-match-place : tie.Need-slice-reshare-prefix-match-place
-slice-reshare-prefix-match-place c = search needs
-
 slice-aggregate-match-place : tie.Need-slice-aggregate-match-place
 slice-aggregate-match-place c = sym (length-take-le _ _ (search needs))
-
-match-place-requires : tie.Need-match-place-requires
-match-place-requires c κs = search needs
-
-answer-at-requires : tie.Need-answer-at-requires
-answer-at-requires c κs = search needs
-
-same-length : tie.Need-same-length
-same-length c = search needs
 
 returns : tie.Need-returns
 returns c =
@@ -58,14 +43,5 @@ returns c =
 
 pub answer-placed-spec : {M : Type 1} → statement M
 answer-placed-spec =
-    tie.close
-    (tie.spec
-    slice-relend-prefix-put-partners
-    slice-aggregate-put-partners
-    put-partners-requires
-    slice-reshare-prefix-match-place
-    slice-aggregate-match-place
-    match-place-requires
-    answer-at-requires
-    same-length
-    returns)
+    tie.close (tie.spec (λ c. search needs) slice-aggregate-put-partners put-partners-requires (λ c. search needs) slice-aggregate-match-place
+    (λ c κs. search needs) (λ c κs. search needs) (λ c. search needs) returns)

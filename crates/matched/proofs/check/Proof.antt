@@ -13,15 +13,6 @@ use Rattle.matched.specs.Replies.{match-refused, match-short, match-answ
 use Rattle.matched.proofs.check.Statement.{statement}
 use Rattle.matched.proofs.check.Tie as tie
 
-read-deck-requires : tie.Need-read-deck-requires
-read-deck-requires c κs = search needs
-
-enum-known-reply : tie.Need-enum-known-reply
-enum-known-reply c = search needs
-
-enum-told : tie.Need-enum-told
-enum-told c = search needs
-
 -- the deck that was read
 fine : (c : tie.After-enum-told) → deckReply Composed (now (c .before .before .before .before .before .before .args .d)) ≡ read (deckOf (c .before .before .read-deck .result .layout))
 fine c = deck-read (deckReply Composed (now (c .before .before .before .before .before .before .args .d))) (c .before .before .read-deck .result) (c .before .before .read-deck .ensures) (c .enum-told .given .1)
@@ -42,13 +33,4 @@ returns-3 : tie.Need-returns-3
 returns-3 c = let a = c .before .before .before .before .before .before .before .before .before .args in c .answer .ensures ∙ match-answered (now (a .d)) (a .atoms) (now (a .bonds)) (now (a .matching)) (fine (c .before .before .before)) (omega (arith, c .before .before .if1 .left))
 
 pub check-spec : {M : Type 1} → statement M
-check-spec =
-    tie.close
-    (tie.spec
-    read-deck-requires
-    enum-known-reply
-    enum-told
-    returns
-    answer-requires
-    returns-2
-    returns-3)
+check-spec = tie.close (tie.spec (λ c κs. search needs) (λ c. search needs) (λ c. search needs) returns answer-requires returns-2 returns-3)

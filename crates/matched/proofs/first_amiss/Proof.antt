@@ -22,32 +22,11 @@ abbrev μ-loop : tie.MeasureT-loop
 loop-holds : tie.Need-loop-holds Inv-loop μ-loop
 loop-holds c = (omega arith, omega arith, refl)
 
-sub-loop : tie.Need-sub-loop Inv-loop μ-loop
-sub-loop c = search needs
-
-mul-wide-two : tie.Need-mul-wide-two Inv-loop μ-loop
-mul-wide-two c = search needs
-
 shared-slice-read-wide-two : tie.Need-shared-slice-read-wide-two Inv-loop μ-loop
 shared-slice-read-wide-two c = omega (arith, c .before .loop-test .taken)
 
-wide-two-requires : tie.Need-wide-two-requires Inv-loop μ-loop
-wide-two-requires c κs = search needs
-
-add-wide-two : tie.Need-add-wide-two Inv-loop μ-loop
-add-wide-two c = search needs
-
-mul-wide-two-2 : tie.Need-mul-wide-two-2 Inv-loop μ-loop
-mul-wide-two-2 c = search needs
-
 shared-slice-read-wide-two-2 : tie.Need-shared-slice-read-wide-two-2 Inv-loop μ-loop
 shared-slice-read-wide-two-2 c = omega (arith, c .before .before .before .loop-test .taken)
-
-wide-two-requires-2 : tie.Need-wide-two-requires-2 Inv-loop μ-loop
-wide-two-requires-2 c κs = search needs
-
-is-amiss-requires : tie.Need-is-amiss-requires Inv-loop μ-loop
-is-amiss-requires c κs = search needs
 
 -- the bond at hand
 tested : (c : tie.After-is-amiss Inv-loop μ-loop) → let a = c .before .before .before .before .before .before .before .before .before .before .before .args in isAmiss (a .listed) (graphOf (a .n) (now (a .bonds))) (graphOf (a .n) (now (a .whole))) (now (a .to)) (bond (c .before .before .before .wide-two .result) (c .before .wide-two2 .result)) ≡ c .is-amiss .result
@@ -63,12 +42,6 @@ returns c =
 
 add-at : tie.Need-add-at Inv-loop μ-loop
 add-at c = omega (arith, c .before .before .before .before .before .before .before .loop .inv .1, c .before .before .before .before .before .before .before .loop .inv .0)
-
-add-i : tie.Need-add-i Inv-loop μ-loop
-add-i c = search needs
-
-loop-less : tie.Need-loop-less Inv-loop μ-loop
-loop-less c = search needs
 
 loop-again : tie.Need-loop-again Inv-loop μ-loop
 loop-again c =
@@ -90,23 +63,6 @@ returns-2 c =
 
 pub first-amiss-spec : {M : Type 1} → statement M
 first-amiss-spec =
-    tie.close
-    (tie.spec
-    Inv-loop
-    μ-loop
-    loop-holds
-    sub-loop
-    mul-wide-two
-    shared-slice-read-wide-two
-    wide-two-requires
-    add-wide-two
-    mul-wide-two-2
-    shared-slice-read-wide-two-2
-    wide-two-requires-2
-    is-amiss-requires
-    returns
-    add-at
-    add-i
-    loop-less
-    loop-again
-    returns-2)
+    tie.close (tie.spec Inv-loop μ-loop loop-holds (λ c. search needs) (λ c. search needs) shared-slice-read-wide-two (λ c κs. search needs) (λ c. search needs)
+    (λ c. search needs) shared-slice-read-wide-two-2 (λ c κs. search needs) (λ c κs. search needs) returns add-at (λ c. search needs) (λ c. search needs)
+    loop-again returns-2)

@@ -27,12 +27,6 @@ returns c =
     let l = c .before .before .before .loop in
     atom-hit (a .n) (l .v) (isLost (now (a .to))) (omega (arith, c .before .before .loop-test .taken)) (sym (c .before .is-lost .ensures) ∙ c .if1 .taken) ∙ l .inv .2
 
-add-v : tie.Need-add-v Inv-loop μ-loop
-add-v c = search needs
-
-loop-less : tie.Need-loop-less Inv-loop μ-loop
-loop-less c = search needs
-
 loop-again : tie.Need-loop-again Inv-loop μ-loop
 loop-again c =
     let a = c .before .before .before .before .before .args in
@@ -47,15 +41,4 @@ returns-2 c =
     atom-over (a .n) (l .v) (isLost (now (a .to))) (omega (arith, c .loop-test .left)) ∙ l .inv .2
 
 pub first-lost-spec : {M : Type 1} → statement M
-first-lost-spec =
-    tie.close
-    (tie.spec
-    Inv-loop
-    μ-loop
-    loop-holds
-    is-lost-requires
-    returns
-    add-v
-    loop-less
-    loop-again
-    returns-2)
+first-lost-spec = tie.close (tie.spec Inv-loop μ-loop loop-holds is-lost-requires returns (λ c. search needs) (λ c. search needs) loop-again returns-2)

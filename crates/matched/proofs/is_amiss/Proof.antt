@@ -10,16 +10,10 @@ use Rattle.matched.specs.Work.{isAmiss}
 use Rattle.matched.proofs.is_amiss.Statement.{statement}
 use Rattle.matched.proofs.is_amiss.Tie as tie
 
-is-loose-requires : tie.Need-is-loose-requires
-is-loose-requires c κs = search needs
-
 returns : tie.Need-returns
 returns c =
     let a = c .before .before .before .before .before .args in
     c .is-loose .ensures ∙ ap (λ (t : Bool). isAmiss t (graphOf (a .n) (now (a .bonds))) (graphOf (a .n) (now (a .whole))) (now (a .to)) (bond (a .one) (a .two))) (sym (c .before .if1 .taken))
-
-is-carried-requires : tie.Need-is-carried-requires
-is-carried-requires c κs = search needs
 
 returns-2 : tie.Need-returns-2
 unfolding isUnlisted
@@ -28,4 +22,4 @@ returns-2 c =
     ap not (c .is-carried .ensures) ∙ ap (λ (t : Bool). isAmiss t (graphOf (a .n) (now (a .bonds))) (graphOf (a .n) (now (a .whole))) (now (a .to)) (bond (a .one) (a .two))) (sym (c .before .if1 .left))
 
 pub is-amiss-spec : {M : Type 1} → statement M
-is-amiss-spec = tie.close (tie.spec is-loose-requires returns is-carried-requires returns-2)
+is-amiss-spec = tie.close (tie.spec (λ c κs. search needs) returns (λ c κs. search needs) returns-2)

@@ -21,38 +21,11 @@ abbrev μ-loop : tie.MeasureT-loop
 loop-holds : tie.Need-loop-holds Inv-loop μ-loop
 loop-holds c = (omega arith, refl)
 
-sub-loop : tie.Need-sub-loop Inv-loop μ-loop
-sub-loop c = search needs
-
-mul-wide-two : tie.Need-mul-wide-two Inv-loop μ-loop
-mul-wide-two c = search needs
-
 shared-slice-read-wide-two : tie.Need-shared-slice-read-wide-two Inv-loop μ-loop
 shared-slice-read-wide-two c = omega (arith, c .before .loop-test .taken)
 
-wide-two-requires : tie.Need-wide-two-requires Inv-loop μ-loop
-wide-two-requires c κs = search needs
-
-partner-requires : tie.Need-partner-requires Inv-loop μ-loop
-partner-requires c κs = search needs
-
-add-wide-two : tie.Need-add-wide-two Inv-loop μ-loop
-add-wide-two c = search needs
-
-mul-wide-two-2 : tie.Need-mul-wide-two-2 Inv-loop μ-loop
-mul-wide-two-2 c = search needs
-
 shared-slice-read-wide-two-2 : tie.Need-shared-slice-read-wide-two-2 Inv-loop μ-loop
 shared-slice-read-wide-two-2 c = omega (arith, c .before .before .before .before .loop-test .taken)
-
-wide-two-requires-2 : tie.Need-wide-two-requires-2 Inv-loop μ-loop
-wide-two-requires-2 c κs = search needs
-
-partner-requires-2 : tie.Need-partner-requires-2 Inv-loop μ-loop
-partner-requires-2 c κs = search needs
-
-is-between-requires : tie.Need-is-between-requires Inv-loop μ-loop
-is-between-requires c κs = search needs
 
 -- whether the bond at hand joins the two by its partners
 joined : (c : tie.After-is-between Inv-loop μ-loop) → let a = c .before .before .before .before .before .before .before .before .before .before .before .args in
@@ -66,12 +39,6 @@ returns c =
     carried-hit (now (a .bonds)) (l .i) (c .before .before .before .before .before .before .wide-two .result) (c .before .before .before .wide-two2 .result) (omega (arith, c .before .before .before .before .before .before .before .before .loop-test .taken)) (c .before .before .before .before .before .before .wide-two .ensures .0) (c .before .before .before .wide-two2 .ensures .0)
     (a .x) (a .y) (now (a .to)) (joined (c .before) ∙ c .if1 .taken)
     ∙ l .inv .1
-
-add-i : tie.Need-add-i Inv-loop μ-loop
-add-i c = search needs
-
-loop-less : tie.Need-loop-less Inv-loop μ-loop
-loop-less c = search needs
 
 loop-again : tie.Need-loop-again Inv-loop μ-loop
 loop-again c =
@@ -92,24 +59,6 @@ returns-2 c =
 
 pub is-carried-spec : {M : Type 1} → statement M
 is-carried-spec =
-    tie.close
-    (tie.spec
-    Inv-loop
-    μ-loop
-    loop-holds
-    sub-loop
-    mul-wide-two
-    shared-slice-read-wide-two
-    wide-two-requires
-    partner-requires
-    add-wide-two
-    mul-wide-two-2
-    shared-slice-read-wide-two-2
-    wide-two-requires-2
-    partner-requires-2
-    is-between-requires
-    returns
-    add-i
-    loop-less
-    loop-again
-    returns-2)
+    tie.close (tie.spec Inv-loop μ-loop loop-holds (λ c. search needs) (λ c. search needs) shared-slice-read-wide-two (λ c κs. search needs)
+    (λ c κs. search needs) (λ c. search needs) (λ c. search needs) shared-slice-read-wide-two-2 (λ c κs. search needs) (λ c κs. search needs)
+    (λ c κs. search needs) returns (λ c. search needs) (λ c. search needs) loop-again returns-2)

@@ -8,12 +8,6 @@ use Rattle.matched.specs.Laws.{loose-one, loose-two, loose-apart}
 use Rattle.matched.proofs.is_loose.Statement.{statement}
 use Rattle.matched.proofs.is_loose.Tie as tie
 
-is-outside-requires : tie.Need-is-outside-requires
-is-outside-requires c κs = search needs
-
-is-outside-requires-2 : tie.Need-is-outside-requires-2
-is-outside-requires-2 c κs = search needs
-
 returns : tie.Need-returns
 returns c =
     let a = c .before .before .before .before .before .args in
@@ -21,15 +15,6 @@ returns c =
     (λ w. loose-one (graphOf (a .n) (now (a .bonds))) (graphOf (a .n) (now (a .whole))) (now (a .to)) (a .one) (a .two) (sym (c .before .is-outside .ensures) ∙ w .taken))
     (λ w. loose-two (graphOf (a .n) (now (a .bonds))) (graphOf (a .n) (now (a .whole))) (now (a .to)) (a .one) (a .two) (sym (c .before .is-outside .ensures) ∙ w .0 .left) (sym (w .1 .ensures) ∙ w .2 .taken))
     (c .if1 .came)
-
-partner-requires : tie.Need-partner-requires
-partner-requires c κs = search needs
-
-partner-requires-2 : tie.Need-partner-requires-2
-partner-requires-2 c κs = search needs
-
-is-bonded-requires : tie.Need-is-bonded-requires
-is-bonded-requires c κs = search needs
 
 returns-2 : tie.Need-returns-2
 returns-2 c =
@@ -39,12 +24,4 @@ returns-2 c =
 
 pub is-loose-spec : {M : Type 1} → statement M
 is-loose-spec =
-    tie.close
-    (tie.spec
-    is-outside-requires
-    is-outside-requires-2
-    returns
-    partner-requires
-    partner-requires-2
-    is-bonded-requires
-    returns-2)
+    tie.close (tie.spec (λ c κs. search needs) (λ c κs. search needs) returns (λ c κs. search needs) (λ c κs. search needs) (λ c κs. search needs) returns-2)

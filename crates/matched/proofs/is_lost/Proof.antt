@@ -9,15 +9,6 @@ use Rattle.matched.specs.Laws.{lost-none, lost-later}
 use Rattle.matched.proofs.is_lost.Statement.{statement}
 use Rattle.matched.proofs.is_lost.Tie as tie
 
-partner-requires : tie.Need-partner-requires
-partner-requires c κs = search needs
-
-sub-is-taken : tie.Need-sub-is-taken
-sub-is-taken c = search needs
-
-is-taken-requires : tie.Need-is-taken-requires
-is-taken-requires c κs = search needs
-
 returns : tie.Need-returns
 returns c = let a = c .before .before .before .args in eq-eqb (c .before .partner .result) 0 (omega (arith, c .if1 .taken)) ∙ lost-none (now (a .to)) (a .v) (omega (arith, c .before .partner .ensures, c .if1 .taken))
 
@@ -27,11 +18,4 @@ returns-2 c =
     lost-later (now (a .to)) (a .v) (c .before .before .partner .result) (c .is-taken .result) (c .before .before .partner .ensures) (λ e. omega (arith, c .before .if1 .left, e)) (c .is-taken .ensures)
 
 pub is-lost-spec : {M : Type 1} → statement M
-is-lost-spec =
-    tie.close
-    (tie.spec
-    partner-requires
-    sub-is-taken
-    is-taken-requires
-    returns
-    returns-2)
+is-lost-spec = tie.close (tie.spec (λ c κs. search needs) (λ c. search needs) (λ c κs. search needs) returns returns-2)

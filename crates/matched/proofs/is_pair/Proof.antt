@@ -11,8 +11,4 @@ returns-2 : tie.Need-returns-2
 returns-2 c = let a = c .before .args in rw (eq-eqb (a .one) (a .x) (omega (arith, c .if1 .left)))
 
 pub is-pair-spec : {M : Type 1} → statement M
-is-pair-spec =
-    tie.close
-    (tie.spec
-    returns
-    returns-2)
+is-pair-spec = tie.close (tie.spec returns returns-2)

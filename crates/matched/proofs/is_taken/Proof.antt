@@ -19,20 +19,11 @@ abbrev μ-loop : tie.MeasureT-loop
 loop-holds : tie.Need-loop-holds Inv-loop μ-loop
 loop-holds c = (omega arith, refl)
 
-partner-requires : tie.Need-partner-requires Inv-loop μ-loop
-partner-requires c κs = search needs
-
 returns : tie.Need-returns Inv-loop μ-loop
 returns c =
     let a = c .before .before .before .before .before .args in
     let l = c .before .before .before .loop in
     taken-hit (now (a .to)) (a .x) (l .u) (omega (arith, c .before .before .loop-test .taken)) (omega (arith, c .before .partner .ensures, c .if1 .taken)) ∙ l .inv .1
-
-sub-u : tie.Need-sub-u Inv-loop μ-loop
-sub-u c = search needs
-
-loop-less : tie.Need-loop-less Inv-loop μ-loop
-loop-less c = search needs
 
 loop-again : tie.Need-loop-again Inv-loop μ-loop
 loop-again c =
@@ -48,15 +39,4 @@ returns-2 c =
     taken-none (now (a .to)) (a .x) ∙ ap (λ (n : ℕ). isTaken (now (a .to)) n (a .x)) (sym e) ∙ l .inv .1
 
 pub is-taken-spec : {M : Type 1} → statement M
-is-taken-spec =
-    tie.close
-    (tie.spec
-    Inv-loop
-    μ-loop
-    loop-holds
-    partner-requires
-    returns
-    sub-u
-    loop-less
-    loop-again
-    returns-2)
+is-taken-spec = tie.close (tie.spec Inv-loop μ-loop loop-holds (λ c κs. search needs) returns (λ c. search needs) (λ c. search needs) loop-again returns-2)

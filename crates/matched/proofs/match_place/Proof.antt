@@ -11,14 +11,8 @@ use Rattle.matched.specs.Laws.{place-lost, place-loose, place-new}
 use Rattle.matched.proofs.match_place.Statement.{statement}
 use Rattle.matched.proofs.match_place.Tie as tie
 
-first-lost-requires : tie.Need-first-lost-requires
-first-lost-requires c κs = search needs
-
 returns : tie.Need-returns
 returns c = let a = c .before .before .before .before .before .args in place-lost (graphOf (a .n) (now (a .bonds))) (graphOf (a .n) (now (a .whole))) (now (a .to)) (c .before .first-lost .result) (c .before .first-lost .ensures) (λ e. omega (arith, c .if1 .taken, e))
-
-add-first-amiss : tie.Need-add-first-amiss
-add-first-amiss c = search needs
 
 first-amiss-requires : tie.Need-first-amiss-requires
 first-amiss-requires c κs = omega (arith, c .before .before .before .before .before .pre)
@@ -28,12 +22,6 @@ returns-2 c =
     let a = c .before .before .before .before .before .before .before .args in
     let z : c .before .before .before .first-lost .result ≡ 0 = omega (arith, c .before .before .if1 .left) in
     place-loose (graphOf (a .n) (now (a .bonds))) (graphOf (a .n) (now (a .whole))) (now (a .to)) (c .before .first-amiss .result) (sym (c .before .before .before .first-lost .ensures) ∙ z) (c .before .first-amiss .ensures) (λ e. omega (arith, c .if2 .taken, e))
-
-add-first-amiss-2 : tie.Need-add-first-amiss-2
-add-first-amiss-2 c = search needs
-
-add-first-amiss-3 : tie.Need-add-first-amiss-3
-add-first-amiss-3 c = search needs
 
 first-amiss-requires-2 : tie.Need-first-amiss-requires-2
 first-amiss-requires-2 c κs = omega (arith, c .before .before .before .before .before .before .before .pre)
@@ -47,14 +35,5 @@ returns-3 c =
 
 pub match-place-spec : {M : Type 1} → statement M
 match-place-spec =
-    tie.close
-    (tie.spec
-    first-lost-requires
-    returns
-    add-first-amiss
-    first-amiss-requires
-    returns-2
-    add-first-amiss-2
-    add-first-amiss-3
-    first-amiss-requires-2
-    returns-3)
+    tie.close (tie.spec (λ c κs. search needs) returns (λ c. search needs) first-amiss-requires returns-2 (λ c. search needs) (λ c. search needs)
+    first-amiss-requires-2 returns-3)

@@ -10,9 +10,6 @@ use Rattle.matched.specs.Matched.{placedNumber}
 use Rattle.matched.proofs.number_in.Statement.{statement}
 use Rattle.matched.proofs.number_in.Tie as tie
 
-is-missing-requires : tie.Need-is-missing-requires
-is-missing-requires c κs = search needs
-
 returns : tie.Need-returns
 unfolding placedNumber
 returns c = rw (sym (c .before .is-missing .ensures) ∙ c .if1 .taken)
@@ -22,23 +19,9 @@ sub-start-of c =
     let a = c .before .before .before .args in
     omega (arith, present (now (a .d)) (deckOf (a .deck)) (a .p) (a .a) (sym (c .before .is-missing .ensures) ∙ c .if1 .left) .number .low)
 
-start-of-requires : tie.Need-start-of-requires
-start-of-requires c κs = search needs
-
-add-result : tie.Need-add-result
-add-result c = search needs
-
 returns-2 : tie.Need-returns-2
 unfolding placedNumber
 returns-2 c = rw (sym (c .before .before .is-missing .ensures) ∙ c .before .if1 .left) (ap (λ (n : ℕ). n + c .before .before .before .before .args .a) (c .start-of .ensures .0))
 
 pub number-in-spec : {M : Type 1} → statement M
-number-in-spec =
-    tie.close
-    (tie.spec
-    is-missing-requires
-    returns
-    sub-start-of
-    start-of-requires
-    add-result
-    returns-2)
+number-in-spec = tie.close (tie.spec (λ c κs. search needs) returns sub-start-of (λ c κs. search needs) (λ c. search needs) returns-2)

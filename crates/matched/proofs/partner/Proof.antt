@@ -9,9 +9,6 @@ use Rattle.matched.specs.Laws.{partner-none, partner-some}
 use Rattle.matched.proofs.partner.Statement.{statement}
 use Rattle.matched.proofs.partner.Tie as tie
 
-is-outside-requires : tie.Need-is-outside-requires
-is-outside-requires c κs = search needs
-
 returns : tie.Need-returns
 returns c = let a = c .before .before .before .args in partner-none (now (a .to)) (a .v) (sym (c .before .is-outside .ensures) ∙ c .if1 .taken)
 
@@ -24,9 +21,6 @@ mul-wide-two c = let a = c .before .before .before .args in omega (arith, inside
 shared-slice-read-wide-two : tie.Need-shared-slice-read-wide-two
 shared-slice-read-wide-two c = let a = c .before .before .before .before .args in omega (arith, inside (length (now (a .to))) (a .v) (sym (c .before .before .is-outside .ensures) ∙ c .before .if1 .left))
 
-wide-two-requires : tie.Need-wide-two-requires
-wide-two-requires c κs = search needs
-
 returns-2 : tie.Need-returns-2
 returns-2 c =
     let a = c .before .before .before .before .before .args in
@@ -34,13 +28,4 @@ returns-2 c =
     partner-some (now (a .to)) (a .v) (c .wide-two .result) (w .low) (c .wide-two .ensures .0)
 
 pub partner-spec : {M : Type 1} → statement M
-partner-spec =
-    tie.close
-    (tie.spec
-    is-outside-requires
-    returns
-    sub-wide-two
-    mul-wide-two
-    shared-slice-read-wide-two
-    wide-two-requires
-    returns-2)
+partner-spec = tie.close (tie.spec (λ c κs. search needs) returns sub-wide-two mul-wide-two shared-slice-read-wide-two (λ c κs. search needs) returns-2)

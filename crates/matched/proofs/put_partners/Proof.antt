@@ -22,45 +22,12 @@ loop-holds : tie.Need-loop-holds Inv-loop μ-loop
 unfolding partners
 loop-holds c = (omega arith, refl, refl)
 
-mul-number-in : tie.Need-mul-number-in Inv-loop μ-loop
-mul-number-in c = search needs
-
-mul-number-in-2 : tie.Need-mul-number-in-2 Inv-loop μ-loop
-mul-number-in-2 c = search needs
-
-shared-slice-read-number-in : tie.Need-shared-slice-read-number-in Inv-loop μ-loop
-shared-slice-read-number-in c = search needs
-
-mul-number-in-3 : tie.Need-mul-number-in-3 Inv-loop μ-loop
-mul-number-in-3 c = search needs
-
-add-number-in : tie.Need-add-number-in Inv-loop μ-loop
-add-number-in c = search needs
-
-mul-number-in-4 : tie.Need-mul-number-in-4 Inv-loop μ-loop
-mul-number-in-4 c = search needs
-
-shared-slice-read-number-in-2 : tie.Need-shared-slice-read-number-in-2 Inv-loop μ-loop
-shared-slice-read-number-in-2 c = search needs
-
-number-in-requires : tie.Need-number-in-requires Inv-loop μ-loop
-number-in-requires c κs = search needs
-
 cast-to : tie.Need-cast-to Inv-loop μ-loop
 cast-to c =
     let s = c .before .before .before .before .before .before .before .before in
     let m = now (s .args .matching) in
     let i = c .before .before .before .before .loop .i in
     omega (arith, c .number-in .ensures, number-few (s .pre .0) (getD m (2 * i) 0) (getD m (2 * i + 1) 0))
-
-mul-to : tie.Need-mul-to Inv-loop μ-loop
-mul-to c = search needs
-
-slice-write-to : tie.Need-slice-write-to Inv-loop μ-loop
-slice-write-to c = search needs
-
-add-i : tie.Need-add-i Inv-loop μ-loop
-add-i c = search needs
 
 loop-less : tie.Need-loop-less Inv-loop μ-loop
 loop-less c = let l = c .before .before .before .before .loop in omega (arith, length-set (l .to) (l .i) (c .number-in .result), c .before .before .before .loop-test .taken)
@@ -89,24 +56,6 @@ returns c =
 
 pub put-partners-spec : {M : Type 1} → statement M
 put-partners-spec =
-    tie.close
-    (tie.spec
-    Inv-loop
-    μ-loop
-    loop-holds
-    mul-number-in
-    mul-number-in-2
-    shared-slice-read-number-in
-    mul-number-in-3
-    add-number-in
-    mul-number-in-4
-    shared-slice-read-number-in-2
-    number-in-requires
-    cast-to
-    mul-to
-    slice-write-to
-    add-i
-    loop-less
-    loop-again
-    same-length
-    returns)
+    tie.close (tie.spec Inv-loop μ-loop loop-holds (λ c. search needs) (λ c. search needs) (λ c. search needs) (λ c. search needs) (λ c. search needs)
+    (λ c. search needs) (λ c. search needs) (λ c κs. search needs) cast-to (λ c. search needs) (λ c. search needs) (λ c. search needs) loop-less loop-again
+    same-length returns)

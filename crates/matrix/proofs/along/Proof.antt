@@ -18,9 +18,6 @@ abbrev μ-loop : tie.MeasureT-loop
 loop-holds : tie.Need-loop-holds Inv-loop μ-loop
 loop-holds c = (omega arith, line-none _)
 
-element-copy-out-wide : tie.Need-element-copy-out-wide Inv-loop μ-loop
-element-copy-out-wide c = omega arith
-
 wide-requires : tie.Need-wide-requires Inv-loop μ-loop
 wide-requires c κs = tt
 
@@ -33,20 +30,11 @@ mul-odd c = omega (arith, odd-low (c .wide .result))
 add-odd : tie.Need-add-odd Inv-loop μ-loop
 add-odd c = let B = c .before .before .before .loop .inv .1 .low in omega (arith, odd-low (c .wide .result))
 
-cast-threes : tie.Need-cast-threes Inv-loop μ-loop
-cast-threes c = omega arith
-
 add-threes : tie.Need-add-threes Inv-loop μ-loop
 add-threes c = let B = c .before .before .before .loop .inv .1 .low in omega (arith, bit-low (eqb (c .wide .result) 3))
 
 larger-requires : tie.Need-larger-requires Inv-loop μ-loop
 larger-requires c κs = tt
-
-add-j : tie.Need-add-j Inv-loop μ-loop
-add-j c = omega arith
-
-loop-less : tie.Need-loop-less Inv-loop μ-loop
-loop-less c = omega arith
 
 loop-again : tie.Need-loop-again Inv-loop μ-loop
 loop-again c =
@@ -59,20 +47,5 @@ returns c = let e : c .before .loop .j ≡ c .before .before .args .k = omega ar
 
 pub along-spec : {M : Type 1} → statement M
 along-spec =
-    tie.close
-    (tie.spec
-    Inv-loop
-    μ-loop
-    loop-holds
-    element-copy-out-wide
-    wide-requires
-    add-all
-    mul-odd
-    add-odd
-    cast-threes
-    add-threes
-    larger-requires
-    add-j
-    loop-less
-    loop-again
-    returns)
+    tie.close (tie.spec Inv-loop μ-loop loop-holds (λ c. omega arith) wide-requires add-all mul-odd add-odd (λ c. omega arith) add-threes larger-requires
+    (λ c. omega arith) (λ c. omega arith) loop-again returns)

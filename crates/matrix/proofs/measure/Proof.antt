@@ -29,21 +29,6 @@ of : (n : ℕ) (xs : List ℕ) → blockReply n xs ≡ read tt → (rows : List 
 of n xs f rows x p q =
     ap measured.Of (q ∙ ap₂ matrixIndices p (all-atoms n xs f) ∙ matrix-is n xs f) ∙ sym (ap saidIndices (told-fine n xs f))
 
-check-requires : tie.Need-check-requires
-check-requires c κs = search needs
-
-enum-known-reply : tie.Need-enum-known-reply
-enum-known-reply c = search needs
-
-enum-told : tie.Need-enum-told
-enum-told c = search needs
-
-rows-requires : tie.Need-rows-requires
-rows-requires c κs = search needs
-
-sums-requires : tie.Need-sums-requires
-sums-requires c κs = search needs
-
 returns : tie.Need-returns
 returns c =
     let a = c .before .before .before .before .before .args in
@@ -57,12 +42,4 @@ returns-2 c =
 
 pub measure-spec : {M : Type 1} → statement M
 measure-spec =
-    tie.close
-    (tie.spec
-    check-requires
-    enum-known-reply
-    enum-told
-    rows-requires
-    sums-requires
-    returns
-    returns-2)
+    tie.close (tie.spec (λ c κs. search needs) (λ c. search needs) (λ c. search needs) (λ c κs. search needs) (λ c κs. search needs) returns returns-2)

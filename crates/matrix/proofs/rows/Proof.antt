@@ -19,32 +19,8 @@ Inv-loop n bonds far reply rows₀ deep₀ i₀ rows deep i =
 abbrev μ-loop : tie.MeasureT-loop
 μ-loop n bonds far reply rows₀ deep₀ i₀ rows deep i = mostAtoms - i
 
-check-requires : tie.Need-check-requires Inv-loop μ-loop
-check-requires c κs = search needs
-
 loop-holds : tie.Need-loop-holds Inv-loop μ-loop
 loop-holds c = (omega arith, fill-start, fill-start)
-
-add-row : tie.Need-add-row Inv-loop μ-loop
-add-row c = omega arith
-
-row-requires : tie.Need-row-requires Inv-loop μ-loop
-row-requires c κs = search needs
-
-mul-rows : tie.Need-mul-rows Inv-loop μ-loop
-mul-rows c = omega arith
-
-array-set-from-rows : tie.Need-array-set-from-rows Inv-loop μ-loop
-array-set-from-rows c = omega arith
-
-array-write-deep : tie.Need-array-write-deep Inv-loop μ-loop
-array-write-deep c = omega arith
-
-add-i : tie.Need-add-i Inv-loop μ-loop
-add-i c = omega arith
-
-loop-less : tie.Need-loop-less Inv-loop μ-loop
-loop-less c = omega arith
 
 loop-again : tie.Need-loop-again Inv-loop μ-loop
 loop-again c =
@@ -55,12 +31,6 @@ loop-again c =
       rw (add-one i) (fill-next _ i _ (omega arith) (l .inv .1) (ap (λ (x : OneRow). x .row) e)),
       rw (add-one i) (fill-next _ i _ (omega arith) (l .inv .2) (ap (λ (x : OneRow). x .largest) e)),
     )
-
-enum-told : tie.Need-enum-told Inv-loop μ-loop
-enum-told c = search needs
-
-enum-told-2 : tie.Need-enum-told-2 Inv-loop μ-loop
-enum-told-2 c = search needs
 
 -- what the loop has made
 made : (n : ℕ) (xs : List ℕ) (rows : List (List ℕ)) (deep : List ℕ) → Filled (λ k. saidRow (rowReply n xs (suc k)) .row) noRow [] rows mostAtoms
@@ -88,21 +58,5 @@ returns-2 c =
 
 pub rows-spec : {M : Type 1} → statement M
 rows-spec =
-    tie.close
-    (tie.spec
-    Inv-loop
-    μ-loop
-    check-requires
-    loop-holds
-    add-row
-    row-requires
-    mul-rows
-    array-set-from-rows
-    array-write-deep
-    add-i
-    loop-less
-    loop-again
-    enum-told
-    enum-told-2
-    returns
-    returns-2)
+    tie.close (tie.spec Inv-loop μ-loop (λ c κs. search needs) loop-holds (λ c. omega arith) (λ c κs. search needs) (λ c. omega arith) (λ c. omega arith)
+    (λ c. omega arith) (λ c. omega arith) (λ c. omega arith) loop-again (λ c. search needs) (λ c. search needs) returns returns-2)

@@ -20,15 +20,6 @@ within-requires c κs = tt
 loop-holds : tie.Need-loop-holds Inv-loop μ-loop
 loop-holds c = (omega arith, omega arith, up-none _)
 
-mul-row : tie.Need-mul-row Inv-loop μ-loop
-mul-row c = omega arith
-
-array-copy-out-row : tie.Need-array-copy-out-row Inv-loop μ-loop
-array-copy-out-row c = omega arith
-
-along-requires : tie.Need-along-requires Inv-loop μ-loop
-along-requires c κs = omega arith
-
 add-w : tie.Need-add-w Inv-loop μ-loop
 add-w c = let B = c .before .along .ensures .low in let S = c .before .before .before .before .before .loop .inv .2 .low in omega arith
 
@@ -40,12 +31,6 @@ add-threes c = let B = c .before .before .before .along .ensures .low in let S =
 
 larger-requires : tie.Need-larger-requires Inv-loop μ-loop
 larger-requires c κs = tt
-
-add-i : tie.Need-add-i Inv-loop μ-loop
-add-i c = omega arith
-
-loop-less : tie.Need-loop-less Inv-loop μ-loop
-loop-less c = omega arith
 
 loop-again : tie.Need-loop-again Inv-loop μ-loop
 loop-again c =
@@ -65,21 +50,5 @@ returns c =
 
 pub sums-spec : {M : Type 1} → statement M
 sums-spec =
-    tie.close
-    (tie.spec
-    Inv-loop
-    μ-loop
-    within-requires
-    loop-holds
-    mul-row
-    array-copy-out-row
-    along-requires
-    add-w
-    add-odd
-    add-threes
-    larger-requires
-    add-i
-    loop-less
-    loop-again
-    sub-t19
-    returns)
+    tie.close (tie.spec Inv-loop μ-loop within-requires loop-holds (λ c. omega arith) (λ c. omega arith) (λ c κs. omega arith) add-w add-odd add-threes
+    larger-requires (λ c. omega arith) (λ c. omega arith) loop-again sub-t19 returns)

@@ -16,20 +16,11 @@ use Rattle.measuring.proofs.counted.Tie as tie
 there : (c : tie.After-known-told2) → 2 * c .before .seen2 .given .0 .0 .bonds ≤ length (c .before .before .before .before .args .bytes .now)
 there c = c .before .before .before .before .pre _ (c .before .seen2 .given .1)
 
-enum-known-seen : tie.Need-enum-known-seen
-enum-known-seen c = search needs
-
-enum-known-seen-2 : tie.Need-enum-known-seen-2
-enum-known-seen-2 c = search needs
-
 mul-len : tie.Need-mul-len
 mul-len c = omega (arith, there (c .before))
 
 slice-aggregate-measure : tie.Need-slice-aggregate-measure
 slice-aggregate-measure c = sym (length-take-le _ _ (there (c .before .before)))
-
-measure-requires : tie.Need-measure-requires
-measure-requires c κs = search needs
 
 returns : tie.Need-returns
 returns c =
@@ -43,13 +34,4 @@ returns-2 c =
     c .measure .ensures ∙ ap (λ (s : CountsReply). saidIndices (countedReply (toldCounts s) (a .bytes .now))) (sym (k .before .seen2 .given .1))
 
 pub counted-spec : {M : Type 1} → statement M
-counted-spec =
-    tie.close
-    (tie.spec
-    enum-known-seen
-    enum-known-seen-2
-    mul-len
-    slice-aggregate-measure
-    measure-requires
-    returns
-    returns-2)
+counted-spec = tie.close (tie.spec (λ c. search needs) (λ c. search needs) mul-len slice-aggregate-measure (λ c κs. search needs) returns returns-2)

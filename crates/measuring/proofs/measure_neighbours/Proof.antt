@@ -10,15 +10,6 @@ use borrow.Author.Needs.{needs}
 use Rattle.measuring.proofs.measure_neighbours.Statement.{statement}
 use Rattle.measuring.proofs.measure_neighbours.Tie as tie
 
-slice-aggregate-read : tie.Need-slice-aggregate-read
-slice-aggregate-read c = search needs
-
-read-requires : tie.Need-read-requires
-read-requires c κs = search needs
-
-slice-aggregate-counted : tie.Need-slice-aggregate-counted
-slice-aggregate-counted c = search needs
-
 counted-requires : tie.Need-counted-requires
 counted-requires c κs =
     let m = c .before .before in
@@ -32,6 +23,4 @@ returns c =
     c .counted .ensures ∙ ap saidIndices (counted-is (neighboursReply d mostBytes) _ _ _ _ (m .read .ensures .0) (text-cut d (replicate mostBytes 0) _ refl (m .read .ensures .1)) ∙ text-is d)
 
 pub measure-neighbours-spec : {M : Type 1} → statement M
-measure-neighbours-spec =
-    tie.close
-    (tie.spec slice-aggregate-read read-requires slice-aggregate-counted counted-requires returns)
+measure-neighbours-spec = tie.close (tie.spec (λ c. search needs) (λ c κs. search needs) (λ c. search needs) counted-requires returns)

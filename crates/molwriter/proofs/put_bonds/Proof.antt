@@ -25,30 +25,6 @@ loop-holds c =
     let s = c .before .before in
     (omega arith, refl, refl, ([], as-word bonds-none none, refl))
 
-mul-put-bond : tie.Need-mul-put-bond Inv-loop μ-loop
-mul-put-bond c = search needs
-
-shared-slice-read-put-bond : tie.Need-shared-slice-read-put-bond Inv-loop μ-loop
-shared-slice-read-put-bond c = search needs
-
-mul-put-bond-2 : tie.Need-mul-put-bond-2 Inv-loop μ-loop
-mul-put-bond-2 c = search needs
-
-add-put-bond : tie.Need-add-put-bond Inv-loop μ-loop
-add-put-bond c = search needs
-
-shared-slice-read-put-bond-2 : tie.Need-shared-slice-read-put-bond-2 Inv-loop μ-loop
-shared-slice-read-put-bond-2 c = search needs
-
-put-bond-requires : tie.Need-put-bond-requires Inv-loop μ-loop
-put-bond-requires c κs = search needs
-
-add-k : tie.Need-add-k Inv-loop μ-loop
-add-k c = search needs
-
-loop-less : tie.Need-loop-less Inv-loop μ-loop
-loop-less c = search needs
-
 loop-again : tie.Need-loop-again Inv-loop μ-loop
 loop-again c =
     let p = c .before .before in
@@ -72,19 +48,5 @@ returns c =
 
 pub put-bonds-spec : {M : Type 1} → statement M
 put-bonds-spec =
-    tie.close
-    (tie.spec
-    Inv-loop
-    μ-loop
-    loop-holds
-    mul-put-bond
-    shared-slice-read-put-bond
-    mul-put-bond-2
-    add-put-bond
-    shared-slice-read-put-bond-2
-    put-bond-requires
-    add-k
-    loop-less
-    loop-again
-    same-length
-    returns)
+    tie.close (tie.spec Inv-loop μ-loop loop-holds (λ c. search needs) (λ c. search needs) (λ c. search needs) (λ c. search needs) (λ c. search needs)
+    (λ c κs. search needs) (λ c. search needs) (λ c. search needs) loop-again same-length returns)

@@ -8,27 +8,6 @@ use borrow.Author.Needs.{needs}
 use Rattle.molwriter.proofs.put_counts.Statement.{statement}
 use Rattle.molwriter.proofs.put_counts.Tie as tie
 
-slice-aggregate-put : tie.Need-slice-aggregate-put
-slice-aggregate-put c = search needs
-
-put-requires : tie.Need-put-requires
-put-requires c κs = search needs
-
-put-three-requires : tie.Need-put-three-requires
-put-three-requires c κs = search needs
-
-put-three-requires-2 : tie.Need-put-three-requires-2
-put-three-requires-2 c κs = search needs
-
-slice-aggregate-put-2 : tie.Need-slice-aggregate-put-2
-slice-aggregate-put-2 c = search needs
-
-put-requires-2 : tie.Need-put-requires-2
-put-requires-2 c κs = search needs
-
-same-length : tie.Need-same-length
-same-length c = search needs
-
 returns : tie.Need-returns
 returns c =
     let p4 = c .before .before in
@@ -40,13 +19,5 @@ returns c =
 
 pub put-counts-spec : {M : Type 1} → statement M
 put-counts-spec =
-    tie.close
-    (tie.spec
-    slice-aggregate-put
-    put-requires
-    put-three-requires
-    put-three-requires-2
-    slice-aggregate-put-2
-    put-requires-2
-    same-length
-    returns)
+    tie.close (tie.spec (λ c. search needs) (λ c κs. search needs) (λ c κs. search needs) (λ c κs. search needs) (λ c. search needs) (λ c κs. search needs)
+    (λ c. search needs) returns)

@@ -54,24 +54,6 @@ returns c =
     let e = write-short (a .n) (a .bonds .now) (length (a .out .now)) (s .pre) (no-room (a .n) (length (a .bonds .now) / 2) (long s) (c .if1 .taken)) in
     (sym (ap saidNumber e), sym (stays (molfileText (a .n) (bondsOf (a .bonds .now))) (a .out .now) e))
 
-put-counts-requires : tie.Need-put-counts-requires
-put-counts-requires c κs = search needs
-
-put-atoms-requires : tie.Need-put-atoms-requires
-put-atoms-requires c κs = search needs
-
-put-bonds-requires : tie.Need-put-bonds-requires
-put-bonds-requires c κs = search needs
-
-slice-aggregate-put : tie.Need-slice-aggregate-put
-slice-aggregate-put c = search needs
-
-put-requires : tie.Need-put-requires
-put-requires c κs = search needs
-
-same-length : tie.Need-same-length
-same-length c = search needs
-
 returns-2 : tie.Need-returns-2
 unfolding pieces
 returns-2 c =
@@ -91,17 +73,5 @@ returns-2 c =
 
 pub written-spec : {M : Type 1} → statement M
 written-spec =
-    tie.close
-    (tie.spec
-    mul-if1
-    add-if1
-    mul-if1-2
-    add-if1-2
-    returns
-    put-counts-requires
-    put-atoms-requires
-    put-bonds-requires
-    slice-aggregate-put
-    put-requires
-    same-length
-    returns-2)
+    tie.close (tie.spec mul-if1 add-if1 mul-if1-2 add-if1-2 returns (λ c κs. search needs) (λ c κs. search needs) (λ c κs. search needs) (λ c. search needs)
+    (λ c κs. search needs) (λ c. search needs) returns-2)

@@ -9,26 +9,17 @@ use borrow.Author.Needs.{needs}
 use Rattle.neighbours.proofs.block_of.Statement.{statement}
 use Rattle.neighbours.proofs.block_of.Tie as tie
 
-refused-requires : tie.Need-refused-requires
-refused-requires c κs = search needs
-
 returns : tie.Need-returns
 returns c =
     let a = c .before .before .before .before .args in
     let e = too-few (a .n) (stepsAt 0 (a .text .now) (a .at)) (length (a .out .now)) (c .before .if1 .taken) in
     (c .refused .ensures ∙ sym (ap saidMolecule e), stays (a .out .now) e)
 
-refused-requires-2 : tie.Need-refused-requires-2
-refused-requires-2 c κs = search needs
-
 returns-2 : tie.Need-returns-2
 returns-2 c =
     let a = c .before .before .before .before .before .args in
     let e = too-many (a .n) (stepsAt 0 (a .text .now) (a .at)) (length (a .out .now)) (c .before .if2 .taken) in
     (c .refused2 .ensures ∙ sym (ap saidMolecule e), stays (a .out .now) e)
-
-refused-requires-3 : tie.Need-refused-requires-3
-refused-requires-3 c κs = search needs
 
 returns-3 : tie.Need-returns-3
 returns-3 c =
@@ -39,11 +30,7 @@ returns-3 c =
 bonds-of-requires : tie.Need-bonds-of-requires
 bonds-of-requires c κs = (c .before .before .before .before .before .before .pre .0, record { low = c .before .before .before .if1 .left; high = c .before .before .if2 .left; short = omega (arith, c .before .if3 .left, c .before .before .before .before .before .before .pre .1) })
 
-same-length : tie.Need-same-length
-same-length c = search needs
-
-returns-4 : tie.Need-returns-4
-returns-4 c = search needs
-
 pub block-of-spec : {M : Type 1} → statement M
-block-of-spec = tie.close (tie.spec refused-requires returns refused-requires-2 returns-2 refused-requires-3 returns-3 bonds-of-requires same-length returns-4)
+block-of-spec =
+    tie.close (tie.spec (λ c κs. search needs) returns (λ c κs. search needs) returns-2 (λ c κs. search needs) returns-3 bonds-of-requires (λ c. search needs)
+    (λ c. search needs))

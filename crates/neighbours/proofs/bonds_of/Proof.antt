@@ -10,9 +10,6 @@ use borrow.Author.Needs.{needs}
 use Rattle.neighbours.proofs.bonds_of.Statement.{statement}
 use Rattle.neighbours.proofs.bonds_of.Tie as tie
 
-slice-aggregate-fill : tie.Need-slice-aggregate-fill
-slice-aggregate-fill c = search needs
-
 fill-requires : tie.Need-fill-requires
 fill-requires c κs = (c .before .before .before .pre .0, fits _ _ 0 (c .before .before .before .pre .1))
 
@@ -29,9 +26,6 @@ slice-aggregate-kept c = sym (rw (bytes-are (c .before .before)) (bytes-length _
 kept-requires : tie.Need-kept-requires
 kept-requires c κs = rw (bytes-are (c .before .before .before)) (in-size _ _ 0 (c .before .before .before .before .before .before .before .pre .1))
 
-same-length : tie.Need-same-length
-same-length c = search needs
-
 returns : tie.Need-returns
 returns c =
     let f = c .before .before .before .before .before .before in
@@ -40,4 +34,4 @@ returns c =
     (c .before .before .kept .ensures .0 ∙ ap saidMolecule e, c .before .before .kept .ensures .1 ∙ rw e)
 
 pub bonds-of-spec : {M : Type 1} → statement M
-bonds-of-spec = tie.close (tie.spec slice-aggregate-fill fill-requires array-share-prefix-bytes slice-aggregate-kept kept-requires same-length returns)
+bonds-of-spec = tie.close (tie.spec (λ c. search needs) fill-requires array-share-prefix-bytes slice-aggregate-kept kept-requires (λ c. search needs) returns)

@@ -16,12 +16,6 @@ returns c =
     let e = given-short (a .bytes .now) (length (a .out .now)) (omega (arith, c .if1 .taken)) in
     (sym (ap saidNeighboursWritten e), text-stays (a .out .now) e)
 
-put-requires : tie.Need-put-requires
-put-requires c κs = search needs
-
-same-length : tie.Need-same-length
-same-length c = search needs
-
 returns-2 : tie.Need-returns-2
 returns-2 c =
     let a = c .before .before .before .before .before .before .before .args in
@@ -30,4 +24,4 @@ returns-2 c =
     (sym (ap saidNeighboursWritten e), text-put (a .out .now) e (at-front (c .before .before .put .ensures) h .1))
 
 pub given-spec : {M : Type 1} → statement M
-given-spec = tie.close (tie.spec returns put-requires same-length returns-2)
+given-spec = tie.close (tie.spec returns (λ c κs. search needs) (λ c. search needs) returns-2)

@@ -12,18 +12,6 @@ use borrow.Author.Needs.{needs}
 use Rattle.neighbours.proofs.kept.Statement.{statement}
 use Rattle.neighbours.proofs.kept.Tie as tie
 
-judged-requires : tie.Need-judged-requires
-judged-requires c κs = search needs
-
-enum-known-reply : tie.Need-enum-known-reply
-enum-known-reply c = search needs
-
-enum-told : tie.Need-enum-told
-enum-told c = search needs
-
-refused-requires : tie.Need-refused-requires
-refused-requires c κs = search needs
-
 returns : tie.Need-returns
 returns c =
     let a = c .before .before .before .before .before .before .before .args in
@@ -31,17 +19,11 @@ returns c =
     let e = kept-short (a .n) (a .bonds .now) (a .high) (length (a .out .now)) j (omega (arith, c .before .if1 .taken)) in
     (c .refused .ensures ∙ sym (ap saidMolecule e), stays (a .out .now) e)
 
-put-requires : tie.Need-put-requires
-put-requires c κs = search needs
-
 returns-2 : tie.Need-returns-2
 returns-2 c =
     let a = c .before .before .before .before .before .before .args in
     let e = kept-bad (a .n) (a .bonds .now) (a .high) (length (a .out .now)) _ (said-refused _ _ (sym (c .before .reply .given .1) ∙ c .before .before .before .judged .ensures)) in
     (sym (ap saidMolecule e), stays (a .out .now) e)
-
-same-length : tie.Need-same-length
-same-length c = search needs
 
 returns-3 : tie.Need-returns-3
 returns-3 c =
@@ -53,4 +35,6 @@ returns-3 c =
     (ap (λ (k : ℕ). Of (record { atoms = a .n; bonds = k })) (half (a .n) (a .bonds .now) s) ∙ sym (ap saidMolecule e), put-in (a .n) (a .bonds .now) s (a .out .now) e (at-front (c .before .before .put .ensures) h .1))
 
 pub kept-spec : {M : Type 1} → statement M
-kept-spec = tie.close (tie.spec judged-requires enum-known-reply enum-told refused-requires returns put-requires returns-2 same-length returns-3)
+kept-spec =
+    tie.close (tie.spec (λ c κs. search needs) (λ c. search needs) (λ c. search needs) (λ c κs. search needs) returns (λ c κs. search needs) returns-2
+    (λ c. search needs) returns-3)

@@ -10,24 +10,12 @@ use borrow.Author.Needs.{needs}
 use Rattle.neighbours.proofs.read.Statement.{statement}
 use Rattle.neighbours.proofs.read.Tie as tie
 
-fault-requires : tie.Need-fault-requires
-fault-requires c κs = search needs
-
-refused-requires : tie.Need-refused-requires
-refused-requires c κs = search needs
-
 returns : tie.Need-returns
 returns c =
     let a = c .before .before .before .before .before .args in
     let f = c .before .before .fault .ensures in
     let e = reply-fault (a .text .now) (length (a .out .now)) (omega (arith, f, c .before .if1 .taken)) in
     (c .refused .ensures ∙ rw f (sym (ap saidMolecule e)), stays (a .out .now) e)
-
-number-requires : tie.Need-number-requires
-number-requires c κs = search needs
-
-refused-requires-2 : tie.Need-refused-requires-2
-refused-requires-2 c κs = search needs
 
 returns-2 : tie.Need-returns-2
 returns-2 c =
@@ -37,12 +25,6 @@ returns-2 c =
 
 shape-requires : tie.Need-shape-requires
 shape-requires c κs = c .before .before .number .ensures .here (c .if2 .left) .within
-
-enum-known-shape : tie.Need-enum-known-shape
-enum-known-shape c = search needs
-
-enum-known-shape-2 : tie.Need-enum-known-shape-2
-enum-known-shape-2 c = search needs
 
 block-of-requires : tie.Need-block-of-requires
 block-of-requires c κs =
@@ -58,9 +40,6 @@ returns-3 c =
     let e = reply-shape (a .text .now) (length (a .out .now)) (omega (arith, c .before .before .before .before .before .before .before .before .fault .ensures, c .before .before .before .before .before .before .before .if1 .left)) _ _ _ (x .same) _ j in
     (sym (ap saidMolecule e), stays (a .out .now) e)
 
-same-length : tie.Need-same-length
-same-length c = search needs
-
 returns-4 : tie.Need-returns-4
 returns-4 c =
     let a = c .before .before .before .before .before .before .before .before .before .before .before .before .before .before .before .args in
@@ -71,18 +50,5 @@ returns-4 c =
 
 pub read-spec : {M : Type 1} → statement M
 read-spec =
-    tie.close
-    (tie.spec
-    fault-requires
-    refused-requires
-    returns
-    number-requires
-    refused-requires-2
-    returns-2
-    shape-requires
-    enum-known-shape
-    enum-known-shape-2
-    block-of-requires
-    returns-3
-    same-length
-    returns-4)
+    tie.close (tie.spec (λ c κs. search needs) (λ c κs. search needs) returns (λ c κs. search needs) (λ c κs. search needs) returns-2 shape-requires
+    (λ c. search needs) (λ c. search needs) block-of-requires returns-3 (λ c. search needs) returns-4)

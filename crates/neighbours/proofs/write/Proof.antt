@@ -9,15 +9,6 @@ use borrow.Author.Needs.{needs}
 use Rattle.neighbours.proofs.write.Statement.{statement}
 use Rattle.neighbours.proofs.write.Tie as tie
 
-neighbours-requires : tie.Need-neighbours-requires
-neighbours-requires c κs = search needs
-
-enum-known-reply : tie.Need-enum-known-reply
-enum-known-reply c = search needs
-
-enum-told : tie.Need-enum-told
-enum-told c = search needs
-
 write-fine-requires : tie.Need-write-fine-requires
 write-fine-requires c κs =
     let a = c .before .before .before .before .before .before .before .before .args in
@@ -31,9 +22,6 @@ returns c =
     let w = write-refused (a .n) (a .bonds .now) (length (a .out .now)) _ e in
     (sym (ap saidNeighboursWritten w), text-stays (a .out .now) w)
 
-same-length : tie.Need-same-length
-same-length c = search needs
-
 returns-2 : tie.Need-returns-2
 returns-2 c =
     let a = c .before .before .before .before .before .before .before .before .before .before .before .args in
@@ -42,4 +30,4 @@ returns-2 c =
     (c .before .before .write-fine .ensures .0 ∙ sym (ap saidNeighboursWritten e), c .before .before .write-fine .ensures .1 ∙ rw e)
 
 pub write-spec : {M : Type 1} → statement M
-write-spec = tie.close (tie.spec neighbours-requires enum-known-reply enum-told write-fine-requires returns same-length returns-2)
+write-spec = tie.close (tie.spec (λ c κs. search needs) (λ c. search needs) (λ c. search needs) write-fine-requires returns (λ c. search needs) returns-2)

@@ -10,9 +10,6 @@ use borrow.Author.Needs.{needs}
 use Rattle.neighbours.proofs.write_fine.Statement.{statement}
 use Rattle.neighbours.proofs.write_fine.Tie as tie
 
-slice-aggregate-text : tie.Need-slice-aggregate-text
-slice-aggregate-text c = search needs
-
 text-requires : tie.Need-text-requires
 text-requires c κs = c .before .before .pre .0
 
@@ -26,14 +23,9 @@ array-share-prefix-bytes c = front (c .before) .0
 slice-aggregate-given : tie.Need-slice-aggregate-given
 slice-aggregate-given c = sym (length-take-le (c .before .before .text .result) (c .before .before .text .last .0) (front (c .before .before) .0))
 
-given-requires : tie.Need-given-requires
-given-requires c κs = search needs
-
-same-length : tie.Need-same-length
-same-length c = search needs
-
 returns : tie.Need-returns
 returns c = let f = sym (front (c .before .before .before .before .before .before) .1) in (c .before .before .given .ensures .0 ∙ rw f, c .before .before .given .ensures .1 ∙ rw f)
 
 pub write-fine-spec : {M : Type 1} → statement M
-write-fine-spec = tie.close (tie.spec slice-aggregate-text text-requires array-share-prefix-bytes slice-aggregate-given given-requires same-length returns)
+write-fine-spec =
+    tie.close (tie.spec (λ c. search needs) text-requires array-share-prefix-bytes slice-aggregate-given (λ c κs. search needs) (λ c. search needs) returns)

@@ -11,20 +11,8 @@ use borrow.Author.Needs.{needs}
 use Rattle.placing.proofs.put_row.Statement.{statement}
 use Rattle.placing.proofs.put_row.Tie as tie
 
-fewer-requires : tie.Need-fewer-requires
-fewer-requires c κs = search needs
-
-many-come-requires : tie.Need-many-come-requires
-many-come-requires c κs = search needs
-
-in-order-requires : tie.Need-in-order-requires
-in-order-requires c κs = search needs
-
 put-in-parts-requires : tie.Need-put-in-parts-requires
 put-in-parts-requires c κs = ((omega arith, omega (arith, c .before .before .before .before .before .before .before .fewer .ensures)), c .before .before .in-order .ensures (c .before .if2 .taken))
-
-same-length : tie.Need-same-length
-same-length c = search needs
 
 returns : tie.Need-returns
 returns c =
@@ -33,12 +21,6 @@ returns c =
     let e = all-said (a .greatest) come (a .entries .now) (a .held) (c .before .before .before .before .before .before .before .before .before .before .fewer .result) (c .before .before .before .before .before .before .before .before .before .before .fewer .ensures) in
     let p = c .before .before .put-in-parts .ensures in
     (p .0 ∙ ap length e, p .1 ∙ ap (λ (l : List Entry). laid l (a .entries .now)) e)
-
-put-each-requires : tie.Need-put-each-requires
-put-each-requires c κs = search needs
-
-same-length-2 : tie.Need-same-length-2
-same-length-2 c = search needs
 
 returns-2 : tie.Need-returns-2
 returns-2 c =
@@ -53,14 +35,5 @@ returns-2 c =
 
 pub put-row-spec : {M : Type 1} → statement M
 put-row-spec =
-    tie.close
-    (tie.spec
-    fewer-requires
-    many-come-requires
-    in-order-requires
-    put-in-parts-requires
-    same-length
-    returns
-    put-each-requires
-    same-length-2
-    returns-2)
+    tie.close (tie.spec (λ c κs. search needs) (λ c κs. search needs) (λ c κs. search needs) put-in-parts-requires (λ c. search needs) returns
+    (λ c κs. search needs) (λ c. search needs) returns-2)

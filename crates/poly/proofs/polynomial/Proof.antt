@@ -6,18 +6,6 @@ use Rattle.poly.proofs.Pairs.{refused-reply, fine-reply}
 use Rattle.poly.proofs.polynomial.Statement.{statement}
 use Rattle.poly.proofs.polynomial.Tie as tie
 
-pair-counts-requires : tie.Need-pair-counts-requires
-pair-counts-requires c κs = search needs
-
-enum-known-reply : tie.Need-enum-known-reply
-enum-known-reply c = search needs
-
-enum-told : tie.Need-enum-told
-enum-told c = search needs
-
-values-of-requires : tie.Need-values-of-requires
-values-of-requires c κs = search needs
-
 returns : tie.Need-returns
 returns c =
     let pairs = c .before .before .before .before .pair-counts in
@@ -32,6 +20,4 @@ returns-2 c =
     c .values-of .ensures ∙ fine-reply (a .n) (now (a .bonds)) (a .x) (pairs .result) (pairs .ensures) (c .before .enum-told .given .1)
 
 pub polynomial-spec : {M : Type 1} → statement M
-polynomial-spec =
-    tie.close
-    (tie.spec pair-counts-requires enum-known-reply enum-told values-of-requires returns returns-2)
+polynomial-spec = tie.close (tie.spec (λ c κs. search needs) (λ c. search needs) (λ c. search needs) (λ c κs. search needs) returns returns-2)

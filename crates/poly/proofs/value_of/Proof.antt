@@ -48,20 +48,8 @@ loop-holds : tie.Need-loop-holds Inv-loop μ-loop
 unfolding ofBits value
 loop-holds c = (lit≤ tt, refl)
 
-mul-v : tie.Need-mul-v Inv-loop μ-loop
-mul-v c = search needs
-
-array-read-v : tie.Need-array-read-v Inv-loop μ-loop
-array-read-v c = search needs
-
 int-to-float-v : tie.Need-int-to-float-v Inv-loop μ-loop
 int-to-float-v c = tt
-
-sub-k : tie.Need-sub-k Inv-loop μ-loop
-sub-k c = search needs
-
-loop-less : tie.Need-loop-less Inv-loop μ-loop
-loop-less c = search needs
 
 loop-again : tie.Need-loop-again Inv-loop μ-loop
 loop-again c =
@@ -83,15 +71,5 @@ returns c = sym (done _ _ _ _ (c .loop-test .left)) ∙ c .before .loop .inv .1
 
 pub value-of-spec : {M : Type 1} → statement M
 value-of-spec =
-    tie.close
-    (tie.spec
-    Inv-loop
-    μ-loop
-    loop-holds
-    mul-v
-    array-read-v
-    int-to-float-v
-    sub-k
-    loop-less
-    loop-again
+    tie.close (tie.spec Inv-loop μ-loop loop-holds (λ c. search needs) (λ c. search needs) int-to-float-v (λ c. search needs) (λ c. search needs) loop-again
     returns)

@@ -17,12 +17,6 @@ chosen : (n : ℕ → ℕ) (x : Float) (a b : Bool) → lt zeroF x ≡ a → le 
 unfolding polynomialAt
 chosen n x a b p q = rw (two-tests x, p, q)
 
-value-of-requires : tie.Need-value-of-requires
-value-of-requires c κs = search needs
-
-value-of-requires-2 : tie.Need-value-of-requires-2
-value-of-requires-2 c κs = search needs
-
 returns : tie.Need-returns
 unfolding ofBits polynomialValues
 returns c =
@@ -40,5 +34,4 @@ unfolding ofBits
 returns-3 c = let start = c .before in chosen (pairsCounted (start .args .counts)) (start .args .x) false (le (start .args .x) oneF) (c .if1 .left) refl
 
 pub values-of-spec : {M : Type 1} → statement M
-values-of-spec =
-    tie.close (tie.spec value-of-requires value-of-requires-2 returns returns-2 returns-3)
+values-of-spec = tie.close (tie.spec (λ c κs. search needs) (λ c κs. search needs) returns returns-2 returns-3)

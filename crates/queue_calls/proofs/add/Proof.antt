@@ -8,18 +8,6 @@ use Rattle.queue_calls.proofs.QueueReplies.{queue-coded}
 use Rattle.queue_calls.proofs.add.Statement.{statement}
 use Rattle.queue_calls.proofs.add.Tie as tie
 
-queue-for-requires : tie.Need-queue-for-requires
-queue-for-requires c κs = search needs
-
-add-requires : tie.Need-add-requires
-add-requires c κs = search needs
-
-reply-code-requires : tie.Need-reply-code-requires
-reply-code-requires c κs = search needs
-
-same-length : tie.Need-same-length
-same-length c = search needs
-
 returns : tie.Need-returns
 returns c =
     let d = c .before .before .before in
@@ -29,5 +17,4 @@ returns c =
     (d .add .result) (f .queue-for .result) (queueFor (a .queue)) _ (f .queue-for .ensures) (c .reply-code .ensures) (d .add .ensures)
 
 pub add-spec : {M : Type 1} → statement M
-add-spec =
-    tie.close (tie.spec queue-for-requires add-requires reply-code-requires same-length returns)
+add-spec = tie.close (tie.spec (λ c κs. search needs) (λ c κs. search needs) (λ c κs. search needs) (λ c. search needs) returns)

@@ -11,21 +11,6 @@ use Rattle.queue_calls.proofs.QueueReplies.{sheet-coded}
 use Rattle.queue_calls.proofs.compose.Statement.{statement}
 use Rattle.queue_calls.proofs.compose.Tie as tie
 
-queue-for-requires : tie.Need-queue-for-requires
-queue-for-requires c κs = search needs
-
-sheet-for-requires : tie.Need-sheet-for-requires
-sheet-for-requires c κs = search needs
-
-compose-requires : tie.Need-compose-requires
-compose-requires c κs = search needs
-
-written-code-requires : tie.Need-written-code-requires
-written-code-requires c κs = search needs
-
-same-length : tie.Need-same-length
-same-length c = search needs
-
 returns : tie.Need-returns
 returns c =
     let w = c .before .before .before in
@@ -37,12 +22,4 @@ returns c =
     (q .queue-for .ensures) (s .sheet-for .ensures) (c .written-code .ensures) (w .compose .ensures)
 
 pub compose-spec : {M : Type 1} → statement M
-compose-spec =
-    tie.close
-    (tie.spec
-    queue-for-requires
-    sheet-for-requires
-    compose-requires
-    written-code-requires
-    same-length
-    returns)
+compose-spec = tie.close (tie.spec (λ c κs. search needs) (λ c κs. search needs) (λ c κs. search needs) (λ c κs. search needs) (λ c. search needs) returns)

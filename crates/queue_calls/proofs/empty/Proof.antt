@@ -8,15 +8,6 @@ use Rattle.calls.proofs.Laws.{reply-coded}
 use Rattle.queue_calls.proofs.empty.Statement.{statement}
 use Rattle.queue_calls.proofs.empty.Tie as tie
 
-empty-requires : tie.Need-empty-requires
-empty-requires c κs = search needs
-
-reply-code-requires : tie.Need-reply-code-requires
-reply-code-requires c κs = search needs
-
-same-length : tie.Need-same-length
-same-length c = search needs
-
 returns : tie.Need-returns
 returns c =
     let e = c .before .before .before in
@@ -24,5 +15,4 @@ returns c =
     (c .reply-code .ensures ∙ reply-coded (e .empty .result) (tableReply summaryBytes (now (a .table))) (e .empty .ensures .0), e .empty .ensures .1)
 
 pub empty-spec : {M : Type 1} → statement M
-empty-spec =
-    tie.close (tie.spec empty-requires reply-code-requires same-length returns)
+empty-spec = tie.close (tie.spec (λ c κs. search needs) (λ c κs. search needs) (λ c. search needs) returns)

@@ -11,18 +11,6 @@ use Rattle.calls.proofs.Blocks.{lent-fields}
 use Rattle.queue_calls.proofs.look.Statement.{statement}
 use Rattle.queue_calls.proofs.look.Tie as tie
 
-queue-for-requires : tie.Need-queue-for-requires
-queue-for-requires c κs = search needs
-
-look-requires : tie.Need-look-requires
-look-requires c κs = search needs
-
-give-indices-requires : tie.Need-give-indices-requires
-give-indices-requires c κs = search needs
-
-same-length : tie.Need-same-length
-same-length c = search needs
-
 returns : tie.Need-returns
 returns c =
     let m = c .before .before .before .before in
@@ -30,4 +18,4 @@ returns c =
     lent-fields Six _ (lookTold (now (a .table)) (queueFor (a .queue)) (a .number)) (m .look .ensures ∙ ap (λ (q : Queue). saidIndices (lookTold (now (a .table)) q (a .number))) (m .before .queue-for .ensures)) (c .before .before .give-indices .ensures)
 
 pub look-spec : {M : Type 1} → statement M
-look-spec = tie.close (tie.spec queue-for-requires look-requires give-indices-requires same-length returns)
+look-spec = tie.close (tie.spec (λ c κs. search needs) (λ c κs. search needs) (λ c κs. search needs) (λ c. search needs) returns)

@@ -14,35 +14,11 @@ use borrow.Author.Needs.{needs}
 use Rattle.queues.proofs.add.Statement.{statement}
 use Rattle.queues.proofs.add.Tie as tie
 
-refused-requires : tie.Need-refused-requires
-refused-requires c κs = search needs
-
 returns : tie.Need-returns
 returns c =
     let a = c .before .before .before .before .args in
     let l = c .before .if1 .taken in
     (c .refused .ensures ∙ sym (ap saidReply (short-reply (a .table .now) (addReply summaryBytes (shelf summaryBytes (a .queue) (a .table .now)) (a .number) (blockReply (a .n) (a .bonds .now))) l)), short-after (a .table .now) (a .queue) (added summaryBytes (shelf summaryBytes (a .queue) (a .table .now)) (a .number) (blockReply (a .n) (a .bonds .now)) (storedBlock (a .number) (a .n) (a .bonds .now))) l)
-
-start-of-requires : tie.Need-start-of-requires
-start-of-requires c κs = search needs
-
-add-end : tie.Need-add-end
-add-end c = omega arith
-
-sub-add-to : tie.Need-sub-add-to
-sub-add-to c = search needs
-
-part-add-to-start : tie.Need-part-add-to-start
-part-add-to-start c = search needs
-
-part-add-to-end : tie.Need-part-add-to-end
-part-add-to-end c = omega arith
-
-add-to-requires : tie.Need-add-to-requires
-add-to-requires c κs = search needs
-
-same-length : tie.Need-same-length
-same-length c = search needs
 
 returns-2 : tie.Need-returns-2
 returns-2 c =
@@ -56,15 +32,5 @@ returns-2 c =
 
 pub add-spec : {M : Type 1} → statement M
 add-spec =
-    tie.close
-    (tie.spec
-    refused-requires
-    returns
-    start-of-requires
-    add-end
-    sub-add-to
-    part-add-to-start
-    part-add-to-end
-    add-to-requires
-    same-length
-    returns-2)
+    tie.close (tie.spec (λ c κs. search needs) returns (λ c κs. search needs) (λ c. omega arith) (λ c. search needs) (λ c. search needs) (λ c. omega arith)
+    (λ c κs. search needs) (λ c. search needs) returns-2)

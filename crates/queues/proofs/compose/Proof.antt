@@ -15,24 +15,6 @@ use Rattle.queues.proofs.compose.Tie as tie
 returns : tie.Need-returns
 returns c = let a = c .before .before .before .args in sym (ap saidIndices (short-reply (a .table .now) (composedReply (shelf summaryBytes (a .queue) (a .table .now)) (a .xs .now)) (c .if1 .taken)))
 
-start-of-requires : tie.Need-start-of-requires
-start-of-requires c κs = search needs
-
-add-end : tie.Need-add-end
-add-end c = search needs
-
-sub-compose : tie.Need-sub-compose
-sub-compose c = search needs
-
-part-compose-start : tie.Need-part-compose-start
-part-compose-start c = search needs
-
-part-compose-end : tie.Need-part-compose-end
-part-compose-end c = search needs
-
-compose-requires : tie.Need-compose-requires
-compose-requires c κs = search needs
-
 returns-2 : tie.Need-returns-2
 returns-2 c =
     let a = c .before .before .before .before .before .before .args in
@@ -42,13 +24,5 @@ returns-2 c =
 
 pub compose-spec : {M : Type 1} → statement M
 compose-spec =
-    tie.close
-    (tie.spec
-    returns
-    start-of-requires
-    add-end
-    sub-compose
-    part-compose-start
-    part-compose-end
-    compose-requires
+    tie.close (tie.spec returns (λ c κs. search needs) (λ c. search needs) (λ c. search needs) (λ c. search needs) (λ c. search needs) (λ c κs. search needs)
     returns-2)

@@ -12,35 +12,11 @@ use borrow.Author.Needs.{needs}
 use Rattle.queues.proofs.drop.Statement.{statement}
 use Rattle.queues.proofs.drop.Tie as tie
 
-refused-requires : tie.Need-refused-requires
-refused-requires c κs = search needs
-
 returns : tie.Need-returns
 returns c =
     let a = c .before .before .before .args in
     let l = c .before .if1 .taken in
     (c .refused .ensures ∙ sym (ap saidReply (short-reply (a .table .now) (dropReply summaryBytes (shelf summaryBytes (a .queue) (a .table .now)) (a .number)) l)), short-after (a .table .now) (a .queue) (dropped summaryBytes (shelf summaryBytes (a .queue) (a .table .now)) (a .number)) l)
-
-start-of-requires : tie.Need-start-of-requires
-start-of-requires c κs = search needs
-
-add-end : tie.Need-add-end
-add-end c = omega arith
-
-sub-drop-from : tie.Need-sub-drop-from
-sub-drop-from c = search needs
-
-part-drop-from-start : tie.Need-part-drop-from-start
-part-drop-from-start c = search needs
-
-part-drop-from-end : tie.Need-part-drop-from-end
-part-drop-from-end c = omega arith
-
-drop-from-requires : tie.Need-drop-from-requires
-drop-from-requires c κs = search needs
-
-same-length : tie.Need-same-length
-same-length c = search needs
 
 returns-2 : tie.Need-returns-2
 returns-2 c =
@@ -54,15 +30,5 @@ returns-2 c =
 
 pub drop-spec : {M : Type 1} → statement M
 drop-spec =
-    tie.close
-    (tie.spec
-    refused-requires
-    returns
-    start-of-requires
-    add-end
-    sub-drop-from
-    part-drop-from-start
-    part-drop-from-end
-    drop-from-requires
-    same-length
-    returns-2)
+    tie.close (tie.spec (λ c κs. search needs) returns (λ c κs. search needs) (λ c. omega arith) (λ c. search needs) (λ c. search needs) (λ c. omega arith)
+    (λ c κs. search needs) (λ c. search needs) returns-2)

@@ -7,20 +7,11 @@ use borrow.Author.Needs.{needs}
 use Rattle.queues.proofs.empty.Statement.{statement}
 use Rattle.queues.proofs.empty.Tie as tie
 
-refused-requires : tie.Need-refused-requires
-refused-requires c κs = search needs
-
 returns : tie.Need-returns
 returns c =
     let a = c .before .before .before .args in
     let l = c .before .if1 .taken in
     (c .refused .ensures ∙ sym (ap saidReply (short-table (a .table .now) l)), short-empty (a .table .now) l)
-
-clear-requires : tie.Need-clear-requires
-clear-requires c κs = search needs
-
-same-length : tie.Need-same-length
-same-length c = search needs
 
 returns-2 : tie.Need-returns-2
 returns-2 c =
@@ -29,4 +20,4 @@ returns-2 c =
     (sym (ap saidReply (long-table (a .table .now) (omega (arith, l)))), c .before .before .clear .ensures ∙ sym (long-empty (a .table .now) (omega (arith, l))))
 
 pub empty-spec : {M : Type 1} → statement M
-empty-spec = tie.close (tie.spec refused-requires returns clear-requires same-length returns-2)
+empty-spec = tie.close (tie.spec (λ c κs. search needs) returns (λ c κs. search needs) (λ c. search needs) returns-2)

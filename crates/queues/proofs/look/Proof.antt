@@ -15,24 +15,6 @@ use Rattle.queues.proofs.look.Tie as tie
 returns : tie.Need-returns
 returns c = let a = c .before .before .args in sym (ap saidIndices (short-reply (a .table .now) (lookReply summaryBytes (shelf summaryBytes (a .queue) (a .table .now)) storedFields (a .number)) (c .if1 .taken)))
 
-start-of-requires : tie.Need-start-of-requires
-start-of-requires c κs = search needs
-
-add-end : tie.Need-add-end
-add-end c = search needs
-
-sub-look-in : tie.Need-sub-look-in
-sub-look-in c = search needs
-
-part-look-in-start : tie.Need-part-look-in-start
-part-look-in-start c = search needs
-
-part-look-in-end : tie.Need-part-look-in-end
-part-look-in-end c = search needs
-
-look-in-requires : tie.Need-look-in-requires
-look-in-requires c κs = search needs
-
 returns-2 : tie.Need-returns-2
 returns-2 c =
     let a = c .before .before .before .before .before .args in
@@ -42,13 +24,5 @@ returns-2 c =
 
 pub look-spec : {M : Type 1} → statement M
 look-spec =
-    tie.close
-    (tie.spec
-    returns
-    start-of-requires
-    add-end
-    sub-look-in
-    part-look-in-start
-    part-look-in-end
-    look-in-requires
+    tie.close (tie.spec returns (λ c κs. search needs) (λ c. search needs) (λ c. search needs) (λ c. search needs) (λ c. search needs) (λ c κs. search needs)
     returns-2)

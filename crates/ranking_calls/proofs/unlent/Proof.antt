@@ -6,21 +6,6 @@ use borrow.Author.Needs.{needs}
 use Rattle.ranking_calls.proofs.unlent.Statement.{statement}
 use Rattle.ranking_calls.proofs.unlent.Tie as tie
 
-slice-aggregate-values : tie.Need-slice-aggregate-values
-slice-aggregate-values c = search needs
-
-values-requires : tie.Need-values-requires
-values-requires c κs = search needs
-
-enum-known-told : tie.Need-enum-known-told
-enum-known-told c = search needs
-
-code-of-requires : tie.Need-code-of-requires
-code-of-requires c κs = search needs
-
-enum-told : tie.Need-enum-told
-enum-told c = search needs
-
 returns : tie.Need-returns
 returns c =
     let a = c .before .before .before .before .before .before .before .before .args in
@@ -32,13 +17,4 @@ returns-2 c =
     values-of (valuesReply (a .deck .now) (a .field) 0 1) _ (sym (c .before .before .before .values .ensures .0) ∙ c .enum-told .given .1)
 
 pub unlent-spec : {M : Type 1} → statement M
-unlent-spec =
-    tie.close
-    (tie.spec
-    slice-aggregate-values
-    values-requires
-    enum-known-told
-    code-of-requires
-    enum-told
-    returns
-    returns-2)
+unlent-spec = tie.close (tie.spec (λ c. search needs) (λ c κs. search needs) (λ c. search needs) (λ c κs. search needs) (λ c. search needs) returns returns-2)

@@ -15,45 +15,18 @@ abbrev μ-loop : tie.MeasureT-loop
 loop-holds : tie.Need-loop-holds Inv-loop μ-loop
 loop-holds c = (omega arith, refl, adding-none _ _)
 
-mul-size : tie.Need-mul-size Inv-loop μ-loop
-mul-size c = omega arith
-
-element-copy-out-size : tie.Need-element-copy-out-size Inv-loop μ-loop
-element-copy-out-size c = omega arith
-
 size-requires : tie.Need-size-requires Inv-loop μ-loop
 size-requires c κs = tt
-
-mul-reached : tie.Need-mul-reached Inv-loop μ-loop
-mul-reached c = omega arith
-
-slice-read-reached : tie.Need-slice-read-reached Inv-loop μ-loop
-slice-read-reached c = omega arith
 
 add-reached : tie.Need-add-reached Inv-loop μ-loop
 add-reached c =
     let p = c .before .before .before .before in
     omega (arith, room-here (p .loop .inv .2) (p .before .before .pre .2) (c .before .before .before .loop-test .taken), c .before .size .ensures .1)
 
-mul-reached-2 : tie.Need-mul-reached-2 Inv-loop μ-loop
-mul-reached-2 c = omega arith
-
-slice-write-reached : tie.Need-slice-write-reached Inv-loop μ-loop
-slice-write-reached c = omega arith
-
-add-i : tie.Need-add-i Inv-loop μ-loop
-add-i c = omega arith
-
-loop-less : tie.Need-loop-less Inv-loop μ-loop
-loop-less c = omega arith
-
 loop-again : tie.Need-loop-again Inv-loop μ-loop
 loop-again c =
     let l = c .before .before .before .before .loop in
     (omega arith, rw length-set (l .inv .1), rw (c .before .size .ensures .0) (adding-more _ _ _ (l .i) (omega arith) (l .inv .2)))
-
-same-length : tie.Need-same-length Inv-loop μ-loop
-same-length c = omega arith
 
 returns : tie.Need-returns Inv-loop μ-loop
 returns c =
@@ -63,21 +36,5 @@ returns c =
 
 pub count-spec : {M : Type 1} → statement M
 count-spec =
-    tie.close
-    (tie.spec
-    Inv-loop
-    μ-loop
-    loop-holds
-    mul-size
-    element-copy-out-size
-    size-requires
-    mul-reached
-    slice-read-reached
-    add-reached
-    mul-reached-2
-    slice-write-reached
-    add-i
-    loop-less
-    loop-again
-    same-length
-    returns)
+    tie.close (tie.spec Inv-loop μ-loop loop-holds (λ c. omega arith) (λ c. omega arith) size-requires (λ c. omega arith) (λ c. omega arith) add-reached
+    (λ c. omega arith) (λ c. omega arith) (λ c. omega arith) (λ c. omega arith) loop-again (λ c. omega arith) returns)

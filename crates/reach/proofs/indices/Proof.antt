@@ -7,18 +7,6 @@ use Rattle.reach.proofs.Reply.{refused-reply}
 use Rattle.reach.proofs.indices.Statement.{statement}
 use Rattle.reach.proofs.indices.Tie as tie
 
-drawn-requires : tie.Need-drawn-requires
-drawn-requires c κs = search needs
-
-enum-known-reply : tie.Need-enum-known-reply
-enum-known-reply c = search needs
-
-enum-told : tie.Need-enum-told
-enum-told c = search needs
-
-slice-aggregate-summed : tie.Need-slice-aggregate-summed
-slice-aggregate-summed c = search needs
-
 summed-requires : tie.Need-summed-requires
 summed-requires c κs =
     let d = c .before .before .before .before .drawn .ensures in
@@ -32,4 +20,4 @@ returns-2 : tie.Need-returns-2
 returns-2 c = (c .before .summed .ensures .0, c .before .before .before .before .before .before .drawn .ensures .1)
 
 pub indices-spec : {M : Type 1} → statement M
-indices-spec = tie.close (tie.spec drawn-requires enum-known-reply enum-told slice-aggregate-summed summed-requires returns returns-2)
+indices-spec = tie.close (tie.spec (λ c κs. search needs) (λ c. search needs) (λ c. search needs) (λ c. search needs) summed-requires returns returns-2)

@@ -18,27 +18,6 @@ abbrev μ-loop : tie.MeasureT-loop
 loop-holds : tie.Need-loop-holds Inv-loop μ-loop
 loop-holds c = (omega arith, leaves-none _)
 
-mul-sets : tie.Need-mul-sets Inv-loop μ-loop
-mul-sets c = omega arith
-
-element-copy-out-sets : tie.Need-element-copy-out-sets Inv-loop μ-loop
-element-copy-out-sets c = omega arith
-
-shl-sets : tie.Need-shl-sets Inv-loop μ-loop
-shl-sets c = omega arith
-
-mul-sets-2 : tie.Need-mul-sets-2 Inv-loop μ-loop
-mul-sets-2 c = omega arith
-
-array-write-sets : tie.Need-array-write-sets Inv-loop μ-loop
-array-write-sets c = omega arith
-
-add-i : tie.Need-add-i Inv-loop μ-loop
-add-i c = omega arith
-
-loop-less : tie.Need-loop-less Inv-loop μ-loop
-loop-less c = omega arith
-
 loop-again : tie.Need-loop-again Inv-loop μ-loop
 loop-again c =
     let l = c .before .before .loop in
@@ -51,4 +30,6 @@ returns c =
     record { size = L .size; joined = λ v w. L .done (v - 1) (omega arith) }
 
 pub joined-spec : {M : Type 1} → statement M
-joined-spec = tie.close (tie.spec Inv-loop μ-loop loop-holds mul-sets element-copy-out-sets shl-sets mul-sets-2 array-write-sets add-i loop-less loop-again returns)
+joined-spec =
+    tie.close (tie.spec Inv-loop μ-loop loop-holds (λ c. omega arith) (λ c. omega arith) (λ c. omega arith) (λ c. omega arith) (λ c. omega arith)
+    (λ c. omega arith) (λ c. omega arith) loop-again returns)

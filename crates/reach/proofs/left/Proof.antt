@@ -19,29 +19,11 @@ mul-all c = omega (arith, mul-le-mul (c .pre .0) (c .pre .1))
 loop-holds : tie.Need-loop-holds Inv-loop μ-loop
 loop-holds c = (omega arith, refl, leaves-none _)
 
-mul-at : tie.Need-mul-at Inv-loop μ-loop
-mul-at c = omega arith
-
-element-copy-out-at : tie.Need-element-copy-out-at Inv-loop μ-loop
-element-copy-out-at c = omega arith
-
 sub-at : tie.Need-sub-at Inv-loop μ-loop
 sub-at c =
     let l = c .before .before .loop in
     let k : suc (l .i) - 1 ≡ l .i = omega arith in
     rw k at (c .before .before .before .pre .2 (suc (l .i)) (record { low = omega arith; high = omega arith }))
-
-mul-at-2 : tie.Need-mul-at-2 Inv-loop μ-loop
-mul-at-2 c = omega arith
-
-array-write-at : tie.Need-array-write-at Inv-loop μ-loop
-array-write-at c = omega arith
-
-add-i : tie.Need-add-i Inv-loop μ-loop
-add-i c = omega arith
-
-loop-less : tie.Need-loop-less Inv-loop μ-loop
-loop-less c = omega arith
 
 loop-again : tie.Need-loop-again Inv-loop μ-loop
 loop-again c = let l = c .before .before .loop in (omega arith, refl, leaves-more _ _ (l .i) (omega arith) (l .inv .2))
@@ -53,18 +35,5 @@ returns c =
 
 pub left-spec : {M : Type 1} → statement M
 left-spec =
-    tie.close
-    (tie.spec
-    Inv-loop
-    μ-loop
-    mul-all
-    loop-holds
-    mul-at
-    element-copy-out-at
-    sub-at
-    mul-at-2
-    array-write-at
-    add-i
-    loop-less
-    loop-again
-    returns)
+    tie.close (tie.spec Inv-loop μ-loop mul-all loop-holds (λ c. omega arith) (λ c. omega arith) sub-at (λ c. omega arith) (λ c. omega arith) (λ c. omega arith)
+    (λ c. omega arith) loop-again returns)

@@ -4,15 +4,6 @@ use Rattle.reach.specs.Told.{indices-refused, indices-fine, near-kept, n
 use Rattle.reach.proofs.opened.Statement.{statement}
 use Rattle.reach.proofs.opened.Tie as tie
 
-indices-requires : tie.Need-indices-requires
-indices-requires c κs = search needs
-
-enum-known-reply : tie.Need-enum-known-reply
-enum-known-reply c = search needs
-
-enum-known-reply-2 : tie.Need-enum-known-reply-2
-enum-known-reply-2 c = search needs
-
 returns : tie.Need-returns
 returns c =
     let e = sym (c .before .reply .given .1) ∙ c .before .before .before .indices .ensures .0 in
@@ -25,4 +16,4 @@ returns-2 c =
     (e, m .1 ∙ near-drawn _ _ _ _ (indices-fine _ _ _ (sym e) .0))
 
 pub opened-spec : {M : Type 1} → statement M
-opened-spec = tie.close (tie.spec indices-requires enum-known-reply enum-known-reply-2 returns returns-2)
+opened-spec = tie.close (tie.spec (λ c κs. search needs) (λ c. search needs) (λ c. search needs) returns returns-2)

@@ -16,35 +16,17 @@ abbrev μ-loop : tie.MeasureT-loop
 loop-holds : tie.Need-loop-holds Inv-loop μ-loop
 loop-holds c = (omega arith, settling-none _ _ (c .before .pre .1))
 
-mul-set : tie.Need-mul-set Inv-loop μ-loop
-mul-set c = omega arith
-
 slice-read-set : tie.Need-slice-read-set Inv-loop μ-loop
 slice-read-set c = omega (arith, c .before .before .loop .inv .1 .size)
 
-mul-set-2 : tie.Need-mul-set-2 Inv-loop μ-loop
-mul-set-2 c = omega arith
-
-element-copy-out-set : tie.Need-element-copy-out-set Inv-loop μ-loop
-element-copy-out-set c = omega arith
-
 size-requires : tie.Need-size-requires Inv-loop μ-loop
 size-requires c κs = tt
-
-mul-near : tie.Need-mul-near Inv-loop μ-loop
-mul-near c = omega arith
 
 slice-write-near : tie.Need-slice-write-near Inv-loop μ-loop
 slice-write-near c = omega (arith, c .before .before .before .before .loop .inv .1 .size)
 
 add-met : tie.Need-add-met Inv-loop μ-loop
 add-met c = omega (arith, c .size .ensures .1, c .before .before .before .before .loop .inv .1 .low)
-
-add-i : tie.Need-add-i Inv-loop μ-loop
-add-i c = omega arith
-
-loop-less : tie.Need-loop-less Inv-loop μ-loop
-loop-less c = omega arith
 
 loop-again : tie.Need-loop-again Inv-loop μ-loop
 loop-again c =
@@ -63,21 +45,5 @@ returns c =
 
 pub settled-spec : {M : Type 1} → statement M
 settled-spec =
-    tie.close
-    (tie.spec
-    Inv-loop
-    μ-loop
-    loop-holds
-    mul-set
-    slice-read-set
-    mul-set-2
-    element-copy-out-set
-    size-requires
-    mul-near
-    slice-write-near
-    add-met
-    add-i
-    loop-less
-    loop-again
-    same-length
-    returns)
+    tie.close (tie.spec Inv-loop μ-loop loop-holds (λ c. omega arith) slice-read-set (λ c. omega arith) (λ c. omega arith) size-requires (λ c. omega arith)
+    slice-write-near add-met (λ c. omega arith) (λ c. omega arith) loop-again same-length returns)

@@ -30,26 +30,11 @@ ends c =
     let s = drawn-atoms _ _ f .high in
     (omega arith, omega arith)
 
-mul-u : tie.Need-mul-u Inv-loop μ-loop
-mul-u c = omega arith
-
-shared-slice-read-u : tie.Need-shared-slice-read-u Inv-loop μ-loop
-shared-slice-read-u c = omega arith
-
 cast-u : tie.Need-cast-u Inv-loop μ-loop
 cast-u c = omega (arith, ends (c .before))
 
 sub-u : tie.Need-sub-u Inv-loop μ-loop
 sub-u c = omega (arith, ends (c .before))
-
-mul-v : tie.Need-mul-v Inv-loop μ-loop
-mul-v c = omega arith
-
-add-v : tie.Need-add-v Inv-loop μ-loop
-add-v c = omega arith
-
-shared-slice-read-v : tie.Need-shared-slice-read-v Inv-loop μ-loop
-shared-slice-read-v c = omega arith
 
 cast-v : tie.Need-cast-v Inv-loop μ-loop
 cast-v c = omega (arith, ends (c .before .before))
@@ -93,12 +78,6 @@ mul-sets-6 c = omega (arith, ends (c .before .before .before .before .before .be
 slice-write-sets-2 : tie.Need-slice-write-sets-2 Inv-loop μ-loop
 slice-write-sets-2 c = rw length-set (omega (arith, ends (c .before .before .before .before .before .before), c .before .before .before .before .before .before .before .loop .inv .1))
 
-add-k : tie.Need-add-k Inv-loop μ-loop
-add-k c = omega arith
-
-loop-less : tie.Need-loop-less Inv-loop μ-loop
-loop-less c = omega arith
-
 loop-again : tie.Need-loop-again Inv-loop μ-loop
 loop-again c =
     let i = c .before .before .before .before .before .before in
@@ -116,34 +95,6 @@ returns c d s N O =
 
 pub spread-spec : {M : Type 1} → statement M
 spread-spec =
-    tie.close
-    (tie.spec
-    Inv-loop
-    μ-loop
-    loop-holds
-    mul-u
-    shared-slice-read-u
-    cast-u
-    sub-u
-    mul-v
-    add-v
-    shared-slice-read-v
-    cast-v
-    sub-v
-    mul-sets
-    slice-read-sets
-    mul-sets-2
-    element-copy-out-sets
-    mul-sets-3
-    slice-write-sets
-    mul-sets-4
-    slice-read-sets-2
-    mul-sets-5
-    element-copy-out-sets-2
-    mul-sets-6
-    slice-write-sets-2
-    add-k
-    loop-less
-    loop-again
-    same-length
-    returns)
+    tie.close (tie.spec Inv-loop μ-loop loop-holds (λ c. omega arith) (λ c. omega arith) cast-u sub-u (λ c. omega arith) (λ c. omega arith) (λ c. omega arith)
+    cast-v sub-v mul-sets slice-read-sets mul-sets-2 element-copy-out-sets mul-sets-3 slice-write-sets mul-sets-4 slice-read-sets-2 mul-sets-5
+    element-copy-out-sets-2 mul-sets-6 slice-write-sets-2 (λ c. omega arith) (λ c. omega arith) loop-again same-length returns)

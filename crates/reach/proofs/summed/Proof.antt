@@ -86,9 +86,6 @@ found c =
       met-is = m .0;
     }
 
-same-length : tie.Need-same-length Inv-loop μ-loop
-same-length c = omega arith
-
 returns : tie.Need-returns Inv-loop μ-loop
 returns c = let t = turn (c .before) in (stuck _ _ (drawn-in t) (t .before .loop .inv .2) (more-in t) (found (c .before)) (omega (arith, c .if1 .taken)), λ x e. absurd (not-of e))
 
@@ -125,9 +122,6 @@ over c = omega (arith, c .before .loop .inv .0, c .loop-test .left)
 sub-even : tie.Need-sub-even Inv-loop μ-loop
 sub-even c = let t = c .before .before in odd-less _ _ (t .before .before .before .before .before .before .pre .0) (t .before .loop .inv .2) (over t)
 
-same-length-2 : tie.Need-same-length-2 Inv-loop μ-loop
-same-length-2 c = omega arith
-
 returns-2 : tie.Need-returns-2 Inv-loop μ-loop
 returns-2 c =
     let t = c .before .before .before in
@@ -136,27 +130,6 @@ returns-2 c =
 
 pub summed-spec : {M : Type 1} → statement M
 summed-spec =
-    tie.close
-    (tie.spec
-    Inv-loop
-    μ-loop
-    mul-pairs
-    joined-requires
-    add-met
-    first-requires
-    loop-holds
-    count-requires
-    slice-aggregate-spread
-    spread-requires
-    slice-aggregate-settled
-    settled-requires
-    same-length
-    returns
-    add-d
-    sub-farther
-    farther-requires
-    loop-less
-    loop-again
-    sub-even
-    same-length-2
+    tie.close (tie.spec Inv-loop μ-loop mul-pairs joined-requires add-met first-requires loop-holds count-requires slice-aggregate-spread spread-requires
+    slice-aggregate-settled settled-requires (λ c. omega arith) returns add-d sub-farther farther-requires loop-less loop-again sub-even (λ c. omega arith)
     returns-2)

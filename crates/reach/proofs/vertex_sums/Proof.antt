@@ -12,15 +12,6 @@ use Rattle.reach.proofs.Reply.{sums-refused, sums-fine, sums-fit}
 use Rattle.reach.proofs.vertex_sums.Statement.{statement}
 use Rattle.reach.proofs.vertex_sums.Tie as tie
 
-drawn-requires : tie.Need-drawn-requires
-drawn-requires c κs = search needs
-
-enum-told : tie.Need-enum-told
-enum-told c = search needs
-
-enum-told-2 : tie.Need-enum-told-2
-enum-told-2 c = search needs
-
 returns : tie.Need-returns
 returns c =
     let e = c .enum-told2 .given .1 in
@@ -29,24 +20,12 @@ returns c =
 drawn : (c : tie.After-enum-told) → let a = c .before .before .before .before .before .args in drawnReply (a .n) (a .bonds .now) ≡ read tt
 drawn c = fine-read _ (sym (c .before .before .drawn .ensures .0) ∙ c .enum-told .given .1)
 
-first-requires : tie.Need-first-requires
-first-requires c κs = search needs
-
-slice-aggregate-summed : tie.Need-slice-aggregate-summed
-slice-aggregate-summed c = search needs
-
 summed-requires : tie.Need-summed-requires
 summed-requires c κs =
     let t = c .before .before .before in
     let f = drawn t in
     let w = drawn-atoms _ _ f in
     (f, t .before .before .drawn .ensures .1 ∙ drawn-near _ _ _ f, omega arith, omega arith, λ v x. getD-replicate mostAtoms (v - 1) _ 0 (omega arith) ∙ c .before .before .first .ensures)
-
-enum-known-answer : tie.Need-enum-known-answer
-enum-known-answer c = search needs
-
-enum-known-answer-2 : tie.Need-enum-known-answer-2
-enum-known-answer-2 c = search needs
 
 left-requires : tie.Need-left-requires
 left-requires c κs =
@@ -67,17 +46,5 @@ returns-3 c =
 
 pub vertex-sums-spec : {M : Type 1} → statement M
 vertex-sums-spec =
-    tie.close
-    (tie.spec
-    drawn-requires
-    enum-told
-    enum-told-2
-    returns
-    first-requires
-    slice-aggregate-summed
-    summed-requires
-    enum-known-answer
-    enum-known-answer-2
-    left-requires
-    returns-2
-    returns-3)
+    tie.close (tie.spec (λ c κs. search needs) (λ c. search needs) (λ c. search needs) returns (λ c κs. search needs) (λ c. search needs) summed-requires
+    (λ c. search needs) (λ c. search needs) left-requires returns-2 returns-3)

@@ -6,9 +6,6 @@ use borrow.Author.Needs.{needs}
 use Rattle.records.proofs.length_reply.Statement.{statement}
 use Rattle.records.proofs.length_reply.Tie as tie
 
-is-wrong-requires : tie.Need-is-wrong-requires
-is-wrong-requires c κs = search needs
-
 returns : tie.Need-returns
 returns c = let a = c .before .before .before .args in ap saidReply (sym (length-wrong (a .k) (a .d .now) (a .at) (sym (c .before .is-wrong .ensures) ∙ c .if1 .taken)))
 
@@ -16,4 +13,4 @@ returns-2 : tie.Need-returns-2
 returns-2 c = let a = c .before .before .before .args in ap saidReply (sym (length-right (a .k) (a .d .now) (a .at) (sym (c .before .is-wrong .ensures) ∙ c .if1 .left)))
 
 pub length-reply-spec : {M : Type 1} → statement M
-length-reply-spec = tie.close (tie.spec is-wrong-requires returns returns-2)
+length-reply-spec = tie.close (tie.spec (λ c κs. search needs) returns returns-2)

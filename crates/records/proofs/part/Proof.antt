@@ -10,47 +10,17 @@ use Rattle.records.proofs.Numbers.{part-none, part-rest}
 use Rattle.records.proofs.part.Statement.{statement}
 use Rattle.records.proofs.part.Tie as tie
 
-sub-result : tie.Need-sub-result
-sub-result c = search needs
-
-part-result-start : tie.Need-part-result-start
-part-result-start c = search needs
-
-part-result-end : tie.Need-part-result-end
-part-result-end c = search needs
-
 returns : tie.Need-returns
 returns c = let a = c .before .before .args in
     let d = a .d .now in
     let e : length d ≡ min (a .from) (length d) = omega arith in
     record { bytes = part-none d (length d) (length d - length d) (omega arith) ∙ sym (part-none d (a .from) (a .len) (omega arith)); place = ap (λ (n : ℕ). (ptr (a .d) .0, n + ptr (a .d) .1)) e }
 
-sub-result-2 : tie.Need-sub-result-2
-sub-result-2 c = search needs
-
-part-result-start-2 : tie.Need-part-result-start-2
-part-result-start-2 c = search needs
-
-part-result-end-2 : tie.Need-part-result-end-2
-part-result-end-2 c = search needs
-
 returns-2 : tie.Need-returns-2
 returns-2 c = let a = c .before .before .before .args in
     let d = a .d .now in
     let e : a .from ≡ min (a .from) (length d) = omega arith in
     record { bytes = part-rest d (a .from) (length d - a .from) (omega arith) ∙ sym (part-rest d (a .from) (a .len) (omega arith)); place = ap (λ (n : ℕ). (ptr (a .d) .0, n + ptr (a .d) .1)) e }
-
-add-to : tie.Need-add-to
-add-to c = search needs
-
-sub-result-3 : tie.Need-sub-result-3
-sub-result-3 c = search needs
-
-part-result-start-3 : tie.Need-part-result-start-3
-part-result-start-3 c = search needs
-
-part-result-end-3 : tie.Need-part-result-end-3
-part-result-end-3 c = search needs
 
 returns-3 : tie.Need-returns-3
 returns-3 c = let a = c .before .before .before .args in
@@ -60,18 +30,5 @@ returns-3 c = let a = c .before .before .before .args in
 
 pub part-spec : {M : Type 1} → statement M
 part-spec =
-    tie.close
-    (tie.spec
-    sub-result
-    part-result-start
-    part-result-end
-    returns
-    sub-result-2
-    part-result-start-2
-    part-result-end-2
-    returns-2
-    add-to
-    sub-result-3
-    part-result-start-3
-    part-result-end-3
-    returns-3)
+    tie.close (tie.spec (λ c. search needs) (λ c. search needs) (λ c. search needs) returns (λ c. search needs) (λ c. search needs) (λ c. search needs)
+    returns-2 (λ c. search needs) (λ c. search needs) (λ c. search needs) (λ c. search needs) returns-3)

@@ -16,38 +16,14 @@ whole c = omega (arith, c .before .le16-at .ensures)
 returns : tie.Need-returns
 returns c = let a = c .before .before .args in ap saidReply (sym (cut-off (a .a) (a .b) (a .d .now) (a .at) (omega arith)))
 
-sub-if2 : tie.Need-sub-if2
-sub-if2 c = search needs
-
-le16-at-requires : tie.Need-le16-at-requires
-le16-at-requires c κs = search needs
-
-cast-if2 : tie.Need-cast-if2
-cast-if2 c = search needs
-
-add-if2 : tie.Need-add-if2
-add-if2 c = search needs
-
 returns-2 : tie.Need-returns-2
 returns-2 c = let a = c .before .before .before .before .args in
     ap saidReply (sym (cut-off (a .a) (a .b) (a .d .now) (a .at) (omega (arith, c .before .le16-at .ensures))))
-
-add-le16-at : tie.Need-add-le16-at
-add-le16-at c = search needs
-
-le16-at-requires-2 : tie.Need-le16-at-requires-2
-le16-at-requires-2 c κs = search needs
-
-length-reply-requires : tie.Need-length-reply-requires
-length-reply-requires c κs = search needs
 
 returns-3 : tie.Need-returns-3
 returns-3 c = let s = c .before .before .before .before in
     let a = s .before .before .before .before .args in
     c .length-reply .ensures ∙ ap saidReply (sym (is-one (a .a) (a .b) (a .d .now) (a .at) (whole s) (sym (c .before .before .before .le16-at2 .ensures) ∙ c .before .if3 .taken)))
-
-length-reply-requires-2 : tie.Need-length-reply-requires-2
-length-reply-requires-2 c κs = search needs
 
 returns-4 : tie.Need-returns-4
 returns-4 c = let s = c .before .before .before .before .before .before in
@@ -64,18 +40,5 @@ returns-5 c = let s = c .before .before .before .before .before in
 
 pub record-at-spec : {M : Type 1} → statement M
 record-at-spec =
-    tie.close
-    (tie.spec
-    returns
-    sub-if2
-    le16-at-requires
-    cast-if2
-    add-if2
-    returns-2
-    add-le16-at
-    le16-at-requires-2
-    length-reply-requires
-    returns-3
-    length-reply-requires-2
-    returns-4
-    returns-5)
+    tie.close (tie.spec returns (λ c. search needs) (λ c κs. search needs) (λ c. search needs) (λ c. search needs) returns-2 (λ c. search needs)
+    (λ c κs. search needs) (λ c κs. search needs) returns-3 (λ c κs. search needs) returns-4 returns-5)

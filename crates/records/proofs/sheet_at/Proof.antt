@@ -11,12 +11,6 @@ use Rattle.records.proofs.sheet_at.Tie as tie
 returns : tie.Need-returns
 returns c = let a = c .before .before .args in sym (not-six (a .d .now) (a .at) (λ e. omega (arith, e, past 2 (a .d .now) (a .at + 2) (omega arith))))
 
-add-le16-at : tie.Need-add-le16-at
-add-le16-at c = search needs
-
-le16-at-requires : tie.Need-le16-at-requires
-le16-at-requires c κs = search needs
-
 returns-2 : tie.Need-returns-2
 returns-2 c = sym (is-six _ _ (sym (c .before .before .le16-at .ensures) ∙ c .if2 .taken))
 
@@ -24,4 +18,4 @@ returns-3 : tie.Need-returns-3
 returns-3 c = sym (not-six _ _ (λ e. c .if2 .left (c .before .before .le16-at .ensures ∙ e)))
 
 pub sheet-at-spec : {M : Type 1} → statement M
-sheet-at-spec = tie.close (tie.spec returns add-le16-at le16-at-requires returns-2 returns-3)
+sheet-at-spec = tie.close (tie.spec returns (λ c. search needs) (λ c κs. search needs) returns-2 returns-3)

@@ -5,12 +5,6 @@ use Rattle.records.specs.Records.{sheetKind}
 use Rattle.records.proofs.sheet_kind.Statement.{statement}
 use Rattle.records.proofs.sheet_kind.Tie as tie
 
-enum-told : tie.Need-enum-told
-enum-told c = search needs
-
-enum-told-2 : tie.Need-enum-told-2
-enum-told-2 c = search needs
-
 returns : tie.Need-returns
 returns c = sym (ap sheetKind (c .enum-told .given .1))
 
@@ -18,4 +12,4 @@ returns-2 : tie.Need-returns-2
 returns-2 c = sym (ap sheetKind (c .enum-told2 .given .1))
 
 pub sheet-kind-spec : {M : Type 1} → statement M
-sheet-kind-spec = tie.close (tie.spec enum-told enum-told-2 returns returns-2)
+sheet-kind-spec = tie.close (tie.spec (λ c. search needs) (λ c. search needs) returns returns-2)

@@ -7,16 +7,10 @@ use native.Mathlib.Omega.{arith}
 use Rattle.sdfile.proofs.is_header.Statement.{statement}
 use Rattle.sdfile.proofs.is_header.Tie as tie
 
-shared-slice-read-if1 : tie.Need-shared-slice-read-if1
-shared-slice-read-if1 c = search needs
-
 returns : tie.Need-returns
 returns c =
     let s = c .before .before .before .before in
     sym (header-not (s .args .d .now) (s .args .at) (s .pre) (s .args .name .now) (c .if1 .taken))
-
-line-end-requires : tie.Need-line-end-requires
-line-end-requires c κs = search needs
 
 sub-has-tag : tie.Need-sub-has-tag
 sub-has-tag c = let a = c .before .before .before .before .before .args in omega (arith, c .line-end .ensures, end-from (a .d .now) (a .at))
@@ -27,9 +21,6 @@ part-has-tag-start c = let a = c .before .before .before .before .before .args i
 part-has-tag-end : tie.Need-part-has-tag-end
 part-has-tag-end c = let a = c .before .before .before .before .before .args in omega (arith, c .line-end .ensures, end-within (a .d .now) (a .at) (omega arith))
 
-has-tag-requires : tie.Need-has-tag-requires
-has-tag-requires c κs = search needs
-
 returns-2 : tie.Need-returns-2
 returns-2 c =
     let s = c .before .before .before .before .before .before .before in
@@ -38,13 +29,4 @@ returns-2 c =
 
 pub is-header-spec : {M : Type 1} → statement M
 is-header-spec =
-    tie.close
-    (tie.spec
-    shared-slice-read-if1
-    returns
-    line-end-requires
-    sub-has-tag
-    part-has-tag-start
-    part-has-tag-end
-    has-tag-requires
-    returns-2)
+    tie.close (tie.spec (λ c. search needs) returns (λ c κs. search needs) sub-has-tag part-has-tag-start part-has-tag-end (λ c κs. search needs) returns-2)

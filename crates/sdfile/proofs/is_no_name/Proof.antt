@@ -10,11 +10,8 @@ use Rattle.sdfile.proofs.is_no_name.Tie as tie
 returns : tie.Need-returns
 returns c = sym (no-name-empty (c .before .before .args .name .now) (c .if1 .taken))
 
-opens-in-requires : tie.Need-opens-in-requires
-opens-in-requires c κs = search needs
-
 returns-2 : tie.Need-returns-2
 returns-2 c = ap (ltb mostOpens) (c .opens-in .ensures) ∙ sym (no-name-many (c .before .before .before .args .name .now) (c .before .if1 .left))
 
 pub is-no-name-spec : {M : Type 1} → statement M
-is-no-name-spec = tie.close (tie.spec returns opens-in-requires returns-2)
+is-no-name-spec = tie.close (tie.spec returns (λ c κs. search needs) returns-2)

@@ -7,16 +7,10 @@ use native.Mathlib.Omega.{arith}
 use Rattle.sdfile.proofs.is_some_header.Statement.{statement}
 use Rattle.sdfile.proofs.is_some_header.Tie as tie
 
-shared-slice-read-if1 : tie.Need-shared-slice-read-if1
-shared-slice-read-if1 c = search needs
-
 returns : tie.Need-returns
 returns c =
     let s = c .before .before .before in
     sym (some-not (s .args .d .now) (s .args .at) (s .pre) (c .if1 .taken))
-
-line-end-requires : tie.Need-line-end-requires
-line-end-requires c κs = search needs
 
 sub-has-some-tag : tie.Need-sub-has-some-tag
 sub-has-some-tag c = let a = c .before .before .before .before .args in omega (arith, c .line-end .ensures, end-from (a .d .now) (a .at))
@@ -27,9 +21,6 @@ part-has-some-tag-start c = let a = c .before .before .before .before .args in o
 part-has-some-tag-end : tie.Need-part-has-some-tag-end
 part-has-some-tag-end c = let a = c .before .before .before .before .args in omega (arith, c .line-end .ensures, end-within (a .d .now) (a .at) (omega arith))
 
-has-some-tag-requires : tie.Need-has-some-tag-requires
-has-some-tag-requires c κs = search needs
-
 returns-2 : tie.Need-returns-2
 returns-2 c =
     let s = c .before .before .before .before .before .before in
@@ -38,13 +29,5 @@ returns-2 c =
 
 pub is-some-header-spec : {M : Type 1} → statement M
 is-some-header-spec =
-    tie.close
-    (tie.spec
-    shared-slice-read-if1
-    returns
-    line-end-requires
-    sub-has-some-tag
-    part-has-some-tag-start
-    part-has-some-tag-end
-    has-some-tag-requires
+    tie.close (tie.spec (λ c. search needs) returns (λ c κs. search needs) sub-has-some-tag part-has-some-tag-start part-has-some-tag-end (λ c κs. search needs)
     returns-2)

@@ -7,25 +7,10 @@ use borrow.Author.Needs.{needs}
 use Rattle.sdfile.proofs.item.Statement.{statement}
 use Rattle.sdfile.proofs.item.Tie as tie
 
-is-no-name-requires : tie.Need-is-no-name-requires
-is-no-name-requires c κs = search needs
-
-none-requires : tie.Need-none-requires
-none-requires c κs = search needs
-
 returns : tie.Need-returns
 returns c =
     let a = c .before .before .before .before .before .args in
     c .none .ensures ∙ sym (ap saidValue (item-no-name (a .d .now) (a .name .now) (sym (c .before .before .is-no-name .ensures) ∙ c .before .if1 .taken)))
-
-items-from-requires : tie.Need-items-from-requires
-items-from-requires c κs = search needs
-
-header-from-requires : tie.Need-header-from-requires
-header-from-requires c κs = search needs
-
-none-requires-2 : tie.Need-none-requires-2
-none-requires-2 c κs = search needs
 
 returns-2 : tie.Need-returns-2
 returns-2 c =
@@ -34,12 +19,6 @@ returns-2 c =
     let n = sym (c .before .before .before .before .before .is-no-name .ensures) ∙ c .before .before .before .before .if1 .left in
     let is = h .ensures ∙ ap (headerFrom (a .d .now) (a .name .now)) (c .before .before .before .items-from .ensures) in
     c .none2 .ensures ∙ sym (ap saidValue (item-none (a .d .now) (a .name .now) n (h .result) is (c .before .if2 .taken)))
-
-next-line-requires : tie.Need-next-line-requires
-next-line-requires c κs = search needs
-
-value-at-requires : tie.Need-value-at-requires
-value-at-requires c κs = search needs
 
 returns-3 : tie.Need-returns-3
 returns-3 c =
@@ -52,15 +31,5 @@ returns-3 c =
 
 pub item-spec : {M : Type 1} → statement M
 item-spec =
-    tie.close
-    (tie.spec
-    is-no-name-requires
-    none-requires
-    returns
-    items-from-requires
-    header-from-requires
-    none-requires-2
-    returns-2
-    next-line-requires
-    value-at-requires
-    returns-3)
+    tie.close (tie.spec (λ c κs. search needs) (λ c κs. search needs) returns (λ c κs. search needs) (λ c κs. search needs) (λ c κs. search needs) returns-2
+    (λ c κs. search needs) (λ c κs. search needs) returns-3)

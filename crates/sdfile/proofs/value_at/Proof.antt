@@ -6,17 +6,11 @@ use borrow.Author.Needs.{needs}
 use Rattle.sdfile.proofs.value_at.Statement.{statement}
 use Rattle.sdfile.proofs.value_at.Tie as tie
 
-header-from-requires : tie.Need-header-from-requires
-header-from-requires c κs = search needs
-
 returns : tie.Need-returns
 returns c =
     let a = c .before .before .before .before .args in
     let h = c .before .header-from in
     sym (ap saidValue (value-twice (a .d .now) (a .name .now) (a .at) (h .result) (h .ensures) (c .if1 .taken)))
-
-value-chars-requires : tie.Need-value-chars-requires
-value-chars-requires c κs = search needs
 
 returns-2 : tie.Need-returns-2
 returns-2 c =
@@ -25,4 +19,4 @@ returns-2 c =
     sym (ap saidValue (value-once (a .d .now) (a .name .now) (a .at) (h .result) (h .ensures) (c .before .if1 .left) (c .value-chars .result) (c .value-chars .ensures)))
 
 pub value-at-spec : {M : Type 1} → statement M
-value-at-spec = tie.close (tie.spec header-from-requires returns value-chars-requires returns-2)
+value-at-spec = tie.close (tie.spec (λ c κs. search needs) returns (λ c κs. search needs) returns-2)

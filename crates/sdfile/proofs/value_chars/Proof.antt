@@ -9,17 +9,11 @@ use Rattle.sdfile.proofs.value_chars.Tie as tie
 returns : tie.Need-returns
 returns c = value-missing _ _ (c .if1 .taken)
 
-is-some-header-requires : tie.Need-is-some-header-requires
-is-some-header-requires c κs = search needs
-
 returns-2 : tie.Need-returns-2
 returns-2 c = value-header _ _ (sym (c .before .is-some-header .ensures) ∙ c .if2 .taken)
-
-line-at-requires : tie.Need-line-at-requires
-line-at-requires c κs = search needs
 
 returns-3 : tie.Need-returns-3
 returns-3 c = value-line _ _ _ (sym (c .before .before .is-some-header .ensures) ∙ c .before .if2 .left) (said-chars _ _ (c .line-at .ensures))
 
 pub value-chars-spec : {M : Type 1} → statement M
-value-chars-spec = tie.close (tie.spec returns is-some-header-requires returns-2 line-at-requires returns-3)
+value-chars-spec = tie.close (tie.spec returns (λ c κs. search needs) returns-2 (λ c κs. search needs) returns-3)

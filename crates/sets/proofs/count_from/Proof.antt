@@ -6,32 +6,11 @@ use Rattle.sets.proofs.Replies.{reply-refused, reply-outside, reply-no-
 use Rattle.sets.proofs.count_from.Statement.{statement}
 use Rattle.sets.proofs.count_from.Tie as tie
 
-check-requires : tie.Need-check-requires
-check-requires c κs = search needs
-
-enum-known-reply : tie.Need-enum-known-reply
-enum-known-reply c = search needs
-
 returns : tie.Need-returns
 returns c = reply-refused _ _ _ _ (refused-read _ _ (sym (c .before .before .before .check .ensures) ∙ c .before .reply .given .1))
 
-enum-told : tie.Need-enum-told
-enum-told c = search needs
-
-is-outside-requires : tie.Need-is-outside-requires
-is-outside-requires c κs = search needs
-
-refused-requires : tie.Need-refused-requires
-refused-requires c κs = search needs
-
 returns-2 : tie.Need-returns-2
 returns-2 c = c .refused .ensures ∙ reply-outside _ _ _ (fine-read _ (sym (c .before .before .before .before .before .check .ensures) ∙ c .before .before .before .enum-told .given .1)) (sym (c .before .before .is-outside .ensures) ∙ c .before .if1 .taken)
-
-add-if2 : tie.Need-add-if2
-add-if2 c = search needs
-
-refused-requires-2 : tie.Need-refused-requires-2
-refused-requires-2 c κs = search needs
 
 returns-3 : tie.Need-returns-3
 returns-3 c = c .refused2 .ensures ∙ reply-no-tree _ _ _ (fine-read _ (sym (c .before .before .before .before .before .before .check .ensures) ∙ c .before .before .before .before .enum-told .given .1)) (sym (c .before .before .before .is-outside .ensures) ∙ c .before .before .if1 .left) (c .before .if2 .taken)
@@ -44,17 +23,5 @@ returns-4 c = reply-counted _ _ _ (fine-read _ (sym (c .before .before .before .
 
 pub count-from-spec : {M : Type 1} → statement M
 count-from-spec =
-    tie.close
-    (tie.spec
-    check-requires
-    enum-known-reply
-    returns
-    enum-told
-    is-outside-requires
-    refused-requires
-    returns-2
-    add-if2
-    refused-requires-2
-    returns-3
-    recursion-requires
-    returns-4)
+    tie.close (tie.spec (λ c κs. search needs) (λ c. search needs) returns (λ c. search needs) (λ c κs. search needs) (λ c κs. search needs) returns-2
+    (λ c. search needs) (λ c κs. search needs) returns-3 recursion-requires returns-4)

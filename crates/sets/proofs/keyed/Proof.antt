@@ -12,9 +12,6 @@ Inv-loop bonds root keys₀ m k₀ keys k = (k ≤ m) × Keying bonds root k key
 abbrev μ-loop : tie.MeasureT-loop
 μ-loop bonds root keys₀ m k₀ keys k = m - k
 
-mul-keys : tie.Need-mul-keys Inv-loop μ-loop
-mul-keys c = omega arith
-
 mul-keys-2 : tie.Need-mul-keys-2 Inv-loop μ-loop
 mul-keys-2 c = omega (arith, c .before .pre .start)
 
@@ -23,27 +20,6 @@ array-write-keys c = omega (arith, c .before .pre .start)
 
 loop-holds : tie.Need-loop-holds Inv-loop μ-loop
 loop-holds c = (omega arith, keying-start _ _ (c .before .pre .start))
-
-mul-wide : tie.Need-mul-wide Inv-loop μ-loop
-mul-wide c = omega arith
-
-shared-slice-read-wide : tie.Need-shared-slice-read-wide Inv-loop μ-loop
-shared-slice-read-wide c = omega arith
-
-wide-requires : tie.Need-wide-requires Inv-loop μ-loop
-wide-requires c κs = search needs
-
-mul-wide-2 : tie.Need-mul-wide-2 Inv-loop μ-loop
-mul-wide-2 c = omega arith
-
-add-wide : tie.Need-add-wide Inv-loop μ-loop
-add-wide c = omega arith
-
-shared-slice-read-wide-2 : tie.Need-shared-slice-read-wide-2 Inv-loop μ-loop
-shared-slice-read-wide-2 c = omega arith
-
-wide-requires-2 : tie.Need-wide-requires-2 Inv-loop μ-loop
-wide-requires-2 c κs = search needs
 
 mul-keys-3 : tie.Need-mul-keys-3 Inv-loop μ-loop
 mul-keys-3 c = omega (arith, a-within (c .before .before .before .before .before .before .before .pre) (c .before .before .before .before .before .loop .inv .1) (c .before .before .before .before .loop-test .taken) (c .before .before .wide .ensures .0) (c .wide2 .ensures .0))
@@ -81,12 +57,6 @@ mul-keys-6 c = omega (arith, b-within (c .before .before .before .before .before
 array-write-keys-3 : tie.Need-array-write-keys-3 Inv-loop μ-loop
 array-write-keys-3 c = omega (arith, b-within (c .before .before .before .before .before .before .before .pre) (c .before .before .before .before .before .loop .inv .1) (c .before .before .before .before .loop-test .taken) (c .before .before .wide .ensures .0) (c .wide2 .ensures .0))
 
-add-k : tie.Need-add-k Inv-loop μ-loop
-add-k c = omega arith
-
-loop-less : tie.Need-loop-less Inv-loop μ-loop
-loop-less c = omega arith
-
 loop-again : tie.Need-loop-again Inv-loop μ-loop
 loop-again c = (omega arith, keying-next (c .before .before .before .before .before .before .before .pre) (c .before .before .before .before .before .loop .inv .1) (c .before .before .before .before .loop-test .taken) (c .before .before .wide .ensures .0) (c .wide2 .ensures .0))
 
@@ -95,34 +65,6 @@ returns c = keying-end (c .before .loop .inv .1) (c .loop-test .left)
 
 pub keyed-spec : {M : Type 1} → statement M
 keyed-spec =
-    tie.close
-    (tie.spec
-    Inv-loop
-    μ-loop
-    mul-keys
-    mul-keys-2
-    array-write-keys
-    loop-holds
-    mul-wide
-    shared-slice-read-wide
-    wide-requires
-    mul-wide-2
-    add-wide
-    shared-slice-read-wide-2
-    wide-requires-2
-    mul-keys-3
-    array-read-keys
-    add-keys
-    add-keys-2
-    mul-keys-4
-    array-write-keys-2
-    mul-keys-5
-    array-read-keys-2
-    add-keys-3
-    add-keys-4
-    mul-keys-6
-    array-write-keys-3
-    add-k
-    loop-less
-    loop-again
-    returns)
+    tie.close (tie.spec Inv-loop μ-loop (λ c. omega arith) mul-keys-2 array-write-keys loop-holds (λ c. omega arith) (λ c. omega arith) (λ c κs. search needs)
+    (λ c. omega arith) (λ c. omega arith) (λ c. omega arith) (λ c κs. search needs) mul-keys-3 array-read-keys add-keys add-keys-2 mul-keys-4 array-write-keys-2
+    mul-keys-5 array-read-keys-2 add-keys-3 add-keys-4 mul-keys-6 array-write-keys-3 (λ c. omega arith) (λ c. omega arith) loop-again returns)

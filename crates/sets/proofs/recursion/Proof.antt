@@ -26,20 +26,8 @@ mul-key c = omega (arith, in-places (c .before .before .before .before .pre) (c 
 array-read-key : tie.Need-array-read-key Inv-loop μ-loop
 array-read-key c = omega (arith, in-places (c .before .before .before .before .pre) (c .before .loop .inv))
 
-slice-aggregate-merge : tie.Need-slice-aggregate-merge Inv-loop μ-loop
-slice-aggregate-merge c = search needs
-
-slice-aggregate-merge-2 : tie.Need-slice-aggregate-merge-2 Inv-loop μ-loop
-slice-aggregate-merge-2 c = search needs
-
 merge-requires : tie.Need-merge-requires Inv-loop μ-loop
 merge-requires c κs = store-bonds (c .before .before .before .before .before .before .before .pre) (c .before .before .before .before .loop .inv) (c .before .before .if1 .taken)
-
-slice-aggregate-merge-3 : tie.Need-slice-aggregate-merge-3 Inv-loop μ-loop
-slice-aggregate-merge-3 c = search needs
-
-slice-aggregate-merge-4 : tie.Need-slice-aggregate-merge-4 Inv-loop μ-loop
-slice-aggregate-merge-4 c = search needs
 
 merge-requires-2 : tie.Need-merge-requires-2 Inv-loop μ-loop
 merge-requires-2 c κs = store-atoms (c .before .before .before .before .before .before .before .before .before .before .before .before .pre) (c .before .before .before .before .before .before .before .before .before .loop .inv) (c .before .before .before .before .before .before .before .if1 .taken)
@@ -112,39 +100,7 @@ returns c = answered (c .before .before .before .before .pre) (c .before .loop .
 
 pub recursion-spec : {M : Type 1} → statement M
 recursion-spec =
-    tie.close
-    (tie.spec
-    Inv-loop
-    μ-loop
-    keyed-requires
-    loop-holds
-    mul-key
-    array-read-key
-    slice-aggregate-merge
-    slice-aggregate-merge-2
-    merge-requires
-    slice-aggregate-merge-3
-    slice-aggregate-merge-4
-    merge-requires-2
-    mul-keys
-    array-read-keys
-    add-keys
-    sub-keys
-    mul-keys-2
-    array-write-keys
-    mul-keys-3
-    array-write-keys-2
-    sub-left
-    loop-less
-    loop-again
-    add-i
-    loop-less-2
-    loop-again-2
-    mul-t15
-    array-read-t43
-    mul-t44
-    array-read-t47
-    mul-t48
-    array-read-t51
-    add-t52
+    tie.close (tie.spec Inv-loop μ-loop keyed-requires loop-holds mul-key array-read-key (λ c. search needs) (λ c. search needs) merge-requires
+    (λ c. search needs) (λ c. search needs) merge-requires-2 mul-keys array-read-keys add-keys sub-keys mul-keys-2 array-write-keys mul-keys-3
+    array-write-keys-2 sub-left loop-less loop-again add-i loop-less-2 loop-again-2 mul-t15 array-read-t43 mul-t44 array-read-t47 mul-t48 array-read-t51 add-t52
     returns)

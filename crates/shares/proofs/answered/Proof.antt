@@ -20,9 +20,6 @@ returns c =
     let e = reply-short (a .n) (a .bonds .now) (c .before .before .before .pre .0) _ (c .if1 .taken) in
     (sym (ap saidNumber e), entries-stay (a .n) (a .bonds .now) (a .out .now) e)
 
-slice-aggregate-fill : tie.Need-slice-aggregate-fill
-slice-aggregate-fill c = search needs
-
 fill-requires : tie.Need-fill-requires
 fill-requires c κs =
     let a = c .before .before .before .before .args in
@@ -52,13 +49,4 @@ returns-3 c =
     (ap Of is ∙ sym (ap saidNumber e), entries-done (a .n) (a .bonds .now) e (filled-as (c .before .before .put .ensures) (f .ensures .1 low)) r)
 
 pub answered-spec : {M : Type 1} → statement M
-answered-spec =
-    tie.close
-    (tie.spec
-    returns
-    slice-aggregate-fill
-    fill-requires
-    returns-2
-    put-requires
-    same-length
-    returns-3)
+answered-spec = tie.close (tie.spec returns (λ c. search needs) fill-requires returns-2 put-requires same-length returns-3)

@@ -8,15 +8,6 @@ use Rattle.shares.proofs.Reply.{reply-refused, entries-stay}
 use Rattle.shares.proofs.contributions.Statement.{statement}
 use Rattle.shares.proofs.contributions.Tie as tie
 
-table-requires : tie.Need-table-requires
-table-requires c κs = search needs
-
-enum-known-reply : tie.Need-enum-known-reply
-enum-known-reply c = search needs
-
-enum-told : tie.Need-enum-told
-enum-told c = search needs
-
 answered-requires : tie.Need-answered-requires
 answered-requires c κs =
     let a = c .before .before .before .before .before .before .before .before .before .before .before .before .args in
@@ -31,20 +22,8 @@ returns c =
     let e = reply-refused (a .n) (a .bonds .now) _ (opened-out (a .n) (a .bonds .now) (t .result) (t .ensures .0) _ (c .before .reply .given .1)) in
     (sym (ap saidNumber e), entries-stay (a .n) (a .bonds .now) (a .out .now) e)
 
-same-length : tie.Need-same-length
-same-length c = search needs
-
 returns-2 : tie.Need-returns-2
 returns-2 c = c .before .before .answered .ensures
 
 pub contributions-spec : {M : Type 1} → statement M
-contributions-spec =
-    tie.close
-    (tie.spec
-    table-requires
-    enum-known-reply
-    enum-told
-    answered-requires
-    returns
-    same-length
-    returns-2)
+contributions-spec = tie.close (tie.spec (λ c κs. search needs) (λ c. search needs) (λ c. search needs) answered-requires returns (λ c. search needs) returns-2)

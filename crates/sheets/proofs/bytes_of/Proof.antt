@@ -7,17 +7,8 @@ use Rattle.records.specs.declared.Kind.{Kind}
 use Rattle.sheets.proofs.bytes_of.Statement.{statement}
 use Rattle.sheets.proofs.bytes_of.Tie as tie
 
-sheet-kind-requires : tie.Need-sheet-kind-requires
-sheet-kind-requires c κs = search needs
-
-cast-result : tie.Need-cast-result
-cast-result c = search needs
-
-add-result : tie.Need-add-result
-add-result c = search needs
-
 returns : tie.Need-returns
 returns c = ap (λ (k : Kind). headBytes + k .fixed) (c .before .sheet-kind .ensures)
 
 pub bytes-of-spec : {M : Type 1} → statement M
-bytes-of-spec = tie.close (tie.spec sheet-kind-requires cast-result add-result returns)
+bytes-of-spec = tie.close (tie.spec (λ c κs. search needs) (λ c. search needs) (λ c. search needs) returns)

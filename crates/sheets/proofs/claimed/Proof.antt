@@ -17,21 +17,9 @@ returns : tie.Need-returns
 returns c = let a = c .before .before .args in sym (fields-past allWidths (now (a .d)) (a .sheet + 4) (omega (arith, c .if1 .taken)))
 
 -- src/lib.rt:76:13
-widths-requires : tie.Need-widths-requires
-widths-requires c κs = search needs
-
 -- src/lib.rt:77:20
-add-read-fields : tie.Need-add-read-fields
-add-read-fields c = search needs
-
 -- src/lib.rt:77:34
-slice-aggregate-read-fields : tie.Need-slice-aggregate-read-fields
-slice-aggregate-read-fields c = search needs
-
 -- src/lib.rt:77:38
-slice-aggregate-read-fields-2 : tie.Need-slice-aggregate-read-fields-2
-slice-aggregate-read-fields-2 c = search needs
-
 -- src/lib.rt:77:5
 read-fields-requires : tie.Need-read-fields-requires
 unfolding widthsTotal Narrow
@@ -42,13 +30,4 @@ returns-2 : tie.Need-returns-2
 returns-2 c = let a = c .before .before .before .before .before .before .before .args in c .before .read-fields .ensures ∙ ap (λ (ws : List ℕ). fieldsAt ws (now (a .d)) (a .sheet + 4)) (c .before .before .before .before .widths .ensures)
 
 pub claimed-spec : {M : Type 1} → statement M
-claimed-spec =
-    tie.close
-    (tie.spec
-    returns
-    widths-requires
-    add-read-fields
-    slice-aggregate-read-fields
-    slice-aggregate-read-fields-2
-    read-fields-requires
-    returns-2)
+claimed-spec = tie.close (tie.spec returns (λ c κs. search needs) (λ c. search needs) (λ c. search needs) (λ c. search needs) read-fields-requires returns-2)

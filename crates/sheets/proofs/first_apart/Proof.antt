@@ -18,29 +18,14 @@ abbrev μ-loop : tie.MeasureT-loop
 loop-holds : tie.Need-loop-holds Inv-loop μ-loop
 loop-holds c = (c .pre, refl)
 
-mul-if1 : tie.Need-mul-if1 Inv-loop μ-loop
-mul-if1 c = search needs
-
-shared-slice-read-if1 : tie.Need-shared-slice-read-if1 Inv-loop μ-loop
-shared-slice-read-if1 c = search needs
-
 mul-if1-2 : tie.Need-mul-if1-2 Inv-loop μ-loop
 mul-if1-2 c = let l = c .before .before .loop in omega (arith, l .inv .0, c .before .loop-test .taken)
 
 shared-slice-read-if1-2 : tie.Need-shared-slice-read-if1-2 Inv-loop μ-loop
 shared-slice-read-if1-2 c = let l = c .before .before .before .loop in omega (arith, l .inv .0, c .before .before .loop-test .taken)
 
-add-result : tie.Need-add-result Inv-loop μ-loop
-add-result c = search needs
-
 returns : tie.Need-returns Inv-loop μ-loop
 returns c = let l = c .before .before .before .before .loop in sym (l .inv .1 ∙ wrong-here _ _ (l .i) (c .before .before .before .loop-test .taken) (l .inv .0) (c .if1 .taken))
-
-add-i : tie.Need-add-i Inv-loop μ-loop
-add-i c = search needs
-
-loop-less : tie.Need-loop-less Inv-loop μ-loop
-loop-less c = search needs
 
 loop-again : tie.Need-loop-again Inv-loop μ-loop
 loop-again c = let l = c .before .before .before .before .loop in (l .inv .0, l .inv .1 ∙ wrong-later _ _ (l .i) (c .before .before .before .loop-test .taken) (l .inv .0) (c .if1 .left))
@@ -50,18 +35,5 @@ returns-2 c = let l = c .before .loop in sym (l .inv .1 ∙ wrong-nowhere _ _ (l
 
 pub first-apart-spec : {M : Type 1} → statement M
 first-apart-spec =
-    tie.close
-    (tie.spec
-    Inv-loop
-    μ-loop
-    loop-holds
-    mul-if1
-    shared-slice-read-if1
-    mul-if1-2
-    shared-slice-read-if1-2
-    add-result
-    returns
-    add-i
-    loop-less
-    loop-again
-    returns-2)
+    tie.close (tie.spec Inv-loop μ-loop loop-holds (λ c. search needs) (λ c. search needs) mul-if1-2 shared-slice-read-if1-2 (λ c. search needs) returns
+    (λ c. search needs) (λ c. search needs) loop-again returns-2)

@@ -17,18 +17,6 @@ all-xs c = ap length (c .fields-of .ensures) ∙ length-all _
 all-ys : (c : tie.After-claimed) → length (c .claimed .result) ≡ length allWidths
 all-ys c = ap length (c .claimed .ensures) ∙ length-fields allWidths _ _
 
-sheet-at-requires : tie.Need-sheet-at-requires
-sheet-at-requires c κs = search needs
-
-field-count-requires : tie.Need-field-count-requires
-field-count-requires c κs = search needs
-
-fields-of-requires : tie.Need-fields-of-requires
-fields-of-requires c κs = search needs
-
-claimed-requires : tie.Need-claimed-requires
-claimed-requires c κs = search needs
-
 array-share-prefix-xs : tie.Need-array-share-prefix-xs
 array-share-prefix-xs c = let a = c .before .before .before .before .before .args in let s = sheetAt (a .d .now) (a .sheet) in there s _ (c .before .fields-of .result) (count (c .before .before)) (all-xs (c .before))
 
@@ -52,15 +40,5 @@ returns c =
 
 pub first-wrong-spec : {M : Type 1} → statement M
 first-wrong-spec =
-    tie.close
-    (tie.spec
-    sheet-at-requires
-    field-count-requires
-    fields-of-requires
-    claimed-requires
-    array-share-prefix-xs
-    slice-aggregate-first-apart
-    array-share-prefix-ys
-    slice-aggregate-first-apart-2
-    first-apart-requires
-    returns)
+    tie.close (tie.spec (λ c κs. search needs) (λ c κs. search needs) (λ c κs. search needs) (λ c κs. search needs) array-share-prefix-xs
+    slice-aggregate-first-apart array-share-prefix-ys slice-aggregate-first-apart-2 first-apart-requires returns)

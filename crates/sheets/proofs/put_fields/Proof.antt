@@ -4,26 +4,8 @@ use borrow.Author.Needs.{needs}
 use Rattle.sheets.proofs.put_fields.Statement.{statement}
 use Rattle.sheets.proofs.put_fields.Tie as tie
 
-put-five-requires : tie.Need-put-five-requires
-put-five-requires c κs = search needs
-
-enum-told : tie.Need-enum-told
-enum-told c = search needs
-
-enum-told-2 : tie.Need-enum-told-2
-enum-told-2 c = search needs
-
-put-little-requires : tie.Need-put-little-requires
-put-little-requires c κs = search needs
-
-same-length : tie.Need-same-length
-same-length c = search needs
-
 returns : tie.Need-returns
 returns c = let a = c .before .before .before .before .before .before .before .args in fields-five (a .sheet) (a .x) (a .out .now) (c .enum-told .given .1) (c .before .before .before .before .put-five .ensures)
-
-same-length-2 : tie.Need-same-length-2
-same-length-2 c = search needs
 
 returns-2 : tie.Need-returns-2
 returns-2 c =
@@ -33,13 +15,5 @@ returns-2 c =
 
 pub put-fields-spec : {M : Type 1} → statement M
 put-fields-spec =
-    tie.close
-    (tie.spec
-    put-five-requires
-    enum-told
-    enum-told-2
-    put-little-requires
-    same-length
-    returns
-    same-length-2
+    tie.close (tie.spec (λ c κs. search needs) (λ c. search needs) (λ c. search needs) (λ c κs. search needs) (λ c. search needs) returns (λ c. search needs)
     returns-2)

@@ -4,24 +4,6 @@ use borrow.Author.Needs.{needs}
 use Rattle.sheets.proofs.put_five.Statement.{statement}
 use Rattle.sheets.proofs.put_five.Tie as tie
 
-put-little-requires : tie.Need-put-little-requires
-put-little-requires c κs = search needs
-
-put-little-requires-2 : tie.Need-put-little-requires-2
-put-little-requires-2 c κs = search needs
-
-put-little-requires-3 : tie.Need-put-little-requires-3
-put-little-requires-3 c κs = search needs
-
-put-little-requires-4 : tie.Need-put-little-requires-4
-put-little-requires-4 c κs = search needs
-
-put-little-requires-5 : tie.Need-put-little-requires-5
-put-little-requires-5 c κs = search needs
-
-same-length : tie.Need-same-length
-same-length c = search needs
-
 returns : tie.Need-returns
 returns c =
     let i = c .before .before .before .before .before .before .before .before .before .before in
@@ -30,12 +12,5 @@ returns c =
 
 pub put-five-spec : {M : Type 1} → statement M
 put-five-spec =
-    tie.close
-    (tie.spec
-    put-little-requires
-    put-little-requires-2
-    put-little-requires-3
-    put-little-requires-4
-    put-little-requires-5
-    same-length
+    tie.close (tie.spec (λ c κs. search needs) (λ c κs. search needs) (λ c κs. search needs) (λ c κs. search needs) (λ c κs. search needs) (λ c. search needs)
     returns)

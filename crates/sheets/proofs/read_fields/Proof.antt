@@ -18,15 +18,6 @@ abbrev μ-loop : tie.MeasureT-loop
 loop-holds : tie.Need-loop-holds Inv-loop μ-loop
 loop-holds c = let p = c .before .before .before .pre in (p .0, p .2, read-none (p .1))
 
-mul-w : tie.Need-mul-w Inv-loop μ-loop
-mul-w c = search needs
-
-shared-slice-read-w : tie.Need-shared-slice-read-w Inv-loop μ-loop
-shared-slice-read-w c = search needs
-
-little-at-requires : tie.Need-little-at-requires Inv-loop μ-loop
-little-at-requires c κs = search needs
-
 mul-fields : tie.Need-mul-fields Inv-loop μ-loop
 mul-fields c = let l = c .before .before .before .loop in omega (arith, l .inv .0, l .inv .2 .same, c .before .before .loop-test .taken)
 
@@ -36,36 +27,13 @@ slice-write-fields c = let l = c .before .before .before .loop in omega (arith, 
 add-at : tie.Need-add-at Inv-loop μ-loop
 add-at c = let l = c .before .before .before .loop in omega (arith, l .inv .1, read-room (c .before .before .loop-test .taken) (l .inv .2))
 
-add-i : tie.Need-add-i Inv-loop μ-loop
-add-i c = search needs
-
-loop-less : tie.Need-loop-less Inv-loop μ-loop
-loop-less c = search needs
-
 loop-again : tie.Need-loop-again Inv-loop μ-loop
 loop-again c = let l = c .before .before .before .loop in (l .inv .0, l .inv .1, read-one (c .little-at .result) (c .before .before .loop-test .taken) (c .little-at .ensures) (l .inv .2))
-
-same-length : tie.Need-same-length Inv-loop μ-loop
-same-length c = search needs
 
 returns : tie.Need-returns Inv-loop μ-loop
 returns c = let l = c .before .loop in read-all (omega (arith, c .loop-test .left)) (l .inv .0) (l .inv .2)
 
 pub read-fields-spec : {M : Type 1} → statement M
 read-fields-spec =
-    tie.close
-    (tie.spec
-    Inv-loop
-    μ-loop
-    loop-holds
-    mul-w
-    shared-slice-read-w
-    little-at-requires
-    mul-fields
-    slice-write-fields
-    add-at
-    add-i
-    loop-less
-    loop-again
-    same-length
-    returns)
+    tie.close (tie.spec Inv-loop μ-loop loop-holds (λ c. search needs) (λ c. search needs) (λ c κs. search needs) mul-fields slice-write-fields add-at
+    (λ c. search needs) (λ c. search needs) loop-again (λ c. search needs) returns)

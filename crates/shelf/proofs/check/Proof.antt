@@ -41,15 +41,6 @@ left c = let l = c .before in let s = l .before .before .before .before .before 
     let e : p - k ≡ suc (p - (k + 1)) = omega arith in
     l .loop .inv .1 ∙ ap (placementsReply (shelf s) (placementAt (s .args .xs .now)) k) e
 
-le16-at-requires : tie.Need-le16-at-requires Inv-loop μ-loop
-le16-at-requires c κs = search needs
-
-cast-p : tie.Need-cast-p Inv-loop μ-loop
-cast-p c = search needs
-
-is-outside-requires : tie.Need-is-outside-requires Inv-loop μ-loop
-is-outside-requires c κs = search needs
-
 returns : tie.Need-returns Inv-loop μ-loop
 returns c = let s = c .before .before .before .before .before in ap saidReply (sym (count-outside (shelf s) (s .args .xs .now) (sym (outside-is (c .before)) ∙ c .if1 .taken)))
 
@@ -58,21 +49,12 @@ loop-holds c = let s = c .before .before .before .before .before in
     let e : c .before .before .le16-at .result - 0 ≡ c .before .before .le16-at .result = omega arith in
     (omega arith, count-within (shelf s) (s .args .xs .now) (sym (outside-is (c .before)) ∙ c .if1 .left) ∙ ap (placementsReply (shelf s) (placementAt (s .args .xs .now)) 0) (sym (e ∙ c .before .before .le16-at .ensures)))
 
-fault-of-requires : tie.Need-fault-of-requires Inv-loop μ-loop
-fault-of-requires c κs = search needs
-
-add-k : tie.Need-add-k Inv-loop μ-loop
-add-k c = search needs
-
 returns-2 : tie.Need-returns-2 Inv-loop μ-loop
 returns-2 c = let l = c .before .before .before in let s = l .before .before .before .before .before .before in let k = l .loop .k in
     let placed = placementAt (s .args .xs .now) in
     let f = c .before .fault-of .ensures in
     ap₂ (λ (n p : ℕ). Refused (refusal n p)) f (add-one k)
     ∙ ap saidReply (sym (left (c .before .before) ∙ faulty (shelf s) placed k (l .before .before .before .le16-at .result - (k + 1)) (λ e. c .if2 .taken (f ∙ e))))
-
-loop-less : tie.Need-loop-less Inv-loop μ-loop
-loop-less c = search needs
 
 loop-again : tie.Need-loop-again Inv-loop μ-loop
 loop-again c = let l = c .before .before .before in let s = l .before .before .before .before .before .before in let k = l .loop .k in
@@ -87,18 +69,5 @@ returns-3 c = let l = c .before in let s = l .before .before .before .before .be
 
 pub check-spec : {M : Type 1} → statement M
 check-spec =
-    tie.close
-    (tie.spec
-    Inv-loop
-    μ-loop
-    le16-at-requires
-    cast-p
-    is-outside-requires
-    returns
-    loop-holds
-    fault-of-requires
-    add-k
-    returns-2
-    loop-less
-    loop-again
-    returns-3)
+    tie.close (tie.spec Inv-loop μ-loop (λ c κs. search needs) (λ c. search needs) (λ c κs. search needs) returns loop-holds (λ c κs. search needs)
+    (λ c. search needs) returns-2 (λ c. search needs) loop-again returns-3)

@@ -50,33 +50,12 @@ here-site c =
     c .site-at2 .ensures
     ∙ ap₂ (λ (x : ℕ) (q : Placement). atomSite (sitesIn (summaryAt (s .args .book .now) x)) (q .own)) (place-is (c .before .before .before .before .before .before .before .before .before .before)) (c .before .before .before .before .before .before .before .before .before .before .before .before .placement-at .ensures)
 
-placement-at-requires : tie.Need-placement-at-requires
-placement-at-requires c κs = search needs
-
-cast-place-of : tie.Need-cast-place-of
-cast-place-of c = search needs
-
-place-of-requires : tie.Need-place-of-requires
-place-of-requires c κs = search needs
-
 returns : tie.Need-returns
 returns c = let s = c .before .before .before .before .before .before in sym (no-block (shelf s) (placed s) (s .args .k) (le-ltb (placeOf (s .args .book .now) (placed s (s .args .k) .block)) (placesIn (s .args .book .now)) (omega (arith, place-is (c .before), c .if1 .taken))))
-
-first-fault-requires : tie.Need-first-fault-requires
-first-fault-requires c κs = search needs
 
 returns-2 : tie.Need-returns-2
 returns-2 c = let s = c .before .before .before .before .before .before .before .before in
     c .first-fault .ensures ∙ ap firstFault (c .before .before .before .before .before .placement-at .ensures) ∙ sym (is-first (shelf s) (placed s) (s .args .k) (has (c .before .before)) (c .before .if2 .taken))
-
-cast-parent : tie.Need-cast-parent
-cast-parent c = search needs
-
-is-outside-requires : tie.Need-is-outside-requires
-is-outside-requires c κs = search needs
-
-parent-fault-requires : tie.Need-parent-fault-requires
-parent-fault-requires c κs = search needs
 
 returns-3 : tie.Need-returns-3
 returns-3 c = let s = c .before .before .before .before .before .before .before .before .before .before .before in
@@ -87,24 +66,6 @@ returns-3 c = let s = c .before .before .before .before .before .before .before 
 sub-placement-at : tie.Need-sub-placement-at
 sub-placement-at c = inside (c .before .before .before .before .before .before .before .before .before .before .args .k) (c .before .before .before .before .before .before .before .placement-at .result .parent) (sym (c .before .is-outside .ensures) ∙ c .if3 .left) .low
 
-placement-at-requires-2 : tie.Need-placement-at-requires-2
-placement-at-requires-2 c κs = search needs
-
-cast-place-of-2 : tie.Need-cast-place-of-2
-cast-place-of-2 c = search needs
-
-place-of-requires-2 : tie.Need-place-of-requires-2
-place-of-requires-2 c κs = search needs
-
-site-at-requires : tie.Need-site-at-requires
-site-at-requires c κs = search needs
-
-site-at-requires-2 : tie.Need-site-at-requires-2
-site-at-requires-2 c κs = search needs
-
-join-fault-requires : tie.Need-join-fault-requires
-join-fault-requires c κs = search needs
-
 returns-4 : tie.Need-returns-4
 returns-4 c = let s = c .before .before .before .before .before .before .before .before .before .before .before .before .before .before .before .before in
     c .join-fault .ensures
@@ -113,23 +74,6 @@ returns-4 c = let s = c .before .before .before .before .before .before .before 
 
 pub fault-of-spec : {M : Type 1} → statement M
 fault-of-spec =
-    tie.close
-    (tie.spec
-    placement-at-requires
-    cast-place-of
-    place-of-requires
-    returns
-    first-fault-requires
-    returns-2
-    cast-parent
-    is-outside-requires
-    parent-fault-requires
-    returns-3
-    sub-placement-at
-    placement-at-requires-2
-    cast-place-of-2
-    place-of-requires-2
-    site-at-requires
-    site-at-requires-2
-    join-fault-requires
-    returns-4)
+    tie.close (tie.spec (λ c κs. search needs) (λ c. search needs) (λ c κs. search needs) returns (λ c κs. search needs) returns-2 (λ c. search needs)
+    (λ c κs. search needs) (λ c κs. search needs) returns-3 sub-placement-at (λ c κs. search needs) (λ c. search needs) (λ c κs. search needs)
+    (λ c κs. search needs) (λ c κs. search needs) (λ c κs. search needs) returns-4)

@@ -39,12 +39,6 @@ returns-2 c =
     let a = c .before .before .before .before .before .before .args in
     sym (left (c .before .before) ∙ place-here (a .book .now) (a .number) _ _ (sym (c .before .number-at .ensures) ∙ c .if2 .taken))
 
-add-i : tie.Need-add-i Inv-loop μ-loop
-add-i c = search needs
-
-loop-less : tie.Need-loop-less Inv-loop μ-loop
-loop-less c = search needs
-
 loop-again : tie.Need-loop-again Inv-loop μ-loop
 loop-again c =
     let a = c .before .before .before .before .before .before .args in
@@ -62,15 +56,4 @@ returns-3 c =
 
 pub place-of-spec : {M : Type 1} → statement M
 place-of-spec =
-    tie.close
-    (tie.spec
-    Inv-loop
-    μ-loop
-    returns
-    loop-holds
-    number-at-requires
-    returns-2
-    add-i
-    loop-less
-    loop-again
-    returns-3)
+    tie.close (tie.spec Inv-loop μ-loop returns loop-holds number-at-requires returns-2 (λ c. search needs) (λ c. search needs) loop-again returns-3)

@@ -10,15 +10,6 @@ use borrow.Author.Needs.{needs}
 use Rattle.shelf.proofs.site_at.Statement.{statement}
 use Rattle.shelf.proofs.site_at.Tie as tie
 
-summary-at-requires : tie.Need-summary-at-requires
-summary-at-requires c κs = search needs
-
-atoms-requires : tie.Need-atoms-requires
-atoms-requires c κs = search needs
-
-ends-requires : tie.Need-ends-requires
-ends-requires c κs = search needs
-
 returns : tie.Need-returns
 returns c =
     let a = c .before .before .before .before .args in
@@ -27,5 +18,4 @@ returns c =
     both ∙ ap (λ (l : List ℕ). atomSite (sitesIn l) (a .a)) (c .before .before .summary-at .ensures .bytes)
 
 pub site-at-spec : {M : Type 1} → statement M
-site-at-spec =
-    tie.close (tie.spec summary-at-requires atoms-requires ends-requires returns)
+site-at-spec = tie.close (tie.spec (λ c κs. search needs) (λ c κs. search needs) (λ c κs. search needs) returns)

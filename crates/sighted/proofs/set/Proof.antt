@@ -10,9 +10,6 @@ use Rattle.sighted.proofs.Looking.{set-here}
 use Rattle.sighted.proofs.set.Statement.{statement}
 use Rattle.sighted.proofs.set.Tie as tie
 
-is-outside-requires : tie.Need-is-outside-requires
-is-outside-requires c κs = search needs
-
 returns : tie.Need-returns
 returns c = rw (sym (c .before .is-outside .ensures) ∙ c .if1 .taken)
 
@@ -32,4 +29,4 @@ returns-2 : tie.Need-returns-2
 returns-2 c = rw (is-inside (c .before)) (c .set-at .ensures ∙ set-here _ _ (omega (arith, atom (c .before))))
 
 pub set-spec : {M : Type 1} → statement M
-set-spec = tie.close (tie.spec is-outside-requires returns sub-set-at set-at-requires returns-2)
+set-spec = tie.close (tie.spec (λ c κs. search needs) returns sub-set-at set-at-requires returns-2)

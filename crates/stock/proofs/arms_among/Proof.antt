@@ -20,27 +20,6 @@ abbrev μ-loop : tie.MeasureT-loop
 loop-holds : tie.Need-loop-holds Inv-loop μ-loop
 loop-holds c = (refl, omega arith, λ j h. absurd (omega arith))
 
-mul-arm-among : tie.Need-mul-arm-among Inv-loop μ-loop
-mul-arm-among c = search needs
-
-array-read-arm-among : tie.Need-array-read-arm-among Inv-loop μ-loop
-array-read-arm-among c = search needs
-
-arm-among-requires : tie.Need-arm-among-requires Inv-loop μ-loop
-arm-among-requires c κs = search needs
-
-mul-arms : tie.Need-mul-arms Inv-loop μ-loop
-mul-arms c = search needs
-
-array-set-from-arms : tie.Need-array-set-from-arms Inv-loop μ-loop
-array-set-from-arms c = search needs
-
-add-k : tie.Need-add-k Inv-loop μ-loop
-add-k c = search needs
-
-loop-less : tie.Need-loop-less Inv-loop μ-loop
-loop-less c = search needs
-
 loop-again : tie.Need-loop-again Inv-loop μ-loop
 loop-again c =
     let l = c .before .before .loop in
@@ -59,17 +38,5 @@ returns c =
 
 pub arms-among-spec : {M : Type 1} → statement M
 arms-among-spec =
-    tie.close
-    (tie.spec
-    Inv-loop
-    μ-loop
-    loop-holds
-    mul-arm-among
-    array-read-arm-among
-    arm-among-requires
-    mul-arms
-    array-set-from-arms
-    add-k
-    loop-less
-    loop-again
-    returns)
+    tie.close (tie.spec Inv-loop μ-loop loop-holds (λ c. search needs) (λ c. search needs) (λ c κs. search needs) (λ c. search needs) (λ c. search needs)
+    (λ c. search needs) (λ c. search needs) loop-again returns)

@@ -22,33 +22,6 @@ abbrev μ-loop : tie.MeasureT-loop
 loop-holds : tie.Need-loop-holds Inv-loop μ-loop
 loop-holds c = (refl, omega arith, λ j h. absurd (omega arith))
 
-mul-s : tie.Need-mul-s Inv-loop μ-loop
-mul-s c = search needs
-
-array-copy-out-s : tie.Need-array-copy-out-s Inv-loop μ-loop
-array-copy-out-s c = search needs
-
-mul-arm-at : tie.Need-mul-arm-at Inv-loop μ-loop
-mul-arm-at c = search needs
-
-array-read-arm-at : tie.Need-array-read-arm-at Inv-loop μ-loop
-array-read-arm-at c = search needs
-
-arm-at-requires : tie.Need-arm-at-requires Inv-loop μ-loop
-arm-at-requires c κs = search needs
-
-mul-arms : tie.Need-mul-arms Inv-loop μ-loop
-mul-arms c = search needs
-
-array-set-from-arms : tie.Need-array-set-from-arms Inv-loop μ-loop
-array-set-from-arms c = search needs
-
-add-k : tie.Need-add-k Inv-loop μ-loop
-add-k c = search needs
-
-loop-less : tie.Need-loop-less Inv-loop μ-loop
-loop-less c = search needs
-
 loop-again : tie.Need-loop-again Inv-loop μ-loop
 loop-again c =
     let l = c .before .before .before .loop in
@@ -67,19 +40,5 @@ returns c =
 
 pub arms-at-spec : {M : Type 1} → statement M
 arms-at-spec =
-    tie.close
-    (tie.spec
-    Inv-loop
-    μ-loop
-    loop-holds
-    mul-s
-    array-copy-out-s
-    mul-arm-at
-    array-read-arm-at
-    arm-at-requires
-    mul-arms
-    array-set-from-arms
-    add-k
-    loop-less
-    loop-again
-    returns)
+    tie.close (tie.spec Inv-loop μ-loop loop-holds (λ c. search needs) (λ c. search needs) (λ c. search needs) (λ c. search needs) (λ c κs. search needs)
+    (λ c. search needs) (λ c. search needs) (λ c. search needs) (λ c. search needs) loop-again returns)

@@ -11,14 +11,8 @@ composed-requires c κs =
     let s = c .before .before .before .before .see-ends .ensures in
     (c .before .before .before .before .before .before .before .before .pre .0, s .0, s .1)
 
-same-length : tie.Need-same-length
-same-length c = search needs
-
-same-length-2 : tie.Need-same-length-2
-same-length-2 c = search needs
-
 returns : tie.Need-returns
 returns c = c .before .composed .ensures
 
 pub by-rows-spec : {M : Type 1} → statement M
-by-rows-spec = tie.close (tie.spec see-ends-requires composed-requires same-length same-length-2 returns)
+by-rows-spec = tie.close (tie.spec see-ends-requires composed-requires (λ c. search needs) (λ c. search needs) returns)

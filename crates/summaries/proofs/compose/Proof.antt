@@ -27,21 +27,6 @@ few : (c : tie.After-le16-at) → Within mostPlacements (c .le16-at .result)
 few c = let s = c .before .before .before .before .before .before in
     subst (Within mostPlacements) (sym (c .le16-at .ensures)) (fine-count (s .args .book .now) (s .args .xs .now) (fine (c .before)))
 
-check-requires : tie.Need-check-requires
-check-requires c κs = search needs
-
-enum-known-reply : tie.Need-enum-known-reply
-enum-known-reply c = search needs
-
-enum-told : tie.Need-enum-told
-enum-told c = search needs
-
-le16-at-requires : tie.Need-le16-at-requires
-le16-at-requires c κs = search needs
-
-cast-count : tie.Need-cast-count
-cast-count c = search needs
-
 links-of-requires : tie.Need-links-of-requires
 links-of-requires c κs = few c .high
 
@@ -66,14 +51,5 @@ returns-2 c =
 
 pub compose-spec : {M : Type 1} → statement M
 compose-spec =
-    tie.close
-    (tie.spec
-    check-requires
-    enum-known-reply
-    enum-told
-    le16-at-requires
-    cast-count
-    links-of-requires
-    placed-requires
-    returns
-    returns-2)
+    tie.close (tie.spec (λ c κs. search needs) (λ c. search needs) (λ c. search needs) (λ c κs. search needs) (λ c. search needs) links-of-requires
+    placed-requires returns returns-2)

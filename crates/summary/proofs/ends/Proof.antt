@@ -12,15 +12,6 @@ use Rattle.summary.specs.Layout.{storedDegree}
 use Rattle.summary.proofs.ends.Statement.{statement}
 use Rattle.summary.proofs.ends.Tie as tie
 
-near-requires : tie.Need-near-requires
-near-requires c κs = search needs
-
-set-requires : tie.Need-set-requires
-set-requires c κs = search needs
-
-size-requires : tie.Need-size-requires
-size-requires c κs = search needs
-
 returns : tie.Need-returns
 unfolding storedDegree ones
 returns c =
@@ -32,4 +23,4 @@ returns c =
     go i false l m e = ap (λ (l : List ℕ). ones (setAt l i)) e
 
 pub ends-spec : {M : Type 1} → statement M
-ends-spec = tie.close (tie.spec near-requires set-requires size-requires returns)
+ends-spec = tie.close (tie.spec (λ c κs. search needs) (λ c κs. search needs) (λ c κs. search needs) returns)

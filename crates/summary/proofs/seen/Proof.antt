@@ -8,18 +8,9 @@ use Rattle.summary.specs.Layout.{seenAt}
 use Rattle.summary.proofs.seen.Statement.{statement}
 use Rattle.summary.proofs.seen.Tie as tie
 
-near-requires : tie.Need-near-requires
-near-requires c κs = search needs
-
-atoms-requires : tie.Need-atoms-requires
-atoms-requires c κs = search needs
-
-see-requires : tie.Need-see-requires
-see-requires c κs = search needs
-
 returns : tie.Need-returns
 unfolding seenAt
 returns c = c .see .ensures ∙ ap₂ (λ (l : List ℕ) (n : ℕ). seenOf (setsIn l) n (c .before .before .before .before .args .i)) (c .before .before .near .ensures .bytes) (c .before .atoms .ensures)
 
 pub seen-spec : {M : Type 1} → statement M
-seen-spec = tie.close (tie.spec near-requires atoms-requires see-requires returns)
+seen-spec = tie.close (tie.spec (λ c κs. search needs) (λ c κs. search needs) (λ c κs. search needs) returns)

@@ -16,9 +16,6 @@ returns c =
 fill-requires : tie.Need-fill-requires
 fill-requires c κs = let p = c .before .before .before .before .pre in record { fine = p .0; far = p .1; room = c .before .if1 .left }
 
-same-length : tie.Need-same-length
-same-length c = search needs
-
 returns-2 : tie.Need-returns-2
 returns-2 c =
     let s = c .before .before .before .before .before .before .before in
@@ -28,4 +25,4 @@ returns-2 c =
     (ap Of (d .is) ∙ sym (ap saidNumber e), entries-done (s .args .n) (s .args .bonds .now) e fits d)
 
 pub answered-spec : {M : Type 1} → statement M
-answered-spec = tie.close (tie.spec returns fill-requires same-length returns-2)
+answered-spec = tie.close (tie.spec returns fill-requires (λ c. search needs) returns-2)

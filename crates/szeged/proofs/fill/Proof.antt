@@ -16,38 +16,14 @@ abbrev μ-loop : tie.MeasureT-loop
 loop-holds : tie.Need-loop-holds Inv-loop μ-loop
 loop-holds c = filling-none _ _ _
 
-mul-term : tie.Need-mul-term Inv-loop μ-loop
-mul-term c = omega arith
-
-shared-slice-read-term : tie.Need-shared-slice-read-term Inv-loop μ-loop
-shared-slice-read-term c = omega arith
-
-mul-term-2 : tie.Need-mul-term-2 Inv-loop μ-loop
-mul-term-2 c = omega arith
-
-add-term : tie.Need-add-term Inv-loop μ-loop
-add-term c = omega arith
-
-shared-slice-read-term-2 : tie.Need-shared-slice-read-term-2 Inv-loop μ-loop
-shared-slice-read-term-2 c = omega arith
-
 term-requires : tie.Need-term-requires Inv-loop μ-loop
 term-requires c κs = few-atoms _ _ (c .before .before .before .before .before .before .pre .fine) .high
-
-mul-out : tie.Need-mul-out Inv-loop μ-loop
-mul-out c = omega arith
 
 slice-write-out : tie.Need-slice-write-out Inv-loop μ-loop
 slice-write-out c = omega (arith, c .before .before .before .before .loop .inv .entries .same, c .before .before .before .before .before .before .before .pre .room)
 
 add-total : tie.Need-add-total Inv-loop μ-loop
 add-total c = omega (arith, c .before .before .before .before .loop .inv .low, few-bytes _ _ (c .before .before .before .before .before .before .before .pre .fine), c .term .ensures .most)
-
-add-k : tie.Need-add-k Inv-loop μ-loop
-add-k c = omega arith
-
-loop-less : tie.Need-loop-less Inv-loop μ-loop
-loop-less c = omega arith
 
 loop-again : tie.Need-loop-again Inv-loop μ-loop
 loop-again c = filling-next _ _ _ (c .before .before .before .before .before .before .before .pre) (c .before .before .before .before .loop .inv) (c .before .before .before .loop-test .taken) (c .term .ensures)
@@ -60,22 +36,5 @@ returns c = filling-done _ _ _ (c .before .loop .inv) (omega (arith, c .before .
 
 pub fill-spec : {M : Type 1} → statement M
 fill-spec =
-    tie.close
-    (tie.spec
-    Inv-loop
-    μ-loop
-    loop-holds
-    mul-term
-    shared-slice-read-term
-    mul-term-2
-    add-term
-    shared-slice-read-term-2
-    term-requires
-    mul-out
-    slice-write-out
-    add-total
-    add-k
-    loop-less
-    loop-again
-    same-length
-    returns)
+    tie.close (tie.spec Inv-loop μ-loop loop-holds (λ c. omega arith) (λ c. omega arith) (λ c. omega arith) (λ c. omega arith) (λ c. omega arith) term-requires
+    (λ c. omega arith) slice-write-out add-total (λ c. omega arith) (λ c. omega arith) loop-again same-length returns)

@@ -10,15 +10,6 @@ use borrow.Author.Needs.{needs}
 use Rattle.szeged.proofs.terms.Statement.{statement}
 use Rattle.szeged.proofs.terms.Tie as tie
 
-table-requires : tie.Need-table-requires
-table-requires c κs = search needs
-
-enum-known-reply : tie.Need-enum-known-reply
-enum-known-reply c = search needs
-
-enum-told : tie.Need-enum-told
-enum-told c = search needs
-
 answered-requires : tie.Need-answered-requires
 answered-requires c κs =
     let a = c .before .before .before .before .before .before .before .before .before .args in
@@ -32,13 +23,10 @@ returns c =
     let r = sym (ap saidNumber e) in
     (r, (entries-stay (a .n) (a .bonds .now) (a .out .now) e, tree-told (a .n) (a .bonds .now) _ _ r))
 
-same-length : tie.Need-same-length
-same-length c = search needs
-
 returns-2 : tie.Need-returns-2
 returns-2 c =
     let f = c .before .before .answered .ensures in
     (f .0, (f .1, tree-told _ _ _ _ (f .0)))
 
 pub terms-spec : {M : Type 1} → statement M
-terms-spec = tie.close (tie.spec table-requires enum-known-reply enum-told answered-requires returns same-length returns-2)
+terms-spec = tie.close (tie.spec (λ c κs. search needs) (λ c. search needs) (λ c. search needs) answered-requires returns (λ c. search needs) returns-2)

@@ -27,20 +27,11 @@ add-is-feed c = let s = c .before .before .before in omega (arith, s .pre)
 shared-slice-read-is-feed : tie.Need-shared-slice-read-is-feed Inv-loop μ-loop
 shared-slice-read-is-feed c = let s = c .before .before .before .before in omega (arith, s .pre)
 
-is-feed-requires : tie.Need-is-feed-requires Inv-loop μ-loop
-is-feed-requires c κs = search needs
-
 add-n : tie.Need-add-n Inv-loop μ-loop
 add-n c =
     let l = c .before .before .before .loop in
     let s = c .before .before .before .before .before in
     omega (arith, c .is-feed .ensures, one-feed (getD (s .args .d .now) (s .args .at + l .k) 0))
-
-add-k : tie.Need-add-k Inv-loop μ-loop
-add-k c = search needs
-
-loop-less : tie.Need-loop-less Inv-loop μ-loop
-loop-less c = search needs
 
 loop-again : tie.Need-loop-again Inv-loop μ-loop
 loop-again c =
@@ -55,16 +46,5 @@ returns c =
 
 pub feeds-spec : {M : Type 1} → statement M
 feeds-spec =
-    tie.close
-    (tie.spec
-    Inv-loop
-    μ-loop
-    loop-holds
-    add-is-feed
-    shared-slice-read-is-feed
-    is-feed-requires
-    add-n
-    add-k
-    loop-less
-    loop-again
-    returns)
+    tie.close (tie.spec Inv-loop μ-loop loop-holds add-is-feed shared-slice-read-is-feed (λ c κs. search needs) add-n (λ c. search needs) (λ c. search needs)
+    loop-again returns)

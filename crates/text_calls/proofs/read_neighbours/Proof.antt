@@ -10,18 +10,6 @@ use Rattle.text_calls.proofs.Texts.{any-room, bytes-filled}
 use Rattle.text_calls.proofs.read_neighbours.Statement.{statement}
 use Rattle.text_calls.proofs.read_neighbours.Tie as tie
 
-slice-aggregate-read : tie.Need-slice-aggregate-read
-slice-aggregate-read c = search needs
-
-read-requires : tie.Need-read-requires
-read-requires c κs = search needs
-
-give-counts-requires : tie.Need-give-counts-requires
-give-counts-requires c κs = search needs
-
-same-length : tie.Need-same-length
-same-length c = search needs
-
 returns : tie.Need-returns
 returns c =
     let m = c .before .before .before .before .before in
@@ -29,18 +17,6 @@ returns c =
     let d = now (s .args .text) in
     let out = now (s .args .bonds) in
     counts-short (neighboursReply d (length out)) _ _ out (now (s .args .counts)) _ (c .before .before .give-counts .ensures) (neighboursReply d 1) (omega (arith, m .before .before .if1 .taken)) (any-room d 1 (length out)) (m .read .ensures .0)
-
-read-requires-2 : tie.Need-read-requires-2
-read-requires-2 c κs = search needs
-
-give-counts-requires-2 : tie.Need-give-counts-requires-2
-give-counts-requires-2 c κs = search needs
-
-same-length-2 : tie.Need-same-length-2
-same-length-2 c = search needs
-
-same-length-3 : tie.Need-same-length-3
-same-length-3 c = search needs
 
 returns-2 : tie.Need-returns-2
 returns-2 c =
@@ -52,15 +28,5 @@ returns-2 c =
 
 pub read-neighbours-spec : {M : Type 1} → statement M
 read-neighbours-spec =
-    tie.close
-    (tie.spec
-    slice-aggregate-read
-    read-requires
-    give-counts-requires
-    same-length
-    returns
-    read-requires-2
-    give-counts-requires-2
-    same-length-2
-    same-length-3
-    returns-2)
+    tie.close (tie.spec (λ c. search needs) (λ c κs. search needs) (λ c κs. search needs) (λ c. search needs) returns (λ c κs. search needs)
+    (λ c κs. search needs) (λ c. search needs) (λ c. search needs) returns-2)

@@ -11,18 +11,6 @@ use Rattle.text_calls.proofs.MolfileReplies.{any-room-whole, bonds-fill
 use Rattle.text_calls.proofs.read_whole.Statement.{statement}
 use Rattle.text_calls.proofs.read_whole.Tie as tie
 
-slice-aggregate-read-whole : tie.Need-slice-aggregate-read-whole
-slice-aggregate-read-whole c = search needs
-
-read-whole-requires : tie.Need-read-whole-requires
-read-whole-requires c κs = search needs
-
-give-counts-requires : tie.Need-give-counts-requires
-give-counts-requires c κs = search needs
-
-same-length : tie.Need-same-length
-same-length c = search needs
-
 returns : tie.Need-returns
 returns c =
     let m = c .before .before .before .before .before in
@@ -30,18 +18,6 @@ returns c =
     let d = now (s .args .text) in
     let out = now (s .args .bonds) in
     counts-short (wholeFileReply d (length out)) _ _ out (now (s .args .counts)) _ (c .before .before .give-counts .ensures) (wholeFileReply d 1) (omega (arith, m .before .before .if1 .taken)) (any-room-whole d 1 (length out)) (m .read-whole .ensures .0)
-
-read-whole-requires-2 : tie.Need-read-whole-requires-2
-read-whole-requires-2 c κs = search needs
-
-give-counts-requires-2 : tie.Need-give-counts-requires-2
-give-counts-requires-2 c κs = search needs
-
-same-length-2 : tie.Need-same-length-2
-same-length-2 c = search needs
-
-same-length-3 : tie.Need-same-length-3
-same-length-3 c = search needs
 
 returns-2 : tie.Need-returns-2
 returns-2 c =
@@ -53,15 +29,5 @@ returns-2 c =
 
 pub read-whole-spec : {M : Type 1} → statement M
 read-whole-spec =
-    tie.close
-    (tie.spec
-    slice-aggregate-read-whole
-    read-whole-requires
-    give-counts-requires
-    same-length
-    returns
-    read-whole-requires-2
-    give-counts-requires-2
-    same-length-2
-    same-length-3
-    returns-2)
+    tie.close (tie.spec (λ c. search needs) (λ c κs. search needs) (λ c κs. search needs) (λ c. search needs) returns (λ c κs. search needs)
+    (λ c κs. search needs) (λ c. search needs) (λ c. search needs) returns-2)

@@ -6,25 +6,10 @@ use Rattle.text_calls.proofs.Texts.{write-lacking, write-given}
 use Rattle.text_calls.proofs.write_neighbours.Statement.{statement}
 use Rattle.text_calls.proofs.write_neighbours.Tie as tie
 
-unlent-requires : tie.Need-unlent-requires
-unlent-requires c κs = search needs
-
 returns : tie.Need-returns
 returns c =
     let s = c .before .before .before .before .before in
     write-lacking (s .args .atoms) (now (s .args .bonds)) (now (s .args .text)) (now (s .args .length)) (c .unlent .result) (omega arith) (c .unlent .ensures)
-
-write-requires : tie.Need-write-requires
-write-requires c κs = search needs
-
-give-number-requires : tie.Need-give-number-requires
-give-number-requires c κs = search needs
-
-same-length : tie.Need-same-length
-same-length c = search needs
-
-same-length-2 : tie.Need-same-length-2
-same-length-2 c = search needs
 
 returns-2 : tie.Need-returns-2
 returns-2 c =
@@ -35,12 +20,4 @@ returns-2 c =
 
 pub write-neighbours-spec : {M : Type 1} → statement M
 write-neighbours-spec =
-    tie.close
-    (tie.spec
-    unlent-requires
-    returns
-    write-requires
-    give-number-requires
-    same-length
-    same-length-2
-    returns-2)
+    tie.close (tie.spec (λ c κs. search needs) returns (λ c κs. search needs) (λ c κs. search needs) (λ c. search needs) (λ c. search needs) returns-2)

@@ -22,15 +22,6 @@ abbrev μ-loop : tie.MeasureT-loop
 loop-holds : tie.Need-loop-holds Inv-loop μ-loop
 loop-holds c = let a = c .before .args in (omega arith, ap length (sym (before-none (graphAt (now (a .d)) (deckOf (a .deck))) (joinAt (now (a .d)) (deckOf (a .deck))))), omega arith)
 
-block-at-requires : tie.Need-block-at-requires Inv-loop μ-loop
-block-at-requires c κs = search needs
-
-bonds-part-requires : tie.Need-bonds-part-requires Inv-loop μ-loop
-bonds-part-requires c κs = search needs
-
-joins-of-requires : tie.Need-joins-of-requires Inv-loop μ-loop
-joins-of-requires c κs = search needs
-
 -- a block has few bonds
 few : (c : tie.After-bonds-part Inv-loop μ-loop) → length (now (c .bonds-part .result)) ≤ mostBytes
 few c =
@@ -46,9 +37,6 @@ add-m-2 : tie.Need-add-m-2 Inv-loop μ-loop
 add-m-2 c =
     let l = c .before .before .before .before .before .loop in
     omega (arith, few (c .before), c .joins-of .ensures .1, l .inv .2, l .inv .0, c .before .before .before .before .before .before .before .pre .count .high)
-
-add-k : tie.Need-add-k Inv-loop μ-loop
-add-k c = search needs
 
 loop-less : tie.Need-loop-less Inv-loop μ-loop
 loop-less c = omega (arith, c .before .before .before .if1 .taken)
@@ -80,17 +68,5 @@ returns c =
 
 pub bond-count-spec : {M : Type 1} → statement M
 bond-count-spec =
-    tie.close
-    (tie.spec
-    Inv-loop
-    μ-loop
-    loop-holds
-    block-at-requires
-    bonds-part-requires
-    joins-of-requires
-    add-m
-    add-m-2
-    add-k
-    loop-less
-    loop-again
-    returns)
+    tie.close (tie.spec Inv-loop μ-loop loop-holds (λ c κs. search needs) (λ c κs. search needs) (λ c κs. search needs) add-m add-m-2 (λ c. search needs)
+    loop-less loop-again returns)

@@ -22,24 +22,12 @@ use Rattle.whole.specs.Replies.{whole-refused, molecule-bonds, molecule-
 use Rattle.whole.proofs.bonds.Statement.{statement}
 use Rattle.whole.proofs.bonds.Tie as tie
 
-read-deck-requires : tie.Need-read-deck-requires
-read-deck-requires c κs = search needs
-
-enum-known-reply : tie.Need-enum-known-reply
-enum-known-reply c = search needs
-
-enum-told : tie.Need-enum-told
-enum-told c = search needs
-
 -- the deck that was read
 fine : (c : tie.After-enum-told) → deckReply Composed (now (c .before .before .before .before .before .args .d)) ≡ read (deckOf (c .before .before .read-deck .result .layout))
 fine c = deck-read (deckReply Composed (now (c .before .before .before .before .before .args .d))) (c .before .before .read-deck .result) (c .before .before .read-deck .ensures) (c .enum-told .given .1)
 
 bond-count-requires : tie.Need-bond-count-requires
 bond-count-requires c κs = whole Composed _ _ (fine (c .before))
-
-mul-if1 : tie.Need-mul-if1
-mul-if1 c = search needs
 
 returns : tie.Need-returns
 unfolding numbersAfter
@@ -51,9 +39,6 @@ returns c =
 cast-start-of : tie.Need-cast-start-of
 cast-start-of c = omega (arith, whole Composed _ _ (fine (c .before .before .before .before)) .count .high)
 
-start-of-requires : tie.Need-start-of-requires
-start-of-requires c κs = search needs
-
 put-all-requires : tie.Need-put-all-requires
 put-all-requires c κs = whole Composed _ _ (fine (c .before .before .before .before .before .before))
 
@@ -64,9 +49,6 @@ returns-2 c =
     let r = c .before .before .before .read-deck in
     let h = whole-refused (now (a .d)) (length (a .out .now)) (deck-stopped (deckReply Composed (now (a .d))) (r .result) _ (r .ensures) (c .before .reply .given .1)) in
     (sym (ap saidMolecule h), sym (ap (λ (x : Read Graph). numbersAfter x (a .out .now)) h))
-
-same-length : tie.Need-same-length
-same-length c = search needs
 
 returns-3 : tie.Need-returns-3
 unfolding numbersAfter
@@ -84,17 +66,5 @@ returns-3 c =
 
 pub bonds-spec : {M : Type 1} → statement M
 bonds-spec =
-    tie.close
-    (tie.spec
-    read-deck-requires
-    enum-known-reply
-    enum-told
-    bond-count-requires
-    mul-if1
-    returns
-    cast-start-of
-    start-of-requires
-    put-all-requires
-    returns-2
-    same-length
-    returns-3)
+    tie.close (tie.spec (λ c κs. search needs) (λ c. search needs) (λ c. search needs) bond-count-requires (λ c. search needs) returns cast-start-of
+    (λ c κs. search needs) put-all-requires returns-2 (λ c. search needs) returns-3)

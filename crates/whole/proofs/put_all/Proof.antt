@@ -38,9 +38,6 @@ put-placed-requires c κs =
     let s = c .before .before .before .before .before .before in
     (s .pre, omega (arith, c .before .if1 .taken), omega (arith, l .inv .2, l .inv .0, s .pre .count .high))
 
-add-k : tie.Need-add-k Inv-loop μ-loop
-add-k c = search needs
-
 loop-less : tie.Need-loop-less Inv-loop μ-loop
 loop-less c = omega (arith, c .before .before .before .before .if1 .taken)
 
@@ -70,15 +67,4 @@ returns c =
     l .inv .4 ∙ ap (λ (k : ℕ). sets (a .out .now) 0 (pairNumbers (bondsBefore (graphAt (now (a .d)) (deckOf (a .deck))) (joinAt (now (a .d)) (deckOf (a .deck))) k))) e
 
 pub put-all-spec : {M : Type 1} → statement M
-put-all-spec =
-    tie.close
-    (tie.spec
-    Inv-loop
-    μ-loop
-    loop-holds
-    put-placed-requires
-    add-k
-    loop-less
-    loop-again
-    same-length
-    returns)
+put-all-spec = tie.close (tie.spec Inv-loop μ-loop loop-holds put-placed-requires (λ c. search needs) loop-less loop-again same-length returns)

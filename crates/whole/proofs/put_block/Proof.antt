@@ -20,43 +20,16 @@ abbrev μ-loop : tie.MeasureT-loop
 loop-holds : tie.Need-loop-holds Inv-loop μ-loop
 loop-holds c = let a = c .before .before .args in let e : a .at + 0 ≡ a .at = omega arith in (omega arith, refl, rw e)
 
-sub-loop : tie.Need-sub-loop Inv-loop μ-loop
-sub-loop c = search needs
-
 shared-slice-read-wide : tie.Need-shared-slice-read-wide Inv-loop μ-loop
 shared-slice-read-wide c = omega (arith, c .before .loop-test .taken)
 
-wide-requires : tie.Need-wide-requires Inv-loop μ-loop
-wide-requires c κs = search needs
-
-add-one : tie.Need-add-one Inv-loop μ-loop
-add-one c = search needs
-
-add-wide : tie.Need-add-wide Inv-loop μ-loop
-add-wide c = search needs
-
 shared-slice-read-wide-2 : tie.Need-shared-slice-read-wide-2 Inv-loop μ-loop
 shared-slice-read-wide-2 c = omega (arith, c .before .before .before .loop-test .taken)
-
-wide-requires-2 : tie.Need-wide-requires-2 Inv-loop μ-loop
-wide-requires-2 c κs = search needs
-
-add-two : tie.Need-add-two Inv-loop μ-loop
-add-two c = search needs
-
-add-put-bond : tie.Need-add-put-bond Inv-loop μ-loop
-add-put-bond c = search needs
 
 put-bond-requires : tie.Need-put-bond-requires Inv-loop μ-loop
 put-bond-requires c κs =
     let p = c .before .before .before .before .before .before .before .before .before .pre in
     (omega (arith, c .before .before .before .before .before .before .loop .inv .0, p), omega (arith, c .before .before .before .wide .ensures, p), omega (arith, c .before .wide2 .ensures, p))
-
-add-i : tie.Need-add-i Inv-loop μ-loop
-add-i c = search needs
-
-loop-less : tie.Need-loop-less Inv-loop μ-loop
-loop-less c = search needs
 
 loop-again : tie.Need-loop-again Inv-loop μ-loop
 loop-again c =
@@ -85,23 +58,6 @@ returns c =
 
 pub put-block-spec : {M : Type 1} → statement M
 put-block-spec =
-    tie.close
-    (tie.spec
-    Inv-loop
-    μ-loop
-    loop-holds
-    sub-loop
-    shared-slice-read-wide
-    wide-requires
-    add-one
-    add-wide
-    shared-slice-read-wide-2
-    wide-requires-2
-    add-two
-    add-put-bond
-    put-bond-requires
-    add-i
-    loop-less
-    loop-again
-    same-length
-    returns)
+    tie.close (tie.spec Inv-loop μ-loop loop-holds (λ c. search needs) shared-slice-read-wide (λ c κs. search needs) (λ c. search needs) (λ c. search needs)
+    shared-slice-read-wide-2 (λ c κs. search needs) (λ c. search needs) (λ c. search needs) put-bond-requires (λ c. search needs) (λ c. search needs) loop-again
+    same-length returns)

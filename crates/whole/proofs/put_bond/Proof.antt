@@ -9,29 +9,11 @@ use Rattle.whole.proofs.put_bond.Statement.{statement}
 use Rattle.whole.proofs.put_bond.Tie as tie
 
 -- src/lib.rt:49:18
-cast-put : tie.Need-cast-put
-cast-put c = search needs
-
 -- src/lib.rt:49:5
-put-requires : tie.Need-put-requires
-put-requires c κs = search needs
-
 -- src/lib.rt:50:14
-add-put : tie.Need-add-put
-add-put c = search needs
-
 -- src/lib.rt:50:22
-cast-put-2 : tie.Need-cast-put-2
-cast-put-2 c = search needs
-
 -- src/lib.rt:50:5
-put-requires-2 : tie.Need-put-requires-2
-put-requires-2 c κs = search needs
-
 -- src/lib.rt:45:1
-same-length : tie.Need-same-length
-same-length c = search needs
-
 -- src/lib.rt:45:1
 returns : tie.Need-returns
 returns c =
@@ -43,5 +25,4 @@ returns c =
 
 pub put-bond-spec : {M : Type 1} → statement M
 put-bond-spec =
-    tie.close
-    (tie.spec cast-put put-requires add-put cast-put-2 put-requires-2 same-length returns)
+    tie.close (tie.spec (λ c. search needs) (λ c κs. search needs) (λ c. search needs) (λ c. search needs) (λ c κs. search needs) (λ c. search needs) returns)

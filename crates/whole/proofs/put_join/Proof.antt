@@ -20,9 +20,6 @@ returns c =
     let k : a .k ≡ 0 = omega (arith, c .if1 .taken) in
     rw (k, joining-none (now (a .d)) (deckOf (a .deck))) (refl, omega arith)
 
-placement-requires : tie.Need-placement-requires
-placement-requires c κs = search needs
-
 -- its parent is an earlier placement
 earlier : (c : tie.After-placement) → let a = c .before .before .before .before .args in Within (a .k) (c .placement .result .parent)
 earlier c =
@@ -32,26 +29,8 @@ earlier c =
 sub-start-of : tie.Need-sub-start-of
 sub-start-of c = omega (arith, earlier c .low)
 
-start-of-requires : tie.Need-start-of-requires
-start-of-requires c κs = search needs
-
 cast-start-of : tie.Need-cast-start-of
 cast-start-of c = let s = c .before .before .before .before .before in omega (arith, s .pre .1, s .pre .0 .count .high)
-
-start-of-requires-2 : tie.Need-start-of-requires-2
-start-of-requires-2 c κs = search needs
-
-wide-requires : tie.Need-wide-requires
-wide-requires c κs = search needs
-
-add-put-bond : tie.Need-add-put-bond
-add-put-bond c = search needs
-
-wide-requires-2 : tie.Need-wide-requires-2
-wide-requires-2 c κs = search needs
-
-add-put-bond-2 : tie.Need-add-put-bond-2
-add-put-bond-2 c = search needs
 
 put-bond-requires : tie.Need-put-bond-requires
 put-bond-requires c κs =
@@ -63,12 +42,6 @@ put-bond-requires c κs =
     let y = start-few (s .pre .0) (s .args .k) (omega (arith, s .pre .1)) in
     let n = s .pre .0 .count .high in
     (s .pre .2, omega (arith, c .before .wide .ensures, t .before .start-of .ensures, x, n, e .high, s .pre .1), omega (arith, c .wide2 .ensures, t .start-of2 .ensures, y, n, s .pre .1))
-
-add-result : tie.Need-add-result
-add-result c = search needs
-
-same-length : tie.Need-same-length
-same-length c = search needs
 
 returns-2 : tie.Need-returns-2
 unfolding pairNumbers
@@ -84,19 +57,5 @@ returns-2 c =
 
 pub put-join-spec : {M : Type 1} → statement M
 put-join-spec =
-    tie.close
-    (tie.spec
-    returns
-    placement-requires
-    sub-start-of
-    start-of-requires
-    cast-start-of
-    start-of-requires-2
-    wide-requires
-    add-put-bond
-    wide-requires-2
-    add-put-bond-2
-    put-bond-requires
-    add-result
-    same-length
-    returns-2)
+    tie.close (tie.spec returns (λ c κs. search needs) sub-start-of (λ c κs. search needs) cast-start-of (λ c κs. search needs) (λ c κs. search needs)
+    (λ c. search needs) (λ c κs. search needs) (λ c. search needs) put-bond-requires (λ c. search needs) (λ c. search needs) returns-2)

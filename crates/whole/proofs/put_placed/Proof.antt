@@ -14,17 +14,8 @@ use Rattle.whole.specs.Joins.{start-few, bonds-few, bonds-are, brought-n
 use Rattle.whole.proofs.put_placed.Statement.{statement}
 use Rattle.whole.proofs.put_placed.Tie as tie
 
-block-at-requires : tie.Need-block-at-requires
-block-at-requires c κs = search needs
-
-bonds-part-requires : tie.Need-bonds-part-requires
-bonds-part-requires c κs = search needs
-
 cast-start-of : tie.Need-cast-start-of
 cast-start-of c = let s = c .before .before .before .before in omega (arith, s .pre .1, s .pre .0 .count .high)
-
-start-of-requires : tie.Need-start-of-requires
-start-of-requires c κs = search needs
 
 put-block-requires : tie.Need-put-block-requires
 put-block-requires c κs =
@@ -35,12 +26,6 @@ put-block-requires c κs =
     let x = start-few (s .pre .0) (s .args .k) (omega (arith, s .pre .1)) in
     (omega (arith, c .before .start-of .ensures, x, n, s .pre .1), s .pre .2, omega (arith, ap length (c .before .before .bonds-part .ensures .bytes), few))
 
-mul-next : tie.Need-mul-next
-mul-next c = search needs
-
-add-next : tie.Need-add-next
-add-next c = search needs
-
 put-join-requires : tie.Need-put-join-requires
 put-join-requires c κs =
     let t = c .before .before .before .before .before in
@@ -48,9 +33,6 @@ put-join-requires c κs =
     let b = t .before .before .block-at in
     let few = bonds-few (s .pre .0) (s .args .k) (s .pre .1) (b .result) (b .ensures) in
     (s .pre .0, s .pre .1, omega (arith, ap length (t .before .bonds-part .ensures .bytes), few, s .pre .2))
-
-same-length : tie.Need-same-length
-same-length c = search needs
 
 returns : tie.Need-returns
 returns c =
@@ -74,15 +56,5 @@ returns c =
 
 pub put-placed-spec : {M : Type 1} → statement M
 put-placed-spec =
-    tie.close
-    (tie.spec
-    block-at-requires
-    bonds-part-requires
-    cast-start-of
-    start-of-requires
-    put-block-requires
-    mul-next
-    add-next
-    put-join-requires
-    same-length
-    returns)
+    tie.close (tie.spec (λ c κs. search needs) (λ c κs. search needs) cast-start-of (λ c κs. search needs) put-block-requires (λ c. search needs)
+    (λ c. search needs) put-join-requires (λ c. search needs) returns)

@@ -21,20 +21,8 @@ abbrev μ-loop : tie.MeasureT-loop
 loop-holds : tie.Need-loop-holds Inv-loop μ-loop
 loop-holds c = let a = c .before .args in (omega arith, sym (start-none (graphAt (now (a .d)) (deckOf (a .deck)))), omega arith)
 
-block-at-requires : tie.Need-block-at-requires Inv-loop μ-loop
-block-at-requires c κs = search needs
-
-cast-start : tie.Need-cast-start Inv-loop μ-loop
-cast-start c = search needs
-
 add-start : tie.Need-add-start Inv-loop μ-loop
 add-start c = omega (arith, c .struct-known .given, c .before .before .before .loop .inv .2)
-
-add-i : tie.Need-add-i Inv-loop μ-loop
-add-i c = search needs
-
-loop-less : tie.Need-loop-less Inv-loop μ-loop
-loop-less c = search needs
 
 loop-again : tie.Need-loop-again Inv-loop μ-loop
 loop-again c =
@@ -53,15 +41,5 @@ returns c =
 
 pub start-of-spec : {M : Type 1} → statement M
 start-of-spec =
-    tie.close
-    (tie.spec
-    Inv-loop
-    μ-loop
-    loop-holds
-    block-at-requires
-    cast-start
-    add-start
-    add-i
-    loop-less
-    loop-again
+    tie.close (tie.spec Inv-loop μ-loop loop-holds (λ c κs. search needs) (λ c. search needs) add-start (λ c. search needs) (λ c. search needs) loop-again
     returns)

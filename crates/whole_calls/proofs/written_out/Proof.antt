@@ -10,18 +10,6 @@ use Rattle.whole_calls.proofs.Replies.{any-room, numbers-filled}
 use Rattle.whole_calls.proofs.written_out.Statement.{statement}
 use Rattle.whole_calls.proofs.written_out.Tie as tie
 
-slice-aggregate-bonds : tie.Need-slice-aggregate-bonds
-slice-aggregate-bonds c = search needs
-
-bonds-requires : tie.Need-bonds-requires
-bonds-requires c κs = search needs
-
-give-counts-requires : tie.Need-give-counts-requires
-give-counts-requires c κs = search needs
-
-same-length : tie.Need-same-length
-same-length c = search needs
-
 returns : tie.Need-returns
 returns c =
     let m = c .before .before .before .before .before in
@@ -29,18 +17,6 @@ returns c =
     let d = now (s .args .deck) in
     let out = now (s .args .bonds) in
     counts-short (wholeReply d (length out)) _ _ out (now (s .args .counts)) _ (c .before .before .give-counts .ensures) (wholeReply d 1) (omega (arith, m .before .before .if1 .taken)) (any-room d 1 (length out)) (m .bonds .ensures .0)
-
-bonds-requires-2 : tie.Need-bonds-requires-2
-bonds-requires-2 c κs = search needs
-
-give-counts-requires-2 : tie.Need-give-counts-requires-2
-give-counts-requires-2 c κs = search needs
-
-same-length-2 : tie.Need-same-length-2
-same-length-2 c = search needs
-
-same-length-3 : tie.Need-same-length-3
-same-length-3 c = search needs
 
 returns-2 : tie.Need-returns-2
 returns-2 c =
@@ -52,15 +28,5 @@ returns-2 c =
 
 pub written-out-spec : {M : Type 1} → statement M
 written-out-spec =
-    tie.close
-    (tie.spec
-    slice-aggregate-bonds
-    bonds-requires
-    give-counts-requires
-    same-length
-    returns
-    bonds-requires-2
-    give-counts-requires-2
-    same-length-2
-    same-length-3
-    returns-2)
+    tie.close (tie.spec (λ c. search needs) (λ c κs. search needs) (λ c κs. search needs) (λ c. search needs) returns (λ c κs. search needs)
+    (λ c κs. search needs) (λ c. search needs) (λ c. search needs) returns-2)

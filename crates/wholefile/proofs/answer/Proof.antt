@@ -26,24 +26,12 @@ returns c =
     let e = no-atom (a .n) (a .xs .now) (length (a .out .now)) (omega (arith, c .if1 .taken)) in
     (sym (ap (saidAnswer (a .n) (a .xs .now)) e), sym (stays (a .xs .now) (a .out .now) e))
 
-bonds-requires : tie.Need-bonds-requires
-bonds-requires c κs = search needs
-
-enum-known-reply : tie.Need-enum-known-reply
-enum-known-reply c = search needs
-
-enum-told : tie.Need-enum-told
-enum-told c = search needs
-
 returns-2 : tie.Need-returns-2
 returns-2 c =
     let b = c .before .before .before in
     let a = start b .args in
     let e = too-short (a .n) (a .xs .now) (length (a .out .now)) (λ z. omega (arith, b .before .if1 .left)) (fine (c .before)) (omega (arith, c .if2 .taken)) in
     (sym (ap (saidAnswer (a .n) (a .xs .now)) e), sym (stays (a .xs .now) (a .out .now) e))
-
-put-requires : tie.Need-put-requires
-put-requires c κs = search needs
 
 returns-3 : tie.Need-returns-3
 returns-3 c =
@@ -52,9 +40,6 @@ returns-3 c =
     let g = c .before .reply .given in
     let e = bond-refused (a .n) (a .xs .now) (length (a .out .now)) (λ z. omega (arith, b .before .if1 .left)) (g .0 .0) (refused-read _ _ (sym (b .bonds .ensures) ∙ g .1)) in
     (sym (ap (saidAnswer (a .n) (a .xs .now)) e), sym (stays (a .xs .now) (a .out .now) e))
-
-same-length : tie.Need-same-length
-same-length c = search needs
 
 returns-4 : tie.Need-returns-4
 returns-4 c =
@@ -66,14 +51,5 @@ returns-4 c =
 
 pub answer-spec : {M : Type 1} → statement M
 answer-spec =
-    tie.close
-    (tie.spec
-    returns
-    bonds-requires
-    enum-known-reply
-    enum-told
-    returns-2
-    put-requires
-    returns-3
-    same-length
+    tie.close (tie.spec returns (λ c κs. search needs) (λ c. search needs) (λ c. search needs) returns-2 (λ c κs. search needs) returns-3 (λ c. search needs)
     returns-4)

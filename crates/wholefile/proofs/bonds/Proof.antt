@@ -17,22 +17,10 @@ abbrev μ-loop : tie.MeasureT-loop
 loop-holds : tie.Need-loop-holds Inv-loop μ-loop
 loop-holds c = (omega arith, passes-none _ _)
 
-fault-requires : tie.Need-fault-requires Inv-loop μ-loop
-fault-requires c κs = omega arith
-
-add-t8 : tie.Need-add-t8 Inv-loop μ-loop
-add-t8 c = omega arith
-
 returns : tie.Need-returns Inv-loop μ-loop
 returns c =
     let l = c .before .before .before .loop in
     sym (ap saidReply (stops _ _ _ (l .inv .1) (omega arith) (c .before .fault .result) (c .if1 .taken) (c .before .fault .ensures)))
-
-add-k : tie.Need-add-k Inv-loop μ-loop
-add-k c = omega arith
-
-loop-less : tie.Need-loop-less Inv-loop μ-loop
-loop-less c = omega arith
 
 loop-again : tie.Need-loop-again Inv-loop μ-loop
 loop-again c =
@@ -44,15 +32,4 @@ returns-2 c = sym (ap saidReply (passes-all _ _ _ (c .before .loop .inv .1) (ome
 
 pub bonds-spec : {M : Type 1} → statement M
 bonds-spec =
-    tie.close
-    (tie.spec
-    Inv-loop
-    μ-loop
-    loop-holds
-    fault-requires
-    add-t8
-    returns
-    add-k
-    loop-less
-    loop-again
-    returns-2)
+    tie.close (tie.spec Inv-loop μ-loop loop-holds (λ c κs. omega arith) (λ c. omega arith) returns (λ c. omega arith) (λ c. omega arith) loop-again returns-2)

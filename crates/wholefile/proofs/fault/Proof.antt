@@ -17,33 +17,6 @@ use Rattle.wholefile.proofs.Looking.{full, roomy}
 use Rattle.wholefile.proofs.fault.Statement.{statement}
 use Rattle.wholefile.proofs.fault.Tie as tie
 
-mul-a : tie.Need-mul-a
-mul-a c = search needs
-
-mul-a-2 : tie.Need-mul-a-2
-mul-a-2 c = search needs
-
-shared-slice-read-a : tie.Need-shared-slice-read-a
-shared-slice-read-a c = search needs
-
-mul-b : tie.Need-mul-b
-mul-b c = search needs
-
-add-b : tie.Need-add-b
-add-b c = search needs
-
-mul-b-2 : tie.Need-mul-b-2
-mul-b-2 c = search needs
-
-shared-slice-read-b : tie.Need-shared-slice-read-b
-shared-slice-read-b c = search needs
-
-wide-two-requires : tie.Need-wide-two-requires
-wide-two-requires c κs = search needs
-
-is-outside-requires : tie.Need-is-outside-requires
-is-outside-requires c κs = search needs
-
 -- the ends of the bond, as numbers of the list
 abbrev a-of : tie.Start → ℕ
 a-of s = getD (s .args .xs .now) (2 * s .args .k) 0
@@ -58,12 +31,6 @@ returns c = three _ _ _ _ (ap (λ (v : ℕ). isOutside (c .before .before .befor
 one : (c : tie.Else1) → let s = c .before .before .before .before .before .before in isOutside (s .args .n) (a-of s) ≡ false
 one c = ap (λ (v : ℕ). isOutside (c .before .before .before .before .before .before .args .n) v) (sym (c .before .before .wide-two .ensures .0)) ∙ sym (c .before .is-outside .ensures) ∙ c .if1 .left
 
-wide-two-requires-2 : tie.Need-wide-two-requires-2
-wide-two-requires-2 c κs = search needs
-
-is-outside-requires-2 : tie.Need-is-outside-requires-2
-is-outside-requires-2 c κs = search needs
-
 returns-2 : tie.Need-returns-2
 returns-2 c =
     three′ _ _ _ _ (one (c .before .before .before))
@@ -77,9 +44,6 @@ returns-3 c = four _ _ _ _ (one (c .before .before .before .before)) (two (c .be
 
 differ : (c : tie.Else3) → let s = c .before .before .before .before .before .before .before .before .before .before in eqb (a-of s) (b-of s) ≡ false
 differ c = ne-eqb _ _ (c .if3 .left)
-
-look-back-requires : tie.Need-look-back-requires
-look-back-requires c κs = search needs
 
 -- what the bonds before say
 joined : (c : tie.After-look-back) → let s = c .before .before .before .before .before .before .before .before .before .before .before in c .look-back .result .joined ≡ anyJoins (before (s .args .xs .now) (s .args .k)) (a-of s) (b-of s)
@@ -122,24 +86,6 @@ returns-7 c =
 
 pub fault-spec : {M : Type 1} → statement M
 fault-spec =
-    tie.close
-    (tie.spec
-    mul-a
-    mul-a-2
-    shared-slice-read-a
-    mul-b
-    add-b
-    mul-b-2
-    shared-slice-read-b
-    wide-two-requires
-    is-outside-requires
-    returns
-    wide-two-requires-2
-    is-outside-requires-2
-    returns-2
-    returns-3
-    look-back-requires
-    returns-4
-    returns-5
-    returns-6
-    returns-7)
+    tie.close (tie.spec (λ c. search needs) (λ c. search needs) (λ c. search needs) (λ c. search needs) (λ c. search needs) (λ c. search needs)
+    (λ c. search needs) (λ c κs. search needs) (λ c κs. search needs) returns (λ c κs. search needs) (λ c κs. search needs) returns-2 returns-3
+    (λ c κs. search needs) returns-4 returns-5 returns-6 returns-7)

@@ -25,26 +25,11 @@ kept-front c =
     let b = call c in
     front _ _ (replicate (2 * most) 0) _ refl (sym (b .kept-bonds .ensures .0) ∙ c .before .seen2 .given .1) (b .kept-bonds .ensures .1)
 
-slice-aggregate-kept-bonds : tie.Need-slice-aggregate-kept-bonds
-slice-aggregate-kept-bonds c = search needs
-
-kept-bonds-requires : tie.Need-kept-bonds-requires
-kept-bonds-requires c κs = search needs
-
-enum-known-seen : tie.Need-enum-known-seen
-enum-known-seen c = search needs
-
-enum-known-seen-2 : tie.Need-enum-known-seen-2
-enum-known-seen-2 c = search needs
-
 array-share-prefix-pairs : tie.Need-array-share-prefix-pairs
 array-share-prefix-pairs c = let F = kept-front c in omega (arith, F .few, F .size)
 
 slice-aggregate-answer : tie.Need-slice-aggregate-answer
 slice-aggregate-answer c = sym (taken (kept-front (c .before)))
-
-answer-requires : tie.Need-answer-requires
-answer-requires c κs = search needs
 
 returns : tie.Need-returns
 returns c =
@@ -55,9 +40,6 @@ returns c =
     let g = c .before .seen .given in
     let e = whole-no-line d (length out) (g .0 .0) (front-refused d (replicate (2 * most) 0) (g .0 .0) refl (sym (b .kept-bonds .ensures .0) ∙ g .1)) in
     (sym (ap (saidMolfile d) e), sym (stays (bytesOf d) out e))
-
-same-length : tie.Need-same-length
-same-length c = search needs
 
 returns-2 : tie.Need-returns-2
 returns-2 c =
@@ -74,15 +56,5 @@ returns-2 c =
 
 pub read-whole-spec : {M : Type 1} → statement M
 read-whole-spec =
-    tie.close
-    (tie.spec
-    slice-aggregate-kept-bonds
-    kept-bonds-requires
-    enum-known-seen
-    enum-known-seen-2
-    array-share-prefix-pairs
-    slice-aggregate-answer
-    answer-requires
-    returns
-    same-length
-    returns-2)
+    tie.close (tie.spec (λ c. search needs) (λ c κs. search needs) (λ c. search needs) (λ c. search needs) array-share-prefix-pairs slice-aggregate-answer
+    (λ c κs. search needs) returns (λ c. search needs) returns-2)

@@ -25,11 +25,5 @@ sub-t c = above-none (c .before .before .args .q) (c .before .loop .t) (c .loop-
 loop-less : tie.Need-loop-less Inv-loop μ-loop
 loop-less c = let l = above-none (c .before .before .args .q) (c .before .loop .t) (c .loop-test .taken) in omega arith
 
-loop-again : tie.Need-loop-again Inv-loop μ-loop
-loop-again c = omega arith
-
-returns : tie.Need-returns Inv-loop μ-loop
-returns c = omega arith
-
 pub down-spec : {M : Type 1} → statement M
-down-spec = tie.close (tie.spec Inv-loop μ-loop loop-holds mul-loop sub-t loop-less loop-again returns)
+down-spec = tie.close (tie.spec Inv-loop μ-loop loop-holds mul-loop sub-t loop-less (λ c. omega arith) (λ c. omega arith))

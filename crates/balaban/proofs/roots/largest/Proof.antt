@@ -11,15 +11,6 @@ use Rattle.balaban.proofs.roots.largest.Tie as tie
 returns : tie.Need-returns
 returns c = (sym (largest-none (bound 1)) ∙ ap (largestRoot (bound 1)) (sym (c .if1 .taken)), omega arith)
 
-div-q : tie.Need-div-q
-div-q c = search needs
-
-guess-requires : tie.Need-guess-requires
-guess-requires c κs = search needs
-
-down-requires : tie.Need-down-requires
-down-requires c κs = search needs
-
 up-requires : tie.Need-up-requires
 up-requires c κs = let d = c .down .ensures in (d .0, d .1, div-le-self (bound 1) (c .before .before .before .args .p))
 
@@ -27,4 +18,4 @@ returns-2 : tie.Need-returns-2
 returns-2 c = let r = c .up .ensures in (largest-is (bound 1) (c .before .before .before .before .args .p) (c .up .result) (r .0), r .1)
 
 pub largest-spec : {M : Type 1} → statement M
-largest-spec = tie.close (tie.spec returns div-q guess-requires down-requires up-requires returns-2)
+largest-spec = tie.close (tie.spec returns (λ c. search needs) (λ c κs. search needs) (λ c κs. search needs) up-requires returns-2)

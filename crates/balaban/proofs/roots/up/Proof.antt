@@ -17,12 +17,6 @@ abbrev μ-loop : tie.MeasureT-loop
 loop-holds : tie.Need-loop-holds Inv-loop μ-loop
 loop-holds c = c .pre
 
-add-loop : tie.Need-add-loop Inv-loop μ-loop
-add-loop c = omega arith
-
-add-loop-2 : tie.Need-add-loop-2 Inv-loop μ-loop
-add-loop-2 c = omega arith
-
 mul-loop : tie.Need-mul-loop Inv-loop μ-loop
 mul-loop c =
     let h : c .loop .t + 1 ≤ unit + 1 = omega arith in
@@ -32,17 +26,12 @@ mul-loop c =
 below : (c : tie.In-loop Inv-loop μ-loop) → c .before .loop .t + 1 ≤ unit
 below c = let l = c .loop-test .taken in root-fits (c .before .loop .t + 1) (omega arith)
 
-add-t : tie.Need-add-t Inv-loop μ-loop
-add-t c = omega arith
-
 loop-less : tie.Need-loop-less Inv-loop μ-loop
 loop-less c = omega (arith, below c)
 
 loop-again : tie.Need-loop-again Inv-loop μ-loop
 loop-again c = omega (arith, below c)
 
-returns : tie.Need-returns Inv-loop μ-loop
-returns c = omega arith
-
 pub up-spec : {M : Type 1} → statement M
-up-spec = tie.close (tie.spec Inv-loop μ-loop loop-holds add-loop add-loop-2 mul-loop add-t loop-less loop-again returns)
+up-spec =
+    tie.close (tie.spec Inv-loop μ-loop loop-holds (λ c. omega arith) (λ c. omega arith) mul-loop (λ c. omega arith) loop-less loop-again (λ c. omega arith))

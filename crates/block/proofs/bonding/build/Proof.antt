@@ -23,26 +23,8 @@ abbrev μ-loop : tie.MeasureT-loop
 loop-holds : tie.Need-loop-holds Inv-loop μ-loop
 loop-holds c = (omega arith, rw (c .before .before .pre .1) (reads-start _ _ (c .before .before .pre .0)))
 
-mul-a : tie.Need-mul-a Inv-loop μ-loop
-mul-a c = omega arith
-
-shared-slice-read-a : tie.Need-shared-slice-read-a Inv-loop μ-loop
-shared-slice-read-a c = omega arith
-
-mul-b : tie.Need-mul-b Inv-loop μ-loop
-mul-b c = omega arith
-
-add-b : tie.Need-add-b Inv-loop μ-loop
-add-b c = omega arith
-
-shared-slice-read-b : tie.Need-shared-slice-read-b Inv-loop μ-loop
-shared-slice-read-b c = omega arith
-
 fault-requires : tie.Need-fault-requires Inv-loop μ-loop
 fault-requires c κs = (c .before .before .before .before .before .before .before .before .pre .0, c .before .before .before .before .before .loop .inv .1 .holds .draws .size)
-
-add-t22 : tie.Need-add-t22 Inv-loop μ-loop
-add-t22 c = omega arith
 
 same-length : tie.Need-same-length Inv-loop μ-loop
 same-length c = omega (arith, c .before .before .before .before .before .before .before .loop .inv .1 .holds .draws .size, ap length (c .before .before .before .before .before .before .before .before .before .before .pre .1))
@@ -126,12 +108,6 @@ add-count-2 c = omega (arith, second (c .before .before))
 array-write-count-2 : tie.Need-array-write-count-2 Inv-loop μ-loop
 array-write-count-2 c = omega (arith, second (c .before .before))
 
-add-k : tie.Need-add-k Inv-loop μ-loop
-add-k c = omega arith
-
-loop-less : tie.Need-loop-less Inv-loop μ-loop
-loop-less c = omega arith
-
 loop-again : tie.Need-loop-again Inv-loop μ-loop
 loop-again c = (
   omega arith,
@@ -149,42 +125,7 @@ returns-2 c =
 
 pub build-spec : {M : Type 1} → statement M
 build-spec =
-    tie.close
-    (tie.spec
-    Inv-loop
-    μ-loop
-    loop-holds
-    mul-a
-    shared-slice-read-a
-    mul-b
-    add-b
-    shared-slice-read-b
-    fault-requires
-    add-t22
-    same-length
-    returns
-    cast-u
-    sub-u
-    cast-v
-    sub-v
-    mul-near
-    slice-read-near
-    shl-near
-    mul-near-2
-    slice-write-near
-    array-read-count
-    add-count
-    array-write-count
-    mul-near-3
-    slice-read-near-2
-    shl-near-2
-    mul-near-4
-    slice-write-near-2
-    array-read-count-2
-    add-count-2
-    array-write-count-2
-    add-k
-    loop-less
-    loop-again
-    same-length-2
-    returns-2)
+    tie.close (tie.spec Inv-loop μ-loop loop-holds (λ c. omega arith) (λ c. omega arith) (λ c. omega arith) (λ c. omega arith) (λ c. omega arith) fault-requires
+    (λ c. omega arith) same-length returns cast-u sub-u cast-v sub-v mul-near slice-read-near shl-near mul-near-2 slice-write-near array-read-count add-count
+    array-write-count mul-near-3 slice-read-near-2 shl-near-2 mul-near-4 slice-write-near-2 array-read-count-2 add-count-2 array-write-count-2
+    (λ c. omega arith) (λ c. omega arith) loop-again same-length-2 returns-2)

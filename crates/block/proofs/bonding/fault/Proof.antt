@@ -14,14 +14,8 @@ use Rattle.block.proofs.Listing.{full, room}
 use Rattle.block.proofs.bonding.fault.Statement.{statement}
 use Rattle.block.proofs.bonding.fault.Tie as tie
 
-is-outside-requires : tie.Need-is-outside-requires
-is-outside-requires c κs = search needs
-
 returns : tie.Need-returns
 returns c bs H = three _ _ _ _ (sym (c .before .is-outside .ensures) ∙ c .if1 .taken)
-
-is-outside-requires-2 : tie.Need-is-outside-requires-2
-is-outside-requires-2 c κs = search needs
 
 -- what has passed at each place: the first end, the second end, that they differ, that the bond is new
 one : (c : tie.Else1) → let s = c .before .before .before .args in isOutside (s .n) (s .a) ≡ false
@@ -77,9 +71,6 @@ sub-if5 c = omega (arith, one-in (c .before .before .before))
 element-copy-out-if5 : tie.Need-element-copy-out-if5
 element-copy-out-if5 c = omega (arith, one-in (c .before .before .before), c .before .before .before .before .before .before .before .before .pre .0)
 
-cast-if5 : tie.Need-cast-if5
-cast-if5 c = omega arith
-
 returns-5 : tie.Need-returns-5
 returns-5 c bs H =
     let d = c .before .before .before .before in
@@ -90,9 +81,6 @@ sub-if6 c = omega (arith, two-in (c .before .before .before .before .before))
 
 element-copy-out-if6 : tie.Need-element-copy-out-if6
 element-copy-out-if6 c = omega (arith, two-in (c .before .before .before .before .before), c .before .before .before .before .before .before .before .before .before .before .pre .0)
-
-cast-if6 : tie.Need-cast-if6
-cast-if6 c = omega arith
 
 returns-6 : tie.Need-returns-6
 returns-6 c bs H =
@@ -108,25 +96,5 @@ returns-7 c bs H =
 
 pub fault-spec : {M : Type 1} → statement M
 fault-spec =
-    tie.close
-    (tie.spec
-    is-outside-requires
-    returns
-    is-outside-requires-2
-    returns-2
-    returns-3
-    sub-if4
-    mul-if4
-    shared-slice-read-if4
-    sub-if4-2
-    shr-if4
-    returns-4
-    sub-if5
-    element-copy-out-if5
-    cast-if5
-    returns-5
-    sub-if6
-    element-copy-out-if6
-    cast-if6
-    returns-6
-    returns-7)
+    tie.close (tie.spec (λ c κs. search needs) returns (λ c κs. search needs) returns-2 returns-3 sub-if4 mul-if4 shared-slice-read-if4 sub-if4-2 shr-if4
+    returns-4 sub-if5 element-copy-out-if5 (λ c. omega arith) returns-5 sub-if6 element-copy-out-if6 (λ c. omega arith) returns-6 returns-7)

@@ -5,12 +5,6 @@ use borrow.Author.Tests.{eq-eqb, ne-eqb}
 use Rattle.block.proofs.search.connected.Statement.{statement}
 use Rattle.block.proofs.search.connected.Tie as tie
 
-slice-aggregate-from-atom : tie.Need-slice-aggregate-from-atom
-slice-aggregate-from-atom c = search needs
-
-from-atom-requires : tie.Need-from-atom-requires
-from-atom-requires c κs = search needs
-
 returns : tie.Need-returns
 returns c xs T =
     let S = c .before .before .from-atom .ensures _ T in
@@ -20,4 +14,4 @@ returns c xs T =
     ]
 
 pub connected-spec : {M : Type 1} → statement M
-connected-spec = tie.close (tie.spec slice-aggregate-from-atom from-atom-requires returns)
+connected-spec = tie.close (tie.spec (λ c. search needs) (λ c κs. search needs) returns)

@@ -6,15 +6,6 @@ use Rattle.block.specs.Block.{mostAtoms}
 use Rattle.block.proofs.search.first_atoms.Statement.{statement}
 use Rattle.block.proofs.search.first_atoms.Tie as tie
 
-within-requires : tie.Need-within-requires
-within-requires c κs = search needs
-
-sub-result : tie.Need-sub-result
-sub-result c = search needs
-
-shr-result : tie.Need-shr-result
-shr-result c = search needs
-
 returns : tie.Need-returns
 returns c = sym (ap firsts (sym (c .before .within .ensures .0) ∙ c .if1 .taken))
 
@@ -22,4 +13,4 @@ returns-2 : tie.Need-returns-2
 returns-2 c = shifted-down mostAtoms _ (c .before .within .ensures .1) ∙ ap firsts (c .before .within .ensures .0)
 
 pub first-atoms-spec : {M : Type 1} → statement M
-first-atoms-spec = tie.close (tie.spec within-requires sub-result shr-result returns returns-2)
+first-atoms-spec = tie.close (tie.spec (λ c κs. search needs) (λ c. search needs) (λ c. search needs) returns returns-2)

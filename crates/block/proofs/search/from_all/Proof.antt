@@ -22,32 +22,14 @@ abbrev μ-loop : tie.MeasureT-loop
 loop-holds : tie.Need-loop-holds Inv-loop μ-loop
 loop-holds c = (omega arith, c .before .before .pre .0 .1 .shown .small, λ xs R. rw (c .before .before .pre .1) (rows-start _ xs))
 
-add-from-atom : tie.Need-add-from-atom Inv-loop μ-loop
-add-from-atom c = omega arith
-
-slice-aggregate-from-atom : tie.Need-slice-aggregate-from-atom Inv-loop μ-loop
-slice-aggregate-from-atom c = search needs
-
 from-atom-requires : tie.Need-from-atom-requires Inv-loop μ-loop
 from-atom-requires c κs =
     let s = c .before .before .before .before .before in
     let (xs, R) = s .pre .0 in
     ((graphOf (s .args .n) xs, record { shown = R .shown; size = refl; start = omega arith }), refl)
 
-add-put-row : tie.Need-add-put-row Inv-loop μ-loop
-add-put-row c = omega arith
-
 put-row-requires : tie.Need-put-row-requires Inv-loop μ-loop
 put-row-requires c κs = tt
-
-array-write-deep : tie.Need-array-write-deep Inv-loop μ-loop
-array-write-deep c = omega arith
-
-add-i : tie.Need-add-i Inv-loop μ-loop
-add-i c = omega arith
-
-loop-less : tie.Need-loop-less Inv-loop μ-loop
-loop-less c = omega arith
 
 loop-again : tie.Need-loop-again Inv-loop μ-loop
 loop-again c =
@@ -73,19 +55,5 @@ returns c =
 
 pub from-all-spec : {M : Type 1} → statement M
 from-all-spec =
-    tie.close
-    (tie.spec
-    Inv-loop
-    μ-loop
-    loop-holds
-    add-from-atom
-    slice-aggregate-from-atom
-    from-atom-requires
-    add-put-row
-    put-row-requires
-    array-write-deep
-    add-i
-    loop-less
-    loop-again
-    same-length
-    returns)
+    tie.close (tie.spec Inv-loop μ-loop loop-holds (λ c. omega arith) (λ c. search needs) from-atom-requires (λ c. omega arith) put-row-requires
+    (λ c. omega arith) (λ c. omega arith) (λ c. omega arith) loop-again same-length returns)

@@ -33,9 +33,6 @@ sub-level c = omega (arith, begins (c .before .before))
 shl-level : tie.Need-shl-level Inv-loop μ-loop
 shl-level c = omega (arith, begins (c .before .before))
 
-first-atoms-requires : tie.Need-first-atoms-requires Inv-loop μ-loop
-first-atoms-requires c κs = search needs
-
 loop-holds : tie.Need-loop-holds Inv-loop μ-loop
 loop-holds c g T =
     let e : min (c .before .before .before .args .n) mostAtoms ≡ c .before .before .before .args .n = omega (arith, begins (c .before .before .before)) in
@@ -119,24 +116,5 @@ returns c g T =
 
 pub from-atom-spec : {M : Type 1} → statement M
 from-atom-spec =
-    tie.close
-    (tie.spec
-    Inv-loop
-    μ-loop
-    sub-level
-    shl-level
-    first-atoms-requires
-    loop-holds
-    cast-a
-    sub-level-2
-    slice-write-row
-    mul-next
-    shared-slice-read-next
-    add-d
-    loop-less
-    loop-again
-    loop-less-2
-    loop-again-2
-    sub-t18
-    same-length
-    returns)
+    tie.close (tie.spec Inv-loop μ-loop sub-level shl-level (λ c κs. search needs) loop-holds cast-a sub-level-2 slice-write-row mul-next shared-slice-read-next
+    add-d loop-less loop-again loop-less-2 loop-again-2 sub-t18 same-length returns)

@@ -22,12 +22,6 @@ within-requires c κs = tt
 loop-holds : tie.Need-loop-holds Inv-loop μ-loop
 loop-holds c = (omega arith, omega arith, sym start-first, pairs-none _ _)
 
-sub-count-run : tie.Need-sub-count-run Inv-loop μ-loop
-sub-count-run c = omega arith
-
-sub-count-run-2 : tie.Need-sub-count-run-2 Inv-loop μ-loop
-sub-count-run-2 c = omega arith
-
 count-run-requires : tie.Need-count-run-requires Inv-loop μ-loop
 count-run-requires c κs =
     let v = c .before .loop .inv in
@@ -35,20 +29,8 @@ count-run-requires c κs =
     let (a, b) = run-fits (c .before .before .before .args .half .now) _ _ _ t (v .1) (v .2) in
     (a, b, pairs-counts _ _ _ _ (v .3) t (v .1))
 
-sub-from : tie.Need-sub-from Inv-loop μ-loop
-sub-from c = omega arith
-
-sub-from-2 : tie.Need-sub-from-2 Inv-loop μ-loop
-sub-from-2 c = omega arith
-
 add-from : tie.Need-add-from Inv-loop μ-loop
 add-from c = let v = c .before .before .loop .inv in omega (arith, from-next _ _ (omega arith) (v .2) .1)
-
-add-i : tie.Need-add-i Inv-loop μ-loop
-add-i c = omega arith
-
-loop-less : tie.Need-loop-less Inv-loop μ-loop
-loop-less c = omega arith
 
 loop-again : tie.Need-loop-again Inv-loop μ-loop
 loop-again c =
@@ -65,19 +47,5 @@ returns c =
 
 pub count-pairs-spec : {M : Type 1} → statement M
 count-pairs-spec =
-    tie.close
-    (tie.spec
-    Inv-loop
-    μ-loop
-    within-requires
-    loop-holds
-    sub-count-run
-    sub-count-run-2
-    count-run-requires
-    sub-from
-    sub-from-2
-    add-from
-    add-i
-    loop-less
-    loop-again
-    returns)
+    tie.close (tie.spec Inv-loop μ-loop within-requires loop-holds (λ c. omega arith) (λ c. omega arith) count-run-requires (λ c. omega arith)
+    (λ c. omega arith) add-from (λ c. omega arith) (λ c. omega arith) loop-again returns)

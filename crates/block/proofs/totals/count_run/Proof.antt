@@ -18,41 +18,14 @@ abbrev μ-loop : tie.MeasureT-loop
 loop-holds : tie.Need-loop-holds Inv-loop μ-loop
 loop-holds c = (omega arith, count-none _ _ _ (c .pre .2))
 
-add-wide : tie.Need-add-wide Inv-loop μ-loop
-add-wide c = omega arith
-
-element-copy-out-wide : tie.Need-element-copy-out-wide Inv-loop μ-loop
-element-copy-out-wide c = omega arith
-
 wide-requires : tie.Need-wide-requires Inv-loop μ-loop
 wide-requires c κs = tt
-
-add-j : tie.Need-add-j Inv-loop μ-loop
-add-j c = omega arith
-
-mul-counts : tie.Need-mul-counts Inv-loop μ-loop
-mul-counts c = omega arith
-
-array-read-counts : tie.Need-array-read-counts Inv-loop μ-loop
-array-read-counts c = omega arith
 
 add-counts : tie.Need-add-counts Inv-loop μ-loop
 add-counts c = let s = c .before .before .before .before .before in omega (arith, count-low _ _ _ _ (c .before .before .before .before .loop .inv .1) _ (c .before .wide .result) (s .pre .2) (c .if1 .taken))
 
-mul-counts-2 : tie.Need-mul-counts-2 Inv-loop μ-loop
-mul-counts-2 c = omega arith
-
-array-write-counts : tie.Need-array-write-counts Inv-loop μ-loop
-array-write-counts c = omega arith
-
-loop-less : tie.Need-loop-less Inv-loop μ-loop
-loop-less c = omega arith
-
 loop-again : tie.Need-loop-again Inv-loop μ-loop
 loop-again c = (omega arith, count-in _ _ _ _ (c .before .before .before .before .loop .inv .1) _ (c .before .wide .ensures .0 ∙ run-here (now (c .before .before .before .before .before .args .half)) (c .before .before .before .before .before .args .from) (c .before .before .before .before .loop .j)) (c .if1 .taken))
-
-loop-less-2 : tie.Need-loop-less-2 Inv-loop μ-loop
-loop-less-2 c = omega arith
 
 loop-again-2 : tie.Need-loop-again-2 Inv-loop μ-loop
 loop-again-2 c = (omega arith, count-out _ _ _ _ (c .before .before .before .before .loop .inv .1) _ (c .before .wide .ensures .0 ∙ run-here (now (c .before .before .before .before .before .args .half)) (c .before .before .before .before .before .args .from) (c .before .before .before .before .loop .j)) (c .if1 .left))
@@ -62,22 +35,5 @@ returns c = let e : c .before .loop .j ≡ c .before .before .args .k = omega ar
 
 pub count-run-spec : {M : Type 1} → statement M
 count-run-spec =
-    tie.close
-    (tie.spec
-    Inv-loop
-    μ-loop
-    loop-holds
-    add-wide
-    element-copy-out-wide
-    wide-requires
-    add-j
-    mul-counts
-    array-read-counts
-    add-counts
-    mul-counts-2
-    array-write-counts
-    loop-less
-    loop-again
-    loop-less-2
-    loop-again-2
-    returns)
+    tie.close (tie.spec Inv-loop μ-loop loop-holds (λ c. omega arith) (λ c. omega arith) wide-requires (λ c. omega arith) (λ c. omega arith) (λ c. omega arith)
+    add-counts (λ c. omega arith) (λ c. omega arith) (λ c. omega arith) loop-again (λ c. omega arith) loop-again-2 returns)

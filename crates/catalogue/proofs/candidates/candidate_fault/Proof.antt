@@ -40,50 +40,17 @@ own-full : (c : tie.After-is-full) → let s = c .before .before .before .before
     c .is-full .result ≡ isFullIn (book s .graph n) (candidateAtom (s .args .xs .now) (s .args .p))
 own-full c = c .is-full .ensures ∙ ap₂ isFullIn (block (c .before .before .before .before .before .before .before .before)) (c .before .before .before .before .before .byte-at .ensures)
 
-add-if1 : tie.Need-add-if1
-add-if1 c = search needs
-
 returns : tie.Need-returns
 returns c = let s = c .before .before .before in let a = s .args in λ core atom e. sym (candidate-cut (book s) core (a .xs .now) atom (a .p) (c .if1 .taken))
 
-le16-at-requires : tie.Need-le16-at-requires
-le16-at-requires c κs = search needs
-
-cast-number : tie.Need-cast-number
-cast-number c = search needs
-
-find-block-requires : tie.Need-find-block-requires
-find-block-requires c κs = search needs
-
-is-numbered-requires : tie.Need-is-numbered-requires
-is-numbered-requires c κs = search needs
-
 returns-2 : tie.Need-returns-2
 returns-2 c = let s = c .before .before .before .before .before .before .before in let a = s .args in λ core atom e. sym (candidate-none (book s) core (a .xs .now) atom (a .p) (whole (c .before .before .before .before)) (sym (has (c .before)) ∙ not-true (c .before .is-numbered .result) (c .if2 .taken)))
-
-add-byte-at : tie.Need-add-byte-at
-add-byte-at c = search needs
-
-byte-at-requires : tie.Need-byte-at-requires
-byte-at-requires c κs = search needs
-
-cast-is-outside : tie.Need-cast-is-outside
-cast-is-outside c = search needs
-
-cast-is-outside-2 : tie.Need-cast-is-outside-2
-cast-is-outside-2 c = search needs
-
-is-outside-requires : tie.Need-is-outside-requires
-is-outside-requires c κs = search needs
 
 returns-3 : tie.Need-returns-3
 returns-3 c = let s = c .before .before .before .before .before .before .before .before .before .before .before in let a = s .args in λ core atom e. sym (candidate-outside (book s) core (a .xs .now) atom (a .p) (whole (c .before .before .before .before .before .before .before .before)) (found (c .before .before .before .before)) (sym (outside (c .before)) ∙ c .if3 .taken))
 
 returns-4 : tie.Need-returns-4
 returns-4 c = let s = c .before .before .before .before .before .before .before .before .before .before .before .before in let a = s .args in λ core atom e. sym (core-full (book s) core (a .xs .now) atom (a .p) (whole (c .before .before .before .before .before .before .before .before .before)) (found (c .before .before .before .before .before)) (inside (c .before)) (sym e ∙ c .if4 .taken))
-
-is-full-requires : tie.Need-is-full-requires
-is-full-requires c κs = search needs
 
 returns-5 : tie.Need-returns-5
 returns-5 c = let s = c .before .before .before .before .before .before .before .before .before .before .before .before .before .before in let a = s .args in λ core atom e. sym (candidate-full (book s) core (a .xs .now) atom (a .p) (whole (c .before .before .before .before .before .before .before .before .before .before .before)) (found (c .before .before .before .before .before .before .before)) (inside (c .before .before .before)) (sym e ∙ c .before .before .if4 .left) (sym (own-full (c .before)) ∙ c .if5 .taken))
@@ -93,22 +60,6 @@ returns-6 c = let s = c .before .before .before .before .before .before .before 
 
 pub candidate-fault-spec : {M : Type 1} → statement M
 candidate-fault-spec =
-    tie.close
-    (tie.spec
-    add-if1
-    returns
-    le16-at-requires
-    cast-number
-    find-block-requires
-    is-numbered-requires
-    returns-2
-    add-byte-at
-    byte-at-requires
-    cast-is-outside
-    cast-is-outside-2
-    is-outside-requires
-    returns-3
-    returns-4
-    is-full-requires
-    returns-5
-    returns-6)
+    tie.close (tie.spec (λ c. search needs) returns (λ c κs. search needs) (λ c. search needs) (λ c κs. search needs) (λ c κs. search needs) returns-2
+    (λ c. search needs) (λ c κs. search needs) (λ c. search needs) (λ c. search needs) (λ c κs. search needs) returns-3 returns-4 (λ c κs. search needs)
+    returns-5 returns-6)

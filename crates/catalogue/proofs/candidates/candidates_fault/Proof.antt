@@ -45,9 +45,6 @@ left-one : (c : tie.In-loop Inv-loop μ-loop) → let l = c .before in let s = l
     candidatesFault (book s) (core s) (a .xs .now) (a .atom) (a .many) (a .first) ≡ candidatesFault (book s) (core s) (a .xs .now) (a .atom) (suc (l .loop .left - 1)) (l .loop .p)
 left-one c = let s = c .before .before .before .before .before in turned c (core s) (s .args .atom) (c .before .before .is-full .ensures)
 
-is-full-requires : tie.Need-is-full-requires Inv-loop μ-loop
-is-full-requires c κs = search needs
-
 loop-holds : tie.Need-loop-holds Inv-loop μ-loop
 loop-holds c = (c .before .before .before .pre, λ g a e. refl)
 
@@ -61,15 +58,6 @@ returns c =
     let a = s .args in
     let f = c .before .candidate-fault .ensures (core s) (a .atom) (l .before .is-full .ensures) in
     f ∙ sym (left-one (c .before .before) ∙ wrong-candidate (book s) (core s) (a .xs .now) (a .atom) (l .loop .p) (l .loop .left - 1) (λ e. c .if1 .taken (f ∙ e)))
-
-add-p : tie.Need-add-p Inv-loop μ-loop
-add-p c = search needs
-
-sub-left : tie.Need-sub-left Inv-loop μ-loop
-sub-left c = search needs
-
-loop-less : tie.Need-loop-less Inv-loop μ-loop
-loop-less c = search needs
 
 loop-again : tie.Need-loop-again Inv-loop μ-loop
 loop-again c =
@@ -90,16 +78,5 @@ returns-2 c =
 
 pub candidates-fault-spec : {M : Type 1} → statement M
 candidates-fault-spec =
-    tie.close
-    (tie.spec
-    Inv-loop
-    μ-loop
-    is-full-requires
-    loop-holds
-    candidate-fault-requires
-    returns
-    add-p
-    sub-left
-    loop-less
-    loop-again
-    returns-2)
+    tie.close (tie.spec Inv-loop μ-loop (λ c κs. search needs) loop-holds candidate-fault-requires returns (λ c. search needs) (λ c. search needs)
+    (λ c. search needs) loop-again returns-2)

@@ -9,14 +9,8 @@ use borrow.Author.Needs.{needs}
 use Rattle.catalogue.proofs.candidates.is_full.Statement.{statement}
 use Rattle.catalogue.proofs.candidates.is_full.Tie as tie
 
-bonds-part-requires : tie.Need-bonds-part-requires
-bonds-part-requires c κs = search needs
-
-ends-at-requires : tie.Need-ends-at-requires
-ends-at-requires c κs = search needs
-
 returns : tie.Need-returns
 returns c = ap (leb limit) (c .ends-at .ensures ∙ ap (λ (l : List ℕ). degree (bondsOf l) (c .before .before .before .args .a)) (c .before .bonds-part .ensures .bytes))
 
 pub is-full-spec : {M : Type 1} → statement M
-is-full-spec = tie.close (tie.spec bonds-part-requires ends-at-requires returns)
+is-full-spec = tie.close (tie.spec (λ c κs. search needs) (λ c κs. search needs) returns)

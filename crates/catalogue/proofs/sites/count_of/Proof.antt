@@ -19,23 +19,8 @@ abbrev μ-loop : tie.MeasureT-loop
 loop-holds : tie.Need-loop-holds Inv-loop μ-loop
 loop-holds c = (omega arith, sym (one-product _), omega arith)
 
-mul-s : tie.Need-mul-s Inv-loop μ-loop
-mul-s c = search needs
-
-array-copy-out-s : tie.Need-array-copy-out-s Inv-loop μ-loop
-array-copy-out-s c = search needs
-
-wide-byte-requires : tie.Need-wide-byte-requires Inv-loop μ-loop
-wide-byte-requires c κs = search needs
-
 mul-total : tie.Need-mul-total Inv-loop μ-loop
 mul-total c = let l = c .before .before .before .loop in omega (arith, few-bytes _ (l .k + 1) (byte-more (l .total) (l .k) (c .wide-byte .result) (l .inv .2) (c .wide-byte .ensures .1)) (omega arith))
-
-add-k : tie.Need-add-k Inv-loop μ-loop
-add-k c = search needs
-
-loop-less : tie.Need-loop-less Inv-loop μ-loop
-loop-less c = search needs
 
 loop-again : tie.Need-loop-again Inv-loop μ-loop
 loop-again c = let a = c .before .before .before .before .args in let l = c .before .before .before .loop in
@@ -47,16 +32,5 @@ returns c = let a = c .before .before .args in let l = c .before .loop in let e 
 
 pub count-of-spec : {M : Type 1} → statement M
 count-of-spec =
-    tie.close
-    (tie.spec
-    Inv-loop
-    μ-loop
-    loop-holds
-    mul-s
-    array-copy-out-s
-    wide-byte-requires
-    mul-total
-    add-k
-    loop-less
-    loop-again
-    returns)
+    tie.close (tie.spec Inv-loop μ-loop loop-holds (λ c. search needs) (λ c. search needs) (λ c κs. search needs) mul-total (λ c. search needs)
+    (λ c. search needs) loop-again returns)

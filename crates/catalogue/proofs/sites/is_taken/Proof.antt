@@ -24,20 +24,8 @@ left c = let a = c .before .before .args in
 loop-holds : tie.Need-loop-holds Inv-loop μ-loop
 loop-holds c = (omega arith, refl)
 
-sub-k : tie.Need-sub-k Inv-loop μ-loop
-sub-k c = search needs
-
-mul-s : tie.Need-mul-s Inv-loop μ-loop
-mul-s c = search needs
-
-array-copy-out-s : tie.Need-array-copy-out-s Inv-loop μ-loop
-array-copy-out-s c = search needs
-
 returns : tie.Need-returns Inv-loop μ-loop
 returns c = let s = c .before .before .before .before .before in let a = s .args in let k = c .before .before .before .before .loop .k in sym (left (c .before .before .before) ∙ taken-here (a .t1) (k - 1) (a .atom) (c .if1 .taken))
-
-loop-less : tie.Need-loop-less Inv-loop μ-loop
-loop-less c = search needs
 
 loop-again : tie.Need-loop-again Inv-loop μ-loop
 loop-again c = let s = c .before .before .before .before .before in let a = s .args in let k = c .before .before .before .before .loop .k in (omega arith, left (c .before .before .before) ∙ taken-before (a .t1) (k - 1) (a .atom) (c .if1 .left))
@@ -47,15 +35,4 @@ returns-2 c = let a = c .before .before .args in let e : c .before .loop .k ≡ 
 
 pub is-taken-spec : {M : Type 1} → statement M
 is-taken-spec =
-    tie.close
-    (tie.spec
-    Inv-loop
-    μ-loop
-    loop-holds
-    sub-k
-    mul-s
-    array-copy-out-s
-    returns
-    loop-less
-    loop-again
-    returns-2)
+    tie.close (tie.spec Inv-loop μ-loop loop-holds (λ c. search needs) (λ c. search needs) (λ c. search needs) returns (λ c. search needs) loop-again returns-2)

@@ -28,35 +28,8 @@ few c = sym (outside (c .before)) ∙ c .if1 .left
 has : (c : tie.After-is-numbered) → let s = c .before .before .before .before .before .before .before .before in c .is-numbered .result ≡ book s .has (coreNumber (s .args .xs .now))
 has c = let a = c .before .before .before .before .before .before .before .before .args in has-is (a .d .now) (take (a .count) (a .blocks)) _ (c .before .before .le16-at2 .result) (c .before .find-block .result) (c .before .before .le16-at2 .ensures) (c .before .find-block .ensures) _ (c .is-numbered .ensures)
 
-le16-at-requires : tie.Need-le16-at-requires
-le16-at-requires c κs = search needs
-
-cast-total : tie.Need-cast-total
-cast-total c = search needs
-
-is-outside-requires : tie.Need-is-outside-requires
-is-outside-requires c κs = search needs
-
-sites-refused-requires : tie.Need-sites-refused-requires
-sites-refused-requires c κs = search needs
-
 returns : tie.Need-returns
 returns c = let s = c .before .before .before .before .before .before in let a = s .args in c .sites-refused .ensures ∙ ap saidSites (sym (count-outside (book s) (a .xs .now) (a .at) (sym (outside (c .before .before)) ∙ c .before .if1 .taken)))
-
-le16-at-requires-2 : tie.Need-le16-at-requires-2
-le16-at-requires-2 c κs = search needs
-
-cast-number : tie.Need-cast-number
-cast-number c = search needs
-
-find-block-requires : tie.Need-find-block-requires
-find-block-requires c κs = search needs
-
-is-numbered-requires : tie.Need-is-numbered-requires
-is-numbered-requires c κs = search needs
-
-sites-refused-requires-2 : tie.Need-sites-refused-requires-2
-sites-refused-requires-2 c κs = search needs
 
 returns-2 : tie.Need-returns-2
 returns-2 c = let s = c .before .before .before .before .before .before .before .before .before .before in let a = s .args in c .sites-refused2 .ensures ∙ ap saidSites (sym (no-core (book s) (a .xs .now) (a .at) (few (c .before .before .before .before .before)) (sym (has (c .before .before)) ∙ not-true (c .before .before .is-numbered .result) (c .before .if2 .taken))))
@@ -73,18 +46,5 @@ returns-3 c = let s = c .before .before .before .before .before .before .before 
 
 pub read-sites-spec : {M : Type 1} → statement M
 read-sites-spec =
-    tie.close
-    (tie.spec
-    le16-at-requires
-    cast-total
-    is-outside-requires
-    sites-refused-requires
-    returns
-    le16-at-requires-2
-    cast-number
-    find-block-requires
-    is-numbered-requires
-    sites-refused-requires-2
-    returns-2
-    sites-from-requires
-    returns-3)
+    tie.close (tie.spec (λ c κs. search needs) (λ c. search needs) (λ c κs. search needs) (λ c κs. search needs) returns (λ c κs. search needs)
+    (λ c. search needs) (λ c κs. search needs) (λ c κs. search needs) (λ c κs. search needs) returns-2 sites-from-requires returns-3)

@@ -43,44 +43,17 @@ inside c = sym (outside (c .before)) ∙ c .if3 .left
 taken : (c : tie.After-is-taken) → let s = c .before .before .before .before .before .before .before .before .before .before .before .before in let a = s .args in c .is-taken .result ≡ isTaken (done s) (siteAt (a .xs .now) (a .p) .atom)
 taken c = let s = c .before .before .before .before .before .before .before .before .before .before .before .before in c .is-taken .ensures ∙ ap (λ (x : Site). isTaken (done s) (x .atom)) (c .before .before .before .before .before .before .before .before .site-at .ensures)
 
-add-if1 : tie.Need-add-if1
-add-if1 c = search needs
-
 returns : tie.Need-returns
 returns c = let s = c .before .before .before in let a = s .args in sym (site-cut (book s) (core s) (a .xs .now) (done s) (a .p) (c .if1 .taken))
-
-site-at-requires : tie.Need-site-at-requires
-site-at-requires c κs = search needs
-
-cast-is-outside : tie.Need-cast-is-outside
-cast-is-outside c = search needs
-
-is-outside-requires : tie.Need-is-outside-requires
-is-outside-requires c κs = search needs
 
 returns-2 : tie.Need-returns-2
 returns-2 c = let s = c .before .before .before .before .before .before .before in let a = s .args in sym (site-many (book s) (core s) (a .xs .now) (done s) (a .p) (whole (c .before .before .before .before)) (sym (many (c .before)) ∙ c .if2 .taken))
 
-cast-is-outside-2 : tie.Need-cast-is-outside-2
-cast-is-outside-2 c = search needs
-
-cast-is-outside-3 : tie.Need-cast-is-outside-3
-cast-is-outside-3 c = search needs
-
-is-outside-requires-2 : tie.Need-is-outside-requires-2
-is-outside-requires-2 c κs = search needs
-
 returns-3 : tie.Need-returns-3
 returns-3 c = let s = c .before .before .before .before .before .before .before .before .before .before .before in let a = s .args in sym (site-outside (book s) (core s) (a .xs .now) (done s) (a .p) (whole (c .before .before .before .before .before .before .before .before)) (few (c .before .before .before .before)) (sym (outside (c .before)) ∙ c .if3 .taken))
 
-is-taken-requires : tie.Need-is-taken-requires
-is-taken-requires c κs = search needs
-
 returns-4 : tie.Need-returns-4
 returns-4 c = let s = c .before .before .before .before .before .before .before .before .before .before .before .before .before in let a = s .args in sym (site-taken (book s) (core s) (a .xs .now) (done s) (a .p) (whole (c .before .before .before .before .before .before .before .before .before .before)) (few (c .before .before .before .before .before .before)) (inside (c .before .before)) (sym (taken (c .before)) ∙ c .if4 .taken))
-
-cast-candidates-fault : tie.Need-cast-candidates-fault
-cast-candidates-fault c = search needs
 
 candidates-fault-requires : tie.Need-candidates-fault-requires
 candidates-fault-requires c κs = omega (arith, whole (c .before .before .before .before .before .before .before .before .before .before .before), ap (λ (x : Site). x .first) (c .before .before .before .before .before .before .before .before .before .before .site-at .ensures))
@@ -93,20 +66,5 @@ returns-5 c = let s = c .before .before .before .before .before .before .before 
 
 pub site-fault-spec : {M : Type 1} → statement M
 site-fault-spec =
-    tie.close
-    (tie.spec
-    add-if1
-    returns
-    site-at-requires
-    cast-is-outside
-    is-outside-requires
-    returns-2
-    cast-is-outside-2
-    cast-is-outside-3
-    is-outside-requires-2
-    returns-3
-    is-taken-requires
-    returns-4
-    cast-candidates-fault
-    candidates-fault-requires
-    returns-5)
+    tie.close (tie.spec (λ c. search needs) returns (λ c κs. search needs) (λ c. search needs) (λ c κs. search needs) returns-2 (λ c. search needs)
+    (λ c. search needs) (λ c κs. search needs) returns-3 (λ c κs. search needs) returns-4 (λ c. search needs) candidates-fault-requires returns-5)

@@ -71,9 +71,6 @@ loop-holds c = let a = c .before .before .args in let z : a .total - 0 ≡ a .to
 site-fault-requires : tie.Need-site-fault-requires Inv-loop μ-loop
 site-fault-requires c κs = let l = c .before .loop in let p = c .before .before .before .before .pre in (l .inv .1, omega (arith, p .0))
 
-sites-refused-requires : tie.Need-sites-refused-requires Inv-loop μ-loop
-sites-refused-requires c κs = search needs
-
 returns : tie.Need-returns Inv-loop μ-loop
 returns c = let s = c .before .before .before .before .before .before .before in let a = s .args in let l = c .before .before .before .before .loop in let f = c .before .before .site-fault .ensures in
     c .sites-refused .ensures ∙ ap (λ (n : ℕ). saidSites (refused (refusal n (a .at)))) f ∙ ap saidSites (sym (left (c .before .before .before) ∙ wrong-site (book s) (core s) (a .xs .now) (sitesIn (l .sites) (l .n)) (l .p) (a .at) (a .total - (l .n + 1)) (λ e. c .before .if1 .taken (f ∙ e))))
@@ -90,17 +87,11 @@ array-set-from-sites c = omega (arith, c .before .before .before .before .before
 add-n : tie.Need-add-n Inv-loop μ-loop
 add-n c = omega (arith, c .before .before .before .before .before .before .before .pre .0)
 
-wide-byte-requires : tie.Need-wide-byte-requires Inv-loop μ-loop
-wide-byte-requires c κs = search needs
-
 mul-p : tie.Need-mul-p Inv-loop μ-loop
 mul-p c = omega (arith, c .wide-byte .ensures .1)
 
 add-p : tie.Need-add-p Inv-loop μ-loop
 add-p c = omega (arith, end (c .before))
-
-loop-less : tie.Need-loop-less Inv-loop μ-loop
-loop-less c = omega arith
 
 loop-again : tie.Need-loop-again Inv-loop μ-loop
 loop-again c = let s = c .before .before .before .before .before .before .before .before .before in let a = s .args in let l = c .before .before .before .before .before .before .loop in
@@ -116,9 +107,6 @@ loop-again c = let s = c .before .before .before .before .before .before .before
           ∙ ap₂ (λ (p : ℕ) (ss : List Site). sitesFrom (book s) (core s) (a .xs .now) (a .at) (a .total - (l .n + 1)) p ss) (sym (ended (c .before))) (ap (λ (y : Site). y ∷ done) (sym (c .before .before .site-at .ensures)) ∙ sym (sites-grow (l .sites) (l .n) x (omega (arith, l .inv .2, s .pre .0)))),
     )
 
-sites-refused-requires-2 : tie.Need-sites-refused-requires-2 Inv-loop μ-loop
-sites-refused-requires-2 c κs = search needs
-
 returns-2 : tie.Need-returns-2 Inv-loop μ-loop
 returns-2 c = let s = c .before .before .before .before .before .before in let a = s .args in let l = c .before .before .before .loop in
     c .sites-refused2 .ensures ∙ ap saidSites (sym (over (c .before .before) ∙ left-over (book s) (core s) (a .xs .now) (sitesIn (l .sites) (l .n)) (l .p) (a .at) (c .before .if2 .taken)))
@@ -129,23 +117,5 @@ returns-3 c = let s = c .before .before .before .before .before in let a = s .ar
 
 pub sites-from-spec : {M : Type 1} → statement M
 sites-from-spec =
-    tie.close
-    (tie.spec
-    Inv-loop
-    μ-loop
-    loop-holds
-    site-fault-requires
-    sites-refused-requires
-    returns
-    site-at-requires
-    mul-sites
-    array-set-from-sites
-    add-n
-    wide-byte-requires
-    mul-p
-    add-p
-    loop-less
-    loop-again
-    sites-refused-requires-2
-    returns-2
-    returns-3)
+    tie.close (tie.spec Inv-loop μ-loop loop-holds site-fault-requires (λ c κs. search needs) returns site-at-requires mul-sites array-set-from-sites add-n
+    (λ c κs. search needs) mul-p add-p (λ c. omega arith) loop-again (λ c κs. search needs) returns-2 returns-3)

@@ -35,26 +35,14 @@ told-is : (c : tie.After-fill-at) → let s = c .before .before .before .before 
 told-is c = let s = c .before .before .before .before .before .before .before in
     c .fill-at .ensures .0 ∙ ap (λ (b : BlockAt). saidReply (blockReply (b .atoms) (bondBytes (s .args .d .now) b))) (s .pre .1)
 
-cast-is-unfit : tie.Need-cast-is-unfit
-cast-is-unfit c = search needs
-
-is-unfit-requires : tie.Need-is-unfit-requires
-is-unfit-requires c κs = search needs
-
 returns : tie.Need-returns
 returns c = let s = c .before .before .before .before .before in
     let e = number-unfit (s .args .d .now) (s .args .at) (done s) (sym (unfit-is (c .before)) ∙ c .if1 .taken) in
     (ap saidReply (sym e), sym (reply-stays (s .args .d .now) (s .args .at) (done s) (s .args .book .now) _ e))
 
-fill-at-requires : tie.Need-fill-at-requires
-fill-at-requires c κs = search needs
-
 block-moved-requires : tie.Need-block-moved-requires
 block-moved-requires c κs = let s = c .before .before .before .before .before .before .before .before .before in
     (s .pre .2, λ r q. omega (arith, s .pre .3, place-low (s .args .d .now) (blockAt (s .args .d .now) (s .args .at)) r (refused-read _ r (sym (told-is (c .before .before)) ∙ q))))
-
-same-length : tie.Need-same-length
-same-length c = search needs
 
 returns-2 : tie.Need-returns-2
 returns-2 c =
@@ -76,12 +64,4 @@ returns-2 c =
 
 pub block-reply-spec : {M : Type 1} → statement M
 block-reply-spec =
-    tie.close
-    (tie.spec
-    cast-is-unfit
-    is-unfit-requires
-    returns
-    fill-at-requires
-    block-moved-requires
-    same-length
-    returns-2)
+    tie.close (tie.spec (λ c. search needs) (λ c κs. search needs) returns (λ c κs. search needs) block-moved-requires (λ c. search needs) returns-2)

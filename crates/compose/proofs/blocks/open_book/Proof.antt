@@ -7,18 +7,9 @@ use Rattle.deck.proofs.Filled.{book-long, book-short}
 use Rattle.compose.proofs.blocks.open_book.Statement.{statement}
 use Rattle.compose.proofs.blocks.open_book.Tie as tie
 
-deck-refused-requires : tie.Need-deck-refused-requires
-deck-refused-requires c κs = search needs
-
 returns : tie.Need-returns
 returns c = let a = c .before .before .before .before .args in let h = c .before .if1 .taken in
     (c .deck-refused .ensures ∙ ap saidDeck (sym (open-long (a .last) (a .d .now) h)), sym (book-long (a .last) (a .d .now) (a .book .now) h))
-
-read-blocks-requires : tie.Need-read-blocks-requires
-read-blocks-requires c κs = search needs
-
-same-length : tie.Need-same-length
-same-length c = search needs
 
 returns-2 : tie.Need-returns-2
 returns-2 c =
@@ -29,5 +20,4 @@ returns-2 c =
     (e .0 ∙ ap saidDeck (sym (open-short (a .last) (a .d .now) (o .if1 .left))), e .1 ∙ sym (book-short (a .last) (a .d .now) (a .book .now) (o .if1 .left)))
 
 pub open-book-spec : {M : Type 1} → statement M
-open-book-spec =
-    tie.close (tie.spec deck-refused-requires returns read-blocks-requires same-length returns-2)
+open-book-spec = tie.close (tie.spec (λ c κs. search needs) returns (λ c κs. search needs) (λ c. search needs) returns-2)

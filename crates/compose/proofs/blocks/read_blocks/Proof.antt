@@ -88,21 +88,6 @@ loop-holds : tie.Need-loop-holds Inv-loop μ-loop
 unfolding blocksReply blocksBook
 loop-holds c = (omega arith, omega arith, refl, refl, refl, refl, refl)
 
-second-kind-requires : tie.Need-second-kind-requires Inv-loop μ-loop
-second-kind-requires c κs = search needs
-
-record-at-requires : tie.Need-record-at-requires Inv-loop μ-loop
-record-at-requires c κs = search needs
-
-enum-told : tie.Need-enum-told Inv-loop μ-loop
-enum-told c = search needs
-
-enum-told-2 : tie.Need-enum-told-2 Inv-loop μ-loop
-enum-told-2 c = search needs
-
-deck-refused-requires : tie.Need-deck-refused-requires Inv-loop μ-loop
-deck-refused-requires c κs = search needs
-
 same-length : tie.Need-same-length Inv-loop μ-loop
 same-length c = c .before .before .before .before .before .loop .inv .5
 
@@ -114,12 +99,6 @@ returns c = let l = c .before .before .before .before .before in
       c .deck-refused .ensures ∙ ap refusedDeck (r .1) ∙ ap saidDeck (sym (left l ∙ no-record k (last l) (deck l) (l .loop .next) (done l) (r .0 .0) e)),
       sym (book-left l ∙ book-no-record k (last l) (deck l) (l .loop .next) (done l) (l .loop .book) (r .0 .0) e),
     )
-
-add-le16-at : tie.Need-add-le16-at Inv-loop μ-loop
-add-le16-at c = search needs
-
-le16-at-requires : tie.Need-le16-at-requires Inv-loop μ-loop
-le16-at-requires c κs = search needs
 
 deck-at-requires : tie.Need-deck-at-requires Inv-loop μ-loop
 deck-at-requires c κs = c .before .before .before .before .before .before .before .loop .inv .0
@@ -146,15 +125,6 @@ block-reply-requires c κs = let l = c .before .before .before .before .before .
     let short = l .before .before .before .pre in
     (l .loop .inv .1, c .before .block-at .ensures, omega (arith, l .loop .inv .0, short), short)
 
-enum-told-3 : tie.Need-enum-told-3 Inv-loop μ-loop
-enum-told-3 c = search needs
-
-enum-told-4 : tie.Need-enum-told-4 Inv-loop μ-loop
-enum-told-4 c = search needs
-
-deck-refused-requires-2 : tie.Need-deck-refused-requires-2 Inv-loop μ-loop
-deck-refused-requires-2 c κs = search needs
-
 same-length-3 : tie.Need-same-length-3 Inv-loop μ-loop
 same-length-3 c = c .before .before .before .before .book .given ∙ c .before .before .before .before .before .before .before .before .before .before .before .before .before .before .before .loop .inv .5
 
@@ -173,29 +143,11 @@ returns-3 c = let l = c .before .before .before .before .before .before .before 
           ∙ sym (book-left l ∙ book-bad-block k (last l) (deck l) (l .loop .next) (done l) (l .loop .book) f g (r .0 .0) e),
     )
 
-mul-blocks : tie.Need-mul-blocks Inv-loop μ-loop
-mul-blocks c = search needs
-
 array-set-from-blocks : tie.Need-array-set-from-blocks Inv-loop μ-loop
 array-set-from-blocks c = room c
 
-add-count : tie.Need-add-count Inv-loop μ-loop
-add-count c = search needs
-
-add-next : tie.Need-add-next Inv-loop μ-loop
-add-next c = search needs
-
-le16-at-requires-2 : tie.Need-le16-at-requires-2 Inv-loop μ-loop
-le16-at-requires-2 c κs = search needs
-
-cast-next : tie.Need-cast-next Inv-loop μ-loop
-cast-next c = search needs
-
 add-next-2 : tie.Need-add-next-2 Inv-loop μ-loop
 add-next-2 c = omega (arith, c .le16-at2 .ensures, record-whole (c .before .before .before .before .before .before .before .before .before .before .before))
-
-loop-less : tie.Need-loop-less Inv-loop μ-loop
-loop-less c = search needs
 
 loop-again : tie.Need-loop-again Inv-loop μ-loop
 loop-again c = let l = c .before .before .before .before .before .before .before .before .before .before .before .before .before .before .before in
@@ -218,36 +170,7 @@ loop-again c = let l = c .before .before .before .before .before .before .before
 
 pub read-blocks-spec : {M : Type 1} → statement M
 read-blocks-spec =
-    tie.close
-    (tie.spec
-    Inv-loop
-    μ-loop
-    loop-holds
-    second-kind-requires
-    record-at-requires
-    enum-told
-    enum-told-2
-    deck-refused-requires
-    same-length
-    returns
-    add-le16-at
-    le16-at-requires
-    deck-at-requires
-    same-length-2
-    returns-2
-    block-at-requires
-    block-reply-requires
-    enum-told-3
-    enum-told-4
-    deck-refused-requires-2
-    same-length-3
-    returns-3
-    mul-blocks
-    array-set-from-blocks
-    add-count
-    add-next
-    le16-at-requires-2
-    cast-next
-    add-next-2
-    loop-less
-    loop-again)
+    tie.close (tie.spec Inv-loop μ-loop loop-holds (λ c κs. search needs) (λ c κs. search needs) (λ c. search needs) (λ c. search needs) (λ c κs. search needs)
+    same-length returns (λ c. search needs) (λ c κs. search needs) deck-at-requires same-length-2 returns-2 block-at-requires block-reply-requires
+    (λ c. search needs) (λ c. search needs) (λ c κs. search needs) same-length-3 returns-3 (λ c. search needs) array-set-from-blocks (λ c. search needs)
+    (λ c. search needs) (λ c κs. search needs) (λ c. search needs) add-next-2 (λ c. search needs) loop-again)

@@ -5,14 +5,8 @@ use Rattle.block.specs.Lent.{zeros}
 use Rattle.compose.proofs.distance.distance_all.Statement.{statement}
 use Rattle.compose.proofs.distance.distance_all.Tie as tie
 
-slice-aggregate-distance-in : tie.Need-slice-aggregate-distance-in
-slice-aggregate-distance-in c = search needs
-
 distance-in-requires : tie.Need-distance-in-requires
 distance-in-requires c κs = record { room = omega (arith, c .before .before .pre); none = zeros 8448 }
 
-returns : tie.Need-returns
-returns c = search needs
-
 pub distance-all-spec : {M : Type 1} → statement M
-distance-all-spec = tie.close (tie.spec slice-aggregate-distance-in distance-in-requires returns)
+distance-all-spec = tie.close (tie.spec (λ c. search needs) distance-in-requires (λ c. search needs))

@@ -29,21 +29,6 @@ two-there c = sym (c .before .is-missing2 .ensures) ∙ c .if2 .left
 read-in-requires : tie.Need-read-in-requires
 read-in-requires c κs = c .before .before .before .pre
 
-enum-known-reply : tie.Need-enum-known-reply
-enum-known-reply c = search needs
-
-enum-told : tie.Need-enum-told
-enum-told c = search needs
-
-is-missing-requires : tie.Need-is-missing-requires
-is-missing-requires c κs = search needs
-
-is-missing-requires-2 : tie.Need-is-missing-requires-2
-is-missing-requires-2 c κs = search needs
-
-same-length : tie.Need-same-length
-same-length c = search needs
-
 returns : tie.Need-returns
 returns c =
     let a = c .before .before .before .before .before .before .before .before .before .before .before .args in
@@ -54,23 +39,11 @@ returns c =
     (λ w. rw (sym (c .before .is-missing .ensures) ∙ w .0 .left, sym (w .1 .ensures) ∙ w .2 .taken))
     (c .if1 .came))
 
-payload-at-requires : tie.Need-payload-at-requires
-payload-at-requires c κs = search needs
-
-far-requires : tie.Need-far-requires
-far-requires c κs = search needs
-
-same-length-2 : tie.Need-same-length-2
-same-length-2 c = search needs
-
 returns-2 : tie.Need-returns-2
 returns-2 c =
     let a = c .before .before .before .before .before .before .before .before .before .args in
     let r = c .before .before .before .before .before .read-in in
     reply-refused (now (a .d)) (a .k) (a .i) (a .l) (a .j) (deck-stopped (deckReply Composed (now (a .d))) (r .result) _ (r .ensures .0) (c .before .reply .given .1))
-
-same-length-3 : tie.Need-same-length-3
-same-length-3 c = search needs
 
 returns-3 : tie.Need-returns-3
 returns-3 c =
@@ -83,18 +56,5 @@ returns-3 c =
 
 pub distance-in-spec : {M : Type 1} → statement M
 distance-in-spec =
-    tie.close
-    (tie.spec
-    read-in-requires
-    enum-known-reply
-    enum-told
-    is-missing-requires
-    is-missing-requires-2
-    same-length
-    returns
-    payload-at-requires
-    far-requires
-    same-length-2
-    returns-2
-    same-length-3
-    returns-3)
+    tie.close (tie.spec read-in-requires (λ c. search needs) (λ c. search needs) (λ c κs. search needs) (λ c κs. search needs) (λ c. search needs) returns
+    (λ c κs. search needs) (λ c κs. search needs) (λ c. search needs) returns-2 (λ c. search needs) returns-3)

@@ -19,18 +19,6 @@ use Rattle.compose.proofs.reading.assembly_reply.Tie as tie
 check-is : (c : tie.After-check) → let s = c .before .before .before .before in c .check .result ≡ saidReply (shelfReply (shelfIn (s .args .book .now)) (payloadAt (s .args .d .now) (s .args .at)))
 check-is c = let s = c .before .before .before .before in c .check .ensures ∙ ap (λ (xs : List ℕ). saidReply (shelfReply (shelfIn (s .args .book .now)) xs)) (c .before .payload-at .ensures .bytes)
 
-payload-at-requires : tie.Need-payload-at-requires
-payload-at-requires c κs = search needs
-
-check-requires : tie.Need-check-requires
-check-requires c κs = search needs
-
-enum-told : tie.Need-enum-told
-enum-told c = search needs
-
-enum-known-reply : tie.Need-enum-known-reply
-enum-known-reply c = search needs
-
 placement-place-requires : tie.Need-placement-place-requires
 placement-place-requires c κs = let s = c .before .before .before .before .before .before .before in
     let r = c .before .reply .given in
@@ -50,12 +38,4 @@ returns-2 c = let s = c .before .before .before .before .before .before .before 
 
 pub assembly-reply-spec : {M : Type 1} → statement M
 assembly-reply-spec =
-    tie.close
-    (tie.spec
-    payload-at-requires
-    check-requires
-    enum-told
-    enum-known-reply
-    placement-place-requires
-    returns
-    returns-2)
+    tie.close (tie.spec (λ c κs. search needs) (λ c κs. search needs) (λ c. search needs) (λ c. search needs) placement-place-requires returns returns-2)

@@ -20,27 +20,6 @@ not-composed c =
     let r = c .before .before .read-deck in
     (q .0 .0, deck-stopped (deckReply Composed (deck (c .before .before .before .before))) (r .result) (q .0 .0) (r .ensures) (q .1))
 
-read-deck-requires : tie.Need-read-deck-requires
-read-deck-requires c κs = search needs
-
-enum-told : tie.Need-enum-told
-enum-told c = search needs
-
-enum-told-2 : tie.Need-enum-told-2
-enum-told-2 c = search needs
-
-read-deck-requires-2 : tie.Need-read-deck-requires-2
-read-deck-requires-2 c κs = search needs
-
-enum-told-3 : tie.Need-enum-told-3
-enum-told-3 c = search needs
-
-enum-told-4 : tie.Need-enum-told-4
-enum-told-4 c = search needs
-
-part-requires : tie.Need-part-requires
-part-requires c κs = search needs
-
 returns : tie.Need-returns
 returns c = let s = c .before .before .before .before .before .before .before .before in
     let (p, e) = not-composed (c .before .before .before .before) in
@@ -48,18 +27,12 @@ returns c = let s = c .before .before .before .before .before .before .before .b
     let r = c .before .before .before .read-deck2 in
     part-at (sym (in-neither (deck s) (s .args .number) p (q .0 .0) e (deck-stopped (deckReply Judged (deck s)) (r .result) (q .0 .0) (r .ensures) (q .1)))) (c .part .ensures)
 
-payload-of-requires : tie.Need-payload-of-requires
-payload-of-requires c κs = search needs
-
 returns-2 : tie.Need-returns-2
 returns-2 c = let s = c .before .before .before .before .before .before .before .before .before .before in
     let (p, e) = not-composed (c .before .before .before .before .before .before) in
     let r = c .before .before .before .before .before .read-deck2 in
     let (k, f, g) = held (deck s) (s .args .number) Judged (r .result) (r .ensures) (c .before .before .before .enum-told3 .given .1) in
     part-at (g ∙ sym (in-judged (deck s) (s .args .number) p k e f)) (c .payload-of .ensures)
-
-payload-of-requires-2 : tie.Need-payload-of-requires-2
-payload-of-requires-2 c κs = search needs
 
 returns-3 : tie.Need-returns-3
 returns-3 c = let s = c .before .before .before .before .before .before .before in
@@ -69,17 +42,5 @@ returns-3 c = let s = c .before .before .before .before .before .before .before 
 
 pub block-part-spec : {M : Type 1} → statement M
 block-part-spec =
-    tie.close
-    (tie.spec
-    read-deck-requires
-    enum-told
-    enum-told-2
-    read-deck-requires-2
-    enum-told-3
-    enum-told-4
-    part-requires
-    returns
-    payload-of-requires
-    returns-2
-    payload-of-requires-2
-    returns-3)
+    tie.close (tie.spec (λ c κs. search needs) (λ c. search needs) (λ c. search needs) (λ c κs. search needs) (λ c. search needs) (λ c. search needs)
+    (λ c κs. search needs) returns (λ c κs. search needs) returns-2 (λ c κs. search needs) returns-3)

@@ -8,9 +8,6 @@ use Rattle.deck.proofs.Few.{heads-most}
 use Rattle.compose.proofs.reading.read_deck.Statement.{statement}
 use Rattle.compose.proofs.reading.read_deck.Tie as tie
 
-slice-aggregate-read-in : tie.Need-slice-aggregate-read-in
-slice-aggregate-read-in c = search needs
-
 read-in-requires : tie.Need-read-in-requires
 read-in-requires c κs = record { room = omega (arith, heads-most mostBlocks (now (c .before .before .args .d)) 0); none = zeros 8448 }
 
@@ -18,4 +15,4 @@ returns : tie.Need-returns
 returns c = c .before .read-in .ensures .0
 
 pub read-deck-spec : {M : Type 1} → statement M
-read-deck-spec = tie.close (tie.spec slice-aggregate-read-in read-in-requires returns)
+read-deck-spec = tie.close (tie.spec (λ c. search needs) read-in-requires returns)

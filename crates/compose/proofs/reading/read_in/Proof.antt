@@ -64,18 +64,6 @@ sheet-is c =
     let s = c .before .before .before .before .before .before .before .before .before .before .before .before .before .before in
     c .sheet-reply .ensures ∙ ap (λ (x : DeckRead). saidReply (sheetReply (s .args .form) (deck s) (x .layout .sheet))) r
 
-open-book-requires : tie.Need-open-book-requires
-open-book-requires c κs = search needs
-
-enum-told : tie.Need-enum-told
-enum-told c = search needs
-
-enum-told-2 : tie.Need-enum-told-2
-enum-told-2 c = search needs
-
-same-length : tie.Need-same-length
-same-length c = search needs
-
 returns : tie.Need-returns
 returns c = let s = c .before .before .before .before .before .before .before .before in
     let r = c .before .before .before .before .open-book in
@@ -89,18 +77,6 @@ assembly-reply-requires c κs = let (k, e, r) = blocks (c .before .before) in
     let (short, f) = open-read assemblyKind d e in
     omega (arith, short, taken d (k .assembly) (assemblyKind ∷ []) (kept assemblyKind d f .after) .whole, ap (λ (x : DeckRead). x .layout .assembly) r)
 
-enum-told-3 : tie.Need-enum-told-3
-enum-told-3 c = search needs
-
-enum-told-4 : tie.Need-enum-told-4
-enum-told-4 c = search needs
-
-deck-refused-requires : tie.Need-deck-refused-requires
-deck-refused-requires c κs = search needs
-
-same-length-2 : tie.Need-same-length-2
-same-length-2 c = search needs
-
 returns-2 : tie.Need-returns-2
 returns-2 c = let s = c .before .before .before .before .before .before .before .before .before .before .before .before .before .before in
     let (k, e, r) = blocks (c .before .before .before .before .before .before) in
@@ -108,30 +84,12 @@ returns-2 c = let s = c .before .before .before .before .before .before .before 
     let f = refused-read _ (q .0 .0) (sym (assembly-is (c .before .before .before)) ∙ q .1) in
     (c .deck-refused .ensures ∙ ap refusedDeck (q .1) ∙ ap saidDeck (sym (bad-assembly (s .args .form) (deck s) k e (q .0 .0) f)), filled (c .before .before .before .before .before .before))
 
-sheet-reply-requires : tie.Need-sheet-reply-requires
-sheet-reply-requires c κs = search needs
-
-enum-told-5 : tie.Need-enum-told-5
-enum-told-5 c = search needs
-
-enum-told-6 : tie.Need-enum-told-6
-enum-told-6 c = search needs
-
-deck-refused-requires-2 : tie.Need-deck-refused-requires-2
-deck-refused-requires-2 c κs = search needs
-
-same-length-3 : tie.Need-same-length-3
-same-length-3 c = search needs
-
 returns-3 : tie.Need-returns-3
 returns-3 c = let s = c .before .before .before .before .before .before .before .before .before .before .before .before .before .before .before .before .before in
     let (k, e, r) = blocks (c .before .before .before .before .before .before .before .before .before) in
     let q = c .before .enum-told6 .given in
     let f = refused-read _ (q .0 .0) (sym (sheet-is (c .before .before .before)) ∙ q .1) in
     (c .deck-refused2 .ensures ∙ ap refusedDeck (q .1) ∙ ap saidDeck (sym (bad-sheet (s .args .form) (deck s) k e (assembly-fine (c .before .before .before .before)) (q .0 .0) f)), filled (c .before .before .before .before .before .before .before .before .before))
-
-same-length-4 : tie.Need-same-length-4
-same-length-4 c = search needs
 
 returns-4 : tie.Need-returns-4
 returns-4 c = let s = c .before .before .before .before .before .before .before .before .before .before .before .before .before .before .before .before in
@@ -141,24 +99,6 @@ returns-4 c = let s = c .before .before .before .before .before .before .before 
 
 pub read-in-spec : {M : Type 1} → statement M
 read-in-spec =
-    tie.close
-    (tie.spec
-    open-book-requires
-    enum-told
-    enum-told-2
-    same-length
-    returns
-    assembly-reply-requires
-    enum-told-3
-    enum-told-4
-    deck-refused-requires
-    same-length-2
-    returns-2
-    sheet-reply-requires
-    enum-told-5
-    enum-told-6
-    deck-refused-requires-2
-    same-length-3
-    returns-3
-    same-length-4
-    returns-4)
+    tie.close (tie.spec (λ c κs. search needs) (λ c. search needs) (λ c. search needs) (λ c. search needs) returns assembly-reply-requires (λ c. search needs)
+    (λ c. search needs) (λ c κs. search needs) (λ c. search needs) returns-2 (λ c κs. search needs) (λ c. search needs) (λ c. search needs)
+    (λ c κs. search needs) (λ c. search needs) returns-3 (λ c. search needs) returns-4)

@@ -27,9 +27,6 @@ mul-put-little-2 c = let p = c .before .before .before .before .pre in omega (ar
 element-copy-out-put-little : tie.Need-element-copy-out-put-little Inv-loop μ-loop
 element-copy-out-put-little c = let p = c .before .before .before .before .pre in omega (arith, p, c .before .loop-test .taken)
 
-put-little-requires : tie.Need-put-little-requires Inv-loop μ-loop
-put-little-requires c κs = search needs
-
 add-i : tie.Need-add-i Inv-loop μ-loop
 add-i c = let t = c .before .before .before .before .before in omega (arith, t .before .before .before .pre, t .loop-test .taken)
 
@@ -49,18 +46,5 @@ returns c = atoms-end (c .before .loop .inv) (omega (arith, c .loop-test .left))
 
 pub put-atoms-spec : {M : Type 1} → statement M
 put-atoms-spec =
-    tie.close
-    (tie.spec
-    Inv-loop
-    μ-loop
-    loop-holds
-    mul-put-little
-    add-put-little
-    mul-put-little-2
-    element-copy-out-put-little
-    put-little-requires
-    add-i
-    loop-less
-    loop-again
-    same-length
-    returns)
+    tie.close (tie.spec Inv-loop μ-loop loop-holds mul-put-little add-put-little mul-put-little-2 element-copy-out-put-little (λ c κs. search needs) add-i
+    loop-less loop-again same-length returns)

@@ -4,17 +4,8 @@ use borrow.Author.Needs.{needs}
 use Rattle.filling.proofs.store.put_head.Statement.{statement}
 use Rattle.filling.proofs.store.put_head.Tie as tie
 
-put-first-requires : tie.Need-put-first-requires
-put-first-requires c κs = search needs
-
-put-totals-requires : tie.Need-put-totals-requires
-put-totals-requires c κs = search needs
-
-same-length : tie.Need-same-length
-same-length c = search needs
-
 returns : tie.Need-returns
 returns c = let a = c .before .before .before .before .before .before .before .before .before .args in head-put (a .out .now) (a .number) (a .s) (c .before .before .before .before .before .before .put-first .ensures) (c .before .before .put-totals .ensures)
 
 pub put-head-spec : {M : Type 1} → statement M
-put-head-spec = tie.close (tie.spec put-first-requires put-totals-requires same-length returns)
+put-head-spec = tie.close (tie.spec (λ c κs. search needs) (λ c κs. search needs) (λ c. search needs) returns)

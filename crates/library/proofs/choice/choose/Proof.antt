@@ -18,32 +18,11 @@ abbrev μ-loop : tie.MeasureT-loop
 loop-holds : tie.Need-loop-holds Inv-loop μ-loop
 loop-holds c = (omega arith, refl, λ t a e. e)
 
-sub-k : tie.Need-sub-k Inv-loop μ-loop
-sub-k c = search needs
-
-mul-s : tie.Need-mul-s Inv-loop μ-loop
-mul-s c = search needs
-
-array-copy-out-s : tie.Need-array-copy-out-s Inv-loop μ-loop
-array-copy-out-s c = search needs
-
-cast-many : tie.Need-cast-many Inv-loop μ-loop
-cast-many c = search needs
-
 rem-digits : tie.Need-rem-digits Inv-loop μ-loop
 rem-digits c = c .before .before .before .before .pre .1 (c .before .before .before .loop .k - 1) (omega arith)
 
-mul-digits : tie.Need-mul-digits Inv-loop μ-loop
-mul-digits c = search needs
-
-array-write-digits : tie.Need-array-write-digits Inv-loop μ-loop
-array-write-digits c = search needs
-
 div-p : tie.Need-div-p Inv-loop μ-loop
 div-p c = c .before .before .before .before .pre .1 (c .before .before .before .loop .k - 1) (omega arith)
-
-loop-less : tie.Need-loop-less Inv-loop μ-loop
-loop-less c = search needs
 
 loop-again : tie.Need-loop-again Inv-loop μ-loop
 loop-again c = let a = c .before .before .before .before .args in let l = c .before .before .before .loop in
@@ -60,19 +39,5 @@ returns c = let a = c .before .before .args in let l = c .before .loop in
 
 pub choose-spec : {M : Type 1} → statement M
 choose-spec =
-    tie.close
-    (tie.spec
-    Inv-loop
-    μ-loop
-    loop-holds
-    sub-k
-    mul-s
-    array-copy-out-s
-    cast-many
-    rem-digits
-    mul-digits
-    array-write-digits
-    div-p
-    loop-less
-    loop-again
-    returns)
+    tie.close (tie.spec Inv-loop μ-loop loop-holds (λ c. search needs) (λ c. search needs) (λ c. search needs) (λ c. search needs) rem-digits
+    (λ c. search needs) (λ c. search needs) div-p (λ c. search needs) loop-again returns)

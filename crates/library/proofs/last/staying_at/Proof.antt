@@ -30,12 +30,6 @@ low c =
 sub-k : tie.Need-sub-k
 sub-k c = one (c .before .pre .4 .held)
 
-arms-among-requires : tie.Need-arms-among-requires
-arms-among-requires c κs = search needs
-
-stem-of-requires : tie.Need-stem-of-requires
-stem-of-requires c κs = search needs
-
 mul-s : tie.Need-mul-s
 mul-s c = let h = c .before .before .before .pre .4 .held in omega (arith, few h, one h)
 
@@ -53,9 +47,6 @@ mul-place c = let h = c .before .before .before .before .pre .4 .held in omega (
 
 add-place : tie.Need-add-place
 add-place c = let h = c .before .before .before .before .pre .4 .held in omega (arith, few h, low (c .before .before .before))
-
-cast-left : tie.Need-cast-left
-cast-left c = search needs
 
 sub-left : tie.Need-sub-left
 sub-left c = omega (arith, low (c .before .before .before .before))
@@ -79,18 +70,5 @@ returns c d l bs xs t h =
 
 pub staying-at-spec : {M : Type 1} → statement M
 staying-at-spec =
-    tie.close
-    (tie.spec
-    choose-requires
-    sub-k
-    arms-among-requires
-    stem-of-requires
-    mul-s
-    array-copy-out-s
-    mul-digit
-    array-read-digit
-    mul-place
-    add-place
-    cast-left
-    sub-left
-    returns)
+    tie.close (tie.spec choose-requires sub-k (λ c κs. search needs) (λ c κs. search needs) mul-s array-copy-out-s mul-digit array-read-digit mul-place
+    add-place (λ c. search needs) sub-left returns)

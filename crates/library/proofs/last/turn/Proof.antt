@@ -33,9 +33,6 @@ ahead : (k at start n bytes : ℕ) → (k ≡ 0 → at ≡ start) → n - at < b
 ahead zero at start n bytes e h r = absurd (omega (arith, e refl))
 ahead (suc k) at start n bytes e h r = omega arith
 
-bytes-of-requires : tie.Need-bytes-of-requires Inv-loop μ-loop
-bytes-of-requires c κs = search needs
-
 loop-holds : tie.Need-loop-holds Inv-loop μ-loop
 loop-holds c = let a = c .before .before .before .args in let p = c .before .before .before .pre in
     let z : a .position ≡ a .position + 0 = omega arith in
@@ -64,23 +61,8 @@ mul-row-arm c = let (d, l, t) = c .before .before .before .before .before .befor
 element-copy-out-row-arm : tie.Need-element-copy-out-row-arm Inv-loop μ-loop
 element-copy-out-row-arm c = let (d, l, t) = c .before .before .before .before .before .before .pre .0 in omega (arith, t .stands, c .before .loop-test .taken)
 
-row-arm-requires : tie.Need-row-arm-requires Inv-loop μ-loop
-row-arm-requires c κs = search needs
-
-joined-requires : tie.Need-joined-requires Inv-loop μ-loop
-joined-requires c κs = search needs
-
 sub-put-sheet : tie.Need-sub-put-sheet Inv-loop μ-loop
 sub-put-sheet c = c .before .before .before .before .before .loop .inv .1
-
-part-put-sheet-start : tie.Need-part-put-sheet-start Inv-loop μ-loop
-part-put-sheet-start c = search needs
-
-part-put-sheet-end : tie.Need-part-put-sheet-end Inv-loop μ-loop
-part-put-sheet-end c = search needs
-
-put-sheet-requires : tie.Need-put-sheet-requires Inv-loop μ-loop
-put-sheet-requires c κs = search needs
 
 -- the buffer's bytes can be counted
 short : (c : tie.Else1 Inv-loop μ-loop) → length (c .before .before .loop .out) < 2 ^ 64
@@ -92,9 +74,6 @@ add-at c = let e = c .before .before .before .before .before .before .before in 
 add-k : tie.Need-add-k Inv-loop μ-loop
 add-k c = let (d, l, t) = c .before .before .before .before .before .before .before .before .before .before .before .before .before .pre .0 in
     omega (arith, t .stands, c .before .before .before .before .before .before .before .before .loop-test .taken)
-
-loop-less : tie.Need-loop-less Inv-loop μ-loop
-loop-less c = search needs
 
 loop-again : tie.Need-loop-again Inv-loop μ-loop
 loop-again c = let a = c .before .before .before .before .before .before .before .before .before .before .before .before .before .args in
@@ -135,29 +114,6 @@ returns-2 c = let (d, l, t) = c .before .before .before .before .before .pre .0 
 
 pub turn-spec : {M : Type 1} → statement M
 turn-spec =
-    tie.close
-    (tie.spec
-    Inv-loop
-    μ-loop
-    bytes-of-requires
-    loop-holds
-    sub-if1
-    add-next
-    same-length
-    returns
-    add-row-arm
-    mul-row-arm
-    element-copy-out-row-arm
-    row-arm-requires
-    joined-requires
-    sub-put-sheet
-    part-put-sheet-start
-    part-put-sheet-end
-    put-sheet-requires
-    add-at
-    add-k
-    loop-less
-    loop-again
-    add-next-2
-    same-length-2
-    returns-2)
+    tie.close (tie.spec Inv-loop μ-loop (λ c κs. search needs) loop-holds sub-if1 add-next same-length returns add-row-arm mul-row-arm element-copy-out-row-arm
+    (λ c κs. search needs) (λ c κs. search needs) sub-put-sheet (λ c. search needs) (λ c. search needs) (λ c κs. search needs) add-at add-k (λ c. search needs)
+    loop-again add-next-2 same-length-2 returns-2)

@@ -39,9 +39,6 @@ loop-holds c = let a = c .before .before .args in let p = c .before .before .pre
 add-at : tie.Need-add-at Inv-loop μ-loop
 add-at c = omega (arith, c .before .loop .inv .2, c .before .before .before .before .pre .1 .1, short (c .before .before .before .before))
 
-same-length : tie.Need-same-length Inv-loop μ-loop
-same-length c = search needs
-
 returns : tie.Need-returns Inv-loop μ-loop
 returns c = let a = c .before .before .before .before .before .args in let p = c .before .before .before .before .before .pre .1 in let r = c .before .before .loop in
     ((p .0, omega arith), λ d l position old t f. subst (λ (m : ℕ). Filled (valuesOf d l (a .field) position) old (r .row) m) (c .if1 .taken) (r .inv .3 d l position old t f))
@@ -55,12 +52,6 @@ mul-row-arm c = let (d, l, position, t) = c .before .before .before .before .bef
 element-copy-out-row-arm : tie.Need-element-copy-out-row-arm Inv-loop μ-loop
 element-copy-out-row-arm c = let (d, l, position, t) = c .before .before .before .before .before .pre .0 in omega (arith, t .stands, c .before .loop-test .taken)
 
-row-arm-requires : tie.Need-row-arm-requires Inv-loop μ-loop
-row-arm-requires c κs = search needs
-
-joined-requires : tie.Need-joined-requires Inv-loop μ-loop
-joined-requires c κs = search needs
-
 field-of-requires : tie.Need-field-of-requires Inv-loop μ-loop
 field-of-requires c κs = let p = c .before .before .before .before .before .before .before .before .pre .1 in (p .2, p .3)
 
@@ -72,9 +63,6 @@ slice-write-row c = omega (arith, c .before .before .before .before .before .bef
 
 add-i : tie.Need-add-i Inv-loop μ-loop
 add-i c = let (d, l, position, t) = c .before .before .before .before .before .before .before .before .before .pre .0 in omega (arith, t .stands, c .before .before .before .before .before .loop-test .taken)
-
-loop-less : tie.Need-loop-less Inv-loop μ-loop
-loop-less c = search needs
 
 loop-again : tie.Need-loop-again Inv-loop μ-loop
 loop-again c = let a = c .before .before .before .before .before .before .before .before .before .args in let r = c .before .before .before .before .before .before .loop in let p = c .before .before .before .before .before .before .before .before .before .pre .1 in
@@ -98,34 +86,11 @@ loop-again c = let a = c .before .before .before .before .before .before .before
 add-result : tie.Need-add-result Inv-loop μ-loop
 add-result c = omega (arith, c .before .loop .inv .2, c .before .before .before .before .pre .1 .1, short (c .before .before .before .before))
 
-same-length-2 : tie.Need-same-length-2 Inv-loop μ-loop
-same-length-2 c = search needs
-
 returns-2 : tie.Need-returns-2 Inv-loop μ-loop
 returns-2 c = let (d, l, position, t) = c .before .before .before .before .pre .0 in let r = c .before .loop in
     ((omega (arith, t .some, c .loop-test .left), r .inv .2), r .inv .3)
 
 pub turn-values-spec : {M : Type 1} → statement M
 turn-values-spec =
-    tie.close
-    (tie.spec
-    Inv-loop
-    μ-loop
-    loop-holds
-    add-at
-    same-length
-    returns
-    add-row-arm
-    mul-row-arm
-    element-copy-out-row-arm
-    row-arm-requires
-    joined-requires
-    field-of-requires
-    mul-row
-    slice-write-row
-    add-i
-    loop-less
-    loop-again
-    add-result
-    same-length-2
-    returns-2)
+    tie.close (tie.spec Inv-loop μ-loop loop-holds add-at (λ c. search needs) returns add-row-arm mul-row-arm element-copy-out-row-arm (λ c κs. search needs)
+    (λ c κs. search needs) field-of-requires mul-row slice-write-row add-i (λ c. search needs) loop-again add-result (λ c. search needs) returns-2)

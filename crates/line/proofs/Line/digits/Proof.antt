@@ -10,18 +10,6 @@ use Rattle.line.proofs.Decimal.{digits-are}
 use Rattle.line.proofs.Line.digits.Statement.{statement}
 use Rattle.line.proofs.Line.digits.Tie as tie
 
-decimal-requires : tie.Need-decimal-requires
-decimal-requires c κs = search needs
-
-array-share-prefix-text : tie.Need-array-share-prefix-text
-array-share-prefix-text c = search needs
-
-slice-aggregate-with : tie.Need-slice-aggregate-with
-slice-aggregate-with c = search needs
-
-with-requires : tie.Need-with-requires
-with-requires c κs = search needs
-
 returns : tie.Need-returns
 returns c =
     let d = c .before .before .decimal in
@@ -30,6 +18,4 @@ returns c =
     subst (λ (w : List ℕ). Adds (start .args .self) w (c .with .result)) word (c .with .ensures)
 
 pub digits-spec : {M : Type 1} → statement M
-digits-spec =
-    tie.close
-    (tie.spec decimal-requires array-share-prefix-text slice-aggregate-with with-requires returns)
+digits-spec = tie.close (tie.spec (λ c κs. search needs) (λ c. search needs) (λ c. search needs) (λ c κs. search needs) returns)

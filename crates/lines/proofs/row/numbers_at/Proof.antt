@@ -12,25 +12,6 @@ Inv-loop line from₀ at₀ from at = length line ≡ length line
 abbrev μ-loop : tie.MeasureT-loop
 μ-loop line from₀ at₀ from at = length line - at
 
-loop-holds : tie.Need-loop-holds Inv-loop μ-loop
-loop-holds c = search needs
-
-shared-slice-read-if1 : tie.Need-shared-slice-read-if1 Inv-loop μ-loop
-shared-slice-read-if1 c = search needs
-
-add-at : tie.Need-add-at Inv-loop μ-loop
-add-at c = search needs
-
-loop-less : tie.Need-loop-less Inv-loop μ-loop
-loop-less c = search needs
-
-loop-again : tie.Need-loop-again Inv-loop μ-loop
-loop-again c = search needs
-
-returns : tie.Need-returns Inv-loop μ-loop
-returns c = search needs
-
 pub numbers-at-spec : {M : Type 1} → statement M
 numbers-at-spec =
-    tie.close
-    (tie.spec Inv-loop μ-loop loop-holds shared-slice-read-if1 add-at loop-less loop-again returns)
+    tie.close (tie.spec Inv-loop μ-loop (λ c. search needs) (λ c. search needs) (λ c. search needs) (λ c. search needs) (λ c. search needs) (λ c. search needs))

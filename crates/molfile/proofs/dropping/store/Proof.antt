@@ -19,26 +19,8 @@ returns-2 c =
     let a = c .before .before .args in
     store-none (a .out .now) (a .j) (a .a) (a .b) (simp (ne-eqb (a .a) 0 (c .before .if1 .left), eq-eqb (a .b) 0 (c .if2 .taken)))
 
-mul-out : tie.Need-mul-out
-mul-out c = search needs
-
-slice-write-out : tie.Need-slice-write-out
-slice-write-out c = search needs
-
-add-out : tie.Need-add-out
-add-out c = search needs
-
-mul-out-2 : tie.Need-mul-out-2
-mul-out-2 c = search needs
-
 slice-write-out-2 : tie.Need-slice-write-out-2
 slice-write-out-2 c = let a = c .before .before .args in omega (arith, length-set (a .out .now) (a .j) (a .a))
-
-add-result : tie.Need-add-result
-add-result c = search needs
-
-same-length : tie.Need-same-length
-same-length c = search needs
 
 returns-3 : tie.Need-returns-3
 returns-3 c =
@@ -47,15 +29,5 @@ returns-3 c =
 
 pub store-spec : {M : Type 1} → statement M
 store-spec =
-    tie.close
-    (tie.spec
-    returns
-    returns-2
-    mul-out
-    slice-write-out
-    add-out
-    mul-out-2
-    slice-write-out-2
-    add-result
-    same-length
-    returns-3)
+    tie.close (tie.spec returns returns-2 (λ c. search needs) (λ c. search needs) (λ c. search needs) (λ c. search needs) slice-write-out-2 (λ c. search needs)
+    (λ c. search needs) returns-3)

@@ -16,15 +16,6 @@ use Rattle.molfile.proofs.ending.listed_end.Tie as tie
 abbrev start : tie.After-lists → tie.Start
 start c = c .before .before .before .before .before
 
-slice-aggregate-lists : tie.Need-slice-aggregate-lists
-slice-aggregate-lists c = search needs
-
-slice-aggregate-lists-2 : tie.Need-slice-aggregate-lists-2
-slice-aggregate-lists-2 c = search needs
-
-slice-aggregate-lists-3 : tie.Need-slice-aggregate-lists-3
-slice-aggregate-lists-3 c = search needs
-
 lists-requires : tie.Need-lists-requires
 lists-requires c κs =
     let s = c .before .before .before .before in
@@ -32,12 +23,6 @@ lists-requires c κs =
     let n : s .args .x .one ≤ most = omega (arith, ap (λ (x : Numbers). x .one) (s .pre .0), few .0) in
     let m : s .args .x .two ≤ most = omega (arith, ap (λ (x : Numbers). x .two) (s .pre .0), few .1) in
     (s .pre .0, n, n, m, m)
-
-enum-told : tie.Need-enum-told
-enum-told c = search needs
-
-enum-known-passed : tie.Need-enum-known-passed
-enum-known-passed c = search needs
 
 returns : tie.Need-returns
 returns c =
@@ -57,13 +42,4 @@ returns-2 c =
 
 pub listed-end-spec : {M : Type 1} → statement M
 listed-end-spec =
-    tie.close
-    (tie.spec
-    slice-aggregate-lists
-    slice-aggregate-lists-2
-    slice-aggregate-lists-3
-    lists-requires
-    enum-told
-    enum-known-passed
-    returns
-    returns-2)
+    tie.close (tie.spec (λ c. search needs) (λ c. search needs) (λ c. search needs) lists-requires (λ c. search needs) (λ c. search needs) returns returns-2)

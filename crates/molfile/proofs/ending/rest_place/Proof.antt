@@ -12,15 +12,6 @@ use Rattle.molfile.proofs.ending.rest_place.Tie as tie
 abbrev start : tie.After-counts-line → tie.Start
 start c = c .before .before
 
-counts-line-requires : tie.Need-counts-line-requires
-counts-line-requires c κs = search needs
-
-enum-told : tie.Need-enum-told
-enum-told c = search needs
-
-enum-known-seen : tie.Need-enum-known-seen
-enum-known-seen c = search needs
-
 listed-end-requires : tie.Need-listed-end-requires
 listed-end-requires c κs =
     let b = c .before .before .before in
@@ -35,10 +26,5 @@ returns c =
     let e = lines-no-counts d _ (numbers-refused d (countsPlace d) (countsReply d) (sym (b .counts-line .ensures) ∙ c .enum-told .given .1)) in
     sym (ap (λ (m : Read (Unit {0})). restBy m d) e)
 
-returns-2 : tie.Need-returns-2
-returns-2 c = search needs
-
 pub rest-place-spec : {M : Type 1} → statement M
-rest-place-spec =
-    tie.close
-    (tie.spec counts-line-requires enum-told enum-known-seen listed-end-requires returns returns-2)
+rest-place-spec = tie.close (tie.spec (λ c κs. search needs) (λ c. search needs) (λ c. search needs) listed-end-requires returns (λ c. search needs))

@@ -18,17 +18,11 @@ abbrev μ-loop : tie.MeasureT-loop
 loop-holds : tie.Need-loop-holds Inv-loop μ-loop
 loop-holds c = (filling-start _ _ _, c .before .before .pre .0)
 
-number-requires : tie.Need-number-requires Inv-loop μ-loop
-number-requires c κs = search needs
-
 same-length : tie.Need-same-length Inv-loop μ-loop
 same-length c = c .before .before .before .loop .inv .0 .same
 
 returns : tie.Need-returns Inv-loop μ-loop
 returns c = filling-end (c .before .before .before .loop .inv .0) (c .before .before .number .ensures .past (c .if1 .taken))
-
-is-high-requires : tie.Need-is-high-requires Inv-loop μ-loop
-is-high-requires c κs = search needs
 
 same-length-2 : tie.Need-same-length-2 Inv-loop μ-loop
 same-length-2 c = c .before .before .before .before .before .loop .inv .0 .same
@@ -42,9 +36,6 @@ put-requires c κs = λ t.
     let f = c .before .before .before .before .before .before .loop .inv .0 in
     omega (arith, f .same, c .before .before .before .before .before .before .before .before .before .pre .1, filling-room f (x .same) (sym (c .before .before .is-high .ensures) ∙ c .before .if2 .left) t)
 
-label-after-requires : tie.Need-label-after-requires Inv-loop μ-loop
-label-after-requires c κs = search needs
-
 loop-less : tie.Need-loop-less Inv-loop μ-loop
 loop-less c = let x = c .before .before .before .before .before .before .before .before .before .number .ensures .here (c .before .before .before .before .before .before .before .if1 .left) in omega arith
 
@@ -56,18 +47,5 @@ loop-again c =
 
 pub fill-spec : {M : Type 1} → statement M
 fill-spec =
-    tie.close
-    (tie.spec
-    Inv-loop
-    μ-loop
-    loop-holds
-    number-requires
-    same-length
-    returns
-    is-high-requires
-    same-length-2
-    returns-2
-    put-requires
-    label-after-requires
-    loop-less
-    loop-again)
+    tie.close (tie.spec Inv-loop μ-loop loop-holds (λ c κs. search needs) same-length returns (λ c κs. search needs) same-length-2 returns-2 put-requires
+    (λ c κs. search needs) loop-less loop-again)

@@ -8,20 +8,8 @@ use borrow.Author.Needs.{needs}
 use Rattle.neighbours.proofs.bonds.judged.Statement.{statement}
 use Rattle.neighbours.proofs.bonds.judged.Tie as tie
 
-check-requires : tie.Need-check-requires
-check-requires c κs = search needs
-
 returns : tie.Need-returns
 returns c = let a = c .before .before .before .args in c .before .check .ensures ∙ ap saidReply (sym (no-label (a .n) (a .bonds .now) (a .high) (c .if1 .taken)))
-
-add-t10 : tie.Need-add-t10
-add-t10 c = search needs
-
-enum-told : tie.Need-enum-told
-enum-told c = search needs
-
-enum-known-reply : tie.Need-enum-known-reply
-enum-known-reply c = search needs
 
 returns-2 : tie.Need-returns-2
 returns-2 c =
@@ -42,14 +30,4 @@ returns-4 c =
     ap saidReply (sym (label-after (a .n) (a .bonds .now) (c .before .before .before .before .before .before .before .before .pre) (a .high) _ (c .before .before .before .before .before .if1 .left) e (c .if2 .left)))
 
 pub judged-spec : {M : Type 1} → statement M
-judged-spec =
-    tie.close
-    (tie.spec
-    check-requires
-    returns
-    add-t10
-    enum-told
-    enum-known-reply
-    returns-2
-    returns-3
-    returns-4)
+judged-spec = tie.close (tie.spec (λ c κs. search needs) returns (λ c. search needs) (λ c. search needs) (λ c. search needs) returns-2 returns-3 returns-4)

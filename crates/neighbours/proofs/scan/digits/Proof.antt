@@ -17,44 +17,17 @@ Inv-loop text at value₀ next₀ value next = (numbersAt text at ≡ numbersFro
 abbrev μ-loop : tie.MeasureT-loop
 μ-loop text at value₀ next₀ value next = length text - next
 
-shared-slice-read-grown : tie.Need-shared-slice-read-grown Inv-loop μ-loop
-shared-slice-read-grown c = search needs
-
-grown-requires : tie.Need-grown-requires Inv-loop μ-loop
-grown-requires c κs = omega arith
-
-add-next : tie.Need-add-next Inv-loop μ-loop
-add-next c = search needs
-
 loop-holds : tie.Need-loop-holds Inv-loop μ-loop
 loop-holds c =
     let a = c .before .before .before .args in
     let p = c .before .before .before .pre in
     (numbers-first (a .text .now) (a .at) (p .0) (p .1) ∙ rw (c .grown .ensures), omega arith, omega arith, omega (arith, c .grown .ensures))
 
-shared-slice-read-is-digit : tie.Need-shared-slice-read-is-digit Inv-loop μ-loop
-shared-slice-read-is-digit c = search needs
-
-is-digit-requires : tie.Need-is-digit-requires Inv-loop μ-loop
-is-digit-requires c κs = search needs
-
 returns : tie.Need-returns Inv-loop μ-loop
 returns c =
     let l = c .before .before .before .before .loop in
     let t = c .before .before .before .before .before .before .before .before .args .text .now in
     record { same = l .inv .0 ∙ run-stop t (l .next) (omega arith) _ (sym (c .before .is-digit .ensures) ∙ not-true (c .before .is-digit .result) (c .if1 .taken)); later = l .inv .1; within = l .inv .2 }
-
-shared-slice-read-grown-2 : tie.Need-shared-slice-read-grown-2 Inv-loop μ-loop
-shared-slice-read-grown-2 c = search needs
-
-grown-requires-2 : tie.Need-grown-requires-2 Inv-loop μ-loop
-grown-requires-2 c κs = omega arith
-
-add-next-2 : tie.Need-add-next-2 Inv-loop μ-loop
-add-next-2 c = search needs
-
-loop-less : tie.Need-loop-less Inv-loop μ-loop
-loop-less c = omega arith
 
 loop-again : tie.Need-loop-again Inv-loop μ-loop
 loop-again c =
@@ -70,20 +43,5 @@ returns-2 c =
 
 pub digits-spec : {M : Type 1} → statement M
 digits-spec =
-    tie.close
-    (tie.spec
-    Inv-loop
-    μ-loop
-    shared-slice-read-grown
-    grown-requires
-    add-next
-    loop-holds
-    shared-slice-read-is-digit
-    is-digit-requires
-    returns
-    shared-slice-read-grown-2
-    grown-requires-2
-    add-next-2
-    loop-less
-    loop-again
-    returns-2)
+    tie.close (tie.spec Inv-loop μ-loop (λ c. search needs) (λ c κs. omega arith) (λ c. search needs) loop-holds (λ c. search needs) (λ c κs. search needs)
+    returns (λ c. search needs) (λ c κs. omega arith) (λ c. search needs) (λ c. omega arith) loop-again returns-2)

@@ -19,29 +19,11 @@ abbrev μ-loop : tie.MeasureT-loop
 loop-holds : tie.Need-loop-holds Inv-loop μ-loop
 loop-holds c = looking-start _
 
-shared-slice-read-b : tie.Need-shared-slice-read-b Inv-loop μ-loop
-shared-slice-read-b c = search needs
-
-is-good-requires : tie.Need-is-good-requires Inv-loop μ-loop
-is-good-requires c κs = search needs
-
 returns : tie.Need-returns Inv-loop μ-loop
 returns c = looking-bad (c .before .before .before .before .loop .inv) (omega arith) (sym (c .before .is-good .ensures) ∙ not-true (c .before .is-good .result) (c .if1 .taken))
 
-value-after-requires : tie.Need-value-after-requires Inv-loop μ-loop
-value-after-requires c κs = omega arith
-
 returns-2 : tie.Need-returns-2 Inv-loop μ-loop
 returns-2 c = looking-large (c .before .before .before .before .before .before .loop .inv) (omega arith) (omega (arith, c .before .value-after .ensures, c .if2 .taken))
-
-add-next : tie.Need-add-next Inv-loop μ-loop
-add-next c = search needs
-
-start-after-requires : tie.Need-start-after-requires Inv-loop μ-loop
-start-after-requires c κs = search needs
-
-loop-less : tie.Need-loop-less Inv-loop μ-loop
-loop-less c = omega arith
 
 loop-again : tie.Need-loop-again Inv-loop μ-loop
 loop-again c =
@@ -54,18 +36,5 @@ returns-3 c = looking-end (c .before .loop .inv) (omega arith)
 
 pub fault-spec : {M : Type 1} → statement M
 fault-spec =
-    tie.close
-    (tie.spec
-    Inv-loop
-    μ-loop
-    loop-holds
-    shared-slice-read-b
-    is-good-requires
-    returns
-    value-after-requires
-    returns-2
-    add-next
-    start-after-requires
-    loop-less
-    loop-again
-    returns-3)
+    tie.close (tie.spec Inv-loop μ-loop loop-holds (λ c. search needs) (λ c κs. search needs) returns (λ c κs. omega arith) returns-2 (λ c. search needs)
+    (λ c κs. search needs) (λ c. omega arith) loop-again returns-3)

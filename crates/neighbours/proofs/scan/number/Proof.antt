@@ -6,9 +6,6 @@ use Rattle.adjacency.specs.Scanning.{numbers-past}
 use Rattle.neighbours.proofs.scan.number.Statement.{statement}
 use Rattle.neighbours.proofs.scan.number.Tie as tie
 
-skip-requires : tie.Need-skip-requires
-skip-requires c κs = search needs
-
 returns : tie.Need-returns
 returns c =
     let s = c .before .skip .ensures in
@@ -24,4 +21,4 @@ returns-2 c =
     record { past = λ h. absurd (omega arith); here = λ h. record { same = s .same ∙ d .same; later = omega arith; within = d .within } }
 
 pub number-spec : {M : Type 1} → statement M
-number-spec = tie.close (tie.spec skip-requires returns digits-requires returns-2)
+number-spec = tie.close (tie.spec (λ c κs. search needs) returns digits-requires returns-2)

@@ -19,17 +19,11 @@ abbrev μ-loop : tie.MeasureT-loop
 loop-holds : tie.Need-loop-holds Inv-loop μ-loop
 loop-holds c = (refl, c .before .pre, omega arith)
 
-number-requires : tie.Need-number-requires Inv-loop μ-loop
-number-requires c κs = search needs
-
 returns : tie.Need-returns Inv-loop μ-loop
 returns c =
     let l = c .before .before .before .loop in
     let t = c .before .before .before .before .before .args .text .now in
     ap saidShape (sym (l .inv .0 ∙ shaped-none (length t) (l .k) (l .label) (c .before .before .number .ensures .past (c .if1 .taken))))
-
-is-last-requires : tie.Need-is-last-requires Inv-loop μ-loop
-is-last-requires c κs = search needs
 
 last-requires : tie.Need-last-requires Inv-loop μ-loop
 last-requires c κs = c .before .before .before .before .number .ensures .here (c .before .before .if1 .left) .within
@@ -41,14 +35,8 @@ returns-2 c =
     let x = c .before .before .before .before .before .number .ensures .here (c .before .before .before .if1 .left) in
     c .last .ensures ∙ ap saidShape (sym (l .inv .0 ∙ shaped-last (length t) (l .k) (l .label) (x .same) (sym (c .before .before .is-last .ensures) ∙ c .before .if2 .taken)))
 
-one-if-bond-requires : tie.Need-one-if-bond-requires Inv-loop μ-loop
-one-if-bond-requires c κs = search needs
-
 add-k : tie.Need-add-k Inv-loop μ-loop
 add-k c = record { fits = let l = c .before .before .before .before .before .before .loop in omega (arith, l .inv .1, l .inv .2, c .one-if-bond .ensures, one-at-most (isBond (l .label) (c .before .before .before .before .before .number .result .value))) }
-
-label-after-requires : tie.Need-label-after-requires Inv-loop μ-loop
-label-after-requires c κs = search needs
 
 loop-less : tie.Need-loop-less Inv-loop μ-loop
 loop-less c = let x = c .before .before .before .before .before .before .number .ensures .here (c .before .before .before .before .if1 .left) in omega arith
@@ -66,18 +54,5 @@ loop-again c =
 
 pub shape-spec : {M : Type 1} → statement M
 shape-spec =
-    tie.close
-    (tie.spec
-    Inv-loop
-    μ-loop
-    loop-holds
-    number-requires
-    returns
-    is-last-requires
-    last-requires
-    returns-2
-    one-if-bond-requires
-    add-k
-    label-after-requires
-    loop-less
-    loop-again)
+    tie.close (tie.spec Inv-loop μ-loop loop-holds (λ c κs. search needs) returns (λ c κs. search needs) last-requires returns-2 (λ c κs. search needs) add-k
+    (λ c κs. search needs) loop-less loop-again)

@@ -4,9 +4,6 @@ use borrow.Author.Needs.{needs}
 use Rattle.neighbours.proofs.scan.start_after.Statement.{statement}
 use Rattle.neighbours.proofs.scan.start_after.Tie as tie
 
-is-digit-requires : tie.Need-is-digit-requires
-is-digit-requires c κs = search needs
-
 returns : tie.Need-returns
 returns c = rw (sym (c .before .is-digit .ensures) ∙ c .if1 .taken)
 
@@ -14,4 +11,4 @@ returns-2 : tie.Need-returns-2
 returns-2 c = rw (sym (c .before .is-digit .ensures) ∙ c .if1 .left)
 
 pub start-after-spec : {M : Type 1} → statement M
-start-after-spec = tie.close (tie.spec is-digit-requires returns returns-2)
+start-after-spec = tie.close (tie.spec (λ c κs. search needs) returns returns-2)

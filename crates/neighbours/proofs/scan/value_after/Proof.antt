@@ -4,12 +4,6 @@ use borrow.Author.Needs.{needs}
 use Rattle.neighbours.proofs.scan.value_after.Statement.{statement}
 use Rattle.neighbours.proofs.scan.value_after.Tie as tie
 
-is-digit-requires : tie.Need-is-digit-requires
-is-digit-requires c κs = search needs
-
-grown-requires : tie.Need-grown-requires
-grown-requires c κs = search needs
-
 returns : tie.Need-returns
 returns c = rw (sym (c .before .before .is-digit .ensures) ∙ c .before .if1 .taken) (c .grown .ensures)
 
@@ -17,4 +11,4 @@ returns-2 : tie.Need-returns-2
 returns-2 c = rw (sym (c .before .is-digit .ensures) ∙ c .if1 .left)
 
 pub value-after-spec : {M : Type 1} → statement M
-value-after-spec = tie.close (tie.spec is-digit-requires grown-requires returns returns-2)
+value-after-spec = tie.close (tie.spec (λ c κs. search needs) (λ c κs. search needs) returns returns-2)

@@ -20,17 +20,11 @@ loop-holds : tie.Need-loop-holds Inv-loop μ-loop
 unfolding upTo
 loop-holds c = (refl, omega arith)
 
-add-j : tie.Need-add-j Inv-loop μ-loop
-add-j c = search needs
-
 one-if-greater-requires : tie.Need-one-if-greater-requires Inv-loop μ-loop
 one-if-greater-requires c κs = (c .before .before .pre .1, omega arith)
 
 add-k : tie.Need-add-k Inv-loop μ-loop
 add-k c = let l = c .before .before .loop in let p = isGreater (joinedIn (c .before .before .before .args .near .now)) (c .before .before .before .args .i) in record { fits = omega (arith, c .one-if-greater .ensures, up-count (l .j) p, up-short (l .j + 1) p, l .inv) }
-
-loop-less : tie.Need-loop-less Inv-loop μ-loop
-loop-less c = omega arith
 
 loop-again : tie.Need-loop-again Inv-loop μ-loop
 loop-again c = let l = c .before .before .loop in let p = isGreater (joinedIn (c .before .before .before .args .near .now)) (c .before .before .before .args .i) in (omega (arith, c .one-if-greater .ensures, up-count (l .j) p, l .inv .0), omega arith)
@@ -40,15 +34,4 @@ unfolding greater
 returns c = let e : c .before .loop .j ≡ c .before .before .args .n = omega arith in rw e at (c .before .loop .inv .0)
 
 pub count-spec : {M : Type 1} → statement M
-count-spec =
-    tie.close
-    (tie.spec
-    Inv-loop
-    μ-loop
-    loop-holds
-    add-j
-    one-if-greater-requires
-    add-k
-    loop-less
-    loop-again
-    returns)
+count-spec = tie.close (tie.spec Inv-loop μ-loop loop-holds (λ c. search needs) one-if-greater-requires add-k (λ c. omega arith) loop-again returns)

@@ -8,28 +8,10 @@ use borrow.Author.Needs.{needs}
 use Rattle.neighbours.proofs.writing.line.Statement.{statement}
 use Rattle.neighbours.proofs.writing.line.Tie as tie
 
-count-requires : tie.Need-count-requires
-count-requires c κs = search needs
-
 returns : tie.Need-returns
 returns c =
     let a = c .before .before .before .args in
     rw (line-none (a .i) (greater (joinedIn (a .near .now)) (a .n) (a .i)) (sym (c .before .count .ensures) ∙ c .if1 .taken)) none
-
-number-requires : tie.Need-number-requires
-number-requires c κs = search needs
-
-neighbours-requires : tie.Need-neighbours-requires
-neighbours-requires c κs = search needs
-
-slice-aggregate-put : tie.Need-slice-aggregate-put
-slice-aggregate-put c = search needs
-
-put-requires : tie.Need-put-requires
-put-requires c κs = search needs
-
-same-length : tie.Need-same-length
-same-length c = search needs
 
 returns-2 : tie.Need-returns-2
 returns-2 c =
@@ -38,4 +20,6 @@ returns-2 c =
     (both (both (c .before .before .before .before .before .before .before .before .before .before .before .number .ensures) (c .before .before .before .before .before .before .before .neighbours .ensures)) (c .before .before .put .ensures))
 
 pub line-spec : {M : Type 1} → statement M
-line-spec = tie.close (tie.spec count-requires returns number-requires neighbours-requires slice-aggregate-put put-requires same-length returns-2)
+line-spec =
+    tie.close (tie.spec (λ c κs. search needs) returns (λ c κs. search needs) (λ c κs. search needs) (λ c. search needs) (λ c κs. search needs)
+    (λ c. search needs) returns-2)

@@ -21,14 +21,8 @@ loop-holds : tie.Need-loop-holds Inv-loop μ-loop
 unfolding lines
 loop-holds c = (putting.none, omega arith)
 
-add-i : tie.Need-add-i Inv-loop μ-loop
-add-i c = search needs
-
 line-requires : tie.Need-line-requires Inv-loop μ-loop
 line-requires c κs = (c .before .before .before .before .pre, omega arith)
-
-loop-less : tie.Need-loop-less Inv-loop μ-loop
-loop-less c = omega arith
 
 loop-again : tie.Need-loop-again Inv-loop μ-loop
 loop-again c =
@@ -43,4 +37,4 @@ returns : tie.Need-returns Inv-loop μ-loop
 returns c = let e : c .before .loop .i ≡ c .before .before .before .args .n = omega arith in rw e at (c .before .loop .inv .0)
 
 pub lines-spec : {M : Type 1} → statement M
-lines-spec = tie.close (tie.spec Inv-loop μ-loop loop-holds add-i line-requires loop-less loop-again same-length returns)
+lines-spec = tie.close (tie.spec Inv-loop μ-loop loop-holds (λ c. search needs) line-requires (λ c. omega arith) loop-again same-length returns)

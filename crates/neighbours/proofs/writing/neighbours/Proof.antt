@@ -21,14 +21,8 @@ loop-holds : tie.Need-loop-holds Inv-loop μ-loop
 unfolding upTo listed
 loop-holds c = (putting.none, omega arith)
 
-add-j : tie.Need-add-j Inv-loop μ-loop
-add-j c = search needs
-
 neighbour-requires : tie.Need-neighbour-requires Inv-loop μ-loop
 neighbour-requires c κs = (c .before .before .before .before .pre .1, omega arith)
-
-loop-less : tie.Need-loop-less Inv-loop μ-loop
-loop-less c = omega arith
 
 loop-again : tie.Need-loop-again Inv-loop μ-loop
 loop-again c =
@@ -44,4 +38,4 @@ unfolding greater
 returns c = let e : c .before .loop .j ≡ c .before .before .before .args .n = omega arith in rw e at (c .before .loop .inv .0)
 
 pub neighbours-spec : {M : Type 1} → statement M
-neighbours-spec = tie.close (tie.spec Inv-loop μ-loop loop-holds add-j neighbour-requires loop-less loop-again same-length returns)
+neighbours-spec = tie.close (tie.spec Inv-loop μ-loop loop-holds (λ c. search needs) neighbour-requires (λ c. omega arith) loop-again same-length returns)

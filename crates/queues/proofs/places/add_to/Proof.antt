@@ -10,20 +10,8 @@ use borrow.Author.Needs.{needs}
 use Rattle.queues.proofs.places.add_to.Statement.{statement}
 use Rattle.queues.proofs.places.add_to.Tie as tie
 
-place-of-requires : tie.Need-place-of-requires
-place-of-requires c κs = search needs
-
 room-reply-requires : tie.Need-room-reply-requires
 room-reply-requires c κs = c .before .place-of .ensures .0
-
-enum-known-room : tie.Need-enum-known-room
-enum-known-room c = search needs
-
-not-added-requires : tie.Need-not-added-requires
-not-added-requires c κs = search needs
-
-enum-told : tie.Need-enum-told
-enum-told c = search needs
 
 fill-in-requires : tie.Need-fill-in-requires
 fill-in-requires c κs =
@@ -32,17 +20,11 @@ fill-in-requires c κs =
     let f = fine-read (roomReply summaryBytes (s .args .s .now) (s .args .number)) (sym (c .before .before .before .room-reply .ensures) ∙ c .before .enum-told .given .1) in
     (s .pre, k, omega (arith, k, room-place (s .args .s .now) (s .args .number) f))
 
-same-length : tie.Need-same-length
-same-length c = search needs
-
 returns : tie.Need-returns
 returns c =
     let a = c .before .before .before .before .before .before .before .before .before .before .args in
     let e = refused-read (roomReply summaryBytes (a .s .now) (a .number)) _ (sym (c .before .before .before .before .room-reply .ensures) ∙ c .before .before .room .given .1) in
     (c .not-added .ensures ∙ sym (ap saidReply (add-unroomed (a .s .now) (a .number) (a .n) (a .bonds .now) _ e)), added-unroomed (a .s .now) (a .number) (a .n) (a .bonds .now) _ e)
-
-same-length-2 : tie.Need-same-length-2
-same-length-2 c = search needs
 
 returns-2 : tie.Need-returns-2
 returns-2 c =
@@ -52,15 +34,5 @@ returns-2 c =
 
 pub add-to-spec : {M : Type 1} → statement M
 add-to-spec =
-    tie.close
-    (tie.spec
-    place-of-requires
-    room-reply-requires
-    enum-known-room
-    not-added-requires
-    enum-told
-    fill-in-requires
-    same-length
-    returns
-    same-length-2
-    returns-2)
+    tie.close (tie.spec (λ c κs. search needs) room-reply-requires (λ c. search needs) (λ c κs. search needs) (λ c. search needs) fill-in-requires
+    (λ c. search needs) returns (λ c. search needs) returns-2)

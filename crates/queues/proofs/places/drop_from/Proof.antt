@@ -13,25 +13,10 @@ use borrow.Author.Tests.{not-true, not-false}
 use Rattle.queues.proofs.places.drop_from.Statement.{statement}
 use Rattle.queues.proofs.places.drop_from.Tie as tie
 
-place-of-requires : tie.Need-place-of-requires
-place-of-requires c κs = search needs
-
-is-held-requires : tie.Need-is-held-requires
-is-held-requires c κs = search needs
-
-refused-requires : tie.Need-refused-requires
-refused-requires c κs = search needs
-
-same-length : tie.Need-same-length
-same-length c = search needs
-
 returns : tie.Need-returns
 returns c =
     let h = held-is _ _ _ _ (c .before .before .is-held .ensures) (c .before .before .before .place-of .ensures .0) ∙ not-true _ (c .before .if1 .taken) in
     (c .refused .ensures ∙ sym (ap saidReply (drop-none _ _ h)), dropped-none _ _ h)
-
-mul-free : tie.Need-mul-free
-mul-free c = search needs
 
 free-requires : tie.Need-free-requires
 free-requires c κs =
@@ -40,9 +25,6 @@ free-requires c κs =
     let k = c .before .before .before .place-of .ensures .0 in
     let h = held-is (a .s .now) (a .number) _ _ (c .before .before .is-held .ensures) k ∙ not-false _ (c .before .if1 .left) in
     omega (arith, p, held-place (numberIn summaryBytes (a .s .now)) (a .number) h, k)
-
-same-length-2 : tie.Need-same-length-2
-same-length-2 c = search needs
 
 returns-2 : tie.Need-returns-2
 returns-2 c =
@@ -53,14 +35,5 @@ returns-2 c =
 
 pub drop-from-spec : {M : Type 1} → statement M
 drop-from-spec =
-    tie.close
-    (tie.spec
-    place-of-requires
-    is-held-requires
-    refused-requires
-    same-length
-    returns
-    mul-free
-    free-requires
-    same-length-2
-    returns-2)
+    tie.close (tie.spec (λ c κs. search needs) (λ c κs. search needs) (λ c κs. search needs) (λ c. search needs) returns (λ c. search needs) free-requires
+    (λ c. search needs) returns-2)

@@ -4,27 +4,6 @@ use borrow.Author.Needs.{needs}
 use Rattle.queues.proofs.places.fill_in.Statement.{statement}
 use Rattle.queues.proofs.places.fill_in.Tie as tie
 
-mul-start : tie.Need-mul-start
-mul-start c = search needs
-
-add-end : tie.Need-add-end
-add-end c = search needs
-
-sub-fill : tie.Need-sub-fill
-sub-fill c = search needs
-
-part-fill-start : tie.Need-part-fill-start
-part-fill-start c = search needs
-
-part-fill-end : tie.Need-part-fill-end
-part-fill-end c = search needs
-
-fill-requires : tie.Need-fill-requires
-fill-requires c κs = search needs
-
-same-length : tie.Need-same-length
-same-length c = search needs
-
 returns : tie.Need-returns
 returns c =
     let f = c .before .before .fill in
@@ -36,13 +15,5 @@ returns c =
 
 pub fill-in-spec : {M : Type 1} → statement M
 fill-in-spec =
-    tie.close
-    (tie.spec
-    mul-start
-    add-end
-    sub-fill
-    part-fill-start
-    part-fill-end
-    fill-requires
-    same-length
-    returns)
+    tie.close (tie.spec (λ c. search needs) (λ c. search needs) (λ c. search needs) (λ c. search needs) (λ c. search needs) (λ c κs. search needs)
+    (λ c. search needs) returns)

@@ -6,20 +6,11 @@ use borrow.Author.Needs.{needs}
 use Rattle.queues.proofs.places.free.Statement.{statement}
 use Rattle.queues.proofs.places.free.Tie as tie
 
-slice-write-s : tie.Need-slice-write-s
-slice-write-s c = search needs
-
-add-s : tie.Need-add-s
-add-s c = search needs
-
 slice-write-s-2 : tie.Need-slice-write-s-2
 slice-write-s-2 c = simp length-set (omega arith)
-
-same-length : tie.Need-same-length
-same-length c = search needs
 
 returns : tie.Need-returns
 returns c = let a = c .args in rw (add-one (a .at))
 
 pub free-spec : {M : Type 1} → statement M
-free-spec = tie.close (tie.spec slice-write-s add-s slice-write-s-2 same-length returns)
+free-spec = tie.close (tie.spec (λ c. search needs) (λ c. search needs) slice-write-s-2 (λ c. search needs) returns)

@@ -12,28 +12,10 @@ use borrow.Author.Tests.{not-true, not-false}
 use Rattle.queues.proofs.places.look_in.Statement.{statement}
 use Rattle.queues.proofs.places.look_in.Tie as tie
 
-place-of-requires : tie.Need-place-of-requires
-place-of-requires c κs = search needs
-
-is-held-requires : tie.Need-is-held-requires
-is-held-requires c κs = search needs
-
 returns : tie.Need-returns
 returns c =
     let h = held-is _ _ _ _ (c .before .is-held .ensures) (c .before .before .place-of .ensures .0) ∙ not-true _ (c .if1 .taken) in
     sym (ap saidIndices (look-none _ _ storedFields h))
-
-mul-start : tie.Need-mul-start
-mul-start c = search needs
-
-add-end : tie.Need-add-end
-add-end c = search needs
-
-sub-fields : tie.Need-sub-fields
-sub-fields c = search needs
-
-part-fields-start : tie.Need-part-fields-start
-part-fields-start c = search needs
 
 part-fields-end : tie.Need-part-fields-end
 part-fields-end c =
@@ -42,9 +24,6 @@ part-fields-end c =
     let k = c .before .before .place-of .ensures .0 in
     let h = held-is (a .s .now) (a .number) _ _ (c .before .is-held .ensures) k ∙ not-false _ (c .if1 .left) in
     omega (arith, p, held-place (numberIn summaryBytes (a .s .now)) (a .number) h, k)
-
-fields-requires : tie.Need-fields-requires
-fields-requires c κs = search needs
 
 returns-2 : tie.Need-returns-2
 returns-2 c =
@@ -55,15 +34,5 @@ returns-2 c =
 
 pub look-in-spec : {M : Type 1} → statement M
 look-in-spec =
-    tie.close
-    (tie.spec
-    place-of-requires
-    is-held-requires
-    returns
-    mul-start
-    add-end
-    sub-fields
-    part-fields-start
-    part-fields-end
-    fields-requires
-    returns-2)
+    tie.close (tie.spec (λ c κs. search needs) (λ c κs. search needs) returns (λ c. search needs) (λ c. search needs) (λ c. search needs) (λ c. search needs)
+    part-fields-end (λ c κs. search needs) returns-2)

@@ -8,15 +8,6 @@ use borrow.Author.Needs.{needs}
 use Rattle.queues.proofs.places.not_added.Statement.{statement}
 use Rattle.queues.proofs.places.not_added.Tie as tie
 
-check-requires : tie.Need-check-requires
-check-requires c κs = search needs
-
-enum-known-reply : tie.Need-enum-known-reply
-enum-known-reply c = search needs
-
-enum-told : tie.Need-enum-told
-enum-told c = search needs
-
 returns : tie.Need-returns
 returns c =
     let a = c .before .before .before .before .before .args in
@@ -28,4 +19,4 @@ returns-2 c =
     sym (ap saidReply (first-fine _ (a .room) (fine-read (blockReply (a .n) (a .bonds .now)) (sym (c .before .before .check .ensures) ∙ c .enum-told .given .1))))
 
 pub not-added-spec : {M : Type 1} → statement M
-not-added-spec = tie.close (tie.spec check-requires enum-known-reply enum-told returns returns-2)
+not-added-spec = tie.close (tie.spec (λ c κs. search needs) (λ c. search needs) (λ c. search needs) returns returns-2)

@@ -18,23 +18,11 @@ abbrev μ-loop : tie.MeasureT-loop
 loop-holds : tie.Need-loop-holds Inv-loop μ-loop
 loop-holds c = (omega arith, refl)
 
-mul-le16-at : tie.Need-mul-le16-at Inv-loop μ-loop
-mul-le16-at c = search needs
-
-le16-at-requires : tie.Need-le16-at-requires Inv-loop μ-loop
-le16-at-requires c κs = search needs
-
 returns : tie.Need-returns Inv-loop μ-loop
 returns c =
     let l = c .before .before .before in
     let a = l .before .before .args in
     (sym (l .loop .inv .1 ∙ seek-here (numberIn summaryBytes (a .s .now)) (a .number) (l .loop .k) places (c .before .before .loop-test .taken) (sym (c .before .le16-at .ensures) ∙ c .if1 .taken)), l .loop .inv .0)
-
-add-k : tie.Need-add-k Inv-loop μ-loop
-add-k c = search needs
-
-loop-less : tie.Need-loop-less Inv-loop μ-loop
-loop-less c = search needs
 
 loop-again : tie.Need-loop-again Inv-loop μ-loop
 loop-again c =
@@ -51,15 +39,5 @@ returns-2 c =
 
 pub place-of-spec : {M : Type 1} → statement M
 place-of-spec =
-    tie.close
-    (tie.spec
-    Inv-loop
-    μ-loop
-    loop-holds
-    mul-le16-at
-    le16-at-requires
-    returns
-    add-k
-    loop-less
-    loop-again
+    tie.close (tie.spec Inv-loop μ-loop loop-holds (λ c. search needs) (λ c κs. search needs) returns (λ c. search needs) (λ c. search needs) loop-again
     returns-2)

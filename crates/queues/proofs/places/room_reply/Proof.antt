@@ -7,20 +7,8 @@ use borrow.Author.Needs.{needs}
 use Rattle.queues.proofs.places.room_reply.Statement.{statement}
 use Rattle.queues.proofs.places.room_reply.Tie as tie
 
-refused-requires : tie.Need-refused-requires
-refused-requires c κs = search needs
-
 returns : tie.Need-returns
 returns c = c .refused .ensures ∙ sym (ap saidReply (room-zero _ _ (c .before .if1 .taken)))
-
-place-of-requires : tie.Need-place-of-requires
-place-of-requires c κs = search needs
-
-is-held-requires : tie.Need-is-held-requires
-is-held-requires c κs = search needs
-
-refused-requires-2 : tie.Need-refused-requires-2
-refused-requires-2 c κs = search needs
 
 returns-2 : tie.Need-returns-2
 returns-2 c =
@@ -32,9 +20,6 @@ returns-3 c =
     let h = held-is _ _ _ _ (c .before .before .is-held .ensures) (c .before .before .before .place-of .ensures .0) ∙ c .before .if2 .left in
     sym (ap saidReply (room-fine _ _ (c .before .before .before .before .if1 .left) h (omega (arith, c .if3 .taken, c .before .before .before .before .before .before .pre))))
 
-refused-requires-3 : tie.Need-refused-requires-3
-refused-requires-3 c κs = search needs
-
 returns-4 : tie.Need-returns-4
 returns-4 c =
     let h = held-is _ _ _ _ (c .before .before .before .is-held .ensures) (c .before .before .before .before .place-of .ensures .0) ∙ c .before .before .if2 .left in
@@ -42,14 +27,5 @@ returns-4 c =
 
 pub room-reply-spec : {M : Type 1} → statement M
 room-reply-spec =
-    tie.close
-    (tie.spec
-    refused-requires
-    returns
-    place-of-requires
-    is-held-requires
-    refused-requires-2
-    returns-2
-    returns-3
-    refused-requires-3
-    returns-4)
+    tie.close (tie.spec (λ c κs. search needs) returns (λ c κs. search needs) (λ c κs. search needs) (λ c κs. search needs) returns-2 returns-3
+    (λ c κs. search needs) returns-4)

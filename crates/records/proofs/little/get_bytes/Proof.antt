@@ -18,26 +18,14 @@ abbrev μ-loop : tie.MeasureT-loop
 returns : tie.Need-returns Inv-loop μ-loop
 returns c = let a = c .before .before .args in sym (past (min (a .width) 8) (now (a .d)) (a .at) (c .if1 .taken))
 
-up-to-eight-requires : tie.Need-up-to-eight-requires Inv-loop μ-loop
-up-to-eight-requires c κs = search needs
-
 loop-holds : tie.Need-loop-holds Inv-loop μ-loop
 loop-holds c = (omega arith, rw (c .up-to-eight .ensures) (none-yet (omega arith)))
-
-sub-k : tie.Need-sub-k Inv-loop μ-loop
-sub-k c = search needs
 
 mul-n : tie.Need-mul-n Inv-loop μ-loop
 mul-n c = omega (arith, room (c .loop-test .taken) (c .before .loop .inv .1))
 
 add-byte-at : tie.Need-add-byte-at Inv-loop μ-loop
 add-byte-at c = let l = c .before .loop in omega (arith, l .inv .0, l .inv .1 .few, l .inv .1 .left)
-
-byte-at-requires : tie.Need-byte-at-requires Inv-loop μ-loop
-byte-at-requires c κs = search needs
-
-wide-requires : tie.Need-wide-requires Inv-loop μ-loop
-wide-requires c κs = search needs
 
 add-n : tie.Need-add-n Inv-loop μ-loop
 add-n c = let l = c .before .before .before .loop in omega (arith, room (c .before .before .loop-test .taken) (l .inv .1), c .wide .ensures .1)
@@ -58,19 +46,5 @@ returns-2 c =
 
 pub get-bytes-spec : {M : Type 1} → statement M
 get-bytes-spec =
-    tie.close
-    (tie.spec
-    Inv-loop
-    μ-loop
-    returns
-    up-to-eight-requires
-    loop-holds
-    sub-k
-    mul-n
-    add-byte-at
-    byte-at-requires
-    wide-requires
-    add-n
-    loop-less
-    loop-again
-    returns-2)
+    tie.close (tie.spec Inv-loop μ-loop returns (λ c κs. search needs) loop-holds (λ c. search needs) mul-n add-byte-at (λ c κs. search needs)
+    (λ c κs. search needs) add-n loop-less loop-again returns-2)

@@ -32,27 +32,15 @@ slice-write-out c = there (c .before)
 add-k : tie.Need-add-k Inv-loop μ-loop
 add-k c = omega (arith, there (c .before))
 
-sub-left : tie.Need-sub-left Inv-loop μ-loop
-sub-left c = omega arith
-
-loop-less : tie.Need-loop-less Inv-loop μ-loop
-loop-less c = omega arith
-
 loop-again : tie.Need-loop-again Inv-loop μ-loop
 loop-again c =
     let l = c .before .before .before .loop in
     (length-set (l .out) (l .k) (c .low .result) ∙ l .inv .0, l .inv .1 ∙ one-byte (l .out) (l .k) (l .left) (l .rest) (c .before .before .loop-test .taken) (c .low .ensures))
 
-same-length : tie.Need-same-length Inv-loop μ-loop
-same-length c = omega arith
-
 returns : tie.Need-returns Inv-loop μ-loop
 returns c =
     let l = c .before .before .loop in
     sym (l .inv .1 ∙ sets-past (littleBytes (l .left) (l .rest)) (l .out) (l .k) (ltb-false (l .k) (length (l .out)) (c .if1 .left)))
-
-same-length-2 : tie.Need-same-length-2 Inv-loop μ-loop
-same-length-2 c = omega arith
 
 returns-2 : tie.Need-returns-2 Inv-loop μ-loop
 returns-2 c =
@@ -61,18 +49,5 @@ returns-2 c =
 
 pub put-bytes-spec : {M : Type 1} → statement M
 put-bytes-spec =
-    tie.close
-    (tie.spec
-    Inv-loop
-    μ-loop
-    loop-holds
-    low-requires
-    slice-write-out
-    add-k
-    sub-left
-    loop-less
-    loop-again
-    same-length
-    returns
-    same-length-2
-    returns-2)
+    tie.close (tie.spec Inv-loop μ-loop loop-holds low-requires slice-write-out add-k (λ c. omega arith) (λ c. omega arith) loop-again (λ c. omega arith)
+    returns (λ c. omega arith) returns-2)

@@ -9,9 +9,6 @@ use Rattle.shares.proofs.Tallying.{divisor-pos, product-fits}
 use Rattle.shares.proofs.common.common.Statement.{statement}
 use Rattle.shares.proofs.common.common.Tie as tie
 
-rem-if1 : tie.Need-rem-if1
-rem-if1 c = omega arith
-
 returns : tie.Need-returns
 returns c =
     let a = c .before .args .a in
@@ -40,4 +37,4 @@ returns-3 : tie.Need-returns-3
 returns-3 c = omega (arith, least (c .before))
 
 pub common-spec : {M : Type 1} → statement M
-common-spec = tie.close (tie.spec rem-if1 returns gcd-requires div-m mul-m returns-2 returns-3)
+common-spec = tie.close (tie.spec (λ c. omega arith) returns gcd-requires div-m mul-m returns-2 returns-3)

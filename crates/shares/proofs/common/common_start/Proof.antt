@@ -17,23 +17,11 @@ abbrev μ-loop : tie.MeasureT-loop
 loop-holds : tie.Need-loop-holds Inv-loop μ-loop
 loop-holds c = (omega arith, c .pre .0, λ f m t. none-yet t (c .args .start))
 
-add-k : tie.Need-add-k Inv-loop μ-loop
-add-k c = omega arith
-
-mul-common : tie.Need-mul-common Inv-loop μ-loop
-mul-common c = omega arith
-
-element-copy-out-common : tie.Need-element-copy-out-common Inv-loop μ-loop
-element-copy-out-common c = omega arith
-
 common-requires : tie.Need-common-requires Inv-loop μ-loop
 common-requires c κs =
     let p = c .before .before .before .pre .1 in
     let l = c .before .before .loop in
     taken-fits (p .2) (c .before .before .before .args .start) (l .k) (l .inv .0) (c .before .loop-test .taken) (l .all) (l .inv .2 (p .0) (p .1) (p .2))
-
-loop-less : tie.Need-loop-less Inv-loop μ-loop
-loop-less c = omega arith
 
 loop-again : tie.Need-loop-again Inv-loop μ-loop
 loop-again c =
@@ -51,15 +39,5 @@ returns c f m t =
 
 pub common-start-spec : {M : Type 1} → statement M
 common-start-spec =
-    tie.close
-    (tie.spec
-    Inv-loop
-    μ-loop
-    loop-holds
-    add-k
-    mul-common
-    element-copy-out-common
-    common-requires
-    loop-less
-    loop-again
+    tie.close (tie.spec Inv-loop μ-loop loop-holds (λ c. omega arith) (λ c. omega arith) (λ c. omega arith) common-requires (λ c. omega arith) loop-again
     returns)

@@ -21,23 +21,8 @@ abbrev μ-loop : tie.MeasureT-loop
 loop-holds : tie.Need-loop-holds Inv-loop μ-loop
 loop-holds c = (omega arith, λ n i d R. filled-none)
 
-mul-wide-byte : tie.Need-mul-wide-byte Inv-loop μ-loop
-mul-wide-byte c = omega arith
-
-shared-slice-read-wide-byte : tie.Need-shared-slice-read-wide-byte Inv-loop μ-loop
-shared-slice-read-wide-byte c = omega arith
-
 wide-byte-requires : tie.Need-wide-byte-requires Inv-loop μ-loop
 wide-byte-requires c κs = tt
-
-mul-wide-byte-2 : tie.Need-mul-wide-byte-2 Inv-loop μ-loop
-mul-wide-byte-2 c = omega arith
-
-add-wide-byte : tie.Need-add-wide-byte Inv-loop μ-loop
-add-wide-byte c = omega arith
-
-shared-slice-read-wide-byte-2 : tie.Need-shared-slice-read-wide-byte-2 Inv-loop μ-loop
-shared-slice-read-wide-byte-2 c = omega arith
 
 wide-byte-requires-2 : tie.Need-wide-byte-requires-2 Inv-loop μ-loop
 wide-byte-requires-2 c κs = tt
@@ -78,26 +63,14 @@ old c =
 add-s : tie.Need-add-s Inv-loop μ-loop
 add-s c = omega (arith, small c)
 
-mul-out : tie.Need-mul-out Inv-loop μ-loop
-mul-out c = omega arith
-
 slice-read-out : tie.Need-slice-read-out Inv-loop μ-loop
 slice-read-out c = omega (arith, old (c .before), c .before .before .before .before .before .before .before .before .before .before .before .pre .1 .room)
 
 add-out : tie.Need-add-out Inv-loop μ-loop
 add-out c = omega (arith, small (c .before), old (c .before), c .before .before .before .before .before .before .before .before .before .before .before .pre .1 .low (c .before .before .before .before .before .before .before .before .loop .k) (c .before .before .before .before .before .before .before .loop-test .taken))
 
-mul-out-2 : tie.Need-mul-out-2 Inv-loop μ-loop
-mul-out-2 c = omega arith
-
 slice-write-out : tie.Need-slice-write-out Inv-loop μ-loop
 slice-write-out c = omega (arith, old (c .before), c .before .before .before .before .before .before .before .before .before .before .before .pre .1 .room)
-
-add-k : tie.Need-add-k Inv-loop μ-loop
-add-k c = omega arith
-
-loop-less : tie.Need-loop-less Inv-loop μ-loop
-loop-less c = omega arith
 
 loop-again : tie.Need-loop-again Inv-loop μ-loop
 loop-again c =
@@ -120,28 +93,6 @@ returns c n i d R =
 
 pub add-flows-spec : {M : Type 1} → statement M
 add-flows-spec =
-    tie.close
-    (tie.spec
-    Inv-loop
-    μ-loop
-    loop-holds
-    mul-wide-byte
-    shared-slice-read-wide-byte
-    wide-byte-requires
-    mul-wide-byte-2
-    add-wide-byte
-    shared-slice-read-wide-byte-2
-    wide-byte-requires-2
-    passed-requires
-    passed-requires-2
-    add-s
-    mul-out
-    slice-read-out
-    add-out
-    mul-out-2
-    slice-write-out
-    add-k
-    loop-less
-    loop-again
-    same-length
-    returns)
+    tie.close (tie.spec Inv-loop μ-loop loop-holds (λ c. omega arith) (λ c. omega arith) wide-byte-requires (λ c. omega arith) (λ c. omega arith)
+    (λ c. omega arith) wide-byte-requires-2 passed-requires passed-requires-2 add-s (λ c. omega arith) slice-read-out add-out (λ c. omega arith) slice-write-out
+    (λ c. omega arith) (λ c. omega arith) loop-again same-length returns)

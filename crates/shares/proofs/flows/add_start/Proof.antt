@@ -14,9 +14,6 @@ use borrow.Author.Needs.{needs}
 use Rattle.shares.proofs.flows.add_start.Statement.{statement}
 use Rattle.shares.proofs.flows.add_start.Tie as tie
 
-add-start : tie.Need-add-start
-add-start c = search needs
-
 counts-requires : tie.Need-counts-requires
 counts-requires c κs = (_, _, _, c .before .before .pre .0)
 
@@ -53,9 +50,6 @@ weights-requires : tie.Need-weights-requires
 weights-requires c κs =
     let p = c .before .before .before .before .before .before .before .before .before .before .before .pre in
     (p .0 .small, p .0 .start .high, counts-pos (next (c .before .before .before .before .before)) (p .0 .start) (c .before .before .before .before .before .before .before .before .counts .ensures _ _ _ (p .0)))
-
-slice-aggregate-onward : tie.Need-slice-aggregate-onward
-slice-aggregate-onward c = search needs
 
 onward-requires : tie.Need-onward-requires
 onward-requires c κs = ((_, _, _, _, c .before .before .before .before .before .before .before .before .before .before .before .before .before .pre .0), search needs, λ w. omega (arith, c .before .weights .ensures .1 w, c .before .before .before .before .before .before .before .if1 .left))
@@ -100,17 +94,5 @@ returns-2 c =
 
 pub add-start-spec : {M : Type 1} → statement M
 add-start-spec =
-    tie.close
-    (tie.spec
-    add-start
-    counts-requires
-    common-start-requires
-    returns
-    div-raise
-    raise-requires
-    weights-requires
-    slice-aggregate-onward
-    onward-requires
-    add-flows-requires
-    same-length
-    returns-2)
+    tie.close (tie.spec (λ c. search needs) counts-requires common-start-requires returns div-raise raise-requires weights-requires (λ c. search needs)
+    onward-requires add-flows-requires same-length returns-2)

@@ -32,12 +32,6 @@ returns c =
     let l = c .before .before .loop in
     (stops-early (c .before .before .before .before .before .pre .0 .molecule) (l .d) (l .i) (l .inv .2) (omega arith), λ h. absurd (omega arith))
 
-add-row : tie.Need-add-row Inv-loop μ-loop
-add-row c = omega arith
-
-row-requires : tie.Need-row-requires Inv-loop μ-loop
-row-requires c κs = search needs
-
 by-level-requires : tie.Need-by-level-requires Inv-loop μ-loop
 by-level-requires c κs =
     let p = c .before .before .before .before .before .before .before .pre in
@@ -58,12 +52,6 @@ add-start-requires c κs =
     let low : l .d ≤ mostDenominator = omega (arith, r .before .if1 .left) in
     (start-of (p .1) (l .i) (r .before .before .loop-test .taken) _ (r .row .ensures) (w .wide-byte .ensures .0) (w .before .before .by-level .ensures), whole-at (p .0) (l .i) (l .d) (l .inv .2) low, l .inv .3 low)
 
-add-i : tie.Need-add-i Inv-loop μ-loop
-add-i c = omega arith
-
-loop-less : tie.Need-loop-less Inv-loop μ-loop
-loop-less c = omega arith
-
 loop-again : tie.Need-loop-again Inv-loop μ-loop
 loop-again c =
     let s = c .before .before .add-start .ensures in
@@ -80,21 +68,5 @@ returns-2 c =
 
 pub fill-spec : {M : Type 1} → statement M
 fill-spec =
-    tie.close
-    (tie.spec
-    Inv-loop
-    μ-loop
-    loop-holds
-    same-length
-    returns
-    add-row
-    row-requires
-    by-level-requires
-    element-copy-out-wide-byte
-    wide-byte-requires
-    add-start-requires
-    add-i
-    loop-less
-    loop-again
-    same-length-2
-    returns-2)
+    tie.close (tie.spec Inv-loop μ-loop loop-holds same-length returns (λ c. omega arith) (λ c κs. search needs) by-level-requires element-copy-out-wide-byte
+    wide-byte-requires add-start-requires (λ c. omega arith) (λ c. omega arith) loop-again same-length-2 returns-2)

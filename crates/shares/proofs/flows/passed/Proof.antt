@@ -8,40 +8,13 @@ use Rattle.shares.proofs.Flowing.{let-pass, let-none}
 use Rattle.shares.proofs.flows.passed.Statement.{statement}
 use Rattle.shares.proofs.flows.passed.Tie as tie
 
-mul-x : tie.Need-mul-x
-mul-x c = omega arith
-
-element-copy-out-x : tie.Need-element-copy-out-x
-element-copy-out-x c = omega arith
-
-mul-x-2 : tie.Need-mul-x-2
-mul-x-2 c = omega arith
-
-element-copy-out-x-2 : tie.Need-element-copy-out-x-2
-element-copy-out-x-2 c = omega arith
-
 mul-x-3 : tie.Need-mul-x-3
 mul-x-3 c =
     let a = c .before .before .args in
     product-fits (at (a .c .now) (a .a)) (at (a .t .now) (a .b)) (omega arith) (c .before .before .pre .3)
 
-sub-wide-byte : tie.Need-sub-wide-byte
-sub-wide-byte c = omega arith
-
-element-copy-out-wide-byte : tie.Need-element-copy-out-wide-byte
-element-copy-out-wide-byte c = omega arith
-
 wide-byte-requires : tie.Need-wide-byte-requires
 wide-byte-requires c κs = tt
-
-add-if1 : tie.Need-add-if1
-add-if1 c = omega arith
-
-sub-wide-byte-2 : tie.Need-sub-wide-byte-2
-sub-wide-byte-2 c = omega arith
-
-element-copy-out-wide-byte-2 : tie.Need-element-copy-out-wide-byte-2
-element-copy-out-wide-byte-2 c = omega arith
 
 wide-byte-requires-2 : tie.Need-wide-byte-requires-2
 wide-byte-requires-2 c κs = tt
@@ -58,19 +31,5 @@ returns-2 c =
 
 pub passed-spec : {M : Type 1} → statement M
 passed-spec =
-    tie.close
-    (tie.spec
-    mul-x
-    element-copy-out-x
-    mul-x-2
-    element-copy-out-x-2
-    mul-x-3
-    sub-wide-byte
-    element-copy-out-wide-byte
-    wide-byte-requires
-    add-if1
-    sub-wide-byte-2
-    element-copy-out-wide-byte-2
-    wide-byte-requires-2
-    returns
-    returns-2)
+    tie.close (tie.spec (λ c. omega arith) (λ c. omega arith) (λ c. omega arith) (λ c. omega arith) mul-x-3 (λ c. omega arith) (λ c. omega arith)
+    wide-byte-requires (λ c. omega arith) (λ c. omega arith) (λ c. omega arith) wide-byte-requires-2 returns returns-2)

@@ -20,9 +20,6 @@ returns c = filled-same (λ k l. omega (arith, ap (λ (x : ℕ). getD (c .before
 loop-holds : tie.Need-loop-holds Inv-loop μ-loop
 loop-holds c = (omega arith, filled-none)
 
-mul-out : tie.Need-mul-out Inv-loop μ-loop
-mul-out c = omega arith
-
 slice-read-out : tie.Need-slice-read-out Inv-loop μ-loop
 slice-read-out c = omega (arith, c .before .before .loop .inv .1 .same)
 
@@ -33,17 +30,8 @@ old c = ap (λ (x : ℕ). x * c .before .before .before .args .f) (c .before .lo
 mul-out-2 : tie.Need-mul-out-2 Inv-loop μ-loop
 mul-out-2 c = omega (arith, old (c .before), c .before .before .before .before .pre .1 (c .before .before .loop .k) (c .before .loop-test .taken))
 
-mul-out-3 : tie.Need-mul-out-3 Inv-loop μ-loop
-mul-out-3 c = omega arith
-
 slice-write-out : tie.Need-slice-write-out Inv-loop μ-loop
 slice-write-out c = omega (arith, c .before .before .loop .inv .1 .same)
-
-add-k : tie.Need-add-k Inv-loop μ-loop
-add-k c = omega arith
-
-loop-less : tie.Need-loop-less Inv-loop μ-loop
-loop-less c = omega arith
 
 loop-again : tie.Need-loop-again Inv-loop μ-loop
 loop-again c = let l = c .before .before .loop in (omega arith, filled-store (l .inv .1) (omega (arith, l .inv .1 .same)) _ (old (c .before)))
@@ -56,19 +44,5 @@ returns-2 c = let e : c .before .loop .k ≡ c .before .before .before .args .m 
 
 pub raise-spec : {M : Type 1} → statement M
 raise-spec =
-    tie.close
-    (tie.spec
-    Inv-loop
-    μ-loop
-    returns
-    loop-holds
-    mul-out
-    slice-read-out
-    mul-out-2
-    mul-out-3
-    slice-write-out
-    add-k
-    loop-less
-    loop-again
-    same-length
-    returns-2)
+    tie.close (tie.spec Inv-loop μ-loop returns loop-holds (λ c. omega arith) slice-read-out mul-out-2 (λ c. omega arith) slice-write-out (λ c. omega arith)
+    (λ c. omega arith) loop-again same-length returns-2)

@@ -31,26 +31,8 @@ loop-holds c = (
   λ w. omega (arith, zeros (suc mostAtoms) w),
 )
 
-add-v : tie.Need-add-v Inv-loop μ-loop
-add-v c = omega arith
-
-mul-row : tie.Need-mul-row Inv-loop μ-loop
-mul-row c = omega arith
-
-element-copy-out-row : tie.Need-element-copy-out-row Inv-loop μ-loop
-element-copy-out-row c = omega arith
-
 div-row : tie.Need-div-row Inv-loop μ-loop
 div-row c = c .before .before .before .pre .2 (c .before .before .loop .v + 1) (record { low = omega arith; high = omega arith })
-
-mul-row-2 : tie.Need-mul-row-2 Inv-loop μ-loop
-mul-row-2 c = omega arith
-
-array-write-row : tie.Need-array-write-row Inv-loop μ-loop
-array-write-row c = omega arith
-
-loop-less : tie.Need-loop-less Inv-loop μ-loop
-loop-less c = omega arith
 
 loop-again : tie.Need-loop-again Inv-loop μ-loop
 loop-again c =
@@ -69,17 +51,5 @@ returns c = (λ u w. c .before .loop .inv .3 u (record { low = w .low; high = om
 
 pub weights-spec : {M : Type 1} → statement M
 weights-spec =
-    tie.close
-    (tie.spec
-    Inv-loop
-    μ-loop
-    loop-holds
-    add-v
-    mul-row
-    element-copy-out-row
-    div-row
-    mul-row-2
-    array-write-row
-    loop-less
-    loop-again
-    returns)
+    tie.close (tie.spec Inv-loop μ-loop loop-holds (λ c. omega arith) (λ c. omega arith) (λ c. omega arith) div-row (λ c. omega arith) (λ c. omega arith)
+    (λ c. omega arith) loop-again returns)

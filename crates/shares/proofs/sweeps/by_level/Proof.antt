@@ -19,9 +19,6 @@ abbrev μ-loop : tie.MeasureT-loop
 loop-holds : tie.Need-loop-holds Inv-loop μ-loop
 loop-holds c = (omega arith, layered-start _ _ refl (zeros (suc mostAtoms)))
 
-element-copy-out-wide-byte : tie.Need-element-copy-out-wide-byte Inv-loop μ-loop
-element-copy-out-wide-byte c = omega arith
-
 wide-byte-requires : tie.Need-wide-byte-requires Inv-loop μ-loop
 wide-byte-requires c κs = tt
 
@@ -44,12 +41,6 @@ mul-sets-2 c = omega (arith, near c)
 array-write-sets : tie.Need-array-write-sets Inv-loop μ-loop
 array-write-sets c = omega (arith, near c)
 
-add-j : tie.Need-add-j Inv-loop μ-loop
-add-j c = omega arith
-
-loop-less : tie.Need-loop-less Inv-loop μ-loop
-loop-less c = omega arith
-
 loop-again : tie.Need-loop-again Inv-loop μ-loop
 loop-again c =
     let l = c .before .before .before .loop in
@@ -64,19 +55,5 @@ returns c =
 
 pub by-level-spec : {M : Type 1} → statement M
 by-level-spec =
-    tie.close
-    (tie.spec
-    Inv-loop
-    μ-loop
-    loop-holds
-    element-copy-out-wide-byte
-    wide-byte-requires
-    mul-sets
-    array-read-sets
-    shl-sets
-    mul-sets-2
-    array-write-sets
-    add-j
-    loop-less
-    loop-again
-    returns)
+    tie.close (tie.spec Inv-loop μ-loop loop-holds (λ c. omega arith) wide-byte-requires mul-sets array-read-sets shl-sets mul-sets-2 array-write-sets
+    (λ c. omega arith) (λ c. omega arith) loop-again returns)

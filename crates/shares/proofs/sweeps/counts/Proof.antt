@@ -21,9 +21,6 @@ mul-row c = let p = c .pre in omega (arith, p .3 .small, p .3 .start)
 array-write-row : tie.Need-array-write-row
 array-write-row c = let p = c .pre in omega (arith, p .3 .small, p .3 .start)
 
-slice-aggregate-sweep : tie.Need-slice-aggregate-sweep
-slice-aggregate-sweep c = search needs
-
 sweep-requires : tie.Need-sweep-requires
 sweep-requires c κs =
     let p = c .before .pre in
@@ -38,4 +35,4 @@ returns c n bs row S =
     c .before .sweep .ensures _ _ _ _ (S .beside) (S .levels) (rule-counts S (λ v w. unit-at (suc mostAtoms) _ v (omega (arith, S .small, S .start))))
 
 pub counts-spec : {M : Type 1} → statement M
-counts-spec = tie.close (tie.spec mul-row array-write-row slice-aggregate-sweep sweep-requires returns)
+counts-spec = tie.close (tie.spec mul-row array-write-row (λ c. search needs) sweep-requires returns)

@@ -13,11 +13,8 @@ sweep-requires c κs =
     let p = c .before .before .before .before .pre in
     ((_, _, _, p .0 .4 .beside, c .before .before .reversed .ensures _ _ (p .0 .4 .levels), omega arith), p .1, p .2)
 
-same-length : tie.Need-same-length
-same-length c = search needs
-
 returns : tie.Need-returns
 returns c n bs row i q S e = c .before .before .sweep .ensures _ _ _ _ (S .beside) (c .before .before .before .before .before .reversed .ensures _ _ (S .levels)) (rule-gathered S e)
 
 pub onward-spec : {M : Type 1} → statement M
-onward-spec = tie.close (tie.spec reversed-requires sweep-requires same-length returns)
+onward-spec = tie.close (tie.spec reversed-requires sweep-requires (λ c. search needs) returns)

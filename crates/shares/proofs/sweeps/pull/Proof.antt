@@ -82,18 +82,4 @@ returns c =
     (e, omega (arith, e, low (a .set) (a .row .now) (c .before .before .pre .2)))
 
 pub pull-spec : {M : Type 1} → statement M
-pull-spec =
-    tie.close
-    (tie.spec
-    Inv-loop
-    μ-loop
-    loop-holds
-    cast-a
-    sub-rest
-    add-sum
-    mul-sum
-    shared-slice-read-sum
-    add-sum-2
-    loop-less
-    loop-again
-    returns)
+pull-spec = tie.close (tie.spec Inv-loop μ-loop loop-holds cast-a sub-rest add-sum mul-sum shared-slice-read-sum add-sum-2 loop-less loop-again returns)

@@ -21,24 +21,6 @@ abbrev μ-loop : tie.MeasureT-loop
 loop-holds : tie.Need-loop-holds Inv-loop μ-loop
 loop-holds c = (omega arith, refl, λ k l. absurd (omega arith), λ k l. zeros (suc mostAtoms) k)
 
-mul-back : tie.Need-mul-back Inv-loop μ-loop
-mul-back c = omega arith
-
-element-copy-out-back : tie.Need-element-copy-out-back Inv-loop μ-loop
-element-copy-out-back c = omega arith
-
-mul-back-2 : tie.Need-mul-back-2 Inv-loop μ-loop
-mul-back-2 c = omega arith
-
-array-write-back : tie.Need-array-write-back Inv-loop μ-loop
-array-write-back c = omega arith
-
-add-d : tie.Need-add-d Inv-loop μ-loop
-add-d c = omega arith
-
-loop-less : tie.Need-loop-less Inv-loop μ-loop
-loop-less c = omega arith
-
 loop-again : tie.Need-loop-again Inv-loop μ-loop
 loop-again c =
     let l = c .before .before .loop in
@@ -57,16 +39,5 @@ returns c n key L =
 
 pub reversed-spec : {M : Type 1} → statement M
 reversed-spec =
-    tie.close
-    (tie.spec
-    Inv-loop
-    μ-loop
-    loop-holds
-    mul-back
-    element-copy-out-back
-    mul-back-2
-    array-write-back
-    add-d
-    loop-less
-    loop-again
-    returns)
+    tie.close (tie.spec Inv-loop μ-loop loop-holds (λ c. omega arith) (λ c. omega arith) (λ c. omega arith) (λ c. omega arith) (λ c. omega arith)
+    (λ c. omega arith) loop-again returns)

@@ -23,9 +23,6 @@ Inv-loop near sets top row₀ cap below₀ rest₀ d₀ row below rest d =
 abbrev μ-loop : tie.MeasureT-loop
 μ-loop near sets top row₀ cap below₀ rest₀ d₀ row below rest d = (top + 1 - d) * 2 ^ mostAtoms + rest
 
-element-copy-out-rest : tie.Need-element-copy-out-rest Inv-loop μ-loop
-element-copy-out-rest c = omega arith
-
 loop-holds : tie.Need-loop-holds Inv-loop μ-loop
 loop-holds c = let p = c .before .before .pre in (omega arith, p .1, p .2, λ n key L. L .fits 0, λ n B key F N L R. sweeping-start N L R _ (λ w. refl))
 
@@ -154,32 +151,6 @@ returns c n B key F N L R =
 
 pub sweep-spec : {M : Type 1} → statement M
 sweep-spec =
-    tie.close
-    (tie.spec
-    Inv-loop
-    μ-loop
-    element-copy-out-rest
-    loop-holds
-    cast-a
-    sub-rest
-    mul-pull
-    element-copy-out-pull
-    pull-requires
-    add-add
-    mul-add
-    slice-read-add
-    add-requires
-    add-row
-    mul-row
-    slice-write-row
-    loop-less
-    loop-again
-    mul-below
-    element-copy-out-below
-    add-d
-    mul-rest
-    element-copy-out-rest-2
-    loop-less-2
-    loop-again-2
-    same-length
-    returns)
+    tie.close (tie.spec Inv-loop μ-loop (λ c. omega arith) loop-holds cast-a sub-rest mul-pull element-copy-out-pull pull-requires add-add mul-add
+    slice-read-add add-requires add-row mul-row slice-write-row loop-less loop-again mul-below element-copy-out-below add-d mul-rest element-copy-out-rest-2
+    loop-less-2 loop-again-2 same-length returns)

@@ -6,19 +6,10 @@ use borrow.Author.Needs.{needs}
 use Rattle.summaries.proofs.ends.fields_at.Statement.{statement}
 use Rattle.summaries.proofs.ends.fields_at.Tie as tie
 
-place-of-requires : tie.Need-place-of-requires
-place-of-requires c κs = search needs
-
-summary-at-requires : tie.Need-summary-at-requires
-summary-at-requires c κs = search needs
-
-fields-requires : tie.Need-fields-requires
-fields-requires c κs = search needs
-
 returns : tie.Need-returns
 returns c =
     let a = c .before .before .before .before .args in
     c .fields .ensures ∙ ap storedFields (c .before .summary-at .ensures .bytes ∙ ap (summaryAt (a .book .now)) (c .before .before .place-of .ensures))
 
 pub fields-at-spec : {M : Type 1} → statement M
-fields-at-spec = tie.close (tie.spec place-of-requires summary-at-requires fields-requires returns)
+fields-at-spec = tie.close (tie.spec (λ c κs. search needs) (λ c κs. search needs) (λ c κs. search needs) returns)

@@ -6,17 +6,11 @@ use Rattle.summaries.proofs.Storing.{own-home, site-home}
 use Rattle.summaries.proofs.ends.home_of.Statement.{statement}
 use Rattle.summaries.proofs.ends.home_of.Tie as tie
 
-add-result : tie.Need-add-result
-add-result c = search needs
-
 returns : tie.Need-returns
 returns c = let a = c .before .args in sym (own-home (a .links .now) (a .e) (omega (arith, c .if1 .taken)))
-
-parent-of-requires : tie.Need-parent-of-requires
-parent-of-requires c κs = search needs
 
 returns-2 : tie.Need-returns-2
 returns-2 c = let a = c .before .before .args in c .parent-of .ensures .0 ∙ sym (site-home (a .links .now) (a .e) (λ h. omega (arith, c .before .if1 .left, h)))
 
 pub home-of-spec : {M : Type 1} → statement M
-home-of-spec = tie.close (tie.spec add-result returns parent-of-requires returns-2)
+home-of-spec = tie.close (tie.spec (λ c. search needs) returns (λ c κs. search needs) returns-2)

@@ -48,12 +48,6 @@ mul-sight c = let p = c .before .before .before .before .before .before .pre in 
 slice-set-from-sight : tie.Need-slice-set-from-sight
 slice-set-from-sight c = let p = c .before .before .before .before .before .before .pre in omega (arith, p .1 .high, p .3)
 
-same-length : tie.Need-same-length
-same-length c = search needs
-
-same-length-2 : tie.Need-same-length-2
-same-length-2 c = search needs
-
 returns-2 : tie.Need-returns-2
 returns-2 c =
     let s = c .before .before .before .before .before .before in
@@ -64,18 +58,5 @@ returns-2 c =
 
 pub put-end-spec : {M : Type 1} → statement M
 put-end-spec =
-    tie.close
-    (tie.spec
-    end-at-requires
-    returns
-    mul-old
-    slice-copy-out-old
-    home-of-requires
-    stepped-requires
-    mul-t16
-    slice-set-from-rows
-    mul-sight
-    slice-set-from-sight
-    same-length
-    same-length-2
-    returns-2)
+    tie.close (tie.spec end-at-requires returns mul-old slice-copy-out-old home-of-requires stepped-requires mul-t16 slice-set-from-rows mul-sight
+    slice-set-from-sight (λ c. search needs) (λ c. search needs) returns-2)

@@ -54,17 +54,4 @@ returns c =
     subst (λ (f : ℕ). Put (a .book .now) (a .links .now) (a .count) (a .x) (a .e) f (a .rows .now) (a .counts .now) (c .before .loop .rows) (c .before .loop .counts)) e (i .4)
 
 pub put-ends-spec : {M : Type 1} → statement M
-put-ends-spec =
-    tie.close
-    (tie.spec
-    Inv-loop
-    μ-loop
-    loop-holds
-    mul-loop
-    put-end-requires
-    add-f
-    loop-less
-    loop-again
-    same-length
-    same-length-2
-    returns)
+put-ends-spec = tie.close (tie.spec Inv-loop μ-loop loop-holds mul-loop put-end-requires add-f loop-less loop-again same-length same-length-2 returns)

@@ -11,9 +11,6 @@ use Rattle.summaries.proofs.Storing.{known-next, known-more}
 use Rattle.summaries.proofs.ends.see_end.Statement.{statement}
 use Rattle.summaries.proofs.ends.see_end.Tie as tie
 
-mul-done : tie.Need-mul-done
-mul-done c = search needs
-
 slice-copy-out-done : tie.Need-slice-copy-out-done
 slice-copy-out-done c = let p = c .before .pre in omega (arith, p .1 .high, p .3)
 
@@ -26,9 +23,6 @@ returns c = let s = c .before .before .before in known-next (s .args .e) (c .if1
 end-at-requires : tie.Need-end-at-requires
 end-at-requires c κs = let p = c .before .before .before .pre in omega (arith, p .1 .high, p .0 .few)
 
-seen-from-requires : tie.Need-seen-from-requires
-seen-from-requires c κs = search needs
-
 row-of-requires : tie.Need-row-of-requires
 row-of-requires c κs = let s = c .before .before in subst⁻¹ (λ (v : Seen). SmallCounts (v .counts)) (s .seen-from .ensures) (seen-small _ _)
 
@@ -38,12 +32,6 @@ put-ends-requires c κs =
     let seen = c .before .before .before .before .before .seen-from .ensures in
     (s .0, s .1, s .2, s .3, ap (λ (v : Seen). v .row) seen, c .before .before .row-of .ensures ∙ ap (λ (v : Seen). countRow (v .counts)) seen)
 
-same-length : tie.Need-same-length
-same-length c = search needs
-
-same-length-2 : tie.Need-same-length-2
-same-length-2 c = search needs
-
 returns-2 : tie.Need-returns-2
 returns-2 c =
     let s = c .before .before .before .before .before .before .before .before .before .before .before .before .before in
@@ -51,16 +39,5 @@ returns-2 c =
 
 pub see-end-spec : {M : Type 1} → statement M
 see-end-spec =
-    tie.close
-    (tie.spec
-    mul-done
-    slice-copy-out-done
-    array-read-if1
-    returns
-    end-at-requires
-    seen-from-requires
-    row-of-requires
-    put-ends-requires
-    same-length
-    same-length-2
-    returns-2)
+    tie.close (tie.spec (λ c. search needs) slice-copy-out-done array-read-if1 returns end-at-requires (λ c κs. search needs) row-of-requires put-ends-requires
+    (λ c. search needs) (λ c. search needs) returns-2)

@@ -56,17 +56,4 @@ returns c =
     (steps-known (p .0) (omega (arith, p .1, i .2)) k, counts-known (p .0) (omega (arith, p .2, i .3)) k)
 
 pub see-ends-spec : {M : Type 1} → statement M
-see-ends-spec =
-    tie.close
-    (tie.spec
-    Inv-loop
-    μ-loop
-    loop-holds
-    mul-loop
-    see-end-requires
-    add-e
-    loop-less
-    loop-again
-    same-length
-    same-length-2
-    returns)
+see-ends-spec = tie.close (tie.spec Inv-loop μ-loop loop-holds mul-loop see-end-requires add-e loop-less loop-again same-length same-length-2 returns)

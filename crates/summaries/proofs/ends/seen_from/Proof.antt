@@ -8,19 +8,10 @@ use borrow.Author.Needs.{needs}
 use Rattle.summaries.proofs.ends.seen_from.Statement.{statement}
 use Rattle.summaries.proofs.ends.seen_from.Tie as tie
 
-place-of-requires : tie.Need-place-of-requires
-place-of-requires c κs = search needs
-
-summary-at-requires : tie.Need-summary-at-requires
-summary-at-requires c κs = search needs
-
-seen-requires : tie.Need-seen-requires
-seen-requires c κs = search needs
-
 returns : tie.Need-returns
 returns c =
     let a = c .before .before .before .before .args in
     c .seen .ensures ∙ ap (λ (s : List ℕ). seenAt s (a .x % 256)) (c .before .summary-at .ensures .bytes ∙ ap (summaryAt (a .book .now)) (c .before .before .place-of .ensures))
 
 pub seen-from-spec : {M : Type 1} → statement M
-seen-from-spec = tie.close (tie.spec place-of-requires summary-at-requires seen-requires returns)
+seen-from-spec = tie.close (tie.spec (λ c κs. search needs) (λ c κs. search needs) (λ c κs. search needs) returns)

@@ -90,19 +90,5 @@ returns c =
 
 pub stepped-spec : {M : Type 1} → statement M
 stepped-spec =
-    tie.close
-    (tie.spec
-    Inv-loop
-    μ-loop
-    loop-holds
-    parent-of-requires
-    mul-end-at
-    add-end-at
-    end-at-requires
-    sub-row
-    element-copy-out-row
-    array-write-row
-    add-z
-    loop-less
-    loop-again
-    returns)
+    tie.close (tie.spec Inv-loop μ-loop loop-holds parent-of-requires mul-end-at add-end-at end-at-requires sub-row element-copy-out-row array-write-row add-z
+    loop-less loop-again returns)

@@ -162,27 +162,5 @@ loop-again-2 c =
 
 pub apart-spec : {M : Type 1} → statement M
 apart-spec =
-    tie.close
-    (tie.spec
-    Inv-loop
-    μ-loop
-    loop-holds
-    parent-of-requires
-    parent-of-requires-2
-    step-at-requires
-    add-result
-    returns
-    add-d
-    sub-step-at
-    step-at-requires-2
-    add-d-2
-    sub-u
-    loop-less
-    loop-again
-    add-d-3
-    sub-step-at-2
-    step-at-requires-3
-    add-d-4
-    sub-u-2
-    loop-less-2
-    loop-again-2)
+    tie.close (tie.spec Inv-loop μ-loop loop-holds parent-of-requires parent-of-requires-2 step-at-requires add-result returns add-d sub-step-at
+    step-at-requires-2 add-d-2 sub-u loop-less loop-again add-d-3 sub-step-at-2 step-at-requires-3 add-d-4 sub-u-2 loop-less-2 loop-again-2)

@@ -55,9 +55,6 @@ add-core-at-2 c = omega (arith, is-up (c .before), small (c .before .before .bef
 core-at-requires-2 : tie.Need-core-at-requires-2
 core-at-requires-2 c κs = omega (arith, is-up (c .before), up (c .before), c .before .before .before .before .before .pre .3 .long)
 
-grown-requires : tie.Need-grown-requires
-grown-requires c κs = search needs
-
 returns-2 : tie.Need-returns-2
 returns-2 c =
     let s = c .before .before .before .before .before .before .before in
@@ -76,17 +73,5 @@ returns-2 c =
 
 pub begun-spec : {M : Type 1} → statement M
 begun-spec =
-    tie.close
-    (tie.spec
-    parent-of-requires
-    sub-above
-    mul-core-at
-    add-core-at
-    core-at-requires
-    returns
-    step-at-requires
-    mul-core-at-2
-    add-core-at-2
-    core-at-requires-2
-    grown-requires
-    returns-2)
+    tie.close (tie.spec parent-of-requires sub-above mul-core-at add-core-at core-at-requires returns step-at-requires mul-core-at-2 add-core-at-2
+    core-at-requires-2 (λ c κs. search needs) returns-2)

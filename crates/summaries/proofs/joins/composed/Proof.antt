@@ -34,9 +34,6 @@ abbrev μ-loop : tie.MeasureT-loop
 end-at-requires : tie.Need-end-at-requires Inv-loop μ-loop
 end-at-requires c κs = lit< tt
 
-fields-at-requires : tie.Need-fields-at-requires Inv-loop μ-loop
-fields-at-requires c κs = search needs
-
 loop-holds : tie.Need-loop-holds Inv-loop μ-loop
 unfolding sixIn
 loop-holds c =
@@ -71,12 +68,6 @@ mul-end-at c = omega (arith, row (c .before .before .before .before))
 
 end-at-requires-2 : tie.Need-end-at-requires-2 Inv-loop μ-loop
 end-at-requires-2 c κs = omega (arith, row (c .before .before .before .before))
-
-fields-at-requires-2 : tie.Need-fields-at-requires-2 Inv-loop μ-loop
-fields-at-requires-2 c κs = search needs
-
-joined-requires : tie.Need-joined-requires Inv-loop μ-loop
-joined-requires c κs = search needs
 
 row-of-requires : tie.Need-row-of-requires Inv-loop μ-loop
 row-of-requires c κs =
@@ -135,27 +126,6 @@ returns c =
 
 pub composed-spec : {M : Type 1} → statement M
 composed-spec =
-    tie.close
-    (tie.spec
-    Inv-loop
-    μ-loop
-    end-at-requires
-    fields-at-requires
-    loop-holds
-    core-of-requires
-    mul-core-at
-    core-at-requires
-    mul-end-at
-    end-at-requires-2
-    fields-at-requires-2
-    joined-requires
-    row-of-requires
-    mul-t18
-    add-t21
-    mul-t20
-    slice-set-from-counts
-    add-k
-    loop-less
-    loop-again
-    same-length
-    returns)
+    tie.close (tie.spec Inv-loop μ-loop end-at-requires (λ c κs. search needs) loop-holds core-of-requires mul-core-at core-at-requires mul-end-at
+    end-at-requires-2 (λ c κs. search needs) (λ c κs. search needs) row-of-requires mul-t18 add-t21 mul-t20 slice-set-from-counts add-k loop-less loop-again
+    same-length returns)

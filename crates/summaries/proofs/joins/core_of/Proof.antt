@@ -42,15 +42,6 @@ mul-core-at c = omega (arith, small (c .before .before .before .before .before .
 core-at-requires : tie.Need-core-at-requires Inv-loop μ-loop
 core-at-requires c κs = omega (arith, joined (c .before), c .before .before .before .before .before .before .pre .3 .long)
 
-grown-requires : tie.Need-grown-requires Inv-loop μ-loop
-grown-requires c κs = search needs
-
-add-m : tie.Need-add-m Inv-loop μ-loop
-add-m c = omega arith
-
-loop-less : tie.Need-loop-less Inv-loop μ-loop
-loop-less c = omega arith
-
 loop-again : tie.Need-loop-again Inv-loop μ-loop
 loop-again c =
     let t = c .before .before .before in
@@ -77,18 +68,5 @@ returns c =
 
 pub core-of-spec : {M : Type 1} → statement M
 core-of-spec =
-    tie.close
-    (tie.spec
-    Inv-loop
-    μ-loop
-    begun-requires
-    parent-of-requires
-    loop-holds
-    apart-requires
-    mul-core-at
-    core-at-requires
-    grown-requires
-    add-m
-    loop-less
-    loop-again
-    returns)
+    tie.close (tie.spec Inv-loop μ-loop begun-requires parent-of-requires loop-holds apart-requires mul-core-at core-at-requires (λ c κs. search needs)
+    (λ c. omega arith) (λ c. omega arith) loop-again returns)

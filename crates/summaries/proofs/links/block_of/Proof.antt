@@ -8,25 +8,14 @@ use Rattle.assembly.specs.declared.Placement.{Placement}
 use Rattle.summaries.proofs.links.block_of.Statement.{statement}
 use Rattle.summaries.proofs.links.block_of.Tie as tie
 
-placement-at-requires : tie.Need-placement-at-requires
-placement-at-requires c κs = search needs
-
 returns : tie.Need-returns
 returns c =
     let a = c .before .before .before .args in
     let e : 0 ≡ a .p - 1 = omega (arith, c .before .if1 .taken) in
     ap (λ (q : Placement). q .block) (c .placement-at .ensures ∙ ap (placementAt (a .xs .now)) e)
 
-sub-placement-at : tie.Need-sub-placement-at
-sub-placement-at c = search needs
-
-placement-at-requires-2 : tie.Need-placement-at-requires-2
-placement-at-requires-2 c κs = search needs
-
 returns-2 : tie.Need-returns-2
 returns-2 c = ap (λ (q : Placement). q .block) (c .placement-at2 .ensures)
 
 pub block-of-spec : {M : Type 1} → statement M
-block-of-spec =
-    tie.close
-    (tie.spec placement-at-requires returns sub-placement-at placement-at-requires-2 returns-2)
+block-of-spec = tie.close (tie.spec (λ c κs. search needs) returns (λ c. search needs) (λ c κs. search needs) returns-2)

@@ -22,12 +22,6 @@ loop-holds c = (omega arith, record { size = search needs; block = λ m h. absur
 few : (c : tie.In-loop Inv-loop μ-loop) → c .before .loop .k < mostPlacements
 few c = let p = c .before .before .before .pre in omega (arith, p, c .loop-test .taken)
 
-placement-at-requires : tie.Need-placement-at-requires Inv-loop μ-loop
-placement-at-requires c κs = search needs
-
-key-requires : tie.Need-key-requires Inv-loop μ-loop
-key-requires c κs = search needs
-
 mul-links : tie.Need-mul-links Inv-loop μ-loop
 mul-links c = omega (arith, few (c .before .before))
 
@@ -36,12 +30,6 @@ mul-links-2 c = omega (arith, few (c .before .before))
 
 array-write-links : tie.Need-array-write-links Inv-loop μ-loop
 array-write-links c = omega (arith, few (c .before .before))
-
-block-of-requires : tie.Need-block-of-requires Inv-loop μ-loop
-block-of-requires c κs = search needs
-
-key-requires-2 : tie.Need-key-requires-2 Inv-loop μ-loop
-key-requires-2 c κs = search needs
 
 mul-links-3 : tie.Need-mul-links-3 Inv-loop μ-loop
 mul-links-3 c = omega (arith, few (c .before .before .before .before))
@@ -54,9 +42,6 @@ mul-links-4 c = omega (arith, few (c .before .before .before .before))
 
 array-write-links-2 : tie.Need-array-write-links-2 Inv-loop μ-loop
 array-write-links-2 c = omega (arith, few (c .before .before .before .before))
-
-cast-links : tie.Need-cast-links Inv-loop μ-loop
-cast-links c = search needs
 
 add-links-2 : tie.Need-add-links-2 Inv-loop μ-loop
 add-links-2 c = omega (arith, few (c .before .before .before .before .before))
@@ -96,27 +81,6 @@ returns c =
 
 pub links-of-spec : {M : Type 1} → statement M
 links-of-spec =
-    tie.close
-    (tie.spec
-    Inv-loop
-    μ-loop
-    loop-holds
-    placement-at-requires
-    key-requires
-    mul-links
-    mul-links-2
-    array-write-links
-    block-of-requires
-    key-requires-2
-    mul-links-3
-    add-links
-    mul-links-4
-    array-write-links-2
-    cast-links
-    add-links-2
-    mul-links-5
-    array-write-links-3
-    add-k
-    loop-less
-    loop-again
-    returns)
+    tie.close (tie.spec Inv-loop μ-loop loop-holds (λ c κs. search needs) (λ c κs. search needs) mul-links mul-links-2 array-write-links (λ c κs. search needs)
+    (λ c κs. search needs) mul-links-3 add-links mul-links-4 array-write-links-2 (λ c. search needs) add-links-2 mul-links-5 array-write-links-3 add-k loop-less
+    loop-again returns)

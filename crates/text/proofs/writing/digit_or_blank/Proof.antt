@@ -5,9 +5,6 @@ use borrow.Author.Needs.{needs}
 use Rattle.text.proofs.writing.digit_or_blank.Statement.{statement}
 use Rattle.text.proofs.writing.digit_or_blank.Tie as tie
 
-last-digit-requires : tie.Need-last-digit-requires
-last-digit-requires c κs = search needs
-
 returns : tie.Need-returns
 returns c = simp (lt-ltb _ _ (c .if1 .taken))
 
@@ -15,4 +12,4 @@ returns-2 : tie.Need-returns-2
 returns-2 c = c .last-digit .ensures ∙ simp (le-ltb _ _ (c .before .if1 .left))
 
 pub digit-or-blank-spec : {M : Type 1} → statement M
-digit-or-blank-spec = tie.close (tie.spec last-digit-requires returns returns-2)
+digit-or-blank-spec = tie.close (tie.spec (λ c κs. search needs) returns returns-2)

@@ -6,24 +6,6 @@ use borrow.Author.Needs.{needs}
 use Rattle.text.proofs.writing.put_three.Statement.{statement}
 use Rattle.text.proofs.writing.put_three.Tie as tie
 
-digit-or-blank-requires : tie.Need-digit-or-blank-requires
-digit-or-blank-requires c κs = search needs
-
-digit-or-blank-requires-2 : tie.Need-digit-or-blank-requires-2
-digit-or-blank-requires-2 c κs = search needs
-
-last-digit-requires : tie.Need-last-digit-requires
-last-digit-requires c κs = search needs
-
-slice-aggregate-put : tie.Need-slice-aggregate-put
-slice-aggregate-put c = search needs
-
-put-requires : tie.Need-put-requires
-put-requires c κs = search needs
-
-same-length : tie.Need-same-length
-same-length c = search needs
-
 returns : tie.Need-returns
 returns c =
     let p = c .before .before in
@@ -32,12 +14,5 @@ returns c =
 
 pub put-three-spec : {M : Type 1} → statement M
 put-three-spec =
-    tie.close
-    (tie.spec
-    digit-or-blank-requires
-    digit-or-blank-requires-2
-    last-digit-requires
-    slice-aggregate-put
-    put-requires
-    same-length
+    tie.close (tie.spec (λ c κs. search needs) (λ c κs. search needs) (λ c κs. search needs) (λ c. search needs) (λ c κs. search needs) (λ c. search needs)
     returns)
