@@ -1,94 +1,22 @@
 -- Laws. In the order of a written text each atom has as many ends of bonds as in the block. Assumes nothing.
 use Prim.Native.Nat.{ℕ, zero, suc, _+_, _≤_}
-use mathlib.Core.Bool.{Bool, true, false, _&&_, _||_, cond, true≢false}
+use mathlib.Core.Bool.{Bool, true, false, _&&_, cond, true≢false}
 use mathlib.Core.List.{List, [], _∷_, _++_, map}
-use mathlib.Core.Logic.{⊎-elim}
 use mathlib.Core.Path.{_≡_, refl, sym, _∙_, ap}
 use native.Mathlib.Omega.{arith}
-use native.Mathlib.Decide.{ℕ-discrete}
-use borrow.Author.Tests.{eq-eqb, ne-eqb, eqb-true, ltb-true, ltb-false}
+use borrow.Author.Tests.{ltb-true, ltb-false}
 use lib.Dec.{eqb, ltb}
-use Rattle.graph.specs.Graph.{Bond, bond, Within, sum, joins, anyJoins, degree}
-use Rattle.graph.specs.Bonds.{both, joins-out, any-out, any-none, anyJoins-sym}
-use Rattle.graph.specs.Sums.{sum-cong, sum-add, sum-none, sum-swap, sum-pick}
+use Rattle.graph.specs.Graph.{Bond, bond, Within, sum, anyJoins, degree}
+use Rattle.graph.specs.Bonds.{anyJoins-sym, degree-append}
+use Rattle.graph.specs.Choices.{eqb-sym}
+use Rattle.graph.specs.Distance.{not-true}
+use Rattle.graph.specs.Ends.{plain-apart, plain-degree}
+use Rattle.graph.specs.Sums.{sum-cong, sum-add, sum-swap, sum-pick}
 use Rattle.reply.specs.Read.{read}
 use Rattle.block.specs.Block.{limit, bondsOf, blockReply}
-use Rattle.block.specs.Told.{NewBond, few-bonds, each-bond}
+use Rattle.block.specs.Told.{few-bonds, fine-drawn, drawn-plain}
 use Rattle.adjacency.specs.Written.{upTo, isGreater, greater}
 use Rattle.adjacency.specs.Canonical.{bondsUpTo}
-
-cond-or : (p q : Bool) → (p ≡ true → q ≡ true → ⊥) → cond (p || q) 1 0 ≡ cond p 1 0 + cond q 1 0
-cond-or true true h = absurd (h refl refl)
-cond-or true false h = refl
-cond-or false q h = omega arith
-
-cond-and : (p q : Bool) (x : ℕ) → cond (p && q) x 0 ≡ cond p (cond q x 0) 0
-cond-and true q x = refl
-cond-and false q x = refl
-
-cond-swap : (p q : Bool) (x : ℕ) → cond p (cond q x 0) 0 ≡ cond q (cond p x 0) 0
-cond-swap true q x = refl
-cond-swap false true x = refl
-cond-swap false false x = refl
-
--- the other ends of one more bond
-more : {n : ℕ} {b : Bond} {bs : List Bond} → NewBond n b bs → (v : ℕ)
-    → sum n (λ w. cond (anyJoins (b ∷ bs) v w) 1 0) ≡ cond (eqb (b .one) v) 1 0 + cond (eqb (b .two) v) 1 0 + sum n (λ w. cond (anyJoins bs v w) 1 0)
-unfolding anyJoins joins
-more {n} {b} {bs} new v =
-    omega (
-      arith,
-      sum-cong n {f = λ w. cond (anyJoins (b ∷ bs) v w) 1 0} {h = λ w. two w + one w + rest w} (λ w h. omega (
-        arith,
-        cond-or (joins b v w) (anyJoins bs v w) (known w),
-        cond-or (eqb (b .one) v && eqb (b .two) w) (eqb (b .one) w && eqb (b .two) v) (loop w),
-        cond-and (eqb (b .one) v) (eqb (b .two) w) 1,
-        cond-swap (eqb (b .one) v) (eqb (b .two) w) 1,
-        cond-and (eqb (b .one) w) (eqb (b .two) v) 1,
-      )),
-      sum-add n (λ w. two w + one w) rest,
-      sum-add n two one,
-      sum-pick n (b .two) (λ w. cond (eqb (b .one) v) 1 0) (new .two),
-      sum-pick n (b .one) (λ w. cond (eqb (b .two) v) 1 0) (new .one),
-    )
-  where
-    two : ℕ → ℕ
-    two w = cond (eqb (b .two) w) (cond (eqb (b .one) v) 1 0) 0
-
-    one : ℕ → ℕ
-    one w = cond (eqb (b .one) w) (cond (eqb (b .two) v) 1 0) 0
-
-    rest : ℕ → ℕ
-    rest w = cond (anyJoins bs v w) 1 0
-
-    known : (w : ℕ) → joins b v w ≡ true → anyJoins bs v w ≡ true → ⊥
-    known w j e =
-        ⊎-elim (λ q. true≢false (sym e ∙ rw (← q .0, ← q .1) (new .new)))
-        (λ q. true≢false (sym e ∙ anyJoins-sym bs v w ∙ rw (← q .0, ← q .1) (new .new))) (joins-out b v w j)
-
-    loop : (w : ℕ) → (eqb (b .one) v && eqb (b .two) w) ≡ true → (eqb (b .one) w && eqb (b .two) v) ≡ true → ⊥
-    loop w p q =
-        let r = both (eqb (b .one) v) (eqb (b .two) w) p in
-        let s = both (eqb (b .one) w) (eqb (b .two) v) q in
-        new .differ (eqb-true (b .one) v (r .0) ∙ sym (eqb-true (b .two) v (s .1)))
-
-neighbours-counted : (n : ℕ) (xs : List ℕ) → blockReply n xs ≡ read tt → (v : ℕ) → sum n (λ w. cond (anyJoins (bondsOf xs) v w) 1 0) ≡ degree (bondsOf xs) v
-unfolding anyJoins degree
-neighbours-counted n xs fine =
-    each-bond n xs fine (λ bs. (v : ℕ) → sum n (λ w. cond (anyJoins bs v w) 1 0) ≡ degree bs v) (λ v. sum-none n)
-    (λ b bs new r v. omega (arith, more new v, r v))
-
--- no bond joins an atom to itself
-pub apart : (n : ℕ) (xs : List ℕ) → blockReply n xs ≡ read tt → (u : ℕ) → anyJoins (bondsOf xs) u u ≡ true → ⊥
-apart n xs fine =
-    each-bond n xs fine (λ l. (u : ℕ) → anyJoins l u u ≡ true → ⊥) (λ u e. any-none u u e)
-    (λ b l new before u e. ⊎-elim (λ j. ⊎-elim (λ s. new .differ (s .0 ∙ sym (s .1))) (λ s. new .differ (s .0 ∙ sym (s .1))) j) (λ q. before u q) (any-out b l u u e))
-
--- the ends at an atom, as sums
-pub degree-append : (xs ys : List Bond) (v : ℕ) → degree (xs ++ ys) v ≡ degree xs v + degree ys v
-unfolding degree
-degree-append [] ys v = omega arith
-degree-append (b ∷ xs) ys v = omega (arith, degree-append xs ys v)
 
 pub map-append : (f : ℕ → Bond) (xs ys : List ℕ) → map f (xs ++ ys) ≡ map f xs ++ map f ys
 map-append f [] ys = refl
@@ -112,13 +40,6 @@ all-degree joined n zero v = refl
 all-degree joined n (suc m) v =
     degree-append (bondsUpTo joined n m) (map (bond (suc m)) (greater joined n (suc m))) v
     ∙ omega (arith, all-degree joined n m v, row-degree (suc m) (isGreater joined (suc m)) n v)
-
-eqb-sym : (a b : ℕ) → eqb a b ≡ eqb b a
-eqb-sym a b = go (ℕ-discrete a b)
-  where
-    go : Dec (a ≡ b) → eqb a b ≡ eqb b a
-    go (yes e) = eq-eqb a b e ∙ sym (eq-eqb b a (sym e))
-    go (no e) = ne-eqb a b e ∙ sym (ne-eqb b a (λ q. e (sym q)))
 
 module _ (joined : ℕ → ℕ → Bool) (either-way : (u v : ℕ) → joined u v ≡ joined v u) (n v : ℕ) (w : Within n v) (alone : joined v v ≡ false) where
   abbrev pair : ℕ → ℕ → ℕ
@@ -171,11 +92,9 @@ module _ (joined : ℕ → ℕ → Bool) (either-way : (u v : ℕ) → joined u 
 
 pub canonical-degree : (n : ℕ) (xs : List ℕ) → blockReply n xs ≡ read tt → (v : ℕ) → Within n v → degree (bondsUpTo (anyJoins (bondsOf xs)) n n) v ≡ degree (bondsOf xs) v
 canonical-degree n xs fine v w =
-    degree-is (anyJoins (bondsOf xs)) (anyJoins-sym (bondsOf xs)) n v w (go (anyJoins (bondsOf xs) v v) refl) ∙ neighbours-counted n xs fine v
-  where
-    go : (t : Bool) → anyJoins (bondsOf xs) v v ≡ t → t ≡ false
-    go true e = absurd (apart n xs fine v e)
-    go false e = refl
+    let bs = bondsOf xs in
+    let p = drawn-plain n xs (fine-drawn n xs fine) in
+    degree-is (anyJoins bs) (anyJoins-sym bs) n v w (not-true (anyJoins bs v v) (λ e. plain-apart n bs p v v e refl)) ∙ plain-degree n bs p v
 
 pub canonical-few : (n : ℕ) (xs : List ℕ) → blockReply n xs ≡ read tt → (v : ℕ) → Within n v → degree (bondsUpTo (anyJoins (bondsOf xs)) n n) v ≤ limit
 canonical-few n xs fine v w = omega (arith, canonical-degree n xs fine v w, few-bonds n xs fine v)

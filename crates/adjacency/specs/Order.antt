@@ -10,13 +10,13 @@ use borrow.Author.Tests.{eq-eqb, ne-eqb, ltb-true, lt-ltb, le-ltb, lt-leb}
 use lib.Dec.{ltb}
 use lib.ListN.{length}
 use Rattle.graph.specs.Graph.{Bond, bond, Within, joins, anyJoins, degree}
-use Rattle.graph.specs.Bonds.{both, any-out, any-head, any-none, append-out, append-left, append-right}
+use Rattle.graph.specs.Bonds.{both, any-out, any-head, any-none, append-out, append-left, append-right, degree-append}
 use Rattle.reply.specs.Read.{read, _then_, refuseFor}
 use Rattle.reply.specs.Chain.{not-read}
 use Rattle.block.specs.Block.{limit, bondFault, bondsReply}
 use Rattle.adjacency.specs.Written.{upTo, isGreater, greater}
 use Rattle.adjacency.specs.Canonical.{bondsUpTo}
-use Rattle.adjacency.specs.Degrees.{degree-append, map-append}
+use Rattle.adjacency.specs.Degrees.{map-append}
 
 -- one of the atoms 1 to k that pass
 record Passing (p : ℕ → Bool) (k w : ℕ) : Type 0 where

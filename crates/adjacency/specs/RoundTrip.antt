@@ -1,24 +1,25 @@
 -- Laws. Reading a written text gives the block's bonds in the order of the text, the smaller end first; writing those gives the same text. Assumes nothing.
-use Prim.Native.Nat.{ℕ, zero, suc, _+_, _*_, _%_, _<_, _≤_}
-use mathlib.Core.Bool.{Bool, true, false, cond, true≢false}
-use mathlib.Core.List.{List, [], _∷_}
+use Prim.Native.Nat.{ℕ, _%_, _<_, _≤_}
+use mathlib.Core.Bool.{Bool, true, false, true≢false}
+use mathlib.Core.List.{List, []}
 use mathlib.Core.Logic.{_⊎_, inl, inr, ⊎-elim}
 use mathlib.Core.Path.{_≡_, refl, sym, _∙_, ap, ap₂, subst}
 use native.Mathlib.Omega.{arith}
 use native.Mathlib.Decide.{ℕ-discrete}
 use borrow.Author.Tests.{eq-eqb, le-ltb, ltb-true, ltb-false}
-use lib.Dec.{eqb, ltb}
+use lib.Dec.{ltb}
 use lib.ListN.{length, take, drop}
 use lib.Seq.{take-append-seam}
-use Rattle.graph.specs.Graph.{Graph, Bond, Within, Sound, Walk, stay, step, bonded, anyJoins, connected, degree, sum}
+use Rattle.graph.specs.Graph.{Graph, Bond, Within, Sound, Walk, stay, step, bonded, anyJoins, connected, degree}
 use Rattle.graph.specs.Bonds.{anyJoins-sym}
-use Rattle.graph.specs.Sums.{sum-cong, sum-add, sum-le, sum-none, sum-pick}
+use Rattle.graph.specs.Ends.{plain-ends}
+use Rattle.graph.specs.Sums.{sum-cong, sum-le}
 use Rattle.graph.specs.Connected.{connected-is-linked}
-use Rattle.reply.specs.Read.{Read, refused, read, refusal, _then_, refuseIf, refuseFor}
-use Rattle.reply.specs.Chain.{not-read, then-read}
-use Rattle.block.specs.Faults.{faultless}
-use Rattle.block.specs.Block.{mostBytes, limit, bondsOf, graphOf, bondFault, bondsReply, blockReply}
-use Rattle.block.specs.Told.{passed, few-atoms, sound, molecule}
+use Rattle.reply.specs.Read.{Read, refused, read, refusal, _then_, refuseIf}
+use Rattle.reply.specs.Chain.{then-read}
+use Rattle.block.specs.Block.{mostBytes, limit, bondsOf, graphOf, bondsReply, blockReply}
+use Rattle.block.specs.Numbered.{ends-apart}
+use Rattle.block.specs.Told.{passed, bonds-plain, fine-drawn, drawn-plain, few-atoms, sound, molecule}
 use Rattle.adjacency.specs.Neighbours.{steps, bondsLength, bondListBytes, neighboursReply, bytesAfter}
 use Rattle.adjacency.specs.Written.{writtenText, neighboursWriteReply, textAfter}
 use Rattle.adjacency.specs.Canonical.{bondsUpTo, canonical}
@@ -26,30 +27,9 @@ use Rattle.adjacency.specs.Work.{longest, until, anyHigh, FewBonds, high
 use Rattle.adjacency.specs.Blocks.{bytes-length, bytes-bonds, until-all, no-room, all-read}
 use Rattle.adjacency.specs.Writing.{text-same}
 use Rattle.adjacency.specs.Putting.{text-short}
-use Rattle.adjacency.specs.Degrees.{apart, canonical-degree, canonical-few}
+use Rattle.adjacency.specs.Degrees.{canonical-degree, canonical-few}
 use Rattle.adjacency.specs.Order.{all-out, all-in, order-fine}
 use Rattle.adjacency.specs.Again.{Reread, reread}
-
--- the ends of bonds that pass, all counted
-ends-counted : (n : ℕ) (done bs : List Bond) → bondsReply n done bs ≡ read tt → sum n (λ v. degree bs v) ≡ 2 * length bs
-unfolding bondsReply degree
-ends-counted n done [] e = sum-none n
-ends-counted n done (b ∷ bs) e = go (bondFault n done b) refl e (ends-counted n (b ∷ done) bs)
-  where
-    go : (f : ℕ) → bondFault n done b ≡ f → (refuseFor f (suc (length done)) then λ _. bondsReply n (b ∷ done) bs) ≡ read tt
-        → (bondsReply n (b ∷ done) bs ≡ read tt → sum n (λ v. degree bs v) ≡ 2 * length bs)
-        → sum n (λ v. cond (eqb (b .one) v) 1 0 + cond (eqb (b .two) v) 1 0 + degree bs v) ≡ 2 * suc (length bs)
-    go zero z q more =
-        let r = faultless n done b z in
-        omega (
-          arith,
-          sum-add n (λ v. cond (eqb (b .one) v) 1 0 + cond (eqb (b .two) v) 1 0) (λ v. degree bs v),
-          sum-add n (λ v. cond (eqb (b .one) v) 1 0) (λ v. cond (eqb (b .two) v) 1 0),
-          sum-pick n (b .one) (λ v. 1) (r .one),
-          sum-pick n (b .two) (λ v. 1) (r .two),
-          more q,
-        )
-    go (suc f) z q more = absurd (not-read q)
 
 module _ (n : ℕ) (xs : List ℕ) (fine : blockReply n xs ≡ read tt) where
   abbrev bs : List Bond
@@ -80,7 +60,7 @@ module _ (n : ℕ) (xs : List ℕ) (fine : blockReply n xs ≡ read tt) where
           pick false t = let l = ltb-false a b t in inr (omega arith)
 
       go : Dec (u ≡ v) → anyJoins cs u v ≡ true
-      go (yes d) = absurd (apart n xs fine u (rw (← d) at e))
+      go (yes d) = absurd (ends-apart n xs (fine-drawn n xs fine) u v e d)
       go (no d) =
           ⊎-elim (λ l. all-in (anyJoins bs) n n u v one two l e)
           (λ l. anyJoins-sym cs u v ∙ all-in (anyJoins bs) n n v u two one l (anyJoins-sym bs v u ∙ e)) (order u v d)
@@ -121,15 +101,15 @@ module _ (n : ℕ) (xs : List ℕ) (fine : blockReply n xs ≡ read tt) where
   same-count =
       omega (
         arith,
-        ends-counted n [] cs bonds-pass,
-        ends-counted n [] bs (passed n xs fine .bonds),
+        plain-ends n cs (bonds-plain n [] cs bonds-pass),
+        plain-ends n bs (drawn-plain n xs (fine-drawn n xs fine)),
         sum-cong n {f = λ v. degree cs v} {h = λ v. degree bs v} (λ v w. canonical-degree n xs fine v w),
       )
 
   short-still : bondsLength cs ≤ mostBytes
   short-still =
       let a = few-atoms n xs fine in
-      omega (arith, ends-counted n [] cs bonds-pass, sum-le n {f = λ v. degree cs v} {c = limit} (λ v w. canonical-few n xs fine v w))
+      omega (arith, plain-ends n cs (bonds-plain n [] cs bonds-pass), sum-le n {f = λ v. degree cs v} {c = limit} (λ v w. canonical-few n xs fine v w))
 
   pub fine-again : blockReply n (bondListBytes (canonical n bs)) ≡ read tt
   unfolding blockReply canonical

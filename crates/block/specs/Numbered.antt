@@ -2,8 +2,8 @@
 use Prim.Native.Nat.{ℕ, zero, suc, _+_, _*_, _/_, _%_, _≤_, _<_}
 use mathlib.Core.Bool.{true, not}
 use mathlib.Core.List.{List, [], _∷_, map}
-use mathlib.Core.Logic.{inl, ⊎-elim}
-use mathlib.Core.Path.{_≡_, refl, sym, _∙_, ap, ap₂, subst}
+use mathlib.Core.Logic.{inl}
+use mathlib.Core.Path.{_≡_, refl, _∙_, ap, ap₂, subst}
 use native.Mathlib.Numerals.{add-one, add-two}
 use native.Mathlib.Omega.{arith}
 use borrow.Author.Tests.{ltb-false, eqb-true, not-false}
@@ -11,13 +11,14 @@ use lib.Dec.{eqb, ltb}
 use lib.ListN.{length, getD, drop, length-drop}
 use lib.Seq.{drop-cons}
 use Rattle.graph.specs.Graph.{Bond, bond, Within, anyJoins, bonded, sumBonds}
-use Rattle.graph.specs.Bonds.{any-out, any-head, any-tail, any-none}
+use Rattle.graph.specs.Bonds.{any-head, any-tail}
+use Rattle.graph.specs.Ends.{plain-apart}
 use Rattle.graph.specs.Walk.{far-end}
 use Rattle.graph.specs.Tree.{enough-bonds}
 use Rattle.reply.specs.Read.{read}
 use Rattle.reply.specs.Chain.{neither}
 use Rattle.block.specs.Block.{mostBytes, bondsOf, graphOf, drawnReply, blockReply}
-use Rattle.block.specs.Told.{tested, drawn-sound, drawn-bonds, fine-drawn, molecule}
+use Rattle.block.specs.Told.{tested, drawn-sound, drawn-plain, fine-drawn, molecule}
 
 -- bond k of the bytes, and the bonds from k on
 abbrev pub bondAt : List ℕ → ℕ → Bond
@@ -115,9 +116,7 @@ module _ (n : ℕ) (xs : List ℕ) (drawn : drawnReply n xs ≡ read tt) where
   -- none joins an atom to itself
   pub ends-apart : (u v : ℕ) → bonded (graphOf n xs) u v ≡ true → u ≡ v → ⊥
   unfolding bonded
-  ends-apart =
-      drawn-bonds n xs drawn (λ bs. (u v : ℕ) → anyJoins bs u v ≡ true → u ≡ v → ⊥) (λ u v j e. any-none u v j)
-      (λ b bs new later u v j e. ⊎-elim (⊎-elim (λ q. new .differ (q .0 ∙ e ∙ sym (q .1))) (λ q. new .differ (q .0 ∙ sym e ∙ sym (q .1)))) (λ q. later u v q e) (any-out b bs u v j))
+  ends-apart = plain-apart n (bondsOf xs) (drawn-plain n xs drawn)
 
 -- the bonds of a block that is not refused
 module _ (n : ℕ) (xs : List ℕ) (fine : blockReply n xs ≡ read tt) where

@@ -73,6 +73,10 @@ bonds-by n P none more before (b ∷ bs) e =
     more b bs (record { one = f .one; two = f .two; differ = f .differ; new = bonds-new n (b ∷ before) bs r (b .one) (b .two) (any-head b before (b .one) (b .two) (inl (refl, refl))) })
     (bonds-by n P none more (b ∷ before) bs r)
 
+pub bonds-plain : (n : ℕ) (before bs : List Bond) → bondsReply n before bs ≡ read tt → Plain n bs
+unfolding Plain
+bonds-plain n = bonds-by n (Plain n) tt (λ b bs p rest. (record { one = p .one; two = p .two; apart = p .differ }, p .new, rest))
+
 bonds-degrees : (n : ℕ) (before bs : List Bond) → bondsReply n before bs ≡ read tt → (v : ℕ) → degree before v ≤ limit → degree before v + degree bs v ≤ limit
 unfolding degree
 bonds-degrees n before [] e v l = omega arith
@@ -149,13 +153,8 @@ module _ (n : ℕ) (xs : List ℕ) (drawn : drawnReply n xs ≡ read tt) where
   unfolding bonded
   drawn-sound = record { ends = bonds-ends n [] (bondsOf xs) (tested .bonds) }
 
-  -- induction over its bonds
-  pub drawn-bonds : (P : List Bond → Type 0) → P [] → ((b : Bond) (bs : List Bond) → NewBond n b bs → P bs → P (b ∷ bs)) → P (bondsOf xs)
-  drawn-bonds P none more = bonds-by n P none more [] (bondsOf xs) (tested .bonds)
-
   pub drawn-plain : Plain n (bondsOf xs)
-  unfolding Plain
-  drawn-plain = drawn-bonds (Plain n) tt (λ b bs p rest. (record { one = p .one; two = p .two; apart = p .differ }, p .new, rest))
+  drawn-plain = bonds-plain n [] (bondsOf xs) (tested .bonds)
 
 module _ (n : ℕ) (xs : List ℕ) (fine : blockReply n xs ≡ read tt) where
   told : (u : Unit {0}) × (drawnReply n xs ≡ read u) × (refuseIf (not (connected (graphOf n xs))) 7 0 ≡ read tt)
@@ -189,8 +188,9 @@ module _ (n : ℕ) (xs : List ℕ) (fine : blockReply n xs ≡ read tt) where
   unfolding degree
   few-bonds v = omega (arith, bonds-degrees n [] (bondsOf xs) (passed .bonds) v (omega arith))
 
+  -- induction over its bonds
   pub each-bond : (P : List Bond → Type 0) → P [] → ((b : Bond) (bs : List Bond) → NewBond n b bs → P bs → P (b ∷ bs)) → P (bondsOf xs)
-  each-bond = drawn-bonds n xs fine-drawn
+  each-bond P none more = bonds-by n P none more [] (bondsOf xs) (passed .bonds)
 
   -- the row of an atom, and what stands in it for an atom
   pub row-read : {a : ℕ} → Within n a → rowReply n xs a ≡ read (rowOf (graphOf n xs) a, farthest (graphOf n xs) a)

@@ -5,16 +5,16 @@ use mathlib.Core.List.{List, [], _∷_}
 use mathlib.Core.Logic.{⊎-elim}
 use mathlib.Core.Path.{_≡_, sym, _∙_, ap, ap₂}
 use native.Mathlib.Omega.{arith}
-use borrow.Author.Tests.{eqb-true}
 use lib.Dec.{eqb}
 use Rattle.graph.specs.Graph.{Bond, bond, Within, joins, anyJoins, sum, sumPairs, sumBonds}
-use Rattle.graph.specs.Bonds.{both, joins-out, joins-sym}
+use Rattle.graph.specs.Bonds.{joins-out, joins-sym}
 use Rattle.graph.specs.Distance.{not-true}
 use Rattle.graph.specs.Matched.{Mutual, pairs-twice}
 use Rattle.graph.specs.Sums.{sum-cong, sum-add, sum-none, sum-swap, sum-pick, sumPairs-cong, sumPairs-add, sumPairs-none}
 use Rattle.graph.specs.Notions.{BondInside, Plain}
 use Rattle.graph.specs.Choices.{cond-and, cond-or, cond-sum}
 use Rattle.graph.specs.Uses.{join-other}
+use Rattle.graph.specs.Ends.{joins-split}
 
 -- what f gives for two atoms, taken as a bond
 abbrev pub ofEnds : (Bond → ℕ) → ℕ → ℕ → ℕ
@@ -44,16 +44,9 @@ one-bond n b t f s =
     first : ℕ → ℕ → Bool
     first i j = eqb (b .one) i && eqb (b .two) j
 
-    split : (i j : ℕ) → cond (joins b i j) (f (bond i j)) 0 ≡ cond (first i j) (f (bond i j)) 0 + cond (first j i) (f (bond i j)) 0
-    split i j =
-        unfold joins in cond-or (first i j) (first j i) (f (bond i j)) (λ p q.
-        let (a, c) = both (eqb (b .one) i) (eqb (b .two) j) p in
-        let (d, e) = both (eqb (b .one) j) (eqb (b .two) i) q in
-        t .apart (eqb-true (b .one) i a ∙ sym (eqb-true (b .two) i e)))
-
     all : sum n (λ i. sum n (λ j. cond (joins b i j) (f (bond i j)) 0)) ≡ f b + f (bond (b .two) (b .one))
     all =
-        sum-cong n (λ i w. sum-cong n (λ j v. split i j) ∙ sum-add n (λ j. cond (first i j) (f (bond i j)) 0) (λ j. cond (first j i) (f (bond i j)) 0))
+        sum-cong n (λ i w. sum-cong n (λ j v. joins-split b (t .apart) i j (f (bond i j))) ∙ sum-add n (λ j. cond (first i j) (f (bond i j)) 0) (λ j. cond (first j i) (f (bond i j)) 0))
         ∙ sum-add n (λ i. sum n (λ j. cond (first i j) (f (bond i j)) 0)) (λ i. sum n (λ j. cond (first j i) (f (bond i j)) 0))
         ∙ ap₂ _+_ (picked n (b .one) (b .two) (ofEnds f) (t .one) (t .two))
         (sum-swap n n (λ i j. cond (first j i) (f (bond i j)) 0) ∙ picked n (b .one) (b .two) (λ j i. f (bond i j)) (t .one) (t .two))

@@ -5,7 +5,6 @@ use mathlib.Core.List.{List, [], _∷_, map}
 use mathlib.Core.Logic.{inl}
 use mathlib.Core.Path.{_≡_, refl, sym, _∙_, ap, ap₂}
 use native.Mathlib.Omega.{arith}
-use lib.ListN.{length}
 use Rattle.graph.specs.Graph.{Bond, anyJoins, sum, sumPairs, sumBonds}
 use Rattle.graph.specs.Bonds.{any-head, any-tail}
 use Rattle.graph.specs.Sums.{sum-add, sum-none, sumPairs-add, sumPairs-none}
@@ -26,12 +25,6 @@ pub bonds-none : (bs : List Bond) → sumBonds bs (λ b. 0) ≡ 0
 unfolding sumBonds
 bonds-none [] = refl
 bonds-none (b ∷ bs) = omega (arith, bonds-none bs)
-
--- every bond counted once
-pub each-once : (bs : List Bond) → sumBonds bs (λ b. 1) ≡ length bs
-unfolding sumBonds
-each-once [] = refl
-each-once (b ∷ bs) = omega (arith, each-once bs)
 
 -- a factor, and a test, that do not vary
 pub bonds-scaled : (bs : List Bond) (f : Bond → ℕ) (c : ℕ) → sumBonds bs (λ b. f b * c) ≡ sumBonds bs f * c

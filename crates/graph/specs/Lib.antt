@@ -14,7 +14,7 @@
 -- | `pathCount`, `pathsUsing`   | c(i,j) and c(i,j;e)                                              | Steps: both go by the last step                          |
 -- | `denominator`               | D, the least common multiple of all path counts                  | `denominator-dvd`                                        |
 -- | `share g e`                 | D times the contribution of bond e                               | `shares-total`: they add up to D times W                 |
--- | `Plain n bs`                | bonds of 1 to n, none listed again                               | `over-pairs`: a sum over them is one over bonded pairs   |
+-- | `Plain n bs`                | bonds of 1 to n, none listed again                               | `over-pairs`: sums are over bonded pairs; `plain-degree` |
 pub mod Graph
 pub mod Farthest
 pub mod Matching
@@ -46,6 +46,7 @@ pub mod Lcm
 pub mod Choices
 pub mod Backwards
 pub mod Uses
+pub mod Ends
 pub mod BondPairs
 pub mod Flow
 pub mod Listed

@@ -1,18 +1,12 @@
 -- Laws. How long the text of a block is. Assumes nothing.
-use Prim.Native.Nat.{ℕ, zero, suc, _+_, _*_, _/_, _%_, _≤_, _<_}
-use mathlib.Core.Bool.{not}
-use mathlib.Core.List.{List, [], _∷_, _++_}
-use mathlib.Core.Path.{_≡_, refl, sym, _∙_, ap}
+use Prim.Native.Nat.{ℕ, zero, suc, _+_, _*_, _/_}
+use mathlib.Core.List.{List, [], _∷_}
+use mathlib.Core.Path.{_≡_, refl, _∙_}
 use native.Mathlib.Omega.{arith}
-use borrow.Author.Tests.{ltb-false}
-use lib.Dec.{eqb, ltb}
 use lib.ListN.{length, length-append}
 use Rattle.graph.specs.Graph.{Bond}
-use Rattle.reply.specs.Read.{read}
-use Rattle.reply.specs.Chain.{neither}
-use Rattle.block.specs.Block.{mostBytes, bondsOf, blockReply}
-use Rattle.block.specs.Told.{passed}
-use Rattle.text.specs.Text.{ascii, three}
+use Rattle.block.specs.Block.{bondsOf}
+use Rattle.text.specs.Text.{three}
 use Rattle.molwriter.specs.Pieces.{countsText, atomText, atomsText, bondText, bondsText, pieces}
 
 pub half-length : (xs : List ℕ) → length (bondsOf xs) ≡ length xs / 2
@@ -44,7 +38,3 @@ unfolding pieces
 pieces-length n bs =
     simp length-append
     (omega (arith, counts-length n (length bs), atoms-length n, bonds-length bs))
-
--- a block that is not refused has few bonds
-pub few-bytes : (n : ℕ) (xs : List ℕ) → blockReply n xs ≡ read tt → length xs ≤ mostBytes
-few-bytes n xs e = ltb-false mostBytes (length xs) (neither (not (eqb (length xs % 2) 0)) (ltb mostBytes (length xs)) (passed n xs e .bytes) .1)

@@ -14,6 +14,7 @@ use Rattle.reply.specs.Read.{Read, refused, read, _then_, refuseIf, refuseFor, 
 use Rattle.reply.specs.Chain.{then-read, for-read, neither}
 use Rattle.block.specs.Faults.{faultless}
 use Rattle.block.specs.Block.{mostBytes, bondsOf, bondFault, bondsReply, blockReply}
+use Rattle.block.specs.Numbered.{few-bytes}
 use Rattle.block.specs.Told.{passed, few-atoms}
 use Rattle.text.specs.Text.{ascii, three, blank, isBlank, characterAt, isNumber, numberOf, threeAt, lineChars, laterLine, startsWith, lineStarts}
 use Rattle.molfile.specs.Molfile.{countsPlace, atomLinePlace, atomLineCount, bondLineCount, bondLinePlace, restPlace, endsOfLine, bondOfLine, symbolAt, isH, oneH, hydrogenAt, inTurn, lineReply, numbersReply, bondReply, endWord, endLineReply, headerReply, atomReply, bondReplyOf, linesReply, hydrogenIn, passingBelow, isDropped, newNumber, keptBytes, keptAtoms, bytesOf, molfileReply}
@@ -22,7 +23,7 @@ use Rattle.molfile.proofs.Lines.{line-long, numbers-both, bond-inside, bond-is}
 use Rattle.molfile.proofs.Symbols.{h-none}
 use Rattle.text.proofs.Written.{three-back}
 use Rattle.molwriter.specs.Written.{countsLine, atomLine, bondLine, endLine, molfileLines, unlines, molfileText, molfileWriteReply, writtenBytes}
-use Rattle.molwriter.specs.Length.{half-length, few-bytes}
+use Rattle.molwriter.specs.Length.{half-length}
 use Rattle.molwriter.specs.Replies.{fills}
 use Rattle.molwriter.specs.Unlines.{LineOf, line-later, rest-later, later-later}
 use Rattle.molwriter.specs.Threes.{first-three, second-three, six}

@@ -11,14 +11,12 @@ use lib.Dec.{eqb, leb}
 use lib.ListN.{length}
 use lib.Pow.{pow-lt}
 use Rattle.graph.specs.Graph.{Graph, Bond, Within, Sound, anyJoins, bonded, distance, sum}
-use Rattle.graph.specs.BondPairs.{over-pairs}
-use Rattle.graph.specs.BondSums.{each-once}
-use Rattle.graph.specs.Bonds.{any-none, anyJoins-sym}
-use Rattle.graph.specs.Distance.{not-true, distance-self, sound-zero, sound-bond, sound-parent}
-use Rattle.graph.specs.Matched.{pairs-twice}
+use Rattle.graph.specs.Bonds.{any-none}
+use Rattle.graph.specs.Distance.{distance-self, sound-zero, sound-bond, sound-parent}
+use Rattle.graph.specs.Ends.{plain-degree, plain-ends}
 use Rattle.graph.specs.Sets.{has, alone}
 use Rattle.graph.specs.SetLaws.{has-or, has-alone}
-use Rattle.graph.specs.Sums.{sum-cong, sum-add, sum-const, sum-none, sum-pick}
+use Rattle.graph.specs.Sums.{sum-cong, sum-add, sum-const, sum-pick}
 use Rattle.reply.specs.Read.{read}
 use Rattle.block.specs.Block.{mostAtoms, bondsOf, graphOf, drawnReply}
 use Rattle.block.specs.Drawn.{neighbour-fits, has-neighbour}
@@ -107,17 +105,8 @@ module _ (n : ℕ) (xs : List ℕ) (drawn : drawnReply n xs ≡ read tt) where
   ends : sum n (λ i. sum n (λ j. cond (bonded g i j) 1 0)) ≡ length xs
   unfolding bonded
   ends =
-      omega (
-        arith,
-        pairs-twice n (λ i j. cond (bonded g i j) 1 0) (record { either = λ i j w v. ap (λ (t : Bool). cond t 1 0) (both i j) }),
-        over-pairs n (bondsOf xs) (drawn-plain n xs drawn) (λ b. 1) (record { either = λ i j w v. refl }),
-        each-once (bondsOf xs),
-        drawn-bytes n xs drawn .1,
-        sum-cong n {f = λ i. cond (bonded g i i) 1 0} {h = λ i. 0} (λ i w. ap (λ (t : Bool). cond t 1 0) (not-true (bonded g i i) (λ b. ends-apart n xs drawn i i b refl))) ∙ sum-none n,
-      )
-    where
-      both : (i j : ℕ) → anyJoins (bondsOf xs) i j ≡ anyJoins (bondsOf xs) j i
-      both i j = anyJoins-sym (bondsOf xs) i j
+      let plain = drawn-plain n xs drawn in
+      sum-cong n (λ i w. plain-degree n (bondsOf xs) plain i) ∙ plain-ends n (bondsOf xs) plain ∙ drawn-bytes n xs drawn .1
 
   pub up-first : (f : ℕ → ℕ) → upTo g f d ≡ n * f 0 + f 1 * length xs
   unfolding upTo

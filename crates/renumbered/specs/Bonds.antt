@@ -1,9 +1,11 @@
 -- Laws. What bonds give follows its bond, and the sum over the bonds is the same: Szeged terms, what bonds bring to J, and both indices. Assumes nothing.
 use Prim.Native.Nat.{ℕ, _+_, _*_, _-_, _/_}
 use mathlib.Core.Bool.{Bool, cond}
+use mathlib.Core.List.{List, [], _∷_}
 use mathlib.Core.Logic.{⊎-elim}
 use mathlib.Core.Path.{_≡_, refl, sym, _∙_, ap, ap₂}
 use native.Mathlib.Nat.{mul-comm}
+use native.Mathlib.Omega.{arith}
 use lib.Dec.{ltb}
 use lib.ListN.{length}
 use Rattle.graph.specs.Graph.{Graph, Bond, bond, Within, Molecule, anyJoins, bonded, itself, vertex, sumBonds}
@@ -14,7 +16,6 @@ use Rattle.balaban.specs.Balaban.{bound, largestRoot, term, divisor, reckoned}
 use Rattle.renumbered.specs.Renumbered.{Renumbered, Partners}
 use Rattle.graph.specs.Matched.{Mutual, sum-same, pairs-same}
 use Rattle.graph.specs.BondPairs.{ofEnds, over-pairs}
-use Rattle.graph.specs.BondSums.{each-once}
 use Rattle.renumbered.specs.Distances.{same-bonded, same-atoms, same-distance, same-vertex}
 
 -- f gives for two atoms what k gives for their partners, whichever comes first
@@ -30,6 +31,12 @@ follows r {f} {k} a e c x y j =
     ∙ ⊎-elim (λ q. ap₂ (ofEnds k) (sym (q .0)) (sym (q .1)))
     (λ q. a .swaps .either (p .to (e .one)) (p .to (e .two)) (p .there (e .one) x) (p .there (e .two) y) ∙ ap₂ (ofEnds k) (sym (q .0)) (sym (q .1)))
     (joins-out c (p .to (e .one)) (p .to (e .two)) j)
+
+-- every bond counted once
+each-once : (bs : List Bond) → sumBonds bs (λ b. 1) ≡ length bs
+unfolding sumBonds
+each-once [] = refl
+each-once (b ∷ bs) = omega (arith, each-once bs)
 
 module _ {g h : Graph} (pg : Plain (g .atoms) (g .bonds)) (ph : Plain (h .atoms) (h .bonds)) (r : Renumbered g h) where
   -- THE LAW: and its sum over the bonds is the same

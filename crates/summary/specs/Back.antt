@@ -10,6 +10,7 @@ use lib.ListN.{length, getD, take, drop, length-append, List·getD-append}
 use lib.Pow.{pow-mono}
 use lib.Seq.{getD-append-add, getD-take, getD-drop}
 use Rattle.graph.specs.Graph.{Graph, Within, Molecule, anyJoins, bonded, distance, degree, evenOf, oddOf, isAt, total}
+use Rattle.graph.specs.Ends.{plain-degree}
 use Rattle.graph.specs.Bounds.{total-most, tame-even, tame-odd, tame-at}
 use Rattle.graph.specs.Sets.{has}
 use Rattle.graph.specs.Sums.{sum-cong}
@@ -20,7 +21,7 @@ use Rattle.block.specs.Drawn.{set-fits, has-set}
 use Rattle.block.specs.Near.{around}
 use Rattle.block.specs.Opened.{setOf}
 use Rattle.block.specs.Tables.{getD-table}
-use Rattle.block.specs.Told.{few-atoms, molecule, within-inside}
+use Rattle.block.specs.Told.{few-atoms, fine-drawn, drawn-plain, molecule, within-inside}
 use Rattle.block.specs.Index.{indicesOf, vertexOf}
 use Rattle.block.specs.declared.Indices.{Indices}
 use Rattle.reach.proofs.Digits.{count-atoms}
@@ -33,7 +34,6 @@ use Rattle.joining.specs.Grow.{same-six, total-parts}
 use Rattle.joining.specs.Written.{six-is, sight-is, alone-molecule}
 use Rattle.summary.specs.Layout.{summaryHead, atomBytes, summaryBytes, storedNumber, storedAtoms, storedFields, nearIn, setIn, seenAt, vertexAt, storedDegree, farAt, keptOf}
 use Rattle.summary.specs.Summary.{headOf, atomsFrom, summaryOf}
-use Rattle.summary.specs.Ones.{bonds-are-ends}
 
 -- numbers of two and of four bytes read back
 two-back : (x : ℕ) → x < 65536 → x % 256 + 256 * (x / 256 % 256) ≡ x
@@ -202,7 +202,7 @@ module _ (x n : ℕ) (xs : List ℕ) (fine : blockReply n xs ≡ read tt) where
     unfolding storedDegree bonded anyJoins
     ends-told i w =
         rw (within-inside mostAtoms i (omega (arith, few, w .low, w .high)))
-        (ap ones (set-told i w) ∙ count-atoms n (setOf n (bonded g i)) (set-fits n (bonded g i)) ∙ sum-cong n (λ j v. ap (λ (t : Bool). cond t 1 0) (has-set n (bonded g i) j v)) ∙ bonds-are-ends n xs fine i)
+        (ap ones (set-told i w) ∙ count-atoms n (setOf n (bonded g i)) (set-fits n (bonded g i)) ∙ sum-cong n (λ j v. ap (λ (t : Bool). cond t 1 0) (has-set n (bonded g i) j v)) ∙ plain-degree n (g .bonds) (drawn-plain n xs (fine-drawn n xs fine)) i)
 
     pub fields-told : storedFields b ≡ indicesOf g
     unfolding storedFields indicesOf headOf littleBytes totalBy total

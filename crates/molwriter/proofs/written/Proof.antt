@@ -4,6 +4,7 @@ use mathlib.Core.List.{List, _++_}
 use mathlib.Core.Path.{_≡_, refl, sym, ap, _∙_}
 use lib.ListN.{length}
 use Rattle.block.specs.Block.{mostAtoms, mostBytes, bondsOf}
+use Rattle.block.specs.Numbered.{few-bytes}
 use Rattle.block.specs.Told.{few-atoms}
 use Rattle.text.specs.Text.{ascii, three}
 use Rattle.molwriter.specs.Written.{molfileText}
@@ -11,7 +12,7 @@ use Rattle.molwriter.specs.Pieces.{countsText, pieces}
 use Rattle.molwriter.specs.Listing.{text-pieces}
 use Rattle.reply.specs.Read.{saidNumber}
 use Rattle.reply.specs.declared.NumberReply.the-variants.{Of}
-use Rattle.molwriter.specs.Length.{half-length, pieces-length, few-bytes}
+use Rattle.molwriter.specs.Length.{half-length, pieces-length}
 use Rattle.text.proofs.Putting.{both, as-word, at-front}
 use Rattle.molwriter.specs.Replies.{write-short, write-fine, stays, fills}
 use native.Mathlib.Omega.{arith}
