@@ -56,10 +56,21 @@ both-put x y (a ∷ b ∷ rest) h = refl
 
 -- TWO OUTPUTS, the second of which wants some entries.
 -- what comes before 9 says nothing of rooms
-pub nine-behind : {A B : Type 0} (R : Read A) (t : Bool) (x : A → B) → thenNine (R then λ a. refuseIf t 9 0 then λ _. read (x a)) ≡ thenNine R
+pub nine-then : {A B : Type 0} (R : Read A) (f g : A → Read B) → ((a : A) → thenNine (f a) ≡ thenNine (g a)) → thenNine (R then f) ≡ thenNine (R then g)
+nine-then (refused r) f g h = refl
+nine-then (read a) f g h = h a
+
+pub nine-room : (t : Bool) → thenNine (refuseIf t 9 0) ≡ refused (refusal 9 0)
+nine-room true = refl
+nine-room false = refl
+
+pub nine-behind : {A B : Type 0} (R : Read A) (t : A → Bool) (x : A → B) → thenNine (R then λ a. refuseIf (t a) 9 0 then λ _. read (x a)) ≡ thenNine R
 nine-behind (refused r) t x = refl
-nine-behind (read a) true x = refl
-nine-behind (read a) false x = refl
+nine-behind (read a) t x = go (t a)
+  where
+    go : (s : Bool) → thenNine (refuseIf s 9 0 then λ _. read (x a)) ≡ refused (refusal 9 0)
+    go true = refl
+    go false = refl
 
 nine-is : {A : Type 0} (R : Read A) → (r : Refusal) × (thenNine R ≡ refused r) × ((R then λ a. refuseIf true 9 0 then λ _. read a) ≡ refused r)
 nine-is (refused r) = (r, refl, refl)

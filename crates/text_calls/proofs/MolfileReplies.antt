@@ -1,6 +1,5 @@
 -- Laws. Molfiles with the numbers beside them: each case of the reply. Assumes nothing.
 use Prim.Native.Nat.{ℕ, _≤_, _<_}
-use mathlib.Core.Bool.{Bool, true, false}
 use mathlib.Core.List.{List, []}
 use mathlib.Core.Path.{_≡_, refl, sym, _∙_, ap}
 use lib.Dec.{eqb, ltb}
@@ -14,30 +13,17 @@ use Rattle.wholefile.specs.Whole.{moleculeReply, wholeFileReply}
 use Rattle.molwriter.specs.Written.{molfileText, molfileWriteReply, filledText}
 use Rattle.calls.specs.Convention.{coded, outAfter, numberList, Lent, thenNine}
 use Rattle.calls.specs.Blocks.{unlentReply}
-use Rattle.calls.proofs.Laws.{and-on, nine-behind, beside-lacking, beside-number}
+use Rattle.calls.proofs.Laws.{and-on, nine-then, nine-room, nine-behind, beside-lacking, beside-number}
 use Rattle.text_calls.specs.Molfiles.{MolfileWritten}
 
 -- READING. What comes before 9, whatever the room is.
-nine-either : (L B : Read (Unit {0})) (s t : Bool) → thenNine (L then λ _. B then λ _. refuseIf s 9 0) ≡ thenNine (L then λ _. B then λ _. refuseIf t 9 0)
-nine-either (refused r) B s t = refl
-nine-either (read u) (refused r) s t = refl
-nine-either (read u) (read v) true true = refl
-nine-either (read u) (read v) true false = refl
-nine-either (read u) (read v) false true = refl
-nine-either (read u) (read v) false false = refl
-
 pub any-room : (d : List ℕ) (some room : ℕ) → thenNine (molfileReply d some) ≡ thenNine (molfileReply d room)
 unfolding molfileReply
-any-room d some room = nine-either (linesReply d) (blockReply (keptAtoms d) (bytesOf d)) (ltb some (length (bytesOf d))) (ltb room (length (bytesOf d)))
+any-room d some room = nine-then (linesReply d) _ _ (λ _. nine-then (blockReply (keptAtoms d) (bytesOf d)) _ _ (λ _. nine-room (ltb some (length (bytesOf d))) ∙ sym (nine-room (ltb room (length (bytesOf d))))))
 
 pub any-room-whole : (d : List ℕ) (some room : ℕ) → thenNine (wholeFileReply d some) ≡ thenNine (wholeFileReply d room)
 unfolding wholeFileReply moleculeReply
-any-room-whole d some room = go (linesReply d)
-  where
-    go : (L : Read (Unit {0})) → let xs = bytesOf d in let A = refuseIf (eqb (keptAtoms d) 0) 1 0 in let B = bondsReply (keptAtoms d) [] (bondsOf xs) in
-        thenNine (L then λ _. A then λ _. B then λ _. refuseIf (ltb some (length xs)) 9 0) ≡ thenNine (L then λ _. A then λ _. B then λ _. refuseIf (ltb room (length xs)) 9 0)
-    go (refused r) = refl
-    go (read u) = nine-either (refuseIf (eqb (keptAtoms d) 0) 1 0) (bondsReply (keptAtoms d) [] (bondsOf (bytesOf d))) (ltb some (length (bytesOf d))) (ltb room (length (bytesOf d)))
+any-room-whole d some room = nine-then (linesReply d) _ _ (λ _. nine-then (refuseIf (eqb (keptAtoms d) 0) 1 0) _ _ (λ _. nine-then (bondsReply (keptAtoms d) [] (bondsOf (bytesOf d))) _ _ (λ _. nine-room (ltb some (length (bytesOf d))) ∙ sym (nine-room (ltb room (length (bytesOf d)))))))
 
 pub bonds-filled : (R : Read (Unit {0})) (xs out : List ℕ) → filledBonds R xs out ≡ outAfter (R then λ _. read xs) out
 unfolding filledBonds
@@ -50,7 +36,7 @@ module _ (n : ℕ) (xs out told : List ℕ) where
   unfolding molfileWriteReply
   write-lacking x h q =
       let k = length (molfileText n (bondsOf xs)) in
-      beside-lacking (molfileWriteReply n xs (length out)) 1 _ _ out told x h (q ∙ ap coded (sym (nine-behind (blockReply n xs) (ltb (length out) k) (λ _. k))))
+      beside-lacking (molfileWriteReply n xs (length out)) 1 _ _ out told x h (q ∙ ap coded (sym (nine-behind (blockReply n xs) (λ _. ltb (length out) k) (λ _. k))))
 
   pub write-given : {out′ told′ : List ℕ} {x : ℕ} (a : NumberReply) → 1 ≤ length told → a ≡ saidNumber (molfileWriteReply n xs (length out))
       → out′ ≡ filledText (molfileWriteReply n xs (length out)) (molfileText n (bondsOf xs)) out → Lent (numberList (toldNumber a)) told x told′ → MolfileWritten n xs out told x out′ told′

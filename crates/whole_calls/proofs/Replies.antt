@@ -1,8 +1,7 @@
 -- Laws. A molecule written out with the numbers of its atoms and bonds beside it: each case of the reply. Assumes nothing.
 use Prim.Native.Nat.{ℕ, _+_, _*_, _≤_}
-use mathlib.Core.Bool.{Bool, true, false}
 use mathlib.Core.List.{List, _++_}
-use mathlib.Core.Path.{_≡_, refl, _∙_, ap}
+use mathlib.Core.Path.{_≡_, refl, sym, _∙_, ap}
 use native.Mathlib.Omega.{arith}
 use borrow.Author.Tests.{ltb-false}
 use lib.Dec.{ltb}
@@ -11,27 +10,21 @@ use lib.Seq.{sets, sets-eq}
 use Rattle.graph.specs.Graph.{Graph}
 use Rattle.reply.specs.Read.{Read, refused, read, _then_, refuseIf}
 use Rattle.reply.specs.Chain.{then-read, if-read}
-use Rattle.deck.specs.Deck.{Deck, deckReply}
+use Rattle.deck.specs.Deck.{deckReply}
 use Rattle.deck.specs.Molecule.{moleculeOf}
 use Rattle.deck.specs.declared.Form.the-variants.{Composed}
 use Rattle.whole.specs.Whole.{pairNumbers, wholeReply, numbersAfter}
 use Rattle.whole.specs.Laws.{pairs-length}
 use Rattle.calls.specs.Convention.{over, outAfter, thenNine}
+use Rattle.calls.proofs.Laws.{nine-behind}
 
 -- what comes before 9, whatever the room is
-either : (g : Graph) (s t : Bool) → thenNine (refuseIf s 9 0 then λ _. read g) ≡ thenNine (refuseIf t 9 0 then λ _. read g)
-either g true true = refl
-either g true false = refl
-either g false true = refl
-either g false false = refl
-
-nine-either : (R : Read Deck) (s t : Deck → Bool) (g : Deck → Graph) → thenNine (R then λ k. refuseIf (s k) 9 0 then λ _. read (g k)) ≡ thenNine (R then λ k. refuseIf (t k) 9 0 then λ _. read (g k))
-nine-either (refused r) s t g = refl
-nine-either (read k) s t g = either (g k) (s k) (t k)
+before-nine : (d : List ℕ) (room : ℕ) → thenNine (wholeReply d room) ≡ thenNine (deckReply Composed d)
+unfolding wholeReply
+before-nine d room = nine-behind (deckReply Composed d) (λ k. ltb room (2 * length (moleculeOf d k .bonds))) (moleculeOf d)
 
 pub any-room : (d : List ℕ) (some room : ℕ) → thenNine (wholeReply d some) ≡ thenNine (wholeReply d room)
-unfolding wholeReply
-any-room d some room = nine-either (deckReply Composed d) (λ k. ltb some (2 * length (moleculeOf d k .bonds))) (λ k. ltb room (2 * length (moleculeOf d k .bonds))) (moleculeOf d)
+any-room d some room = before-nine d some ∙ sym (before-nine d room)
 
 -- a molecule that is written out fits
 fits : (d : List ℕ) (room : ℕ) (g : Graph) → wholeReply d room ≡ read g → length (pairNumbers (g .bonds)) ≤ room
