@@ -5,9 +5,11 @@ use mathlib.Core.List.{List}
 use mathlib.Core.Path.{_≡_, refl, sym, _∙_}
 use native.Mathlib.Omega.{arith}
 use borrow.Author.Tests.{eq-eqb, ne-eqb}
+use lib.Dec.{leb}
 use Rattle.graph.specs.Assembly.{Join}
 use Rattle.reply.specs.Read.{Read, refused, read, refusal, _then_, refuseIf, refuseFor, isOutside}
 use Rattle.reply.specs.Chain.{not-read}
+use Rattle.block.specs.Block.{limit}
 use Rattle.block.specs.Faults.{inside}
 use Rattle.reply.specs.declared.Refusal.{Refusal}
 use Rattle.assembly.specs.Book.{Book}
@@ -50,11 +52,11 @@ module _ (g h : JoinSite) (joins : ℕ → Join) (k : ℕ) where
       full-site f = rw (s, o, f)
 
       module _ (f : isFull (g .ends) joins k (joins k .parent) (joins k .site) ≡ false) where
-        pub full-own : isFull (h .ends) joins k (suc k) (joins k .own) ≡ true → joinFault g h joins k ≡ 19
+        pub full-own : leb limit (h .ends) ≡ true → joinFault g h joins k ≡ 19
         unfolding joinFault
         full-own e = rw (s, o, f, e)
 
-        pub joins-well : isFull (h .ends) joins k (suc k) (joins k .own) ≡ false → joinFault g h joins k ≡ 0
+        pub joins-well : leb limit (h .ends) ≡ false → joinFault g h joins k ≡ 0
         unfolding joinFault
         joins-well e = rw (s, o, f, e)
 

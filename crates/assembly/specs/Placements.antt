@@ -73,12 +73,12 @@ firstFault q = cond (eqb (q .parent) 0 && eqb (q .site) 0 && eqb (q .own) 0) 0 1
 unfoldable pub parentFault : ℕ → ℕ
 parentFault parent = cond (eqb parent 0) 23 24
 
--- what is wrong with the join at index k, from an atom of a placement to one of an earlier one: 18, 19, or 0 for nothing
+-- what is wrong with the join at index k, from an atom of a placement, which has only its block's bonds yet, to one of an earlier one: 18, 19, or 0 for nothing
 unfoldable pub joinFault : JoinSite → JoinSite → (ℕ → Join) → ℕ → ℕ
 joinFault there here joins k =
     let j = joins k in
     cond (isOutside (there .atoms) (j .site) || isOutside (here .atoms) (j .own)) 18
-    (cond (isFull (there .ends) joins k (j .parent) (j .site) || isFull (here .ends) joins k (suc k) (j .own)) 19 0)
+    (cond (isFull (there .ends) joins k (j .parent) (j .site) || leb limit (here .ends)) 19 0)
 
 abbrev pub joinOn : (ℕ → Placement) → ℕ → Join
 joinOn placed k = joinOf (placed k)

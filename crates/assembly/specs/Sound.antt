@@ -8,7 +8,7 @@ use native.Mathlib.Decide.{ℕ-discrete}
 use native.Mathlib.Nat.{le-suc-iff}
 use native.Mathlib.Omega.{arith}
 use borrow.Author.Tests.{eq-eqb, ne-eqb, leb-false, not-false}
-use lib.Dec.{eqb}
+use lib.Dec.{eqb, leb}
 use Rattle.graph.specs.Graph.{Graph, Within, Molecule, degree}
 use Rattle.graph.specs.Assembly.{Join, atomOf, written, Stands, Assembled, Placed}
 use Rattle.graph.specs.Climb.{sooner}
@@ -27,7 +27,7 @@ pub record Joined (sites : ℕ → Sites) (joins : ℕ → Join) (k : ℕ) : Typ
   pub site : Within (sites (joins k .parent - 1) .atoms) (joins k .site)
   pub own : Within (sites k .atoms) (joins k .own)
   pub room : sites (joins k .parent - 1) .ends (joins k .site) + joinsOn joins (k - 1) (joins k .parent) (joins k .site) < limit
-  pub own-room : sites k .ends (joins k .own) + joinsOn joins (k - 1) (suc k) (joins k .own) < limit
+  pub own-room : sites k .ends (joins k .own) < limit
 
 -- where a test names a number that is not 0, and nothing is named, the test fails, and so on
 past : (t : Bool) (x y : ℕ) → (x ≡ 0 → ⊥) → cond t x y ≡ 0 → (t ≡ false) × (y ≡ 0)
@@ -57,9 +57,9 @@ module _ (shelf : Shelf) (placed : ℕ → Placement) where
       let g = sites (j .parent - 1) in
       let h = sites k in
       let (a, f) = past (isOutside (g .atoms) (j .site) || isOutside (h .atoms) (j .own)) 18 _ (omega arith) e in
-      let (b, z) = past (isFull (g .ends (j .site)) joins k (j .parent) (j .site) || isFull (h .ends (j .own)) joins k (suc k) (j .own)) 19 0 (omega arith) f in
+      let (b, z) = past (isFull (g .ends (j .site)) joins k (j .parent) (j .site) || leb limit (h .ends (j .own))) 19 0 (omega arith) f in
       let (s, o) = neither (isOutside (g .atoms) (j .site)) (isOutside (h .atoms) (j .own)) a in
-      let (r, q) = neither (isFull (g .ends (j .site)) joins k (j .parent) (j .site)) (isFull (h .ends (j .own)) joins k (suc k) (j .own)) b in
+      let (r, q) = neither (isFull (g .ends (j .site)) joins k (j .parent) (j .site)) (leb limit (h .ends (j .own))) b in
       record {
         parent = w;
         site = inside (g .atoms) (j .site) s;
@@ -136,22 +136,19 @@ module _ (blocks : ℕ → Graph) (joins : ℕ → Join) where
       go (yes q) (no r) = rw (eq-eqb (joins (suc k) .parent) p q, ne-eqb (joins (suc k) .site) a r, ne-eqb (suc (suc k)) p (omega arith)) (omega arith)
       go (no q) r = rw (ne-eqb (joins (suc k) .parent) p q, ne-eqb (suc (suc k)) p (omega arith)) (omega arith)
 
-  grows-new : (k a : ℕ) → Joined (λ i. sitesOf (blocks i)) joins (suc k) → bondsOn (blocks (suc k)) joins k (suc (suc k)) a ≤ limit
+  grows-new : (k a : ℕ) → Joined (λ i. sitesOf (blocks i)) joins (suc k) → joinsOn joins k (suc (suc k)) a ≡ 0 → degree (blocks (suc k) .bonds) a ≤ limit
       → bondsOn (blocks (suc k)) joins k (suc (suc k)) a + joinEnds (joins (suc k)) (suc (suc k)) (suc (suc k)) a ≤ limit
   unfolding joinEnds bondsOn
-  grows-new k a j h = go (ℕ-discrete (joins (suc k) .own) a)
+  grows-new k a j z h = go (ℕ-discrete (joins (suc k) .own) a)
     where
-      here : suc k - 1 ≡ k
-      here = omega arith
-
       go : Dec (joins (suc k) .own ≡ a)
           → bondsOn (blocks (suc k)) joins k (suc (suc k)) a + (cond (eqb (joins (suc k) .parent) (suc (suc k)) && eqb (joins (suc k) .site) a) 1 0 + cond (eqb (suc (suc k)) (suc (suc k)) && eqb (joins (suc k) .own) a) 1 0) ≤ limit
       go (yes q) =
           rw (ne-eqb (joins (suc k) .parent) (suc (suc k)) (omega (arith, j .parent)), eq-eqb (suc (suc k)) (suc (suc k)) refl, eq-eqb (joins (suc k) .own) a q)
-          (omega (arith, rw (here, q) at (j .own-room)))
+          (omega (arith, z, rw q at (j .own-room)))
       go (no q) =
           rw (ne-eqb (joins (suc k) .parent) (suc (suc k)) (omega (arith, j .parent)), eq-eqb (suc (suc k)) (suc (suc k)) refl, ne-eqb (joins (suc k) .own) a q)
-          (omega arith)
+          (omega (arith, z))
 
   more : (g : Graph) (k p a : ℕ) → bondsOn g joins (suc k) p a ≡ bondsOn g joins k p a + joinEnds (joins (suc k)) (suc (suc k)) p a
   unfolding bondsOn
@@ -167,7 +164,7 @@ module _ (blocks : ℕ → Graph) (joins : ℕ → Join) where
       (λ l.
       let e : p - 1 ≡ suc k = omega arith in
       let none = joins-none blocks joins k (suc (suc k)) a (sooner k (omega arith) h) (omega arith) in
-      rw (e, l) (omega (arith, more (blocks (suc k)) k (suc (suc k)) a, grows-new k a (j (suc k) (omega arith) (omega arith)) (omega (arith, b (suc k) a (omega arith), none)))))
+      rw (e, l) (omega (arith, more (blocks (suc k)) k (suc (suc k)) a, grows-new k a (j (suc k) (omega arith) (omega arith)) none (b (suc k) a (omega arith)))))
       (le-suc-iff .0 (w .high))
 
   pub few-bonds : (last : ℕ) {p a : ℕ} → Assembled blocks joins last → ((k v : ℕ) → k ≤ last → degree (blocks k .bonds) v ≤ limit) → ((k : ℕ) → 1 ≤ k → k ≤ last → Joined (λ i. sitesOf (blocks i)) joins k)

@@ -233,13 +233,10 @@ pub fn parent_fault(parent: usize) -> usize
     24
 }
 
-// What is wrong with the join at index k, from `here` to `there`: 18, 19, or 0. A placement past the end has no atom.
+// What is wrong with the join at index k, from `here` to `there`: 18, 19, or 0.
 pub fn join_fault(there: JoinSite, here: JoinSite, xs: &[u8], k: usize) -> usize
     ensures { λ r. ⌜ r ≡ joinFault there here (joinOn (placementAt (now (xs .entry)))) k ⌝ }
 {
-    if xs.len() < k {
-        return 18;
-    }
     let q = placement_at(xs, k);
     if is_outside(there.atoms, q.site as usize) {
         return 18;
@@ -250,7 +247,7 @@ pub fn join_fault(there: JoinSite, here: JoinSite, xs: &[u8], k: usize) -> usize
     if is_full(there.ends, xs, k, q.parent as usize, q.site) {
         return 19;
     }
-    if is_full(here.ends, xs, k, k + 1, q.own) {
+    if LIMIT <= here.ends {
         return 19;
     }
     0

@@ -203,12 +203,6 @@ module _ (book : Book) (xs : List ℕ) where
         (sym (ap (λ (x : Placement). x .site) (placed-is i)) ∙ e ∙ ap (λ (x : Placement). x .site) (placed-is k)) in
         rw (eq-eqb (placed i .parent) 1 (parent-is i p (omega arith)), ne-eqb (placed i .site) (placed k .site) other, ne-eqb (suc i) 1 (omega arith)))
 
-    -- nor at an atom of a placement that comes later
-    own-free : (k : ℕ) → 1 ≤ k → k ≤ length ss → joinsOn (joinOn placed) (k - 1) (suc k) (placed k .own) ≡ 0
-    unfolding joinEnds joinOf
-    own-free k l m = no-ends (k - 1) (suc k) (placed k .own) (λ i p q.
-        rw (ne-eqb (placed i .parent) (suc k) (omega (arith, parent-is i p (omega arith))), ne-eqb (suc i) (suc k) (omega arith)))
-
     not-full : (g : Graph) (k p a : ℕ) → joinsOn (joinOn placed) (k - 1) p a ≡ 0 → isFullIn g a ≡ false → isFull (degree (g .bonds) a) (joinOn placed) k p a ≡ false
     not-full g k p a z e =
         let n : degree (g .bonds) a + joinsOn (joinOn placed) (k - 1) p a ≡ degree (g .bonds) a = omega (arith, z) in
@@ -250,7 +244,7 @@ module _ (book : Book) (xs : List ℕ) where
         ∙ has-parent (shelfOf book) placed k parent
         ∙ joins-well (atomSite (sitesOn (shelfOf book) placed (placed k .parent - 1)) (placed k .site)) (atomSite (sitesOn (shelfOf book) placed k) (placed k .own)) (joinOn placed) k site own
         (not-full (graphOn book placed (placed k .parent - 1)) k (placed k .parent) (placed k .site) free full)
-        (not-full (graphOn book placed k) k (suc k) (placed k .own) (own-free k l m) own-full)
+        own-full
 
     well : (k : ℕ) → k ≤ length ss → fault (shelfOf book) placed k ≡ 0
     well zero h = first-well

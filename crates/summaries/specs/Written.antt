@@ -50,9 +50,9 @@ join-same {p} {q} {g} {h} placed k u v =
   where
     go : (s : Bool) → isOutside (g .atoms) (placed k .site) ≡ s → (o : Bool) → isOutside (h .atoms) (placed k .own) ≡ o
         → cond {A = ℕ} (isOutside (g .atoms) (placed k .site) || isOutside (h .atoms) (placed k .own)) 18
-        (cond (leb limit (p .ends (placed k .site) + joinsOn (joinOn placed) (k - 1) (placed k .parent) (placed k .site)) || leb limit (q .ends (placed k .own) + joinsOn (joinOn placed) (k - 1) (suc k) (placed k .own))) 19 0)
+        (cond (leb limit (p .ends (placed k .site) + joinsOn (joinOn placed) (k - 1) (placed k .parent) (placed k .site)) || leb limit (q .ends (placed k .own))) 19 0)
         ≡ cond {A = ℕ} (isOutside (g .atoms) (placed k .site) || isOutside (h .atoms) (placed k .own)) 18
-        (cond (leb limit (g .ends (placed k .site) + joinsOn (joinOn placed) (k - 1) (placed k .parent) (placed k .site)) || leb limit (h .ends (placed k .own) + joinsOn (joinOn placed) (k - 1) (suc k) (placed k .own))) 19 0)
+        (cond (leb limit (g .ends (placed k .site) + joinsOn (joinOn placed) (k - 1) (placed k .parent) (placed k .site)) || leb limit (h .ends (placed k .own))) 19 0)
     go true e o f = rw e
     go false e true f = rw (e, f)
     go false e false f = rw (u .ends (placed k .site) (inside (g .atoms) (placed k .site) e), v .ends (placed k .own) (inside (h .atoms) (placed k .own) f))

@@ -14,7 +14,7 @@ use summary::fields;
 use summary::seen;
 ghost use mathlib.Core.List.{[]};
 ghost use mathlib.Core.Path.{_≡_};
-ghost use Prim.Native.Nat.{_+_, _*_, _≤_, _<_};
+ghost use Prim.Native.Nat.{_+_, _*_, _/_, _≤_, _<_};
 ghost use lib.ListN.{length, getD};
 ghost use Rattle.assembly.specs.Placements.{mostPlacements};
 ghost use Rattle.joining.specs.Small.{SmallCounts};
@@ -77,14 +77,13 @@ pub(crate) fn step_at(rows: &[StepRow], k: usize, z: usize) -> u64
     wide(row[z])
 }
 
-// The fields that the summary of a block's number says.
-pub(crate) fn fields_at(book: &[u8], number: usize) -> Indices
-    ensures { λ r. ⌜ r ≡ storedFields (summaryAt (now (book .entry)) (placeOf (now (book .entry)) number)) ⌝ }
+// The fields of the block of an end, 256 times a block's number and one of its atoms; and what is seen from it.
+pub(crate) fn fields_at(book: &[u8], x: usize) -> Indices
+    ensures { λ r. ⌜ r ≡ storedFields (summaryAt (now (book .entry)) (placeOf (now (book .entry)) (x / 256))) ⌝ }
 {
-    fields(summary_at(book, place_of(book, number)))
+    fields(summary_at(book, place_of(book, x / 256)))
 }
 
-// What is seen from an end, 256 times a block's number and one of its atoms.
 fn seen_from(book: &[u8], x: usize) -> Seen
     ensures { λ r. ⌜ r ≡ seenFrom (now (book .entry)) x ⌝ }
 {

@@ -120,13 +120,13 @@ pub(crate) fn composed(
     ensures { λ r. ⌜ r ≡ sixIn (keptIn (now (book .entry)) (now (links .entry))) (joinsIn (now (links .entry))) (count - 1) ⌝ }
 {
     let mut s = Summary {
-        fields: fields_at(book, end_at(links, 0) / 256),
+        fields: fields_at(book, end_at(links, 0)),
     };
     let mut k: usize = 1;
     while k < count {
         let core = core_of(book, links, count, rows, counts, k);
         let own = core_at(counts, 2 * k);
-        s = s.joined(fields_at(book, end_at(links, 2 * k) / 256), core, own);
+        s = s.joined(fields_at(book, end_at(links, 2 * k)), core, own);
         counts[2 * k + 1] = row_of(core);
         k += 1;
     }

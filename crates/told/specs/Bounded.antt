@@ -135,7 +135,7 @@ unfolding joinFault
 join-number g h joins k =
     let j = joins k in
     either (isOutside (g .atoms) (j .site) || isOutside (h .atoms) (j .own)) 18 _ (omega arith)
-    (either (isFull (g .ends) joins k (j .parent) (j .site) || isFull (h .ends) joins k (suc k) (j .own)) 19 0 (omega arith) (omega arith))
+    (either (isFull (g .ends) joins k (j .parent) (j .site) || leb limit (h .ends)) 19 0 (omega arith) (omega arith))
 
 module _ (shelf : Shelf) (placed : ℕ → Placement) where
   fault-number : (k : ℕ) → fault shelf placed k ≤ mostNumber

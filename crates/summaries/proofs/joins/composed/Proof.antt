@@ -74,14 +74,14 @@ row-of-requires c κs =
     let t = c .before .before .before .before .before .before .before in
     subst⁻¹ SmallCounts (c .before .before .before .before .before .core-of .ensures) (from-small (t .before .before .before .before .before .pre .0) (t .before .loop .k) (t .before .loop .k) (omega (arith, row t)))
 
-mul-t18 : tie.Need-mul-t18 Inv-loop μ-loop
-mul-t18 c = omega (arith, row (c .before .before .before .before .before .before .before .before))
+mul-t17 : tie.Need-mul-t17 Inv-loop μ-loop
+mul-t17 c = omega (arith, row (c .before .before .before .before .before .before .before .before))
 
-add-t21 : tie.Need-add-t21 Inv-loop μ-loop
-add-t21 c = omega (arith, row (c .before .before .before .before .before .before .before .before))
+add-t19 : tie.Need-add-t19 Inv-loop μ-loop
+add-t19 c = omega (arith, row (c .before .before .before .before .before .before .before .before))
 
-mul-t20 : tie.Need-mul-t20 Inv-loop μ-loop
-mul-t20 c = omega (arith, row (c .before .before .before .before .before .before .before .before))
+mul-t21 : tie.Need-mul-t21 Inv-loop μ-loop
+mul-t21 c = omega (arith, row (c .before .before .before .before .before .before .before .before))
 
 slice-set-from-counts : tie.Need-slice-set-from-counts Inv-loop μ-loop
 slice-set-from-counts c = long (c .before .before .before .before .before .before .before .before)
@@ -127,5 +127,5 @@ returns c =
 pub composed-spec : {M : Type 1} → statement M
 composed-spec =
     tie.close (tie.spec Inv-loop μ-loop end-at-requires (λ c κs. search needs) loop-holds core-of-requires mul-core-at core-at-requires mul-end-at
-    end-at-requires-2 (λ c κs. search needs) (λ c κs. search needs) row-of-requires mul-t18 add-t21 mul-t20 slice-set-from-counts add-k loop-less loop-again
+    end-at-requires-2 (λ c κs. search needs) (λ c κs. search needs) row-of-requires mul-t17 add-t19 mul-t21 slice-set-from-counts add-k loop-less loop-again
     same-length returns)
