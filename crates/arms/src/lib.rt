@@ -13,7 +13,8 @@ use summary::seen;
 ghost use mathlib.Core.Path.{_≡_};
 ghost use Prim.Native.Nat.{_-_, _<_, min};
 ghost use Rattle.sighted.specs.Sighted.{stepsIn};
-ghost use Rattle.arms.specs.Arms.{mostArms, armRow, rowArm, armIn, opened, armOf, portsNear, portIn, coreIn, coreOf, sightAt, stemOf, joinedTo};
+ghost use Rattle.filling.specs.Reply.{fillBytes};
+ghost use Rattle.arms.specs.Arms.{mostArms, armRow, rowArm, armIn, armOf, portsNear, portIn, coreIn, coreOf, sightAt, stemOf, joinedTo};
 
 // The most arms of a core.
 pub const ARMS: usize = 4;
@@ -140,21 +141,18 @@ fn arm_in(s: &[u8], a: usize) -> Arm
     Arm { six, end }
 }
 
-// The place of a block that is opened: 0 in all where the block is refused.
-fn opened(n: usize, bonds: &[u8]) -> [u8; SUMMARY]
-    ensures { λ r. ⌜ r ≡ opened n (now (bonds .entry)) ⌝ }
+fn opened_arm(n: usize, bonds: &[u8], a: usize, place: &mut [u8]) -> Arm
+    ensures { λ r. ⌜ r ≡ armIn (fillBytes 0 n (now (bonds .entry)) (now (place .entry))) a ⌝ }
 {
-    let mut place = [0u8; SUMMARY];
-    fill(0, n, bonds, &mut place);
-    place
+    fill(0, n, bonds, place);
+    arm_in(place, a)
 }
 
 // What is kept of a block that joins at atom a: 0 in all where the block is refused.
 pub fn arm_of(n: usize, bonds: &[u8], a: usize) -> Arm
     ensures { λ r. ⌜ r ≡ armOf n (now (bonds .entry)) a ⌝ }
 {
-    let place = opened(n, bonds);
-    arm_in(&place, a)
+    opened_arm(n, bonds, a, &mut [0u8; SUMMARY])
 }
 
 // The number of steps to atom b that a row says, as it stands there; 0 where there is no such atom.
@@ -204,12 +202,18 @@ fn core_in(s: &[u8], atoms: [u8; ARMS]) -> Core
     Core { six, ends }
 }
 
+fn opened_core(n: usize, bonds: &[u8], atoms: [u8; ARMS], place: &mut [u8]) -> Core
+    ensures { λ r. ⌜ r ≡ coreIn (fillBytes 0 n (now (bonds .entry)) (now (place .entry))) atoms ⌝ }
+{
+    fill(0, n, bonds, place);
+    core_in(place, atoms)
+}
+
 // What is kept of a block to whose atoms arms join: one search from each; 0 in all where the block is refused.
 pub fn core_of(n: usize, bonds: &[u8], atoms: [u8; ARMS]) -> Core
     ensures { λ r. ⌜ r ≡ coreOf n (now (bonds .entry)) atoms ⌝ }
 {
-    let place = opened(n, bonds);
-    core_in(&place, atoms)
+    opened_core(n, bonds, atoms, &mut [0u8; SUMMARY])
 }
 
 // What is counted from the atom of arm k once the arms before it are joined.
