@@ -1,12 +1,12 @@
 -- Laws. A bond's end is kept as one byte: of a block that can be, this changes no fault of the bond. Assumes nothing.
-use Prim.Native.Nat.{ℕ, min, _≤_, _<_}
-use mathlib.Core.Bool.{Bool, true, false, _||_, or-true}
+use Prim.Native.Nat.{ℕ, _≤_, _<_}
+use mathlib.Core.Bool.{true, or-true}
 use mathlib.Core.List.{List}
-use mathlib.Core.Path.{_≡_, refl, sym, _∙_, ap, ap₂}
+use mathlib.Core.Path.{_≡_, sym, _∙_, ap₂}
 use native.Mathlib.Decide.{decLe}
 use native.Mathlib.Omega.{arith}
 use borrow.Author.Tests.{lt-ltb}
-use lib.Dec.{eqb, ltb}
+use lib.Dec.{eqb}
 use Rattle.graph.specs.Graph.{Bond, bond}
 use Rattle.reply.specs.Read.{isOutside}
 use Rattle.block.specs.Block.{mostAtoms, bondFault}

@@ -10,7 +10,7 @@ use native.Mathlib.Omega.{arith}
 use borrow.Author.Tests.{eq-eqb, ne-eqb, leb-false, not-false}
 use lib.Dec.{eqb, leb}
 use Rattle.graph.specs.Graph.{Graph, Within, Molecule, degree}
-use Rattle.graph.specs.Assembly.{Join, atomOf, written, Stands, Assembled, Placed}
+use Rattle.graph.specs.Assembly.{Join, atomOf, written, Assembled, Placed}
 use Rattle.graph.specs.Climb.{sooner}
 use Rattle.reply.specs.Read.{read, refuseIf, refuseFor, isOutside}
 use Rattle.reply.specs.Chain.{then-read, if-read, for-read, neither}

@@ -1,8 +1,8 @@
 -- The rows are stored one by one in half a table. Assumes nothing.
 use Prim.Native.Nat.{ℕ, suc, _-_, _≤_, _<_}
-use mathlib.Core.Bool.{true, false, cond}
-use mathlib.Core.List.{List, []}
-use mathlib.Core.Path.{_≡_, refl, sym, ap, subst⁻¹, _∙_}
+use mathlib.Core.Bool.{true, cond}
+use mathlib.Core.List.{List}
+use mathlib.Core.Path.{_≡_, sym, ap, subst⁻¹, _∙_}
 use native.Mathlib.Omega.{arith}
 use native.Mathlib.Decide.{ℕ-discrete, decLt}
 use lib.Dec.{ltb}

@@ -8,7 +8,7 @@ use native.Mathlib.Omega.{arith}
 use native.Mathlib.Numerals.{add-one}
 use lib.ListN.{length, getD, replicate}
 use lib.Pow.{pow-pos}
-use Rattle.graph.specs.Graph.{Bond, bond, Within, anyJoins, bonded, degree}
+use Rattle.graph.specs.Graph.{Bond, Within, anyJoins, bonded, degree}
 use Rattle.graph.specs.Sets.{has}
 use Rattle.graph.specs.SetLaws.{has-none}
 use Rattle.graph.specs.Bonds.{same-test, any-out, any-head, any-tail, any-none}

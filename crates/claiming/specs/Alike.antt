@@ -1,10 +1,10 @@
 -- Laws. No field matters that some claims do not ask for. Assumes nothing.
-use Prim.Native.Nat.{ℕ, zero, suc, _+_, _-_, _≤_, _<_}
+use Prim.Native.Nat.{ℕ, zero, suc, _+_, _≤_, _<_}
 use mathlib.Core.Bool.{Bool, true, false}
 use mathlib.Core.List.{List, [], _∷_}
 use mathlib.Core.Path.{_≡_, refl, sym, _∙_, ap}
 use native.Mathlib.Omega.{arith}
-use borrow.Author.Tests.{lt-ltb, le-ltb, eq-eqb, ne-eqb, ltb-true, ltb-false}
+use borrow.Author.Tests.{lt-ltb, le-ltb, eq-eqb, ne-eqb, ltb-true}
 use lib.Dec.{eqb, ltb}
 use lib.ListN.{length}
 use Rattle.reply.specs.Read.{Read, refused, read, _then_, refuseIf, ifElse}
@@ -12,7 +12,7 @@ use Rattle.reply.specs.Chain.{not-read, then-read, unique}
 use Rattle.records.specs.Bytes.{byteAt, part}
 use Rattle.printed.specs.declared.Printed.{Printed}
 use Rattle.printed.specs.declared.Printed.the-variants.{Unread, Of}
-use Rattle.claiming.specs.Claims.{printedOf, claimOf, saidReading, sizeAt, claimReply, claimsFrom, claimsIn, truth, fieldOf, near, isRight, firstWrongClaim, anySets, claimsEnd, claimsReply}
+use Rattle.claiming.specs.Claims.{printedOf, claimOf, saidReading, sizeAt, claimReply, claimsFrom, claimsIn, truth, fieldOf, isRight, firstWrongClaim, anySets, claimsEnd, claimsReply}
 use Rattle.claiming.specs.Asked.{asksFrom, asks}
 use Rattle.claiming.specs.Going.{claim-read}
 use Rattle.claiming.specs.declared.Claim.{Claim}

@@ -4,7 +4,7 @@ use printed::Printed;
 use reply::Refusal;
 use reply::is_outside;
 ghost use mathlib.Core.Path.{_≡_};
-ghost use mathlib.Core.Bool.{Bool, true, false, _||_, cond};
+ghost use mathlib.Core.Bool.{true, false, _||_};
 ghost use Prim.Native.Nat.{_+_, _-_, _≤_, _<_};
 ghost use lib.ListN.{length};
 ghost use Rattle.reply.specs.Read.{read, refusal};

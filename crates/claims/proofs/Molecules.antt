@@ -1,16 +1,16 @@
 -- Laws. What is told of a deck's molecule and of a block, case by case. Assumes nothing.
-use Prim.Native.Nat.{ℕ, zero, suc, _+_, _-_, _*_, _/_, _≤_, _<_}
+use Prim.Native.Nat.{ℕ, zero, suc, _+_, _-_, _*_, _/_, _≤_}
 use mathlib.Core.Bool.{Bool, true, false, not}
-use mathlib.Core.List.{List, [], _∷_, _++_}
-use mathlib.Core.Path.{_≡_, refl, sym, _∙_, ap, ap₂}
+use mathlib.Core.List.{List, [], _∷_}
+use mathlib.Core.Path.{_≡_, refl, sym, _∙_, ap}
 use native.Mathlib.Numerals.{add-one}
 use native.Mathlib.Omega.{arith}
-use borrow.Author.Tests.{lt-ltb, le-ltb, eq-eqb, ne-eqb}
-use lib.Dec.{eqb, ltb}
+use borrow.Author.Tests.{le-ltb}
+use lib.Dec.{eqb}
 use lib.ListN.{length}
 use Rattle.graph.specs.Graph.{Graph}
 use Rattle.reply.specs.Read.{Read, refused, read, _then_, refuseIf, saidNumber}
-use Rattle.reply.specs.Chain.{then-read, not-read, number-told}
+use Rattle.reply.specs.Chain.{not-read, number-told}
 use Rattle.reply.specs.declared.Refusal.{Refusal}
 use Rattle.reply.specs.declared.NumberReply.the-variants as number
 use Rattle.block.specs.Block.{mostBytes, bondsOf, graphOf, blockReply}
@@ -32,7 +32,7 @@ use Rattle.sets.specs.Sets.{hosoya, merrifieldSimmons}
 use Rattle.sets.specs.Reply.{setsOf, treeReply, setsReply, saidSets}
 use Rattle.sets.specs.declared.Sets.{Sets}
 use Rattle.sets.specs.declared.SetsReply.the-variants as setsAnswer
-use Rattle.balaban.specs.Balaban.{bondCount, divisor, reckoned, balabanReply}
+use Rattle.balaban.specs.Balaban.{reckoned, balabanReply}
 use Rattle.claiming.specs.Claims.{truth, fieldOf, claimsReply}
 use Rattle.claiming.specs.Asked.{asks}
 use Rattle.claiming.specs.Alike.{AlikeIn, told-alike}

@@ -1,12 +1,12 @@
 -- Laws. Over the summaries of a book of molecules the number of two placed atoms is their distance in the one molecule with every atom and bond written out. Assumes nothing.
 use Prim.Native.Nat.{ℕ, zero, suc, _+_, _-_, _≤_}
-use mathlib.Core.Bool.{Bool, false}
+use mathlib.Core.Bool.{false}
 use mathlib.Core.List.{List}
-use mathlib.Core.Path.{_≡_, refl, sym, _∙_, ap, ap₂}
+use mathlib.Core.Path.{_≡_, refl, _∙_, ap}
 use native.Mathlib.Omega.{arith}
 use borrow.Author.Tests.{ne-eqb, le-ltb}
-use Rattle.graph.specs.Graph.{Graph, Within, distance}
-use Rattle.graph.specs.Assembly.{Join, startAt, atomOf, written, Assembled, Placed}
+use Rattle.graph.specs.Graph.{Graph, Within}
+use Rattle.graph.specs.Assembly.{Join, startAt, atomOf, Assembled, Placed}
 use Rattle.graph.specs.Climb.{apart, placed-within}
 use Rattle.reply.specs.Read.{read, isOutside}
 use Rattle.assembly.specs.Book.{Book}
@@ -19,7 +19,7 @@ use Rattle.joining.specs.Climb.{far-keeps}
 use Rattle.joining.specs.Written.{agrees-self, written-agrees}
 use Rattle.summaries.specs.Composing.{keptOn}
 use Rattle.summaries.specs.Written.{HonestBook}
-use Rattle.climb.specs.Far.{farBy, placedFar}
+use Rattle.climb.specs.Far.{placedFar}
 
 abbrev tables : (ℕ → Graph) → ℕ → Table
 tables blocks k = tableOf (blocks k)

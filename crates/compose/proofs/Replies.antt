@@ -1,9 +1,8 @@
 -- From a deck whose blocks are read to its reply, by what composing over its book says. Assumes nothing.
-use Prim.Native.Nat.{ℕ, _-_, _≤_}
+use Prim.Native.Nat.{ℕ, _-_}
 use mathlib.Core.List.{List}
 use mathlib.Core.Path.{_≡_, refl, sym, _∙_, ap}
 use native.Mathlib.Omega.{arith}
-use Rattle.graph.specs.Graph.{Graph}
 use Rattle.graph.specs.Assembly.{written}
 use Rattle.reply.specs.Read.{Read, refused, read, refusal, _then_}
 use Rattle.reply.specs.declared.Refusal.{Refusal}
@@ -14,11 +13,11 @@ use Rattle.block.specs.declared.IndicesReply.the-variants as measured
 use Rattle.records.specs.Records.{payloadAt, assemblyKind}
 use Rattle.assembly.specs.Book.{Book, bookOf}
 use Rattle.assembly.specs.Placements.{placementCount, placementAt, graphOn, joinOn, assemblyReply}
-use Rattle.deck.specs.Deck.{longestDeck, Deck, placementPlace, openReply, blocksReply, assemblyReplyAt, sheetReply, deckReply}
+use Rattle.deck.specs.Deck.{Deck, placementPlace, openReply, assemblyReplyAt, sheetReply, deckReply}
 use Rattle.deck.specs.Kept.{kept}
 use Rattle.deck.specs.Molecule.{placedIn, graphAt, joinAt, moleculeOf}
 use Rattle.deck.specs.declared.Form.{Form}
-use Rattle.deck.proofs.Parts.{open-read, bad-blocks, bad-assembly, bad-sheet, whole-deck}
+use Rattle.deck.proofs.Parts.{open-read, bad-assembly, bad-sheet, whole-deck}
 use Rattle.summaries.specs.Composing.{composedReply}
 use Rattle.summaries.specs.Written.{HonestBook, writtenReply, composed-written}
 use Rattle.compose.specs.Fields.{composeReply, behindReply, saidComposed}

@@ -1,28 +1,24 @@
 -- A book filled from blocks says what they say: the summaries of the molecules of a deck's book. Assumes nothing.
-use Prim.Native.Nat.{ℕ, zero, suc, _+_, _*_, _-_, _/_, _≤_, _<_}
-use mathlib.Core.Bool.{Bool, true, false, _&&_, not, cond, true≢false}
-use mathlib.Core.List.{List, [], _∷_, _++_, append-assoc}
+use Prim.Native.Nat.{ℕ, zero, suc, _+_, _*_, _≤_, _<_}
+use mathlib.Core.Bool.{Bool, true, false, true≢false}
+use mathlib.Core.List.{List, [], _∷_}
 use mathlib.Core.Logic.{_⊎_, inl, inr, ⊎-elim}
 use mathlib.Core.Path.{_≡_, refl, sym, _∙_, ap, subst}
 use native.Mathlib.Nat.{eq-or-lt-of-le}
 use native.Mathlib.Omega.{arith}
 use borrow.Author.Tests.{eq-eqb, ne-eqb, eqb-true, eqb-false, lt-ltb, le-ltb}
 use lib.Dec.{eqb, ltb}
-use lib.ListN.{length, getD, take, drop, length-take, length-drop, take-append-drop}
-use lib.Seq.{sets, length-sets, sets-eq, take-length, getD-take, drop-drop}
-use Rattle.graph.specs.Graph.{Graph, Within, degree}
-use Rattle.graph.specs.Bonds.{both}
-use Rattle.graph.specs.Distance.{not-true}
+use lib.ListN.{length, take, length-take}
+use lib.Seq.{sets, take-length, getD-take}
 use Rattle.reply.specs.Read.{read}
-use Rattle.records.specs.Bytes.{little, le16, part}
-use Rattle.records.specs.Stored.{Outside, little-kept, little-put, little-part, part-kept, part-put, part-part}
-use Rattle.block.specs.Block.{graphOf, blockReply}
+use Rattle.records.specs.Bytes.{little, le16}
+use Rattle.records.specs.Stored.{little-kept, little-part, part-kept, part-put, part-part}
+use Rattle.block.specs.Block.{blockReply}
 use Rattle.block.specs.Told.{molecule}
-use Rattle.assembly.specs.Book.{Book, noBlock, find, used, isNumbered, bondBytes, blockGraph, bookOf}
+use Rattle.assembly.specs.Book.{noBlock, find, used, bondBytes, bookOf}
 use Rattle.assembly.specs.declared.BlockAt.{BlockAt}
-use Rattle.summary.specs.Layout.{summaryHead, atomBytes, summaryBytes}
-use Rattle.summary.specs.Summary.{summaryOf}
-use Rattle.summary.specs.Back.{length-summary, summary-fits, summary-told, ends-told, number-told}
+use Rattle.summary.specs.Layout.{summaryBytes}
+use Rattle.summary.specs.Back.{summary-fits, summary-told, ends-told, number-told}
 use Rattle.shelf.specs.Shelf.{placesIn, summaryAt, placeFrom, placeOf, shelfIn}
 use Rattle.shelf.specs.Places.{place-here, place-next, place-none, place-zero, place-some}
 use Rattle.summaries.specs.Written.{HonestBook}

@@ -8,7 +8,7 @@ use native.Mathlib.Omega.{arith}
 use borrow.Author.Tests.{eq-eqb, ne-eqb, eqb-true, eqb-false}
 use lib.Dec.{eqb}
 use lib.ListN.{length, length-append}
-use Rattle.reply.specs.Read.{read, ifElse}
+use Rattle.reply.specs.Read.{read}
 use Rattle.reply.specs.Chain.{not-read, then-read}
 use Rattle.records.specs.Records.{blockKind, kindAt, endAt, recordReply}
 use Rattle.records.specs.declared.Kind.{Kind}

@@ -6,7 +6,7 @@ use mathlib.Core.Path.{_≡_, refl, sym, _∙_, ap, subst}
 use native.Mathlib.Omega.{arith}
 use borrow.Author.Tests.{eqb-true, eqb-false, le-ltb}
 use lib.Dec.{eqb}
-use lib.ListN.{length, getD, take, length-append}
+use lib.ListN.{length, getD, length-append}
 use lib.Seq.{sets, length-sets, take-length, getD-append-seam}
 use Rattle.reply.specs.Read.{Read, refused, read, _then_}
 use Rattle.reply.specs.Chain.{not-read, then-read}

@@ -1,12 +1,12 @@
 -- Steps of reading the blocks of a deck: what is left to do gives the answer. Assumes nothing.
 use Prim.Native.Nat.{ℕ, suc, _+_, _*_, _<_, _≤_}
-use mathlib.Core.Bool.{Bool, true, false, _||_, cond}
+use mathlib.Core.Bool.{Bool, true, false, cond}
 use mathlib.Core.List.{List, [], _∷_, _++_}
 use mathlib.Core.Path.{_≡_, refl, sym, _∙_, ap}
 use native.Mathlib.Numerals.{add-one}
 use native.Mathlib.Omega.{arith}
 use borrow.Author.Tests.{eq-eqb, ne-eqb}
-use lib.Dec.{eqb, leb}
+use lib.Dec.{eqb}
 use lib.ListN.{length, take, drop, set, replicate, take-append-drop, length-take, length-drop}
 use lib.Seq.{length-take-le, take-suc-set, drop-set-lt, drop-drop}
 use Rattle.reply.specs.Read.{Read, refused, read, refusal, saidReply}
@@ -16,7 +16,7 @@ use Rattle.reply.specs.declared.Refusal.{Refusal}
 use Rattle.records.specs.Bytes.{part}
 use Rattle.records.specs.Records.{blockKind, kindAt, endAt, kindReply, recordReply}
 use Rattle.records.specs.declared.Kind.{Kind}
-use Rattle.assembly.specs.Book.{noBlock, used, bondBytes, mostBlocks}
+use Rattle.assembly.specs.Book.{noBlock, bondBytes, mostBlocks}
 use Rattle.assembly.specs.declared.BlockAt.{BlockAt}
 use Rattle.deck.specs.Deck.{kindsAfter, blockAt, moved, blockPlace, unfitAfter, blockReplyAt, deckAt, blocksFrom}
 use Rattle.deck.specs.Said.{blockTable, tabledDeck, movedReply, saidDeck}

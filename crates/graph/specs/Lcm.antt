@@ -3,32 +3,7 @@ use Prim.Native.Nat.{ℕ, zero, suc, _+_, _*_, _-_, _/_, _%_, min, _≤_, _<_, _
 use mathlib.Core.Bool.{Bool, true, false}
 use mathlib.Core.Logic.{_⊎_, inl, inr, ⊎-elim, _↔_}
 use mathlib.Core.Path.{_≡_, refl, sym, _∙_, ap, ap₂, subst}
-use native.Mathlib.Nat.{
-  mul-pos,
-  mul-mod-right,
-  mul-le-mul-right,
-  mod-lt,
-  dvd-of-mod-eq-zero,
-  mod-eq-zero-of-dvd,
-  dvd-mul-left,
-  dvd-mul-right,
-  dvd-mod-iff,
-  dvd-trans,
-  dvd-refl,
-  dvd-antisymm,
-  dvd-zero,
-  one-dvd,
-  div-mul-cancel,
-  mul-div-cancel',
-  zero-mul,
-  le-of-dvd,
-  le-suc-iff,
-  eq-or-lt-of-le,
-  eq-zero-or-pos,
-  eq-of-mul-eq-mul-left,
-  eq-of-mul-eq-mul-right,
-  min-le-right,
-}
+use native.Mathlib.Nat.{mul-pos, mul-mod-right, mul-le-mul-right, mod-lt, dvd-of-mod-eq-zero, mod-eq-zero-of-dvd, dvd-mul-left, dvd-mul-right, dvd-mod-iff, dvd-trans, dvd-refl, dvd-antisymm, dvd-zero, one-dvd, div-mul-cancel, mul-div-cancel', zero-mul, le-of-dvd, le-suc-iff, eq-or-lt-of-le, eq-zero-or-pos, eq-of-mul-eq-mul-left, eq-of-mul-eq-mul-right, min-le-right}
 use native.Mathlib.Omega.{arith}
 use borrow.Author.Tests.{eqb-true, eq-eqb}
 use lib.Dec.{eqb}

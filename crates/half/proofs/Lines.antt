@@ -1,15 +1,15 @@
 -- A row is read out of a half, and stored in it. Assumes nothing.
 use Prim.Native.Nat.{ℕ, zero, suc, _+_, _*_, _-_, _≤_, _<_, min}
 use mathlib.Core.Bool.{true, false}
-use mathlib.Core.List.{List, [], _∷_}
-use mathlib.Core.Path.{_≡_, refl, sym, _∙_, ap, subst}
+use mathlib.Core.List.{List}
+use mathlib.Core.Path.{_≡_, refl, sym, _∙_, subst}
 use native.Mathlib.Decide.{ℕ-discrete}
 use native.Mathlib.Numerals.{add-one}
 use native.Mathlib.Omega.{arith}
 use borrow.Author.Tests.{eqb-false, ltb-false, lt-ltb, le-ltb}
 use lib.Dec.{eqb, ltb}
 use lib.ListN.{length, getD, set, replicate, length-set}
-use lib.Seq.{sets, length-sets, getD-set-same, getD-set-other, ext-getD}
+use lib.Seq.{sets, getD-set-same, getD-set-other, ext-getD}
 use Rattle.reply.specs.Read.{isOutside}
 use Rattle.reply.specs.Chain.{neither}
 use Rattle.half.specs.Half.{mostAtoms, allPairs, table, rowStart, abovePlace, noPair, halfAt, partOf, halfRow, halfWithRow}

@@ -1,5 +1,5 @@
 -- A place is worked out, read and written. Assumes nothing.
-use Prim.Native.Nat.{ℕ, _+_, _*_, _-_, _≤_, _<_}
+use Prim.Native.Nat.{ℕ, _*_, _-_, _≤_, _<_}
 use mathlib.Core.Bool.{Bool, true, false, true≢false}
 use mathlib.Core.List.{List}
 use mathlib.Core.Path.{_≡_, refl, sym, _∙_}
@@ -7,9 +7,9 @@ use native.Mathlib.Nat.{mul-le-mul}
 use native.Mathlib.Omega.{arith}
 use lib.ListN.{length, getD, set}
 use lib.Seq.{set-out}
-use Rattle.half.specs.Half.{mostAtoms, allPairs, rowStart, abovePlace, noPair, pairPlace, halfAt, halfWith}
+use Rattle.half.specs.Half.{mostAtoms, allPairs, rowStart, noPair, pairPlace, halfAt, halfWith}
 use Rattle.half.specs.Places.{Pair, start-last, start-most}
-use Rattle.half.specs.Reads.{Sides, up, down, none, sides, up-place, down-place, none-place, pair-below, pair-reads, pair-stores, none-reads, none-stores}
+use Rattle.half.specs.Reads.{Sides, up, down, none, sides, none-place, pair-below, pair-reads, pair-stores, none-reads, none-stores}
 
 pub corner : (i : ℕ) → 1 ≤ i → i ≤ mostAtoms → (i - 1) * (2 * mostAtoms - i) ≤ 63 * 127
 corner i l h = mul-le-mul {n₂ = 63} {m₂ = 127} (omega arith) (omega arith)

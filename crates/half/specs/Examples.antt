@@ -1,7 +1,7 @@
 -- Laws. Worked examples, computed: the first places, and the half of a table of three atoms in a row. Assumes nothing.
-use Prim.Native.Nat.{ℕ, zero, suc, _-_, max, min}
+use Prim.Native.Nat.{ℕ, _-_, max, min}
 use mathlib.Core.Bool.{cond}
-use mathlib.Core.List.{List, [], _∷_}
+use mathlib.Core.List.{[], _∷_}
 use mathlib.Core.Path.{_≡_, refl}
 use lib.Dec.{ltb}
 use lib.ListN.{length, take}

@@ -1,6 +1,6 @@
 -- Laws. What is stored for two atoms is read there, either way round, and nowhere else; and the half of a table reads as the table does. Assumes nothing.
 use Prim.Native.Nat.{ℕ, zero, suc, _+_, _-_, _≤_, _<_, min, max}
-use mathlib.Core.Bool.{Bool, true, false, _||_, cond, true≢false}
+use mathlib.Core.Bool.{Bool, true, false, true≢false}
 use mathlib.Core.List.{List, _++_}
 use mathlib.Core.Logic.{⊎-elim}
 use mathlib.Core.Path.{_≡_, refl, sym, _∙_, ap, subst, fun-ext}
@@ -15,7 +15,7 @@ use Rattle.reply.specs.Read.{isOutside}
 use Rattle.reply.specs.Chain.{neither}
 use Rattle.half.specs.Half.{mostAtoms, allPairs, table, rowStart, abovePlace, noPair, pairPlace, halfAt, halfWith, halfRow, halfFrom, halfOf}
 use Rattle.half.specs.Tables.{length-table, getD-table}
-use Rattle.half.specs.Places.{Pair, start-first, start-last, start-next, start-most, place-is, place-below, place-one, Found, place-found}
+use Rattle.half.specs.Places.{Pair, start-first, start-last, start-next, start-most, place-is, place-below, place-one, place-found}
 
 -- two atoms are a pair one way round or the other, or they are none
 pub data Sides (i j : ℕ) : Type 0 where

@@ -1,15 +1,13 @@
 -- Laws. Numbers of a byte or two, composed, stay small whatever they are. Assumes nothing.
-use Prim.Native.Nat.{ℕ, zero, suc, _+_, _*_, _-_, _^_, _≤_, _<_, max}
+use Prim.Native.Nat.{ℕ, zero, suc, _+_, _*_, _-_, _^_, _≤_, _<_}
 use mathlib.Core.Bool.{Bool, true, false, cond}
-use mathlib.Core.Path.{_≡_, refl, sym, _∙_, ap, subst}
+use mathlib.Core.Path.{_≡_, refl}
 use native.Mathlib.Nat.{mul-le-mul}
 use native.Mathlib.Omega.{arith}
-use borrow.Author.Tests.{eqb-true, eqb-false}
 use lib.Dec.{eqb}
 use Rattle.graph.specs.Graph.{Within, isEven, isAt}
 use Rattle.graph.specs.Assembly.{Join}
 use Rattle.joining.specs.Parts.{Part, evenBeyond, oddBeyond, beyond, both, grow, evenAcross, oddAcross, joinSix, farIn, sightIn, sixIn}
-use Rattle.joining.specs.Whole.{far-old, far-on, far-off, far-new, sight-old, sight-new}
 use Rattle.block.specs.declared.Indices.{Indices}
 use Rattle.block.specs.declared.Vertex.{Vertex}
 

@@ -4,7 +4,7 @@ use mathlib.Core.Path.{_≡_, refl}
 use mathlib.Core.Bool.{cond}
 use mathlib.Core.List.{[], _∷_}
 use lib.Dec.{eqb}
-use Rattle.graph.specs.Graph.{Graph, bond, distance, firstFrom, reaches, anyAtom, bonded, anyJoins, joins, sum, sumPairs, evenOf, oddOf, evenOne, oddOne, isAt, total, wiener, evenPart, oddPart, polarity}
+use Rattle.graph.specs.Graph.{Graph, bond, distance, firstFrom, reaches, anyAtom, bonded, anyJoins, joins, sum, sumPairs, evenOf, oddOf, evenOne, oddOne, isAt, polarity}
 use Rattle.graph.specs.Farthest.{most, mostPairs}
 use Rattle.graph.specs.Assembly.{Join}
 use Rattle.joining.specs.Table.{Table, tableOf, totalBy, seenBy, largestBy, farthestBy, sixOf, sightOf, farJoined, joinedBy, startBy, writtenBy}

@@ -7,7 +7,7 @@ use native.Mathlib.Omega.{arith}
 use Rattle.graph.specs.Graph.{isEven, itself, evenOf, oddOf, evenOne, oddOne, isAt}
 use Rattle.graph.specs.Sums.{sum-cong, sum-add, sumPairs-cong, sumPairs-add}
 use Rattle.graph.specs.Parts.{parts-of}
-use Rattle.joining.specs.Table.{Table, totalBy, seenBy, largestBy, farthestBy, sixOf, sightBy, sightOf, joinedBy}
+use Rattle.joining.specs.Table.{Table, totalBy, seenBy, farthestBy, sixOf, sightBy, sightOf, joinedBy}
 use Rattle.graph.specs.Splits.{Term, Splits, products, splits-even, splits-odd, splits-even-one, splits-odd-one, splits-at0, splits-at1, splits-at2, splits-at3}
 use Rattle.joining.specs.Rules.{seen-first, seen-second, total-joined, farthest-first, farthest-second, largest-joined}
 use Rattle.joining.specs.Parts.{evenBeyond, oddBeyond, beyond, both, grow, evenAcross, oddAcross, joinSix}

@@ -5,9 +5,8 @@ use mathlib.Core.Path.{_≡_, sym, _∙_, ap, ap₂}
 use native.Mathlib.Nat.{add-sub-cancel-left}
 use native.Mathlib.Omega.{arith}
 use borrow.Author.Tests.{le-leb, lt-leb}
-use Rattle.graph.specs.Graph.{sum}
 use Rattle.graph.specs.Sums.{sum-cong, sum-split, sumPairs-cong, sumPairs-split}
-use Rattle.graph.specs.Farthest.{most, mostPairs}
+use Rattle.graph.specs.Farthest.{most}
 use Rattle.graph.specs.Largest.{most-cong, mostPairs-cong, most-split, most-add, mostPairs-split}
 use Rattle.graph.specs.Splits.{Term, Splits, products, products-far, products-near}
 use Rattle.joining.specs.Table.{Table, totalBy, seenBy, largestBy, farthestBy, farJoined, joinedBy}

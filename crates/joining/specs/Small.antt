@@ -1,6 +1,6 @@
 -- Work. Numbers that are not cut down: there joining is by the rules themselves.
 use Prim.Native.Nat.{ℕ, _+_, _%_, _^_, _≤_}
-use mathlib.Core.Path.{_≡_, ap₂}
+use mathlib.Core.Path.{_≡_}
 use native.Mathlib.Nat.{mod-eq-of-lt}
 use native.Mathlib.Omega.{arith}
 use Rattle.joining.specs.Parts.{grow, joinSix}

@@ -7,7 +7,7 @@ ghost use mathlib.Core.Path.{_≡_};
 ghost use Prim.Native.Nat.{_+_, _*_, _^_, _<_, _≤_};
 ghost use Rattle.graph.specs.Graph.{isAt};
 ghost use Rattle.joining.specs.Parts.{beyond, both, joinSix};
-ghost use Rattle.joining.specs.Joining.{mostCounted, mostField, cutCounts, cutFields, grownOf, joinedOf};
+ghost use Rattle.joining.specs.Joining.{mostCounted, cutCounts, cutFields, grownOf, joinedOf};
 ghost use Rattle.joining.specs.Small.{SmallCounts, Low, SmallFields};
 
 // The digits that count, 29 of a number that is counted from an atom and 60 of a field: 2^29 and 2^60.

@@ -1,6 +1,6 @@
 -- Laws. What is kept of a library that is read gives the fields of each product: a product is an assembly whose placements are all joined to the first, so its
 -- fields are those of the core with its arms. Assumes nothing.
-use Prim.Native.Nat.{ℕ, zero, suc, _-_, _≤_, _<_}
+use Prim.Native.Nat.{ℕ, zero, suc, _≤_, _<_}
 use mathlib.Core.Bool.{true}
 use mathlib.Core.List.{List, _∷_}
 use mathlib.Core.Logic.{⊎-elim}

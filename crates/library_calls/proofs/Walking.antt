@@ -1,19 +1,17 @@
 -- What the C functions for libraries answer, by what the library says. Assumes nothing.
-use Prim.Native.Nat.{ℕ, zero, suc, _≤_, _<_}
+use Prim.Native.Nat.{ℕ, _≤_, _<_}
 use mathlib.Core.List.{List, [], _∷_}
-use mathlib.Core.Path.{_≡_, refl, sym, _∙_, ap, ap₂}
+use mathlib.Core.Path.{_≡_, refl, sym, _∙_, ap}
 use native.Mathlib.Omega.{arith}
 use borrow.Author.Tests.{le-ltb}
 use lib.ListN.{length}
-use Rattle.reply.specs.Read.{Read, refused, read, refusal, _then_}
-use Rattle.reply.specs.declared.Refusal.{Refusal}
+use Rattle.reply.specs.Read.{Read, refused, read}
 use Rattle.records.specs.declared.Sheet.{Sheet}
-use Rattle.block.specs.declared.Indices.{Indices}
 use Rattle.catalogue.specs.Products.{Product, done, made}
 use Rattle.library.specs.Steps.{Ran, stepReply, stepOut, saidStep, runOf}
 use Rattle.library.specs.Running.{run-stops, run-ends}
 use Rattle.library.specs.declared.StepReply.{StepReply}
-use Rattle.calls.specs.Convention.{code, over}
+use Rattle.calls.specs.Convention.{over}
 use Rattle.library_calls.specs.Libraries.{withNext, stepCode, madeOut, steppedCode, steppedNext, Walked}
 
 -- a next position has room

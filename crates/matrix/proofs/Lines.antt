@@ -1,6 +1,5 @@
 -- How what a row's entries, and the rows, add up to grows by one. Assumes nothing.
 use Prim.Native.Nat.{ℕ, suc, _+_, _-_, _*_, _%_, _≤_, _<_, max}
-use mathlib.Core.Bool.{Bool, true, false, cond}
 use mathlib.Core.List.{List, []}
 use mathlib.Core.Path.{_≡_, refl, sym, ap, _∙_}
 use native.Mathlib.Decide.{ℕ-discrete}
@@ -10,7 +9,7 @@ use borrow.Author.Tests.{eq-eqb, ne-eqb}
 use lib.Dec.{eqb}
 use lib.ListN.{getD}
 use mir.Val.{boolByte}
-use Rattle.graph.specs.Graph.{Within, sum, sumPairs, itself, evenOf, oddOf, isAt}
+use Rattle.graph.specs.Graph.{Within, sum, sumPairs, evenOf, oddOf, isAt}
 use Rattle.graph.specs.Farthest.{most, mostPairs}
 use Rattle.graph.specs.Parts.{parts-of}
 use Rattle.graph.specs.Sums.{sum-cong, sumPairs-add, sumPairs-cong}

@@ -1,10 +1,10 @@
 -- Laws. The indices that a block's matrix says are the block's; and each promise determines what is given and left. Assumes nothing.
 use Prim.Native.Nat.{ℕ, min}
 use mathlib.Core.List.{List}
-use mathlib.Core.Path.{_≡_, sym, _∙_, ap}
+use mathlib.Core.Path.{_≡_, _∙_, ap}
 use Rattle.graph.specs.Graph.{Graph, Within, distance, sumPairs, total, itself, evenOf, oddOf, isAt}
 use Rattle.graph.specs.Distance.{distance-sym}
-use Rattle.graph.specs.Farthest.{mostPairs, largest}
+use Rattle.graph.specs.Farthest.{largest}
 use Rattle.graph.specs.Largest.{mostPairs-cong}
 use Rattle.graph.specs.Sums.{sumPairs-cong}
 use Rattle.reply.specs.Read.{read}

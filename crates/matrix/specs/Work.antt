@@ -1,8 +1,8 @@
 -- Work. What the first entries of a row, and the rows of the first atoms, add up to.
-use Prim.Native.Nat.{ℕ, _+_, _*_, _≤_}
+use Prim.Native.Nat.{ℕ, _*_, _≤_}
 use mathlib.Core.List.{List}
 use mathlib.Core.Path.{_≡_}
-use Rattle.graph.specs.Graph.{sum, sumPairs, itself, oddOf, isAt}
+use Rattle.graph.specs.Graph.{sum, sumPairs, oddOf, isAt}
 use Rattle.graph.specs.Farthest.{most, mostPairs}
 use Rattle.block.specs.Block.{mostAtoms}
 use Rattle.block.specs.Sums.{entry}

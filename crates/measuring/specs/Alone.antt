@@ -4,7 +4,7 @@ use mathlib.Core.List.{List}
 use mathlib.Core.Path.{_≡_, refl, _∙_, ap}
 use Rattle.graph.specs.Graph.{Graph}
 use Rattle.reply.specs.Read.{Read, refused, read, _then_}
-use Rattle.block.specs.Block.{mostBytes, graphOf, blockReply}
+use Rattle.block.specs.Block.{mostBytes}
 use Rattle.block.specs.Index.{indicesOf, indicesReply}
 use Rattle.block.specs.declared.Indices.{Indices}
 use Rattle.adjacency.specs.Neighbours.{bondListBytes, neighboursReply}

@@ -8,7 +8,7 @@ use Rattle.reply.specs.Read.{Read, read}
 use Rattle.block.specs.Block.{bondsOf, bondFault, bondsReply, blockReply}
 use Rattle.block.specs.Index.{indicesOf, indicesReply}
 use Rattle.block.specs.declared.Indices.{Indices}
-use Rattle.text.specs.Text.{ascii, allDigits, isNumber, valueFrom, numberOf, untilFeed, lineEnd, hasCarriage, lineChars, nextLine, laterLine, startsWith, lineStarts}
+use Rattle.text.specs.Text.{allDigits, isNumber, valueFrom, numberOf, untilFeed, lineEnd, hasCarriage, lineChars, nextLine, laterLine, startsWith, lineStarts}
 use Rattle.molfile.specs.Molfile.{bondOfLine, hydrogenIn, symbolAt, oneH, hydrogenAt, inTurn, lineReply, numbersReply, bondReply, endLineReply, linesReply, passingBelow, isDropped, keptBytes}
 use Rattle.molfile.specs.Examples.{methane}
 use Rattle.measuring.specs.Measuring.{measureReply}

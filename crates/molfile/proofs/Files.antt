@@ -1,12 +1,11 @@
 -- Laws. What the lists of a file hold once its lines are read. Assumes nothing.
-use Prim.Native.Nat.{ℕ, suc, _<_, _≤_}
+use Prim.Native.Nat.{ℕ, _<_}
 use mathlib.Core.Bool.{Bool}
 use mathlib.Core.List.{List}
-use mathlib.Core.Path.{_≡_, refl, sym, _∙_, ap}
-use lib.ListN.{length, getD}
+use mathlib.Core.Path.{_≡_}
 use Rattle.graph.specs.Graph.{Bond, Within}
 use Rattle.reply.specs.Read.{read}
-use Rattle.molfile.specs.Molfile.{atomLinePlace, atomLineCount, bondLinePlace, bondLineCount, endsOfLine, bondOfLine, hydrogenAt, hydrogenIn, bondReplyOf, isDropped}
+use Rattle.molfile.specs.Molfile.{atomLineCount, bondLinePlace, bondLineCount, bondOfLine, hydrogenIn, bondReplyOf, isDropped}
 use Rattle.molfile.specs.Work.{Marks, Ends, listsReply, EndsInside, MarksGiven, KeepsBonds}
 use Rattle.molfile.specs.declared.Kept.{Kept}
 use Rattle.molfile.proofs.Turns.{turn-at}

@@ -1,13 +1,13 @@
 -- Laws. What stands at the front of numbers that were lent for all the bonds that three digits say. Assumes nothing.
 use Prim.Native.Nat.{ℕ, zero, suc, _*_, _≤_}
 use mathlib.Core.Bool.{Bool, true, false, _||_, cond}
-use mathlib.Core.List.{List, [], _∷_, _++_}
-use mathlib.Core.Path.{_≡_, refl, sym, _∙_, ap}
+use mathlib.Core.List.{List, [], _∷_}
+use mathlib.Core.Path.{_≡_, sym, _∙_, ap}
 use native.Mathlib.Omega.{arith}
 use lib.ListN.{length, take, drop, length-append, length-drop}
 use lib.Seq.{sets, take-at, length-take-le, length-sets}
 use Rattle.graph.specs.Graph.{Bond}
-use Rattle.reply.specs.Read.{Read, refused, read}
+use Rattle.reply.specs.Read.{refused, read}
 use Rattle.reply.specs.declared.Refusal.{Refusal}
 use Rattle.block.specs.Block.{mostAtoms}
 use Rattle.molfile.specs.Molfile.{atomLineCount, bondLineCount, bondOfLine, droppedIn, newNumber, keptBytes, linesReply, keptReply, keptAtoms, bytesOf}

@@ -1,13 +1,13 @@
 -- Laws. The numbers of the kept bonds, bond by bond. Assumes nothing.
-use Prim.Native.Nat.{ℕ, zero, suc, _+_, _*_, _<_, _≤_}
+use Prim.Native.Nat.{ℕ, zero, suc, _+_, _*_, _≤_}
 use mathlib.Core.Bool.{Bool, true, false, _||_, cond}
 use mathlib.Core.List.{List, [], _∷_, _++_}
-use mathlib.Core.Path.{_≡_, refl, sym, _∙_, ap}
+use mathlib.Core.Path.{_≡_, refl}
 use native.Mathlib.Omega.{arith}
 use native.Mathlib.Numerals.{add-one}
 use lib.Dec.{eqb}
 use lib.ListN.{length, getD, set, drop, length-append}
-use Rattle.graph.specs.Graph.{Bond, bond}
+use Rattle.graph.specs.Graph.{Bond}
 use Rattle.text.specs.Put.{Puts}
 use Rattle.text.proofs.Putting.{none, at-front}
 use Rattle.molfile.specs.Work.{entryOf, keptBy}

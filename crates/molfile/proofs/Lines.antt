@@ -1,19 +1,18 @@
 -- Laws. A line that is due, and the numbers it begins with, test by test. Assumes nothing.
 use Prim.Native.Nat.{ℕ, _+_, _<_, _≤_}
-use mathlib.Core.Bool.{Bool, true, false, _||_, not, cond}
+use mathlib.Core.Bool.{true, false, _||_}
 use mathlib.Core.List.{List}
-use mathlib.Core.Path.{_≡_, refl, sym, _∙_, ap}
+use mathlib.Core.Path.{_≡_, refl}
 use native.Mathlib.Omega.{arith}
 use borrow.Author.Tests.{le-leb, lt-leb, lt-ltb, le-ltb, leb-false, ltb-false}
 use lib.Dec.{leb, ltb}
 use lib.ListN.{length}
-use Rattle.reply.specs.Read.{Read, refused, read, _then_, refusal, refuseIf, isOutside}
+use Rattle.reply.specs.Read.{refused, read, refusal, refuseIf, isOutside}
 use Rattle.reply.specs.Chain.{then-read, if-read, neither}
 use Rattle.block.specs.Faults.{inside}
-use Rattle.graph.specs.Graph.{Bond, Within}
+use Rattle.graph.specs.Graph.{Within}
 use Rattle.reply.specs.declared.Refusal.{Refusal}
-use Rattle.text.specs.Text.{isNumber, numberOf, threeAt, lineChars, nextLine}
-use Rattle.text.specs.Said.{noNumber, fieldNumber, lineAt}
+use Rattle.text.specs.Text.{isNumber, threeAt, lineChars}
 use Rattle.text.specs.Laws.{chars-within}
 use Rattle.molfile.specs.Molfile.{bondLinePlace, endsOfLine, bondOfLine, lineReply, numbersReply, bondReply}
 

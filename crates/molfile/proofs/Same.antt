@@ -1,17 +1,17 @@
 -- Laws. What the lists of a file say is what its definitions say. Assumes nothing.
-use Prim.Native.Nat.{ℕ, zero, suc, _+_, _-_, _*_, _<_, _≤_}
+use Prim.Native.Nat.{ℕ, zero, suc, _+_, _<_, _≤_}
 use mathlib.Core.Bool.{Bool, true, false, _&&_, _||_, not, cond}
 use mathlib.Core.List.{List, [], _∷_, _++_}
-use mathlib.Core.Path.{_≡_, refl, sym, _∙_, ap}
+use mathlib.Core.Path.{_≡_, refl, _∙_, ap}
 use native.Mathlib.Omega.{arith}
 use native.Mathlib.Decide.{ℕ-discrete}
-use borrow.Author.Tests.{eq-eqb, ne-eqb}
+use borrow.Author.Tests.{ne-eqb}
 use lib.Dec.{eqb}
-use lib.ListN.{length, getD}
-use Rattle.graph.specs.Graph.{Bond, bond, Within}
+use lib.ListN.{getD}
+use Rattle.graph.specs.Graph.{Bond, Within}
 use Rattle.molfile.specs.Molfile.{passingBelow, names, other, namesToH, bondLinesOn, hydrogensOn, isDropped, isKept, newNumber, keptBytes}
 use Rattle.molfile.specs.Work.{most, markOf, entryOf, heft, share, sum, weight, bondBy, droppedBy, keptBy, EndsInside, Weighed, Numbered, MarksGiven}
-use Rattle.molfile.proofs.Numbering.{number-suc, number-few}
+use Rattle.molfile.proofs.Numbering.{number-suc}
 
 -- counting
 count-same : (n : ℕ) (s t : ℕ → Bool) → ((j : ℕ) → j < n → s j ≡ t j) → passingBelow n s ≡ passingBelow n t

@@ -1,13 +1,12 @@
 -- Laws. Tests in turn, and what replies of the code say. Assumes nothing.
-use Prim.Native.Nat.{ℕ, zero, suc, _+_, _<_, _≤_}
-use mathlib.Core.Bool.{Bool, true, false}
+use Prim.Native.Nat.{ℕ, zero, suc, _+_, _<_}
 use mathlib.Core.List.{List}
-use mathlib.Core.Path.{_≡_, refl, sym, _∙_, ap}
+use mathlib.Core.Path.{_≡_, refl, ap}
 use native.Mathlib.Decide.{ℕ-discrete}
 use native.Mathlib.Omega.{arith}
 use native.Mathlib.Numerals.{add-one}
 use Rattle.reply.specs.Read.{Read, refused, read, _then_}
-use Rattle.reply.specs.Chain.{not-read, then-read}
+use Rattle.reply.specs.Chain.{then-read}
 use Rattle.reply.specs.declared.Refusal.{Refusal}
 use Rattle.text.specs.Said.{lineAt}
 use Rattle.text.specs.declared.Line.{Line}

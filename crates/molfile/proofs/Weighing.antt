@@ -10,7 +10,7 @@ use borrow.Author.Tests.{eq-eqb, ne-eqb}
 use lib.Dec.{eqb, eqb·suc-suc}
 use lib.ListN.{length, getD, set, replicate, length-set, length-replicate, getD-replicate}
 use lib.Seq.{getD-set-same, getD-set-other}
-use Rattle.graph.specs.Graph.{Bond, bond}
+use Rattle.graph.specs.Graph.{Bond}
 use Rattle.molfile.specs.Work.{most, heft, entryOf, share, sum, weight, bondBy, Weighed}
 
 pub heft-small : (m : ℕ) → heft m ≤ 2

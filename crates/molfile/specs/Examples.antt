@@ -1,12 +1,11 @@
 -- Laws. Methane, and a file for each refusal with its place, by computing.
-use Prim.Native.Nat.{ℕ, zero, suc, _+_}
+use Prim.Native.Nat.{ℕ, _+_}
 use mathlib.Core.Path.{_≡_, refl}
 use mathlib.Core.List.{List, [], _∷_, _++_}
-use lib.ListN.{length}
 use Rattle.graph.specs.Graph.{joins, anyJoins, bonded, anyAtom, reaches, firstFrom, distance, allAtoms, connected, degree}
-use Rattle.reply.specs.Read.{Read, refused, read, refusal}
+use Rattle.reply.specs.Read.{Read, refused, read}
 use Rattle.block.specs.Block.{bondsOf, bondFault, bondsReply, blockReply}
-use Rattle.text.specs.Text.{ascii, feed, allDigits, isNumber, valueFrom, numberOf, untilFeed, lineEnd, hasCarriage, lineChars, nextLine, laterLine, startsWith, lineStarts}
+use Rattle.text.specs.Text.{ascii, allDigits, isNumber, valueFrom, numberOf, untilFeed, lineEnd, hasCarriage, lineChars, nextLine, laterLine, startsWith, lineStarts}
 use Rattle.molfile.specs.Molfile.{bondOfLine, hydrogenIn, symbolAt, oneH, hydrogenAt, inTurn, lineReply, numbersReply, bondReply, endLineReply, linesReply, passingBelow, isDropped, keptBytes, keptAtoms, bytesOf, molfileReply}
 
 -- what is told of a file: its refusal, or its atoms and the bytes of its bonds

@@ -1,5 +1,5 @@
 -- Definitions. A V2000 molfile: what its lines say, its refusals 25, 26 and 27, which hydrogens are dropped, and the block that is left. Places are bytes of the file, counted from 0.
-use Prim.Native.Nat.{ℕ, zero, suc, _+_, _*_, _-_}
+use Prim.Native.Nat.{ℕ, zero, suc, _+_, _*_}
 use mathlib.Core.Bool.{Bool, true, false, _&&_, _||_, not, cond}
 use mathlib.Core.List.{List, [], _∷_, _++_}
 use lib.Dec.{eqb, leb, ltb}

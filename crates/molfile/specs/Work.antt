@@ -1,6 +1,6 @@
 -- Work. What the functions over the lists of a file do: the marks of its hydrogens, the ends of its bonds, the weights and new numbers of its atoms.
-use Prim.Native.Nat.{ℕ, zero, suc, _+_, _*_, _-_, _%_, _≤_, _<_}
-use mathlib.Core.Bool.{Bool, true, false, _&&_, _||_, not, cond}
+use Prim.Native.Nat.{ℕ, zero, suc, _+_, _%_, _<_}
+use mathlib.Core.Bool.{Bool, _&&_, _||_, cond}
 use mathlib.Core.List.{List, [], _∷_, _++_}
 use mathlib.Core.Path.{_≡_}
 use lib.Dec.{eqb, ltb}
@@ -10,7 +10,7 @@ use Rattle.reply.specs.Read.{Read, refused, read, _then_, refuseIf}
 use Rattle.block.specs.Block.{blockReply}
 use Rattle.text.specs.Text.{nextLine}
 use Rattle.text.specs.Said.{lineAt}
-use Rattle.molfile.specs.Molfile.{countsPlace, atomLinePlace, bondLinePlace, restPlace, atomLineCount, bondLineCount, endsOfLine, bondOfLine, hydrogenAt, inTurn, lineReply, headerReply, numbersReply, atomReply, bondReplyOf, endLineReply, newNumber, keptBytes}
+use Rattle.molfile.specs.Molfile.{countsPlace, atomLinePlace, bondLinePlace, restPlace, atomLineCount, bondLineCount, endsOfLine, bondOfLine, hydrogenAt, inTurn, headerReply, numbersReply, atomReply, bondReplyOf, endLineReply, newNumber, keptBytes}
 use Rattle.molfile.specs.declared.LineRead.{LineRead}
 use Rattle.molfile.specs.declared.LineRead.the-variants as line
 use Rattle.molfile.specs.declared.Walk.{Walk}

@@ -1,6 +1,6 @@
 -- Laws. A bond of two atoms as it is written, by computing.
 use mathlib.Core.Path.{_≡_, refl}
-use mathlib.Core.List.{List, [], _∷_, _++_}
+use mathlib.Core.List.{[], _∷_, _++_}
 use Rattle.graph.specs.Graph.{bond}
 use Rattle.text.specs.Text.{ascii, three}
 use Rattle.molwriter.specs.Written.{countsLine, atomLine, bondLine, bondLines, endLine, molfileLines, unlines, molfileText}

@@ -1,13 +1,13 @@
 -- Laws. The lines of the text that is written. Assumes nothing.
-use Prim.Native.Nat.{ℕ, zero, suc, _+_, _<_, _≤_}
-use mathlib.Core.Bool.{Bool, true, _&&_}
+use Prim.Native.Nat.{ℕ, zero, suc, _+_, _<_}
+use mathlib.Core.Bool.{true}
 use mathlib.Core.List.{List, [], _∷_, _++_, append-assoc}
 use mathlib.Core.Path.{_≡_, refl, sym, _∙_, ap}
 use native.Mathlib.Omega.{arith}
 use lib.ListN.{length, getD, drop, replicate, length-append, length-replicate, getD-replicate, List·getD-append}
 use lib.Seq.{getD-append-add, drop-append-add, drop-append-seam}
 use Rattle.graph.specs.Graph.{Bond, bond}
-use Rattle.text.specs.Text.{ascii, feed, three}
+use Rattle.text.specs.Text.{ascii, three}
 use Rattle.molwriter.specs.Written.{countsLine, atomLine, bondLine, bondLines, endLine, molfileLines, unlines, molfileText}
 use Rattle.molwriter.specs.Pieces.{countsText, atomText, atomsText, bondText, bondsText, pieces}
 use Rattle.molwriter.specs.Unlines.{isPlain, allPlain, unlines-append, both}

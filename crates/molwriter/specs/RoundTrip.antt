@@ -1,6 +1,6 @@
 -- Laws. What is written reads back as the same block. Assumes nothing.
-use Prim.Native.Nat.{ℕ, zero, suc, _+_, _*_, _-_, _/_, _%_, _<_, _≤_}
-use mathlib.Core.Bool.{Bool, true, false, _&&_, _||_, not, cond}
+use Prim.Native.Nat.{ℕ, zero, suc, _+_, _*_, _%_, _<_, _≤_}
+use mathlib.Core.Bool.{Bool, false, _||_, not}
 use mathlib.Core.List.{List, [], _∷_, _++_, append-assoc}
 use mathlib.Core.Path.{_≡_, refl, sym, _∙_, ap}
 use native.Mathlib.Omega.{arith}
@@ -10,15 +10,14 @@ use lib.Dec.{eqb, ltb}
 use lib.ListN.{length, getD, take, drop}
 use lib.Seq.{take-suc, take-all, take-append-seam}
 use Rattle.graph.specs.Graph.{Bond, bond, Within}
-use Rattle.reply.specs.Read.{Read, refused, read, _then_, refuseIf, refuseFor, isOutside}
+use Rattle.reply.specs.Read.{Read, read, _then_, refuseIf, refuseFor, isOutside}
 use Rattle.reply.specs.Chain.{then-read, for-read, neither}
 use Rattle.block.specs.Faults.{faultless}
 use Rattle.block.specs.Block.{mostBytes, bondsOf, bondFault, bondsReply, blockReply}
 use Rattle.block.specs.Numbered.{few-bytes}
 use Rattle.block.specs.Told.{passed, few-atoms}
-use Rattle.text.specs.Text.{ascii, three, blank, isBlank, characterAt, isNumber, numberOf, threeAt, lineChars, laterLine, startsWith, lineStarts}
-use Rattle.molfile.specs.Molfile.{countsPlace, atomLinePlace, atomLineCount, bondLineCount, bondLinePlace, restPlace, endsOfLine, bondOfLine, symbolAt, isH, oneH, hydrogenAt, inTurn, lineReply, numbersReply, bondReply, endWord, endLineReply, headerReply, atomReply, bondReplyOf, linesReply, hydrogenIn, passingBelow, isDropped, newNumber, keptBytes, keptAtoms, bytesOf, molfileReply}
-use Rattle.molfile.proofs.Turns.{turn-none, turn-more}
+use Rattle.text.specs.Text.{ascii, three, isNumber, numberOf, threeAt, lineChars, laterLine, startsWith, lineStarts}
+use Rattle.molfile.specs.Molfile.{countsPlace, atomLinePlace, atomLineCount, bondLineCount, bondLinePlace, restPlace, endsOfLine, bondOfLine, symbolAt, hydrogenAt, inTurn, numbersReply, endLineReply, headerReply, atomReply, bondReplyOf, linesReply, hydrogenIn, passingBelow, isDropped, newNumber, keptBytes, keptAtoms, bytesOf, molfileReply}
 use Rattle.molfile.proofs.Lines.{line-long, numbers-both, bond-inside, bond-is}
 use Rattle.molfile.proofs.Symbols.{h-none}
 use Rattle.text.proofs.Written.{three-back}

@@ -1,16 +1,13 @@
 -- Laws. A text made of lines: where each begins, and what stands in it. Assumes nothing.
-use Prim.Native.Nat.{ℕ, zero, suc, _+_, _-_, _<_, _≤_, min}
+use Prim.Native.Nat.{ℕ, zero, suc, _+_, _-_, _<_, _≤_}
 use mathlib.Core.Bool.{Bool, true, false, _&&_, not, cond, true≢false}
 use mathlib.Core.List.{List, [], _∷_, _++_, append-assoc}
 use mathlib.Core.Path.{_≡_, refl, sym, _∙_, ap}
 use native.Mathlib.Omega.{arith}
-use native.Mathlib.Decide.{ℕ-discrete}
-use native.Mathlib.Numerals.{add-one}
-use borrow.Author.Tests.{not-true, ne-eqb, lt-ltb, eqb-false, ltb-true}
+use borrow.Author.Tests.{ne-eqb, eqb-false, ltb-true}
 use lib.Dec.{eqb, ltb}
 use lib.ListN.{length, getD, take, drop, length-append, take-append-drop, List·getD-append}
-use lib.Seq.{drop-cons, take-suc, drop-append-seam, getD-append-add, length-take-le, drop-at}
-use Rattle.reply.specs.Read.{ifElse}
+use lib.Seq.{drop-cons, take-suc, drop-append-seam, getD-append-add}
 use Rattle.text.specs.Text.{feed, carriage, characterAt, untilFeed, lineEnd, hasCarriage, lineChars, nextLine, laterLine}
 use Rattle.molwriter.specs.Written.{unlines}
 

@@ -1,6 +1,6 @@
 // Writes a block as a V2000 molfile.
 ghost use mathlib.Core.Path.{_≡_};
-ghost use mathlib.Core.List.{List, _++_};
+ghost use mathlib.Core.List.{_++_};
 ghost use Rattle.graph.specs.Graph.{bond};
 ghost use lib.ListN.{length};
 ghost use Rattle.block.specs.Block.{bondsOf, blockReply};

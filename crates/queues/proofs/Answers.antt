@@ -5,7 +5,7 @@ use mathlib.Core.List.{List, _++_}
 use mathlib.Core.Path.{_≡_, refl, sym, _∙_, ap}
 use borrow.Author.Tests.{eq-eqb, ne-eqb, lt-ltb, le-ltb, ltb-true, not-false}
 use native.Mathlib.Omega.{arith}
-use lib.Dec.{eqb, ltb}
+use lib.Dec.{eqb}
 use lib.ListN.{length, take, drop}
 use lib.Seq.{sets}
 use Rattle.reply.specs.Read.{Read, refused, read, refusal, _then_, refuseIf, saidReply}
@@ -15,7 +15,7 @@ use Rattle.block.specs.Block.{blockReply}
 use Rattle.filling.specs.Reply.{fillReply, fillBytes}
 use Rattle.filling.proofs.Places.{place-told, place-stays, place-puts}
 use Rattle.reply.specs.Chain.{then-read, if-read}
-use Rattle.queues.specs.Shelf.{places, numberIn, placeHolding, isHeld, heldBy, holds, zeroNumber, unless, roomReply, addReply, added, lookReply, dropReply, dropped}
+use Rattle.queues.specs.Shelf.{places, placeHolding, isHeld, heldBy, holds, zeroNumber, unless, roomReply, addReply, added, lookReply, dropReply, dropped}
 use Rattle.queues.specs.Table.{shelfBytes, tableBytes, shelfStart, shelf, onTable, tableAfter, withShelf, tableReply, zeroed, emptied}
 use Rattle.queues.specs.declared.Queue.{Queue}
 use Rattle.summary.specs.Layout.{summaryBytes}

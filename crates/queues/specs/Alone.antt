@@ -1,18 +1,17 @@
 -- Laws. Two queues at one table of summaries: what a queue is told depends only on its own calls, and is what its blocks mean. Assumes nothing.
-use Prim.Native.Nat.{ℕ, zero, suc, _+_, _*_, _/_, _%_, _≤_, _<_}
+use Prim.Native.Nat.{ℕ, zero, suc, _*_, _/_, _≤_, _<_}
 use mathlib.Core.Bool.{Bool, true, false, _&&_, not, cond}
-use mathlib.Core.List.{List, [], _∷_, _++_}
-use mathlib.Core.Path.{_≡_, refl, sym, _∙_, ap}
+use mathlib.Core.List.{List, []}
+use mathlib.Core.Path.{_≡_, refl, _∙_, ap}
 use native.Mathlib.Omega.{arith}
-use borrow.Author.Tests.{ne-eqb, eqb-false}
+use borrow.Author.Tests.{ne-eqb}
 use lib.Dec.{eqb, ltb, lit≤}
 use lib.ListN.{length, take}
 use Rattle.graph.specs.Graph.{Graph}
-use Rattle.reply.specs.Read.{Read, read}
+use Rattle.reply.specs.Read.{read}
 use Rattle.block.specs.Block.{graphOf, blockReply}
 use Rattle.block.specs.Index.{indicesOf}
 use Rattle.block.specs.Told.{molecule}
-use Rattle.block.specs.declared.Indices.{Indices}
 use Rattle.records.specs.Bytes.{little, le16, littleBytes}
 use Rattle.summary.specs.Layout.{summaryBytes, storedFields}
 use Rattle.summary.specs.Summary.{headOf, summaryOf}
@@ -23,10 +22,10 @@ use Rattle.summaries.specs.Written.{writtenReply, composed-written, HonestBook}
 use Rattle.queues.specs.Shelf.{places, numberIn, seek, heldBy, holds, placeHolding, lookReply}
 use Rattle.queues.specs.Table.{tableBytes, shelf, emptied}
 use Rattle.queues.specs.Calls.{Sent, own, answersTo, tableAll}
-use Rattle.queues.specs.Model.{Entry, lookup, has, toldLook, toldAll, leftAll}
+use Rattle.queues.specs.Model.{Entry, has, toldLook, toldAll, leftAll}
 use Rattle.queues.specs.Entries.{has-positive}
 use Rattle.queues.specs.Keeps.{KeepsQueue, HonestTrade}
-use Rattle.queues.specs.Kept.{KeptPlaces, proper-at, stands, same-look}
+use Rattle.queues.specs.Kept.{proper-at, stands, same-look}
 use Rattle.queues.specs.OwnCalls.{own-calls-only, keeps-own}
 use Rattle.queues.specs.declared.Queue.{Queue}
 use Rattle.queues.specs.Queues.{storedBlock}

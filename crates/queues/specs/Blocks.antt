@@ -1,7 +1,6 @@
 -- Definitions. What a queue holds, with no bytes: blocks under numbers; and what its calls are told.
 use Prim.Native.Nat.{ℕ}
 use mathlib.Core.List.{List, []}
-use Rattle.graph.specs.Graph.{Graph}
 use Rattle.reply.specs.Read.{Read}
 use Rattle.block.specs.Block.{graphOf, blockReply}
 use Rattle.block.specs.Index.{indicesOf}

@@ -1,15 +1,15 @@
 -- Laws. Worked examples, by computing: a table whose places hold one byte behind the number; composed is the sum of the bytes behind two numbers. Assumes nothing.
-use Prim.Native.Nat.{ℕ, _+_, _*_, _/_, _%_, _≤_}
-use mathlib.Core.Bool.{Bool, not}
+use Prim.Native.Nat.{ℕ, _+_, _*_, _/_, _%_}
+use mathlib.Core.Bool.{not}
 use mathlib.Core.List.{List, [], _∷_}
 use mathlib.Core.Path.{_≡_, refl}
 use lib.Dec.{ltb, lit<}
-use lib.ListN.{length, replicate}
+use lib.ListN.{replicate}
 use Rattle.reply.specs.Read.{Read, refused, read, _then_, refuseIf, refusal}
 use Rattle.records.specs.Bytes.{byteAt, little}
 use Rattle.queues.specs.Shelf.{placeHolding, holds, seek, heldBy, roomReply, addReply, added, lookReply, dropReply, dropped}
 use Rattle.queues.specs.Table.{zeroed, emptied}
-use Rattle.queues.specs.Calls.{CallNumber, Trade, Call, add, look, drop, compose, Answer, done, fields, sheet, Sent, own, answersTo, tableAll}
+use Rattle.queues.specs.Calls.{CallNumber, Trade, Call, add, look, drop, compose, done, fields, sheet, Sent, answersTo, tableAll}
 use Rattle.queues.specs.declared.Queue.the-variants.{Day, Night}
 
 abbrev bytes : Trade ℕ ℕ ℕ ℕ (Read ℕ)

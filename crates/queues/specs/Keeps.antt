@@ -3,7 +3,7 @@ use Prim.Native.Nat.{ℕ, _≤_, _<_}
 use mathlib.Core.List.{List, [], _∷_}
 use mathlib.Core.Path.{_≡_}
 use lib.ListN.{length, take}
-use Rattle.reply.specs.Read.{Read, read}
+use Rattle.reply.specs.Read.{read}
 use Rattle.records.specs.Bytes.{le16}
 use Rattle.queues.specs.Calls.{Trade}
 use Rattle.queues.specs.Model.{Entry, Meaning}

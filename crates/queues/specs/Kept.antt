@@ -1,8 +1,8 @@
 -- Laws. Each call on a shelf that holds what a queue holds is told what the queue is told, and leaves a shelf that holds what the queue holds then. Assumes nothing.
-use Prim.Native.Nat.{ℕ, zero, suc, _+_, _*_, _≤_, _<_}
+use Prim.Native.Nat.{ℕ, _*_, _≤_, _<_}
 use mathlib.Core.Bool.{Bool, true, false, not, cond}
 use mathlib.Core.List.{List, [], _∷_}
-use mathlib.Core.Path.{_≡_, refl, sym, _∙_, ap, subst}
+use mathlib.Core.Path.{_≡_, refl, _∙_, ap, subst}
 use native.Mathlib.Omega.{arith}
 use borrow.Author.Tests.{eqb-false, leb-false}
 use lib.Dec.{eqb, ltb, leb}
@@ -11,12 +11,12 @@ use lib.Seq.{sets, length-take-le, take-take}
 use Rattle.reply.specs.Read.{Read, refused, read, _then_, refuseIf}
 use Rattle.reply.specs.Chain.{then-read, if-read}
 use Rattle.records.specs.Bytes.{part}
-use Rattle.queues.specs.Shelf.{places, numberIn, placeHolding, placeAt, holds, unless, zeroNumber, roomReply, addReply, added, lookReply, dropReply, dropped}
-use Rattle.queues.specs.Calls.{CallNumber, Trade, Call, add, look, drop, compose, Answer, done, fields, sheet, answer, after}
+use Rattle.queues.specs.Shelf.{places, numberIn, placeHolding, placeAt, unless, zeroNumber, roomReply, addReply, added, lookReply, dropReply, dropped}
+use Rattle.queues.specs.Calls.{CallNumber, Trade, Call, add, look, drop, compose, done, fields, sheet, answer, after}
 use Rattle.queues.specs.Model.{Entry, lookup, has, without, Meaning, toldAdd, toldLook, toldDrop, told, left}
 use Rattle.queues.specs.Seeks.{taken-most}
 use Rattle.queues.specs.Entries.{has-positive, has-number}
-use Rattle.queues.specs.Storage.{Storable, Stores, held-place, place-within, stores-empty, stores-added, stores-dropped}
+use Rattle.queues.specs.Storage.{Storable, held-place, place-within, stores-empty, stores-added, stores-dropped}
 use Rattle.queues.specs.Room.{room-by}
 use Rattle.queues.specs.Keeps.{Proper, AllProper, stored, KeepsQueue, HonestTrade}
 

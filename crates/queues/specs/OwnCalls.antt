@@ -6,12 +6,12 @@ use mathlib.Core.List.{List, [], _∷_, _++_}
 use mathlib.Core.Path.{_≡_, refl, sym, _∙_, ap, ap₂}
 use native.Mathlib.Omega.{arith}
 use borrow.Author.Tests.{lt-ltb, le-ltb, leb-true, leb-false}
-use lib.Dec.{ltb, leb}
+use lib.Dec.{leb}
 use lib.ListN.{length, getD, take, drop, replicate, length-append, length-take, length-drop, length-replicate, getD-replicate, take-append-drop, List·getD-eq-default}
 use lib.Seq.{sets, length-sets, length-take-le, take-at, drop-at, getD-take, getD-drop}
 use Rattle.reply.specs.Read.{Read, refused, read, _then_, refuseIf, refusal}
-use Rattle.queues.specs.Shelf.{places, placeHolding, unless, zeroNumber, addReply, added, lookReply, dropReply, dropped}
-use Rattle.queues.specs.Table.{shelfBytes, tableBytes, shelfStart, shelf, withShelf, tableReply, onTable, tableAfter, zeroed, emptied}
+use Rattle.queues.specs.Shelf.{placeHolding, unless, zeroNumber, addReply, added, lookReply, dropReply, dropped}
+use Rattle.queues.specs.Table.{shelfBytes, tableBytes, shelf, withShelf, tableAfter, zeroed, emptied}
 use Rattle.queues.specs.Calls.{Trade, Call, add, look, drop as remove, compose, Answer, done, fields, sheet, Sent, mine, consIf, own, answer, after, answers, tableAnswer, tableLeft, answersTo, tableAll}
 use Rattle.queues.specs.Model.{Entry, Meaning, left, toldAll, leftAll}
 use Rattle.records.specs.Stored.{byte-put}

@@ -3,18 +3,15 @@
 use Prim.Native.Nat.{ℕ, _+_, _*_, _≤_, _<_}
 use mathlib.Core.Bool.{Bool, true, false, not}
 use mathlib.Core.List.{List}
-use mathlib.Core.Logic.{⊎-elim, inl, inr}
 use mathlib.Core.Path.{_≡_, refl, sym, _∙_, ap}
-use native.Mathlib.Decide.{ℕ-discrete}
-use native.Mathlib.Nat.{mul-le-mul-left}
 use native.Mathlib.Omega.{arith}
 use borrow.Author.Tests.{le-leb, lt-leb, ltb-true, ltb-false, ne-eqb}
-use lib.Dec.{eqb, ltb, leb}
+use lib.Dec.{ltb, leb}
 use lib.ListN.{length}
 use lib.Seq.{sets}
-use Rattle.reply.specs.Read.{Read, refused, read, _then_, refuseIf}
+use Rattle.reply.specs.Read.{Read, read, refuseIf}
 use Rattle.records.specs.Bytes.{little}
-use Rattle.queues.specs.Shelf.{places, numberIn, placeHolding, holds, unless, zeroNumber, roomReply, addReply, dropReply, dropped}
+use Rattle.queues.specs.Shelf.{places, numberIn, placeHolding, holds, zeroNumber, roomReply, addReply, dropReply, dropped}
 use Rattle.queues.specs.Seeks.{taken, seek-found, seek-least, seek-hit, taken-all, taken-less}
 use Rattle.records.specs.Stored.{little-put}
 use Rattle.queues.specs.Storage.{held-place, place-within, other-number}

@@ -1,5 +1,5 @@
 -- Definitions. A shelf: the bytes of one queue's eight places. What stands at a place begins with a number; a place is empty where that is 0.
-use Prim.Native.Nat.{ℕ, zero, suc, _+_, _*_}
+use Prim.Native.Nat.{ℕ, zero, suc, _*_}
 use mathlib.Core.Bool.{Bool, _&&_, not, cond}
 use mathlib.Core.List.{List, [], _∷_}
 use lib.Dec.{eqb, ltb}

@@ -1,23 +1,23 @@
 -- Laws. Places of any width that store anything which begins with its number: adding stores into the first empty place, dropping sets the number to 0.
 -- Whatever is stored, each place keeps it. Assumes nothing.
-use Prim.Native.Nat.{ℕ, zero, suc, _+_, _*_, _≤_, _<_}
-use mathlib.Core.Bool.{Bool, true, false, _&&_, not, cond}
+use Prim.Native.Nat.{ℕ, suc, _+_, _*_, _≤_, _<_}
+use mathlib.Core.Bool.{Bool, true, false, _&&_, not}
 use mathlib.Core.List.{List, [], _∷_}
 use mathlib.Core.Logic.{_⊎_, inl, inr, ⊎-elim}
-use mathlib.Core.Path.{_≡_, refl, sym, _∙_, ap, ap₂}
+use mathlib.Core.Path.{_≡_, refl, sym, _∙_, ap}
 use native.Mathlib.Decide.{ℕ-discrete}
 use native.Mathlib.Nat.{mul-le-mul-left}
 use native.Mathlib.Omega.{arith}
-use borrow.Author.Tests.{lt-ltb, ltb-true, ltb-false, ne-eqb, eqb-false, not-false}
+use borrow.Author.Tests.{lt-ltb, ltb-true, ltb-false, ne-eqb, eqb-false}
 use lib.Dec.{eqb, ltb}
 use lib.ListN.{length, getD}
 use lib.Seq.{sets, length-sets, take-length}
 use Rattle.records.specs.Bytes.{little, part}
-use Rattle.queues.specs.Shelf.{places, seek, placeBy, heldBy, zeroNumber, numberIn}
+use Rattle.queues.specs.Shelf.{places, placeBy, heldBy, zeroNumber, numberIn}
 use Rattle.queues.specs.Model.{Entry, lookup, has, without}
 use Rattle.queues.specs.Seeks.{taken, seek-found, seek-least, seek-hit, seek-same, taken-all, taken-more, taken-none}
-use Rattle.records.specs.Stored.{Outside, little-kept, little-put, part-kept, part-put}
-use Rattle.queues.specs.Entries.{absent, Apart, lookup-first, lookup-later, has-positive, has-number, has-by, has-none, not-has, without-other, without-self, without-apart, without-length}
+use Rattle.records.specs.Stored.{little-kept, little-put, part-kept, part-put}
+use Rattle.queues.specs.Entries.{Apart, lookup-first, lookup-later, has-positive, has-number, has-by, has-none, not-has, without-other, without-self, without-apart, without-length}
 
 -- which number is held by numbers at places
 module _ (g : ℕ → ℕ) (x : ℕ) where

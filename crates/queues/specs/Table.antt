@@ -4,7 +4,7 @@ use mathlib.Core.List.{List, _++_}
 use lib.Dec.{ltb}
 use lib.ListN.{length, take, drop, replicate}
 use lib.Seq.{sets}
-use Rattle.reply.specs.Read.{Read, refused, read, _then_, refuseIf}
+use Rattle.reply.specs.Read.{Read, _then_, refuseIf}
 use Rattle.records.specs.Bytes.{part}
 use Rattle.queues.specs.Shelf.{places, unless}
 use Rattle.queues.specs.declared.Queue.{Queue}

@@ -6,7 +6,7 @@ use mathlib.Core.Path.{_≡_, refl, sym, _∙_, ap}
 use native.Mathlib.Omega.{arith}
 use borrow.Author.Tests.{eq-eqb, ne-eqb}
 use lib.ListN.{length, getD}
-use Rattle.reply.specs.Read.{Read, refused, read, refusal, isOutside, toldNumber}
+use Rattle.reply.specs.Read.{Read, refused, read, isOutside, toldNumber}
 use Rattle.reply.specs.declared.Refusal.{Refusal}
 use Rattle.reply.specs.declared.NumberReply.{NumberReply}
 use Rattle.reply.specs.declared.NumberReply.the-variants as counted
@@ -16,7 +16,7 @@ use Rattle.placing.specs.Ranked.{Entry}
 use Rattle.ranking.specs.Best.{bestReply, saidBest, bestOut}
 use Rattle.calls.specs.Convention.{code, coded, outAfter, numberList, Lent, thenNine}
 use Rattle.calls.proofs.Laws.{number-fits}
-use Rattle.ranking_calls.specs.Ranks.{wantsGreatest, lentFor, bestFor, heldOut, Ranks}
+use Rattle.ranking_calls.specs.Ranks.{wantsGreatest, bestFor, heldOut, Ranks}
 
 pub wants-smallest : (g : ℕ) → g ≡ 0 → false ≡ wantsGreatest g
 wants-smallest g e = rw (eq-eqb g 0 e)

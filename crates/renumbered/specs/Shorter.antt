@@ -1,31 +1,28 @@
 -- Laws. A judged deck without its sheet composes: the same blocks, the same assembly, the same molecule; and what is behind it is a sheet. Assumes nothing.
 use Prim.Native.Nat.{ℕ, _+_, _*_, _≤_}
 use mathlib.Core.List.{List, [], _∷_, _++_, append-assoc}
-use mathlib.Core.Path.{_≡_, refl, sym, _∙_, ap, ap₂, subst}
+use mathlib.Core.Path.{_≡_, refl, sym, _∙_, ap, ap₂}
 use native.Mathlib.Decide.{ℕ-discrete}
 use native.Mathlib.Omega.{arith}
 use borrow.Author.Tests.{eq-eqb, le-ltb, ltb-false}
-use lib.Dec.{ltb}
 use lib.ListN.{length, take, drop, length-append, take-append-drop}
 use lib.Seq.{length-take-le}
 use Rattle.reply.specs.Read.{read}
 use Rattle.reply.specs.Chain.{then-read, if-read}
 use Rattle.records.specs.Bytes.{le16}
 use Rattle.records.specs.Longer.{little-same, little-behind, payload-same}
-use Rattle.records.specs.Records.{headBytes, assemblyKind, sheetKind, lengthAt, kindAt, sheetAt, payloadAt, endAt, wanted, kindReply, isWrong, lengthReply, recordReply}
+use Rattle.records.specs.Records.{headBytes, assemblyKind, sheetKind, lengthAt, kindAt, payloadAt, endAt, wanted, kindReply, isWrong, lengthReply, recordReply}
 use Rattle.records.specs.Taken.{taken, of-first, of-other, of-one, sheet-wants}
 use Rattle.records.specs.declared.Sheet.{Sheet}
 use Rattle.records.specs.declared.Sheet.the-variants.{Five, Six}
-use Rattle.assembly.specs.Book.{Book, bookOf}
+use Rattle.assembly.specs.Book.{bookOf}
 use Rattle.assembly.specs.Placements.{placementCount, assemblyReply}
-use Rattle.assembly.specs.declared.BlockAt.{BlockAt}
 use Rattle.deck.specs.Deck.{longestDeck, Deck, deckAt, blocksReply, assemblyReplyAt, endReply, sheetReply, deckReply}
 use Rattle.deck.specs.Kept.{Each, Standing, kept}
 use Rattle.deck.specs.Sound.{parts}
-use Rattle.deck.specs.Followed.{book-same, same-molecule, ends, IsSheet}
+use Rattle.deck.specs.Followed.{book-same, same-molecule, IsSheet}
 use Rattle.deck.specs.Carried.{carried}
 use Rattle.deck.specs.Molecule.{moleculeOf}
-use Rattle.deck.specs.declared.Form.{Form}
 use Rattle.deck.specs.declared.Form.the-variants.{Composed, Judged}
 
 -- a sheet's record that may stand somewhere is of one of the two kinds

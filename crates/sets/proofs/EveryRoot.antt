@@ -1,5 +1,5 @@
 -- Laws. FROM EVERY ROOT the recursion of [Ilić, Ilić] gives the two numbers over sets. Assumes nothing.
-use Prim.Native.Nat.{ℕ, suc, _+_, _-_, _/_, _<_}
+use Prim.Native.Nat.{ℕ, suc}
 use mathlib.Core.Bool.{Bool, true, false, not}
 use mathlib.Core.List.{List}
 use mathlib.Core.Path.{_≡_, refl, sym, ap, _∙_}
@@ -16,9 +16,9 @@ use Rattle.block.specs.Faults.{inside}
 use Rattle.block.specs.Numbered.{bonds-length}
 use Rattle.block.specs.Told.{molecule}
 use Rattle.sets.specs.Sets.{hosoya, merrifieldSimmons}
-use Rattle.sets.specs.Recursion.{Branch, fromRoot}
+use Rattle.sets.specs.Recursion.{fromRoot}
 use Rattle.sets.specs.Reply.{setsOf, treeReply, setsFromReply}
-use Rattle.sets.specs.Merging.{weight, unit, Rooted}
+use Rattle.sets.specs.Merging.{weight, Rooted}
 use Rattle.sets.specs.declared.Sets.{Sets}
 use Rattle.sets.proofs.Weigh.{whole}
 use Rattle.sets.proofs.Trees.{total, few, root-low, begun}

@@ -11,7 +11,7 @@ use lib.ListN.{length}
 use borrow.Author.Tests.{eq-eqb, ne-eqb, eqb-true}
 use Rattle.graph.specs.Graph.{Bond, anyJoins, sumBonds}
 use Rattle.graph.specs.Bonds.{Joins, any-out, any-head, any-tail, any-none, append-out, append-left, append-right}
-use Rattle.graph.specs.Tree.{rises, rise, level, arrives}
+use Rattle.graph.specs.Tree.{rises, rise, arrives}
 use Rattle.sets.specs.Merging.{unit, mark, tally}
 use Rattle.sets.proofs.Weigh.{off}
 

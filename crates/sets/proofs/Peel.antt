@@ -12,7 +12,7 @@ use lib.Dec.{eqb}
 use lib.ListN.{length}
 use borrow.Author.Tests.{eq-eqb, ne-eqb}
 use Rattle.graph.specs.Graph.{Bond, Within, anyJoins, sumBonds}
-use Rattle.graph.specs.Bonds.{Joins, anyJoins-sym}
+use Rattle.graph.specs.Bonds.{Joins}
 use Rattle.graph.specs.Tree.{level, arrives}
 use Rattle.sets.specs.Sets.{touches}
 use Rattle.sets.specs.Merging.{weight, taken, nothing, Good, unit, mark, tally}

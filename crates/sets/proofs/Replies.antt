@@ -2,7 +2,7 @@
 use Prim.Native.Nat.{ℕ, suc, _+_, _/_}
 use mathlib.Core.Bool.{true, false}
 use mathlib.Core.List.{List}
-use mathlib.Core.Path.{_≡_, refl, sym, ap, _∙_}
+use mathlib.Core.Path.{_≡_, refl, ap}
 use native.Mathlib.Omega.{arith}
 use lib.ListN.{length}
 use borrow.Author.Tests.{eq-eqb, ne-eqb, le-ltb}
@@ -16,7 +16,6 @@ use Rattle.block.specs.Told.{few-atoms}
 use Rattle.sets.specs.Merging.{Rooted}
 use Rattle.sets.specs.Reply.{setsOf, treeReply, setsReply, setsFromReply, saidSets}
 use Rattle.sets.specs.declared.Sets.{Sets}
-use Rattle.sets.specs.declared.SetsReply.{SetsReply}
 use Rattle.sets.specs.declared.SetsReply.the-variants as reply
 
 module _ (n : ℕ) (xs : List ℕ) (root : ℕ) where

@@ -1,5 +1,5 @@
 -- Laws. Merging a leaf into the atom that it hangs on leaves what the root has at the end as it is; so the root ends with the count of the whole tree. Assumes nothing.
-use Prim.Native.Nat.{ℕ, zero, suc, _+_, _-_, _*_, _≤_, _<_}
+use Prim.Native.Nat.{ℕ, zero, suc, _+_, _-_, _≤_, _<_}
 use mathlib.Core.Bool.{Bool, true, false, not, _&&_, cond}
 use mathlib.Core.List.{List, [], _∷_, _++_, map, append-assoc}
 use mathlib.Core.Logic.{inl, inr}
@@ -9,9 +9,9 @@ use native.Mathlib.Omega.{arith}
 use lib.Dec.{eqb}
 use lib.ListN.{length}
 use borrow.Author.Tests.{eq-eqb, ne-eqb, eqb-true, eqb-false, not-true}
-use Rattle.graph.specs.Graph.{Bond, Within, anyJoins, sumBonds}
+use Rattle.graph.specs.Graph.{Bond, Within, anyJoins}
 use Rattle.graph.specs.Bonds.{Joins, both, any-head, any-tail, anyJoins-sym}
-use Rattle.graph.specs.Tree.{arrives, two-arrive}
+use Rattle.graph.specs.Tree.{two-arrive}
 use Rattle.sets.specs.Merging.{taken, unit, tally}
 use Rattle.sets.specs.Recursion.{child, children}
 use Rattle.sets.specs.declared.Weight.{Weight}

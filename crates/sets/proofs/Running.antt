@@ -1,19 +1,18 @@
 -- Laws. The recursion as its loop has it: keys and weights in lists, the bonds that they tell of, and the atoms that were looked at. Assumes nothing.
-use Prim.Native.Nat.{ℕ, suc, _+_, _-_, _*_, _/_, _%_, _^_, _≤_, _<_}
+use Prim.Native.Nat.{ℕ, _+_, _-_, _*_, _/_, _%_, _^_, _≤_, _<_}
 use mathlib.Core.Bool.{Bool, true, false, cond}
 use mathlib.Core.List.{List, [], _∷_}
-use mathlib.Core.Logic.{⊎-elim}
 use mathlib.Core.Path.{_≡_, refl, sym, ap, ap₂, subst, _∙_}
 use native.Mathlib.Decide.{ℕ-discrete, decLe}
 use native.Mathlib.Omega.{arith}
 use lib.Dec.{eqb}
-use lib.ListN.{length, getD, set, replicate, getD-replicate, length-replicate, length-set, length-append}
+use lib.ListN.{length, getD, set, replicate, getD-replicate, length-replicate}
 use borrow.Author.Tests.{eq-eqb, ne-eqb}
-use Rattle.graph.specs.Graph.{Graph, Bond, Within, sumBonds, distance}
-use Rattle.block.specs.Block.{mostAtoms, bondsOf, graphOf}
+use Rattle.graph.specs.Graph.{Bond, Within, distance}
+use Rattle.block.specs.Block.{bondsOf, graphOf}
 use Rattle.block.specs.Numbered.{bonds-length}
 use Rattle.sets.specs.Reply.{setsOf}
-use Rattle.sets.specs.Merging.{weight, taken, WeightPair, places, held, Store, Stored, unit, mark, tally, key, Keyed, Rooted}
+use Rattle.sets.specs.Merging.{weight, taken, WeightPair, places, held, Store, Stored, unit, tally, key, Keyed, Rooted}
 use Rattle.sets.specs.declared.Sets.{Sets}
 use Rattle.sets.specs.declared.Weight.{Weight}
 use Rattle.sets.proofs.Storing.{at-child, at-parent, elsewhere, twice-size}

@@ -2,14 +2,14 @@
 use Prim.Native.Nat.{ℕ, _+_, _<_}
 use mathlib.Core.Bool.{Bool, cond}
 use mathlib.Core.List.{List}
-use mathlib.Core.Path.{_≡_, refl, sym, ap, ap₂, _∙_}
+use mathlib.Core.Path.{_≡_, sym, ap₂, _∙_}
 use native.Mathlib.Decide.{ℕ-discrete}
 use native.Mathlib.Omega.{arith}
 use lib.Dec.{eqb}
 use lib.ListN.{length, getD, set, length-set}
 use lib.Seq.{getD-set-same, getD-set-other}
 use borrow.Author.Tests.{eq-eqb, ne-eqb}
-use Rattle.sets.specs.Merging.{weight, taken, places, held, Store, Stored}
+use Rattle.sets.specs.Merging.{weight, taken, held, Store, Stored}
 use Rattle.sets.specs.declared.Weight.{Weight}
 
 module _ (l : List ℕ) (u v x y : ℕ) where

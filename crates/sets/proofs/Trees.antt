@@ -1,5 +1,5 @@
 -- Laws. A block with one bond fewer than atoms is a tree, seen from whichever atom, and its two numbers fit 64 bits. Assumes nothing.
-use Prim.Native.Nat.{ℕ, zero, suc, _+_, _/_, _^_, _≤_, _<_}
+use Prim.Native.Nat.{ℕ, zero, suc, _+_, _^_, _≤_, _<_}
 use mathlib.Core.Bool.{Bool, true, false}
 use mathlib.Core.List.{List, [], _∷_}
 use mathlib.Core.Logic.{inl, ⊎-elim}
@@ -15,12 +15,11 @@ use Rattle.graph.specs.Bonds.{first-of, second-of, any-head}
 use Rattle.graph.specs.Walk.{far-end}
 use Rattle.graph.specs.Distance.{distance-self}
 use Rattle.graph.specs.Tree.{one-bond-nearer, no-tie}
-use Rattle.reply.specs.Read.{read}
-use Rattle.block.specs.Block.{mostAtoms, bondsOf, graphOf, blockReply}
+use Rattle.block.specs.Block.{mostAtoms, bondsOf, graphOf}
 use Rattle.block.specs.Told.{few-atoms, molecule, each-bond}
 use Rattle.block.specs.Numbered.{bonds-length, bond-within}
 use Rattle.sets.specs.Sets.{some, apart, shareAtom, setsApart, atomsDown, hosoya, merrifieldSimmons}
-use Rattle.sets.specs.Merging.{weight, unit, BondsListed, Rooted}
+use Rattle.sets.specs.Merging.{weight, BondsListed, Rooted}
 use Rattle.sets.specs.declared.Weight.{Weight}
 use Rattle.sets.proofs.Counts.{Proper, count-most, count-less}
 use Rattle.sets.proofs.Weigh.{weigh, weigh-cong}

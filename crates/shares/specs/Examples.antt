@@ -1,7 +1,7 @@
 -- Laws. What a refusal of contributions is, and that it changes no entry: for every block, and computed for a path of three atoms. Assumes nothing.
-use Prim.Native.Nat.{ℕ, _<_, _/_, _%_, _*_}
-use mathlib.Core.List.{List, [], _∷_}
-use mathlib.Core.Path.{_≡_, refl}
+use Prim.Native.Nat.{ℕ, _<_}
+use mathlib.Core.List.{List}
+use mathlib.Core.Path.{_≡_}
 use borrow.Author.Tests.{lt-ltb}
 use lib.ListN.{length}
 use Rattle.reply.specs.Read.{refused, read, refusal}

@@ -5,7 +5,7 @@ use mathlib.Core.List.{List}
 use mathlib.Core.Path.{_≡_}
 use lib.Dec.{eqb}
 use lib.ListN.{length, getD}
-use Rattle.graph.specs.Graph.{Graph, Bond, bond, Within, Molecule, bonded, distance, sum}
+use Rattle.graph.specs.Graph.{Graph, Bond, Within, Molecule, bonded, distance, sum}
 use Rattle.graph.specs.Farthest.{farthest}
 use Rattle.graph.specs.Sets.{has}
 use Rattle.graph.specs.Paths.{pathCount, pathsUsing}

@@ -1,5 +1,5 @@
 -- What is seen over the sets of a summary is small, whatever they are. Assumes nothing.
-use Prim.Native.Nat.{ℕ, suc, _+_, _*_, _-_, _≤_, _<_, min}
+use Prim.Native.Nat.{ℕ, suc, _*_, _-_, _≤_, _<_, min}
 use mathlib.Core.Bool.{Bool, true, false, cond}
 use mathlib.Core.List.{List}
 use mathlib.Core.Path.{_≡_, refl}
@@ -8,9 +8,8 @@ use native.Mathlib.Omega.{arith}
 use borrow.Author.Tests.{lt-ltb, le-ltb}
 use lib.Dec.{eqb, ltb}
 use lib.ListN.{getD}
-use Rattle.graph.specs.Graph.{Within, sum, itself, isEven, evenOf, oddOf, evenOne, oddOne, isAt}
+use Rattle.graph.specs.Graph.{sum, itself, isEven, evenOne, oddOne, isAt}
 use Rattle.graph.specs.Bounds.{Tame, tame-itself, tame-even, tame-odd}
-use Rattle.graph.specs.Farthest.{most}
 use Rattle.graph.specs.Largest.{most-below}
 use Rattle.graph.specs.Sums.{sum-le}
 use Rattle.half.specs.Half.{mostAtoms, table}

@@ -1,16 +1,15 @@
 -- Laws. Where the summaries are those of the molecules of a book, composing over them replies what the book's assembly does, and its fields are those of the one
 -- molecule with every atom and bond written out. Assumes nothing.
-use Prim.Native.Nat.{ℕ, zero, suc, _+_, _*_, _-_, _≤_, _<_}
+use Prim.Native.Nat.{ℕ, zero, suc, _+_, _-_, _<_}
 use mathlib.Core.Bool.{Bool, true, false, _||_, not, cond}
 use mathlib.Core.List.{List}
 use mathlib.Core.Logic.{⊎-elim}
-use mathlib.Core.Path.{_≡_, refl, sym, _∙_, ap}
+use mathlib.Core.Path.{_≡_, refl, ap}
 use native.Mathlib.Nat.{eq-or-lt-of-le}
 use native.Mathlib.Omega.{arith}
-use borrow.Author.Tests.{ltb-true}
 use lib.Dec.{eqb, leb}
-use lib.ListN.{length, take, drop, length-take, length-drop}
-use Rattle.graph.specs.Graph.{Graph, Within, Molecule, degree}
+use lib.ListN.{length, take}
+use Rattle.graph.specs.Graph.{Within, Molecule, degree}
 use Rattle.graph.specs.Assembly.{written}
 use Rattle.reply.specs.Read.{Read, refused, read, _then_, refuseFor, isOutside}
 use Rattle.block.specs.Block.{limit, graphOf, blockReply}
@@ -19,16 +18,16 @@ use Rattle.block.specs.Index.{indicesOf}
 use Rattle.block.specs.Told.{molecule}
 use Rattle.block.specs.declared.Indices.{Indices}
 use Rattle.assembly.specs.Book.{Book}
-use Rattle.assembly.specs.Placements.{placementCount, placementAt, Sites, atomSite, Shelf, shelfOf, sitesOf, graphOn, joinOf, joinOn, joinsOn, firstFault, parentFault, joinFault, sitesOn, laterFault, fault, placementsReply, shelfReply, assemblyReply}
+use Rattle.assembly.specs.Placements.{placementCount, placementAt, Sites, atomSite, Shelf, shelfOf, graphOn, joinOf, joinOn, joinsOn, firstFault, parentFault, joinFault, sitesOn, laterFault, fault, placementsReply, shelfReply, assemblyReply}
 use Rattle.assembly.specs.Sound.{WholeAssembly, whole, assembled}
 use Rattle.assembly.specs.declared.Placement.{Placement}
 use Rattle.joining.specs.Parts.{sixIn}
 use Rattle.joining.specs.Table.{tableOf, sixOf, Told}
 use Rattle.joining.specs.Written.{fields-written}
-use Rattle.summary.specs.Layout.{summaryBytes, storedFields, storedDegree, keptOf}
+use Rattle.summary.specs.Layout.{storedFields, storedDegree, keptOf}
 use Rattle.summary.specs.Summary.{summaryOf}
 use Rattle.summary.specs.Back.{summary-told, ends-told}
-use Rattle.shelf.specs.Shelf.{placesIn, summaryAt, placeOf, sitesIn, shelfIn}
+use Rattle.shelf.specs.Shelf.{summaryAt, placeOf, shelfIn}
 use Rattle.summaries.specs.Composing.{keptOn, composedReply}
 
 -- two that say the same of a block, at the atoms that it has

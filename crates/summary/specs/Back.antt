@@ -1,9 +1,9 @@
 -- Laws. Bytes that begin with a block's summary tell the block, whatever stands behind it. Assumes nothing.
 use Prim.Native.Nat.{ℕ, zero, suc, _+_, _*_, _-_, _/_, _%_, _^_, _≤_, _<_, min}
-use mathlib.Core.Bool.{Bool, false, cond}
+use mathlib.Core.Bool.{Bool, cond}
 use mathlib.Core.List.{List, [], _++_}
 use mathlib.Core.Path.{_≡_, refl, sym, _∙_, ap, ap₂}
-use native.Mathlib.Nat.{mul-le-mul, mul-suc, pow-suc, zero-add}
+use native.Mathlib.Nat.{mul-le-mul, mul-suc, pow-suc}
 use native.Mathlib.Omega.{arith}
 use lib.Count.{ones}
 use lib.ListN.{length, getD, take, drop, length-append, List·getD-append}
@@ -26,7 +26,7 @@ use Rattle.block.specs.Index.{indicesOf, vertexOf}
 use Rattle.block.specs.declared.Indices.{Indices}
 use Rattle.reach.proofs.Digits.{count-atoms}
 use Rattle.records.specs.Bytes.{byteAt, little, le16, littleBytes}
-use Rattle.sighted.specs.Sighted.{setAt, setsIn, countsIn, stepsTo, seenIn, seenOf}
+use Rattle.sighted.specs.Sighted.{setsIn, countsIn, stepsTo, seenIn, seenOf}
 use Rattle.sighted.specs.Blocks.{steps-distance, counts-vertex}
 use Rattle.sighted.specs.Unique.{seen-steps}
 use Rattle.joining.specs.Table.{tableOf, totalBy, Told}

@@ -12,7 +12,7 @@ use Rattle.graph.specs.Distance.{distance-sym}
 use Rattle.reply.specs.Read.{read}
 use Rattle.block.specs.Block.{mostAtoms, graphOf, blockReply}
 use Rattle.block.specs.Rows.{rowOf, halfTable}
-use Rattle.block.specs.Told.{few-atoms, molecule, entry-at}
+use Rattle.block.specs.Told.{molecule, entry-at}
 use Rattle.block.specs.Halved.{table-row}
 use Rattle.block.specs.Numbered.{bondAt, rest, rest-sum, rest-over, bond-within}
 use Rattle.block.specs.Lent.{EntriesFilled, filled-none, filled-store}

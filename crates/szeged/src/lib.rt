@@ -2,7 +2,7 @@
 ghost use mathlib.Core.Path.{_≡_};
 ghost use Prim.Native.Nat.{ℕ, _+_, _≤_};
 ghost use lib.ListN.{length};
-ghost use Rattle.graph.specs.Graph.{Within, wiener};
+ghost use Rattle.graph.specs.Graph.{wiener};
 ghost use Rattle.reply.specs.Read.{read, saidNumber};
 ghost use Rattle.block.specs.Block.{mostAtoms, bondsOf, graphOf, blockReply};
 ghost use Rattle.block.specs.Rows.{halfTable};

@@ -1,11 +1,11 @@
 -- Laws. Numbers of one, two and three characters, test by test. Assumes nothing.
 use Prim.Native.Nat.{ℕ, _+_, _*_, _≤_}
-use mathlib.Core.Bool.{Bool, true, false, _&&_, cond, true≢false}
+use mathlib.Core.Bool.{Bool, true, false, _&&_, cond}
 use mathlib.Core.List.{List, [], _∷_}
-use mathlib.Core.Path.{_≡_, refl, sym, _∙_}
+use mathlib.Core.Path.{_≡_, refl}
 use native.Mathlib.Omega.{arith}
 use borrow.Author.Tests.{ne-eqb, leb-true}
-use lib.Dec.{eqb, leb}
+use lib.Dec.{leb}
 use Rattle.text.specs.Text.{isBlank, isDigit, digit, allDigits, isNumber, valueFrom, numberOf}
 use Rattle.text.specs.Said.{noNumber, fieldNumber}
 

@@ -1,6 +1,6 @@
 -- Laws. Whether bytes, or lines of them, begin with a word. Assumes nothing.
-use Prim.Native.Nat.{ℕ, zero, suc, _+_, _<_, _≤_, min}
-use mathlib.Core.Bool.{Bool, true, false, _&&_}
+use Prim.Native.Nat.{ℕ, suc, _+_, _<_, _≤_, min}
+use mathlib.Core.Bool.{Bool, true, false}
 use mathlib.Core.List.{List, [], _∷_}
 use mathlib.Core.Path.{_≡_, refl, sym, _∙_, ap}
 use native.Mathlib.Omega.{arith}
@@ -12,7 +12,7 @@ use lib.ListN.{length, getD, drop, drop-of-length-le}
 use lib.Seq.{drop-cons, drop-drop, drop-length}
 use Rattle.reply.specs.Read.{ifElse}
 use Rattle.text.specs.Text.{feed, untilFeed, lineEnd, nextLine, startsWith, lineStarts}
-use Rattle.text.specs.Laws.{end-from, end-within}
+use Rattle.text.specs.Laws.{end-within}
 
 -- byte by byte
 module _ (word d : List ℕ) (i : ℕ) where

@@ -1,13 +1,12 @@
 -- Laws. Numbers as they are written, and that they read back. Assumes nothing.
-use Prim.Native.Nat.{ℕ, zero, suc, _+_, _*_, _-_, _/_, _%_, _<_, _≤_}
-use mathlib.Core.Bool.{Bool, true, false, _&&_, cond}
+use Prim.Native.Nat.{ℕ, zero, suc, _+_, _/_, _%_, _<_, _≤_}
+use mathlib.Core.Bool.{Bool, true, false, cond}
 use mathlib.Core.List.{List, [], _∷_, _++_}
 use mathlib.Core.Path.{_≡_, refl, sym, _∙_, ap}
 use native.Mathlib.Omega.{arith}
 use borrow.Author.Tests.{ne-eqb, le-leb, lt-ltb, le-ltb, ltb-true, ltb-false}
-use lib.Dec.{eqb, leb, ltb}
-use lib.ListN.{length}
-use Rattle.text.specs.Text.{blank, isBlank, isDigit, digit, allDigits, isNumber, valueFrom, numberOf, shown, decimalIn, decimal, three}
+use lib.Dec.{ltb}
+use Rattle.text.specs.Text.{blank, isBlank, isDigit, allDigits, isNumber, valueFrom, numberOf, shown, decimalIn, decimal, three}
 
 pub no-blank : (n : ℕ) → isBlank (shown n) ≡ false
 no-blank n = ne-eqb (shown n) blank (λ z. omega arith)

@@ -1,8 +1,6 @@
 -- Laws. Lines and numbers of small texts, by computing.
 use mathlib.Core.Bool.{true, false}
 use mathlib.Core.Path.{_≡_, refl}
-use Prim.Native.Nat.{ℕ}
-use Rattle.reply.specs.Read.{ifElse}
 use Rattle.text.specs.Text.{ascii, allDigits, isNumber, valueFrom, numberOf, decimalIn, decimal, three, untilFeed, lineEnd, hasCarriage, lineChars, nextLine}
 
 -- a CR before a line feed is no character of its line; one at the end of the file is

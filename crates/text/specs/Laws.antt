@@ -1,5 +1,5 @@
 -- Laws. Lines lie within the file, and a number of three characters is below 1000. Assumes nothing.
-use Prim.Native.Nat.{ℕ, suc, _+_, _*_, _-_, _≤_, _<_, min}
+use Prim.Native.Nat.{ℕ, suc, _+_, _*_, _≤_, _<_}
 use mathlib.Core.Bool.{Bool, true, false, _&&_, cond, true≢false}
 use mathlib.Core.List.{List, [], _∷_}
 use mathlib.Core.Path.{_≡_, refl, sym}
@@ -9,7 +9,7 @@ use borrow.Author.Tests.{leb-true}
 use lib.Dec.{eqb, leb}
 use lib.ListN.{length, drop, length-drop}
 use Rattle.reply.specs.Read.{ifElse}
-use Rattle.text.specs.Text.{feed, isBlank, isDigit, digit, allDigits, isNumber, valueFrom, numberOf, untilFeed, lineEnd, hasCarriage, lineChars, nextLine, laterLine}
+use Rattle.text.specs.Text.{feed, isBlank, isDigit, digit, allDigits, isNumber, valueFrom, numberOf, untilFeed, lineEnd, lineChars, nextLine, laterLine}
 use Rattle.text.specs.Said.{noNumber, fieldNumber, lineAt}
 use Rattle.text.specs.declared.Line.{Line}
 

@@ -3,13 +3,12 @@ use Prim.Native.Nat.{ℕ, zero, suc, _+_, _≤_, _<_}
 use mathlib.Core.Bool.{Bool, true, false, _&&_, _||_, not, cond}
 use mathlib.Core.List.{List, [], _∷_}
 use mathlib.Core.Logic.{_↔_}
-use mathlib.Core.Path.{_≡_, refl, sym, _∙_, ap}
+use mathlib.Core.Path.{_≡_, refl, ap}
 use native.Mathlib.Omega.{arith}
-use borrow.Author.Tests.{ltb-true, ltb-false}
+use borrow.Author.Tests.{ltb-true}
 use lib.Dec.{eqb, leb, ltb}
 use lib.ListN.{length}
-use Rattle.graph.specs.Graph.{Graph}
-use Rattle.reply.specs.Read.{Read, refused, read, _then_, refuseIf, isOutside, ifElse}
+use Rattle.reply.specs.Read.{read, _then_, refuseIf, isOutside, ifElse}
 use Rattle.reply.specs.Chain.{then-read}
 use Rattle.block.specs.Block.{graphOf, blockReply}
 use Rattle.records.specs.Bytes.{byteAt, part}
@@ -33,7 +32,7 @@ use Rattle.sdfile.specs.declared.Step.{Step}
 use Rattle.sdfile.specs.declared.Step.the-variants.{Done, Next}
 use Rattle.calls.specs.Convention.{mostPlace, coded, fitting}
 use Rattle.deck_calls.specs.Replies.{verdictCode}
-use Rattle.claim_calls.specs.Spans.{stepList, recordList, itemList}
+use Rattle.claim_calls.specs.Spans.{stepList, itemList}
 use Rattle.told.specs.Bounded.{Bounded, then-bounded, if-bounded, deck-bounded}
 use Rattle.told.specs.Recovered.{Tells, Judges, judges, block-here, listed, lent}
 

@@ -8,7 +8,7 @@ use borrow.Author.Tests.{ltb-false}
 use lib.Dec.{ltb}
 use lib.ListN.{length}
 use Rattle.graph.specs.Graph.{Graph}
-use Rattle.reply.specs.Read.{Read, refused, read, _then_, refuseIf, refuseFor, isOutside, ifElse}
+use Rattle.reply.specs.Read.{Read, refused, read, refuseIf, refuseFor, isOutside, ifElse}
 use Rattle.reply.specs.Chain.{if-read, then-read}
 use Rattle.reply.specs.declared.Refusal.{Refusal}
 use Rattle.block.specs.declared.Indices.{Indices}

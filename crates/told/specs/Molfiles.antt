@@ -7,11 +7,11 @@ use native.Mathlib.Omega.{arith}
 use borrow.Author.Tests.{leb-false}
 use lib.Dec.{eqb, leb, ltb}
 use lib.ListN.{length, drop}
-use Rattle.reply.specs.Read.{Read, read, _then_, refuseIf, isOutside}
+use Rattle.reply.specs.Read.{Read, read, refuseIf, isOutside}
 use Rattle.reply.specs.Chain.{then-read, if-read}
 use Rattle.block.specs.Block.{mostBytes, bondsOf, bondsReply, blockReply}
 use Rattle.text.specs.Text.{isNumber, threeAt, lineChars, laterLine, lineStarts}
-use Rattle.molfile.specs.Molfile.{countsPlace, atomLinePlace, atomLineCount, bondLineCount, bondLinePlace, restPlace, endsOfLine, inTurn, lineReply, numbersReply, endsReply, bondReply, endWord, endLineReply, headerReply, atomReply, bondReplyOf, linesReply, keptAtoms, bytesOf, molfileReply}
+use Rattle.molfile.specs.Molfile.{countsPlace, atomLinePlace, atomLineCount, bondLineCount, bondLinePlace, restPlace, endsOfLine, inTurn, lineReply, numbersReply, bondReply, endWord, endLineReply, headerReply, atomReply, bondReplyOf, linesReply, keptAtoms, bytesOf, molfileReply}
 use Rattle.molfile.specs.Work.{most}
 use Rattle.molfile.proofs.Fronts.{bytes-room}
 use Rattle.wholefile.specs.Whole.{moleculeReply, wholeFileReply}

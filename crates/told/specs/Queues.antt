@@ -1,16 +1,14 @@
 -- Laws. What the one number of a C reply about two queues at one table tells, with nothing assumed.
-use Prim.Native.Nat.{ℕ, suc, _≤_, _<_}
+use Prim.Native.Nat.{ℕ, suc, _≤_}
 use mathlib.Core.Bool.{not}
 use mathlib.Core.List.{List, [], _∷_}
 use native.Mathlib.Omega.{arith}
 use borrow.Author.Tests.{ltb-false}
 use lib.Dec.{eqb, ltb}
 use lib.ListN.{length}
-use Rattle.reply.specs.Read.{Read, refused, read, _then_, refuseIf}
+use Rattle.reply.specs.Read.{Read, read, refuseIf}
 use Rattle.reply.specs.Chain.{if-read}
-use Rattle.reply.specs.declared.Refusal.{Refusal}
 use Rattle.block.specs.Block.{blockReply}
-use Rattle.block.specs.declared.Indices.{Indices}
 use Rattle.records.specs.Records.{assemblyKind, payloadAt, endAt, recordReply}
 use Rattle.records.specs.Taken.{taken}
 use Rattle.records.specs.declared.Sheet.{Sheet}

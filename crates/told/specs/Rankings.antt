@@ -5,7 +5,7 @@ use mathlib.Core.List.{List}
 use native.Mathlib.Omega.{arith}
 use lib.Dec.{eqb}
 use lib.ListN.{getD}
-use Rattle.reply.specs.Read.{Read, read, _then_, refuseIf, isOutside}
+use Rattle.reply.specs.Read.{refuseIf, isOutside}
 use Rattle.catalogue.specs.Library.{libraryReply}
 use Rattle.library.specs.Values.{mostFields}
 use Rattle.placing.specs.Entries.{room}

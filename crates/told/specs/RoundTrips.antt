@@ -1,9 +1,9 @@
 -- Laws. THERE AND BACK OVER THE C FUNCTIONS' PROMISES: what writing a block leaves is read as that block into whatever is lent, and for neighbour texts writing
 -- what was read leaves the same bytes. Assumes nothing.
-use Prim.Native.Nat.{ℕ, _+_, _*_, _/_, _≤_}
+use Prim.Native.Nat.{ℕ, _/_, _≤_}
 use mathlib.Core.Bool.{Bool, true, false}
-use mathlib.Core.List.{List, [], _∷_, _++_}
-use mathlib.Core.Path.{_≡_, refl, sym, _∙_, ap, ap₂, subst}
+use mathlib.Core.List.{List, [], _∷_}
+use mathlib.Core.Path.{_≡_, sym, _∙_, ap, ap₂, subst}
 use native.Mathlib.Omega.{arith}
 use borrow.Author.Tests.{le-ltb}
 use lib.Dec.{ltb}
@@ -16,13 +16,13 @@ use Rattle.block.specs.Block.{bondsOf, blockReply}
 use Rattle.molfile.specs.Molfile.{keptAtoms, bytesOf, molfileReply}
 use Rattle.molwriter.specs.Written.{molfileText, molfileWriteReply}
 use Rattle.molwriter.specs.RoundTrip.{ReadsBack, reads-back}
-use Rattle.adjacency.specs.Neighbours.{bondsLength, bondListBytes, neighboursReply}
+use Rattle.adjacency.specs.Neighbours.{bondsLength, bondListBytes}
 use Rattle.adjacency.specs.Canonical.{canonical}
 use Rattle.adjacency.specs.Blocks.{bytes-length}
 use Rattle.adjacency.specs.Written.{neighboursWriteReply, textAfter}
 use Rattle.adjacency.specs.RoundTrip as texts
 use Rattle.calls.specs.Convention.{coded, outAfter, over}
-use Rattle.calls.specs.Beside.{withRoom, Beside}
+use Rattle.calls.specs.Beside.{withRoom}
 use Rattle.text_calls.specs.Molfiles.{readReply, MolfileRead, writtenReply, MolfileWritten}
 use Rattle.text_calls.specs.Texts.{textReply, TextRead, toldReply, TextWritten}
 use Rattle.told.specs.Recovered.{molfile-written-tells}

@@ -1,14 +1,14 @@
 -- Laws. What the one number of a C reply about a neighbour text tells, with nothing assumed; of a text shorter than 2^56 bytes it tells the place itself.
-use Prim.Native.Nat.{ℕ, suc, _+_, _*_, _≤_, _<_}
+use Prim.Native.Nat.{ℕ, suc, _+_, _≤_, _<_}
 use mathlib.Core.Bool.{Bool, true, false, not}
 use mathlib.Core.List.{List, [], _∷_}
 use mathlib.Core.Path.{_≡_, refl}
 use native.Mathlib.Omega.{arith}
 use borrow.Author.Tests.{ltb-true, ltb-false}
-use lib.Dec.{eqb, ltb}
+use lib.Dec.{ltb}
 use lib.ListN.{length}
-use Rattle.graph.specs.Graph.{Graph, Bond, connected}
-use Rattle.reply.specs.Read.{Read, read, _then_, refuseIf, refuseFor, isOutside, ifElse}
+use Rattle.graph.specs.Graph.{Bond, connected}
+use Rattle.reply.specs.Read.{refuseIf, refuseFor, isOutside, ifElse}
 use Rattle.reply.specs.Chain.{if-read}
 use Rattle.text.specs.Text.{isDigit}
 use Rattle.block.specs.Block.{mostAtoms, mostBytes, bondsOf, bondFault, blockReply}

@@ -1,9 +1,8 @@
 -- Laws. A refusal writes nothing: where a C function replies anything but 0, and where a public function refuses, what was lent is as it was. Assumes nothing.
 use Prim.Native.Nat.{ℕ}
-use mathlib.Core.List.{List, [], _∷_, _++_}
-use mathlib.Core.Path.{_≡_, refl, sym, _∙_, ap}
+use mathlib.Core.List.{List, _++_}
+use mathlib.Core.Path.{_≡_, refl, _∙_, ap}
 use lib.ListN.{length, take, drop, take-append-drop}
-use Rattle.graph.specs.Graph.{Graph}
 use Rattle.reply.specs.Read.{Read, refused, read, _then_}
 use Rattle.reply.specs.declared.Refusal.{Refusal}
 use Rattle.block.specs.Block.{blockReply}
@@ -21,11 +20,11 @@ use Rattle.molwriter.specs.Written.{molfileWriteReply, filledText, writtenBytes
 use Rattle.adjacency.specs.Neighbours.{bytesAfter}
 use Rattle.adjacency.specs.Written.{textAfter}
 use Rattle.queues.specs.Shelf.{unless, addReply, added, dropReply, dropped}
-use Rattle.queues.specs.Table.{shelfBytes, shelf, withShelf, tableReply, tableAfter, zeroed, emptied}
+use Rattle.queues.specs.Table.{shelfBytes, shelf, withShelf, tableReply, zeroed, emptied}
 use Rattle.queues.specs.declared.Queue.{Queue}
 use Rattle.queues.specs.declared.Queue.the-variants.{Day, Night}
 use Rattle.summary.specs.Layout.{summaryBytes}
-use Rattle.queues.specs.Queues.{storedBlock, ownPlaces, addTold, tableAdded, dropTold, tableDropped}
+use Rattle.queues.specs.Queues.{ownPlaces, addTold, tableAdded, dropTold, tableDropped}
 use Rattle.judging.specs.Judging.{sheetOut}
 use Rattle.whole.specs.Whole.{numbersAfter}
 use Rattle.catalogue.specs.Products.{Product, done, made}

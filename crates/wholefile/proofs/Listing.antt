@@ -1,11 +1,10 @@
 -- Laws. The bonds are read one by one. Assumes nothing.
-use Prim.Native.Nat.{ℕ, zero, suc, _+_, _*_, _≤_, _<_}
+use Prim.Native.Nat.{ℕ, zero, suc, _+_, _*_, _<_}
 use mathlib.Core.List.{List, [], _∷_}
 use mathlib.Core.Logic.{_≢_}
-use mathlib.Core.Path.{_≡_, refl, sym, _∙_, ap}
+use mathlib.Core.Path.{_≡_, refl, _∙_, ap}
 use native.Mathlib.Numerals.{add-one}
-use lib.ListN.{length, drop}
-use Rattle.graph.specs.Graph.{Bond}
+use lib.ListN.{length}
 use Rattle.reply.specs.Read.{refused, read, _then_, refuseFor, refusal}
 use Rattle.block.specs.Block.{bondsOf, bondFault, bondsReply}
 use Rattle.block.specs.Numbered.{bondAt, rest, rest-cons, rest-none}

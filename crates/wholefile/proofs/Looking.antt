@@ -1,5 +1,5 @@
 -- Laws. What the bonds before say of two atoms, bond by bond. Assumes nothing.
-use Prim.Native.Nat.{ℕ, zero, suc, _+_, _*_, _≤_, _<_}
+use Prim.Native.Nat.{ℕ, _+_, _*_, _≤_, _<_}
 use mathlib.Core.Bool.{Bool, true, false, _||_, cond}
 use mathlib.Core.List.{List, _++_}
 use mathlib.Core.Path.{_≡_, refl, sym, _∙_, ap}
@@ -9,7 +9,7 @@ use lib.Dec.{eqb, leb}
 use borrow.Author.Tests.{le-leb, lt-leb}
 use lib.ListN.{length, getD, set, take, drop}
 use lib.Seq.{sets, take-all}
-use Rattle.graph.specs.Graph.{bond, joins, anyJoins, degree}
+use Rattle.graph.specs.Graph.{joins, anyJoins, degree}
 use Rattle.block.specs.Block.{limit}
 use Rattle.block.specs.Numbered.{bondAt}
 use Rattle.block.proofs.Reading.{before}

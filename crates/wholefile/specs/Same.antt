@@ -6,7 +6,7 @@ use native.Mathlib.Omega.{arith}
 use borrow.Author.Tests.{ne-eqb}
 use lib.Dec.{ltb}
 use lib.ListN.{length}
-use Rattle.reply.specs.Read.{Read, refused, read, _then_, refuseIf}
+use Rattle.reply.specs.Read.{Read, read, _then_, refuseIf}
 use Rattle.reply.specs.Chain.{then-read, counted-read}
 use Rattle.reply.specs.declared.Counts.{Counts}
 use Rattle.reply.specs.declared.CountsReply.the-variants.{Of}

@@ -1,18 +1,18 @@
 -- Laws. After any calls of both queues since the table was made empty, whatever was there: what the next call of a queue is told is told by what its own calls
 -- left it. It is refused for room exactly when that is eight; a dropped place is used again. For anything that is stored. Assumes nothing.
-use Prim.Native.Nat.{ℕ, suc, _≤_, _<_}
-use mathlib.Core.Bool.{Bool, true, false, not}
+use Prim.Native.Nat.{ℕ, suc, _≤_}
+use mathlib.Core.Bool.{true, false}
 use mathlib.Core.List.{List, [], _∷_}
-use mathlib.Core.Path.{_≡_, refl, sym, _∙_, ap, subst}
+use mathlib.Core.Path.{_≡_, refl, _∙_, ap, subst}
 use native.Mathlib.Omega.{arith}
 use borrow.Author.Tests.{ne-eqb, le-ltb, lt-leb}
 use lib.Dec.{leb}
 use lib.ListN.{length, replicate}
 use lib.Seq.{length-sets}
-use Rattle.reply.specs.Read.{Read, refused, read, _then_, refuseIf}
-use Rattle.queues.specs.Shelf.{places, numberIn, placeHolding, unless, dropped, dropReply}
+use Rattle.reply.specs.Read.{read, refuseIf}
+use Rattle.queues.specs.Shelf.{places, numberIn, placeHolding}
 use Rattle.queues.specs.Table.{tableBytes, shelf, zeroed, emptied}
-use Rattle.queues.specs.Calls.{CallNumber, Trade, Call, add, look, drop, compose, Answer, done, Sent, own, answer, after, tableAnswer, tableLeft, tableAll}
+use Rattle.queues.specs.Calls.{CallNumber, Trade, Call, add, drop, done, Sent, own, tableAnswer, tableLeft, tableAll}
 use Rattle.queues.specs.Model.{Entry, has, without, Meaning, toldAdd, toldDrop, told, left, leftAll}
 use Rattle.queues.specs.Seeks.{taken-less}
 use Rattle.queues.specs.Entries.{has-positive, has-number, without-length}

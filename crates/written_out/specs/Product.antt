@@ -9,9 +9,8 @@ use borrow.Author.Tests.{le-ltb, lt-ltb, ltb-true, ltb-false}
 use lib.Dec.{ltb}
 use lib.ListN.{length, take}
 use Rattle.graph.specs.Graph.{Graph}
-use Rattle.reply.specs.Read.{Read, refused, read, refusal}
+use Rattle.reply.specs.Read.{refused, read, refusal}
 use Rattle.block.specs.Index.{indicesOf}
-use Rattle.block.specs.declared.Indices.{Indices}
 use Rattle.records.specs.declared.Sheet.{Sheet}
 use Rattle.deck.specs.Deck.{longestDeck}
 use Rattle.deck.specs.Sized.{composed-short}
@@ -22,7 +21,7 @@ use Rattle.judging.specs.Judging.{judgeReply, saidVerdict, sheetWriteReply, sai
 use Rattle.judging.specs.Theorems.{written-accepted}
 use Rattle.judging.specs.declared.Verdict.the-variants as verdict
 use Rattle.catalogue.specs.Library.{Library, libraryReply}
-use Rattle.catalogue.specs.Products.{Product, products, productAt}
+use Rattle.catalogue.specs.Products.{products, productAt}
 use Rattle.catalogue.specs.Sound.{whole}
 use Rattle.catalogue.specs.Written.{productDeck, product-deck}
 use Rattle.library.specs.Steps.{stepReply, stepOut}

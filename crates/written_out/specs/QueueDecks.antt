@@ -1,15 +1,14 @@
 -- Laws. The queues of blocks, after any calls of both since the table was made empty, over what the calls promise: what is told of an addition, a look-up and a drop;
 -- the sheet, against the deck of the queue's blocks in any order; and when a sheet behind that deck is accepted. Assumes nothing.
 use Prim.Native.Nat.{ℕ, _+_, _≤_, _<_}
-use mathlib.Core.Bool.{Bool, true, false, _&&_, not}
-use mathlib.Core.List.{List, [], _∷_, _++_}
+use mathlib.Core.Bool.{true, false, _&&_, not}
+use mathlib.Core.List.{List, _++_}
 use mathlib.Core.Logic.{_↔_}
 use mathlib.Core.Path.{_≡_, refl, sym, _∙_, ap, fun-ext}
 use native.Mathlib.Omega.{arith}
 use lib.Dec.{eqb, ltb, leb}
-use lib.ListN.{length, take}
-use Rattle.graph.specs.Graph.{Graph}
-use Rattle.reply.specs.Read.{Read, refused, read, _then_, refuseIf}
+use lib.ListN.{length}
+use Rattle.reply.specs.Read.{Read, read, refuseIf}
 use Rattle.reply.specs.Chain.{then-read}
 use Rattle.block.specs.Block.{graphOf, blockReply}
 use Rattle.block.specs.Index.{indicesOf}
@@ -22,11 +21,11 @@ use Rattle.summary.specs.Layout.{summaryBytes}
 use Rattle.summaries.specs.Written.{writtenReply}
 use Rattle.queues.specs.Shelf.{places}
 use Rattle.queues.specs.Table.{tableBytes, tableReply, onTable}
-use Rattle.queues.specs.Calls.{CallNumber, add, look, drop, Answer, done, fields, sheet, Sent}
+use Rattle.queues.specs.Calls.{add, look, drop, Answer, done, fields, sheet, Sent}
 use Rattle.queues.specs.Model.{Entry, lookup, has, without, toldAdd, toldLook, toldDrop}
 use Rattle.queues.specs.declared.Queue.{Queue}
 use Rattle.queues.specs.Queues.{addTold, lookTold, dropTold, tableDropped}
-use Rattle.queues.specs.Blocks.{Block, noBlock, blockIn, bookIn}
+use Rattle.queues.specs.Blocks.{Block, noBlock, bookIn}
 use Rattle.deck.specs.Deck.{longestDeck, Deck, deckReply}
 use Rattle.deck.specs.Molecule.{moleculeOf}
 use Rattle.deck.specs.Sized.{longestComposed, composed-short}
@@ -34,12 +33,11 @@ use Rattle.deck.specs.Followed.{IsSheet}
 use Rattle.deck.specs.declared.Form.the-variants.{Composed}
 use Rattle.sheets.specs.Sheets.{fieldsOf, widths, fieldsAt, sheetOf, sheetBytes}
 use Rattle.compose.specs.Fields.{fieldsReply}
-use Rattle.judging.specs.Judging.{judgeReply, saidVerdict, sheetWriteReply, saidSheetWritten, sheetOut}
-use Rattle.judging.specs.Theorems.{sheet-made, written-accepted}
+use Rattle.judging.specs.Judging.{judgeReply, saidVerdict, sheetWriteReply, sheetOut}
 use Rattle.judging.specs.declared.Verdict.the-variants.{Accepted}
 use Rattle.judging.specs.declared.SheetWritten.the-variants as written
 use Rattle.gathered.specs.Gathered.{overOutput, sheetTold}
-use Rattle.gathered.specs.Orders.{Order, Handed, recordTable, recordBlocks, tableLeft, blocksLeft}
+use Rattle.gathered.specs.Orders.{Order, Handed, recordBlocks, tableLeft, blocksLeft}
 use Rattle.gathered.specs.Stacked.{HeldBlocks, blockRecords}
 use Rattle.gathered.specs.Alone.{tells-orders, held, own-told}
 use Rattle.gathered.specs.Accepted.{same-sheet}

@@ -2,13 +2,13 @@
 -- the steps' bytes one after the other. (That each choice has one position: `each-choice-once`, products.) Assumes nothing.
 use Prim.Native.Nat.{ℕ, zero, suc, _+_, _*_, _-_, _≤_, _<_}
 use mathlib.Core.Bool.{Bool, true, false}
-use mathlib.Core.List.{List, [], _∷_, _++_, append-assoc}
+use mathlib.Core.List.{List, _++_, append-assoc}
 use mathlib.Core.Logic.{_⊎_, inl, inr, ⊎-elim}
 use mathlib.Core.Path.{_≡_, refl, sym, _∙_, ap, ap₂}
 use native.Mathlib.Omega.{arith}
 use borrow.Author.Tests.{le-ltb, ltb-true, ltb-false}
 use lib.Dec.{ltb}
-use lib.ListN.{length, take, drop, length-append, length-drop, take-append-drop}
+use lib.ListN.{length, take, drop, length-append, length-drop}
 use lib.Seq.{take-at, drop-at, drop-drop}
 use Rattle.reply.specs.Read.{Read, refused, read, refusal}
 use Rattle.records.specs.declared.Sheet.{Sheet}
@@ -19,11 +19,10 @@ use Rattle.sheets.specs.Sheets.{fieldsOf, sheetRecord, sheetBytes, sheetPut}
 use Rattle.sheets.specs.Back.{length-sheet}
 use Rattle.catalogue.specs.Library.{Library, libraryReply}
 use Rattle.catalogue.specs.Products.{Product, done, made, products, productAt}
-use Rattle.library.specs.Steps.{Ran, behind, afterStep, stepReply, stepOut, saidStep, stepsFrom, runOf}
+use Rattle.library.specs.Steps.{Ran, behind, afterStep, stepReply, stepOut, stepsFrom, runOf}
 use Rattle.library.specs.Running.{step-long, step-short, run-stops, made-step, done-step, run-next, run-done, run-full}
-use Rattle.library.specs.declared.StepReply.{StepReply}
 use Rattle.library.specs.declared.StepReply.the-variants as stepped
-use Rattle.written_out.specs.Walk.{Walk, sheetBefore, goOn, walkFrom, inOrder, oneByOne}
+use Rattle.written_out.specs.Walk.{sheetBefore, walkFrom, inOrder, oneByOne}
 
 -- a sheet has bytes
 some : (s : Sheet) → 1 ≤ sheetBytes s

@@ -1,9 +1,9 @@
 -- `blockfile::answer` meets its contract: each return is one way through the definition.
-use mathlib.Core.Path.{_≡_, refl, sym, ap, _∙_}
+use mathlib.Core.Path.{_≡_, sym, ap, _∙_}
 use lib.ListN.{length}
 use Rattle.reply.specs.Read.{read}
 use Rattle.block.specs.Block.{blockReply}
-use Rattle.molfile.specs.Said.{saidAnswer, filledBonds}
+use Rattle.molfile.specs.Said.{saidAnswer}
 use Rattle.molfile.proofs.Chains.{answer-refused, answer-short, answer-fine, stays, fills}
 use Rattle.text.proofs.Putting.{at-front}
 use Rattle.reply.specs.Chain.{fine-read, refused-read}

@@ -1,5 +1,4 @@
 -- `calls::sheet_for` meets its contract. Assumes nothing.
-use borrow.Author.Needs.{needs}
 use Rattle.calls.proofs.Blocks.{sheet-six, sheet-five}
 use Rattle.calls.proofs.sheet_for.Statement.{statement}
 use Rattle.calls.proofs.sheet_for.Tie as tie

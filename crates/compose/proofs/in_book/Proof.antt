@@ -1,16 +1,15 @@
 -- `compose::in_book` meets its contract. Assumes nothing.
-use Prim.Native.Nat.{ℕ, _≤_}
-use mathlib.Core.List.{List, [], _∷_}
-use mathlib.Core.Path.{_≡_, sym, _∙_, ap}
+use Prim.Native.Nat.{ℕ}
+use mathlib.Core.List.{[], _∷_}
+use mathlib.Core.Path.{_≡_, _∙_, ap}
 use native.Mathlib.Omega.{arith}
 use borrow.Author.Needs.{needs}
 use Rattle.reply.specs.Read.{read, refused, refusal}
-use Rattle.reply.specs.declared.Refusal.{Refusal}
 use Rattle.records.specs.Records.{payloadAt, assemblyKind}
 use Rattle.records.specs.Taken.{taken}
 use Rattle.assembly.specs.Book.{bookOf}
 use Rattle.assembly.proofs.Faults.{place-few}
-use Rattle.deck.specs.Deck.{longestDeck, Deck, placementPlace, openReply}
+use Rattle.deck.specs.Deck.{Deck, placementPlace, openReply}
 use Rattle.deck.specs.Kept.{kept}
 use Rattle.deck.specs.Said.{saidDeck}
 use Rattle.deck.specs.declared.DeckRead.{DeckRead}

@@ -3,7 +3,7 @@ use Prim.Native.Nat.{ℕ, suc, _+_, _*_, _-_, _≤_}
 use mathlib.Core.Path.{_≡_, sym, _∙_, ap}
 use native.Mathlib.Omega.{arith}
 use borrow.Author.Needs.{needs}
-use Rattle.records.specs.Records.{kindAt, endAt}
+use Rattle.records.specs.Records.{kindAt}
 use Rattle.assembly.specs.Book.{mostBlocks}
 use Rattle.deck.specs.Unfilled.{headsFrom}
 use Rattle.deck.proofs.Few.{head-more, head-none, heads-end}

@@ -1,4 +1,3 @@
-use mathlib.Core.Path.{_≡_}
 use borrow.Author.Needs.{needs}
 use Rattle.half.proofs.Pairs.{get-some, get-none}
 use Rattle.half.proofs.get.Statement.{statement}

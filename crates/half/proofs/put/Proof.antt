@@ -1,4 +1,3 @@
-use mathlib.Core.Path.{_≡_}
 use borrow.Author.Needs.{needs}
 use Rattle.half.proofs.Pairs.{put-some, put-out, put-none}
 use Rattle.half.proofs.put.Statement.{statement}

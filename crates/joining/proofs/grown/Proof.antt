@@ -1,5 +1,5 @@
 -- `joining::grown` meets its contract. Assumes nothing.
-use mathlib.Core.Path.{_≡_, refl}
+use mathlib.Core.Path.{refl}
 use Rattle.joining.specs.Parts.{grow}
 use Rattle.joining.specs.Joining.{grownOf}
 use borrow.Author.Needs.{needs}

@@ -1,5 +1,5 @@
 -- `joining::joined` meets its contract. Assumes nothing.
-use mathlib.Core.Path.{_≡_, refl}
+use mathlib.Core.Path.{refl}
 use Rattle.joining.specs.Joining.{joinedOf}
 use borrow.Author.Needs.{needs}
 use Rattle.joining.proofs.joined.Statement.{statement}

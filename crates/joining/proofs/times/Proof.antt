@@ -1,5 +1,4 @@
 -- `joining::times` meets its contract. Assumes nothing.
-use Prim.Native.Nat.{ℕ, _*_, _^_, _≤_}
 use native.Mathlib.Nat.{mul-le-mul}
 use native.Mathlib.Omega.{arith}
 use mathlib.Core.Path.{refl}

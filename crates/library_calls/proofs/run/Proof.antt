@@ -1,14 +1,13 @@
 -- `library_calls::run` meets its contract. Assumes nothing.
-use Prim.Native.Nat.{suc}
 use mathlib.Core.Path.{_∙_, ap}
 use native.Mathlib.Omega.{arith}
 use lib.ListN.{length}
 use borrow.Author.Needs.{needs}
 use Rattle.records.specs.declared.Sheet.{Sheet}
-use Rattle.library.specs.Steps.{stepReply, stepOut, saidStep, runOf}
+use Rattle.library.specs.Steps.{stepReply, saidStep, runOf}
 use Rattle.calls.specs.Blocks.{sheetFor}
 use Rattle.library_calls.specs.Libraries.{withNext, stepCode}
-use Rattle.library_calls.proofs.Walking.{walked-lacking, walked-told, step-wrote, run-wrote}
+use Rattle.library_calls.proofs.Walking.{walked-lacking, walked-told, run-wrote}
 use Rattle.library_calls.proofs.run.Statement.{statement}
 use Rattle.library_calls.proofs.run.Tie as tie
 

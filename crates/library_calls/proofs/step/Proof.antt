@@ -5,10 +5,10 @@ use native.Mathlib.Omega.{arith}
 use lib.ListN.{length}
 use borrow.Author.Needs.{needs}
 use Rattle.records.specs.declared.Sheet.{Sheet}
-use Rattle.library.specs.Steps.{stepReply, stepOut, saidStep, runOf}
+use Rattle.library.specs.Steps.{stepReply, stepOut, saidStep}
 use Rattle.calls.specs.Blocks.{sheetFor}
 use Rattle.library_calls.specs.Libraries.{withNext, stepCode}
-use Rattle.library_calls.proofs.Walking.{walked-lacking, walked-told, step-wrote, run-wrote}
+use Rattle.library_calls.proofs.Walking.{walked-lacking, walked-told, step-wrote}
 use Rattle.library_calls.proofs.step.Statement.{statement}
 use Rattle.library_calls.proofs.step.Tie as tie
 

@@ -1,7 +1,6 @@
-use Prim.Native.Nat.{_≤_, _-_, _*_, _%_}
+use Prim.Native.Nat.{_≤_, _-_}
 use mathlib.Core.Path.{_≡_}
 use native.Mathlib.Omega.{arith}
-use borrow.Author.Needs.{needs}
 use lib.Dec.{eqb}
 use Rattle.block.proofs.Tallies.{bit-low, odd-low}
 use Rattle.matrix.specs.Work.{LineOf}

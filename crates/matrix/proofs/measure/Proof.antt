@@ -2,7 +2,7 @@ use Prim.Native.Nat.{ℕ, min}
 use mathlib.Core.List.{List}
 use mathlib.Core.Path.{_≡_, sym, ap, ap₂, _∙_}
 use borrow.Author.Needs.{needs}
-use Rattle.reply.specs.Read.{Read, refused, read, _then_}
+use Rattle.reply.specs.Read.{refused, read}
 use Rattle.reply.specs.Chain.{fine-read, refused-read}
 use Rattle.reply.specs.declared.Refusal.{Refusal}
 use Rattle.block.specs.Block.{mostAtoms, blockReply, graphOf}

@@ -5,7 +5,7 @@ use native.Mathlib.Omega.{arith}
 use native.Mathlib.Numerals.{add-one}
 use borrow.Author.Needs.{needs}
 use Rattle.reply.specs.Chain.{fine-read, refused-read}
-use Rattle.block.specs.Block.{mostAtoms, blockReply}
+use Rattle.block.specs.Block.{mostAtoms}
 use Rattle.block.specs.Rows.{noRow, rowReply, saidRow, rowsOf, farOf}
 use Rattle.block.specs.declared.OneRow.{OneRow}
 use Rattle.block.proofs.Filling.{Filled, fill-start, fill-next, fill-end, kept, stored}

@@ -1,5 +1,5 @@
 -- `molfile::kept_bonds` meets its contract: the counts, then the rest.
-use mathlib.Core.Path.{_≡_, refl, sym, ap, _∙_}
+use mathlib.Core.Path.{sym, ap, _∙_}
 use lib.ListN.{length}
 use Rattle.molfile.specs.Molfile.{countsPlace, bytesOf}
 use Rattle.molfile.specs.Said.{saidKept}

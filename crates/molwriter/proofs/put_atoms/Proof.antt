@@ -1,9 +1,7 @@
 -- `molwriter::put_atoms` meets its contract. The loop's invariant: i atom lines are put.
-use Prim.Native.Nat.{ℕ, _+_, _-_, _≤_}
-use mathlib.Core.List.{List, []}
-use mathlib.Core.Path.{_≡_, refl, sym, ap, _∙_}
+use Prim.Native.Nat.{_-_, _≤_}
+use mathlib.Core.Path.{_≡_, refl, ap}
 use lib.ListN.{length}
-use Rattle.text.specs.Text.{ascii, three}
 use Rattle.text.specs.Put.{Puts}
 use Rattle.molwriter.specs.Pieces.{atomsText}
 use Rattle.text.proofs.Putting.{none, both, as-word}

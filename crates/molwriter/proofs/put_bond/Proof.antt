@@ -1,8 +1,6 @@
 -- `molwriter::put_bond` meets its contract: the words one after the other.
-use Prim.Native.Nat.{ℕ}
-use mathlib.Core.List.{List, _++_}
-use mathlib.Core.Path.{_≡_, refl, sym, ap, _∙_}
-use Rattle.text.specs.Text.{ascii, three}
+use mathlib.Core.Path.{ap}
+use Rattle.text.specs.Text.{three}
 use Rattle.text.proofs.Putting.{both, as-word}
 use Rattle.molwriter.proofs.Pieces.{bond-is}
 use borrow.Author.Needs.{needs}

@@ -1,12 +1,12 @@
 -- `molwriter::put_bonds` meets its contract. The loop's invariant: some bonds are put, and those from k on are left.
-use Prim.Native.Nat.{ℕ, _+_, _-_, _*_, _/_, _≤_, _<_}
+use Prim.Native.Nat.{_+_, _-_, _*_, _/_, _≤_}
 use mathlib.Core.List.{List, [], _∷_, _++_}
-use mathlib.Core.Path.{_≡_, refl, sym, ap, _∙_}
+use mathlib.Core.Path.{_≡_, refl, ap}
 use lib.ListN.{length, drop, getD}
 use Rattle.graph.specs.Graph.{Bond, bond}
 use Rattle.block.specs.Block.{bondsOf}
 use Rattle.text.specs.Put.{Puts}
-use Rattle.molwriter.specs.Pieces.{bondText, bondsText}
+use Rattle.molwriter.specs.Pieces.{bondsText}
 use Rattle.text.proofs.Putting.{none, both, as-word}
 use Rattle.molwriter.proofs.Pieces.{bonds-none, bonds-more, done-more, all-done}
 use borrow.Author.Needs.{needs}

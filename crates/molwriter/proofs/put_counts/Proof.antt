@@ -1,7 +1,4 @@
 -- `molwriter::put_counts` meets its contract: the words one after the other.
-use mathlib.Core.List.{List, _++_}
-use mathlib.Core.Path.{_≡_, refl, sym, ap, _∙_}
-use Rattle.text.specs.Text.{ascii, three}
 use Rattle.text.proofs.Putting.{both, as-word}
 use Rattle.molwriter.proofs.Pieces.{counts-is}
 use borrow.Author.Needs.{needs}

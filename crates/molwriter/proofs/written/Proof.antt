@@ -1,12 +1,12 @@
 -- `molwriter::written` meets its contract: the parts of the text one after the other.
 use Prim.Native.Nat.{ℕ, _+_, _*_, _/_, _≤_, _<_}
-use mathlib.Core.List.{List, _++_}
-use mathlib.Core.Path.{_≡_, refl, sym, ap, _∙_}
+use mathlib.Core.List.{_++_}
+use mathlib.Core.Path.{_≡_, sym, ap, _∙_}
 use lib.ListN.{length}
 use Rattle.block.specs.Block.{mostAtoms, mostBytes, bondsOf}
 use Rattle.block.specs.Numbered.{few-bytes}
 use Rattle.block.specs.Told.{few-atoms}
-use Rattle.text.specs.Text.{ascii, three}
+use Rattle.text.specs.Text.{ascii}
 use Rattle.molwriter.specs.Written.{molfileText}
 use Rattle.molwriter.specs.Pieces.{countsText, pieces}
 use Rattle.molwriter.specs.Listing.{text-pieces}

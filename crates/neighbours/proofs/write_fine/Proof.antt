@@ -1,6 +1,6 @@
 -- `write_fine` meets its contract: the text is put into bytes that have room for it, and given out. Assumes nothing.
 use Prim.Native.Nat.{_≤_}
-use mathlib.Core.Path.{_≡_, sym, _∙_, ap}
+use mathlib.Core.Path.{_≡_, sym, _∙_}
 use lib.ListN.{length, take}
 use lib.Seq.{length-take-le}
 use Rattle.adjacency.specs.Written.{textBy}

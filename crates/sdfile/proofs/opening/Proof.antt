@@ -1,5 +1,4 @@
 -- `sdfile::opening` meets its contract. Assumes nothing.
-use mathlib.Core.Path.{sym}
 use native.Mathlib.Omega.{arith}
 use Rattle.sdfile.proofs.Items.{opening-is, opening-not}
 use Rattle.sdfile.proofs.opening.Statement.{statement}

@@ -1,6 +1,6 @@
 -- `sdfile::opens_in` meets its contract. The loop's invariant: what is counted so far, and what is left to count, are all.
 use Prim.Native.Nat.{_+_, _-_, _≤_}
-use mathlib.Core.Path.{_≡_, refl}
+use mathlib.Core.Path.{_≡_}
 use native.Mathlib.Omega.{arith}
 use lib.ListN.{length, drop}
 use borrow.Author.Needs.{needs}

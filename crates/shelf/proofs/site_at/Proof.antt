@@ -4,7 +4,6 @@ use mathlib.Core.List.{List}
 use mathlib.Core.Path.{_≡_, refl, ap, _∙_}
 use Rattle.assembly.specs.Placements.{atomSite}
 use Rattle.assembly.specs.declared.JoinSite.{JoinSite}
-use Rattle.summary.specs.Layout.{storedAtoms, storedDegree}
 use Rattle.shelf.specs.Shelf.{sitesIn}
 use borrow.Author.Needs.{needs}
 use Rattle.shelf.proofs.site_at.Statement.{statement}

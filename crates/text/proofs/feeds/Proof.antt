@@ -1,10 +1,7 @@
 -- `text::feeds` meets its contract. The loop's invariant: where the count is 0, none of the bytes passed is a line feed.
-use Prim.Native.Nat.{ℕ, _+_, _-_, _≤_, _<_}
-use mathlib.Core.Bool.{Bool, true, false, cond}
-use mathlib.Core.Path.{_≡_, refl, sym, ap, _∙_}
-use lib.Dec.{eqb}
-use lib.ListN.{length, getD}
-use Rattle.text.specs.Text.{feed}
+use Prim.Native.Nat.{_+_, _-_, _≤_}
+use mathlib.Core.Path.{_≡_}
+use lib.ListN.{getD}
 use Rattle.text.specs.Clear.{Clear}
 use Rattle.text.proofs.Lines.{clear-more, one-feed}
 use borrow.Author.Needs.{needs}

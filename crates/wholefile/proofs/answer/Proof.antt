@@ -1,6 +1,6 @@
 -- `wholefile::answer` meets its contract: each return is one way through the definition.
 use mathlib.Core.List.{[]}
-use mathlib.Core.Path.{_≡_, refl, sym, ap, _∙_}
+use mathlib.Core.Path.{_≡_, sym, ap, _∙_}
 use lib.ListN.{length}
 use native.Mathlib.Omega.{arith}
 use Rattle.reply.specs.Read.{read}

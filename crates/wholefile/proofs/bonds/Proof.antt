@@ -1,9 +1,8 @@
 -- `wholefile::bonds` meets its contract. The loop's invariant: the first k bonds have no fault.
-use Prim.Native.Nat.{_-_, _≤_, _<_}
-use mathlib.Core.Path.{_≡_, sym, ap, _∙_}
+use Prim.Native.Nat.{_-_, _≤_}
+use mathlib.Core.Path.{sym, ap, _∙_}
 use native.Mathlib.Omega.{arith}
 use Rattle.reply.specs.Read.{saidReply}
-use borrow.Author.Needs.{needs}
 use Rattle.wholefile.proofs.Listing.{Passes, passes-none, passes-more, passes-all, stops}
 use Rattle.wholefile.proofs.bonds.Statement.{statement}
 use Rattle.wholefile.proofs.bonds.Tie as tie

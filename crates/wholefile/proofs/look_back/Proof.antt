@@ -1,7 +1,5 @@
 -- `wholefile::look_back` meets its contract. The loop's invariant: what the first i bonds say.
-use Prim.Native.Nat.{ℕ, _+_, _-_, _*_, _≤_, _<_}
-use mathlib.Core.Path.{_≡_, refl, sym, ap, _∙_}
-use lib.ListN.{length}
+use Prim.Native.Nat.{_-_, _≤_}
 use native.Mathlib.Omega.{arith}
 use borrow.Author.Needs.{needs}
 use Rattle.wholefile.proofs.Looking.{LookedBack, looked-none, looked-more, looked-all}

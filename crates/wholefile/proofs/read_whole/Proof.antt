@@ -1,6 +1,6 @@
 -- `wholefile::read_whole` meets its contract: what is kept, and the answer for it.
 use Prim.Native.Nat.{_*_}
-use mathlib.Core.Path.{_≡_, refl, sym, ap, _∙_}
+use mathlib.Core.Path.{refl, sym, ap, _∙_}
 use lib.ListN.{length, take, replicate}
 use native.Mathlib.Omega.{arith}
 use Rattle.molfile.specs.Molfile.{keptAtoms, bytesOf}

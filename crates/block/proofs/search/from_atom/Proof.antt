@@ -1,5 +1,5 @@
 use Prim.Native.Nat.{_+_, _-_, _^_, _<_, min}
-use mathlib.Core.Path.{_≡_, refl, ap}
+use mathlib.Core.Path.{_≡_, ap}
 use native.Mathlib.Omega.{arith}
 use borrow.Author.Needs.{needs}
 use lib.Bits.{bitAnd, bitOr, bitXor}

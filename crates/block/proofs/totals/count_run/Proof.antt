@@ -2,7 +2,6 @@ use denote.Ref.{now}
 use Prim.Native.Nat.{_≤_, _-_}
 use mathlib.Core.Path.{_≡_, _∙_}
 use native.Mathlib.Omega.{arith}
-use borrow.Author.Needs.{needs}
 use Rattle.block.specs.Tally.{runAt, CountsAdded}
 use Rattle.block.proofs.Tallies.{run-here}
 use Rattle.block.proofs.Counting.{count-none, count-low, count-in, count-out}

@@ -1,6 +1,6 @@
 -- `compose::blocks::block_moved` meets its contract. Assumes nothing.
 use Prim.Native.Nat.{ℕ}
-use mathlib.Core.Path.{_≡_, sym, ap, _∙_}
+use mathlib.Core.Path.{sym, ap, _∙_}
 use borrow.Author.Needs.{needs}
 use Rattle.reply.specs.Read.{refusal}
 use Rattle.reply.specs.declared.Reply.the-variants.{Refused}

@@ -1,9 +1,8 @@
 -- `compose::reading::read_in` meets its contract. Assumes nothing.
-use Prim.Native.Nat.{ℕ, _*_, _≤_}
+use Prim.Native.Nat.{ℕ}
 use mathlib.Core.List.{List, [], _∷_}
 use mathlib.Core.Path.{_≡_, sym, ap, _∙_}
 use native.Mathlib.Omega.{arith}
-use lib.ListN.{length}
 use borrow.Author.Needs.{needs}
 use Rattle.reply.specs.Read.{Read, read, saidReply}
 use Rattle.reply.specs.Chain.{fine-read, refused-read}

@@ -1,11 +1,10 @@
 -- `molfile::ending::listed_end` meets its contract: the lists, and where they end.
-use Prim.Native.Nat.{ℕ, _≤_}
-use mathlib.Core.List.{List}
-use mathlib.Core.Path.{_≡_, refl, sym, ap, _∙_}
+use Prim.Native.Nat.{_≤_}
+use mathlib.Core.Path.{sym, ap, _∙_}
 use native.Mathlib.Omega.{arith}
-use Rattle.reply.specs.Read.{Read, read}
-use Rattle.molfile.specs.Molfile.{atomLineCount, bondLineCount, restBy}
-use Rattle.molfile.specs.Work.{most, listsReply}
+use Rattle.reply.specs.Read.{Read}
+use Rattle.molfile.specs.Molfile.{restBy}
+use Rattle.molfile.specs.Work.{most}
 use Rattle.molfile.specs.declared.Numbers.{Numbers}
 use Rattle.molfile.proofs.Turns.{walk-read, walk-refused}
 use Rattle.molfile.proofs.Chains.{lines-go-on, counts-few}

@@ -1,5 +1,5 @@
 -- `molfile::ending::rest_place` meets its contract: the counts, then the rest.
-use mathlib.Core.Path.{_≡_, refl, sym, ap, _∙_}
+use mathlib.Core.Path.{sym, ap, _∙_}
 use Rattle.reply.specs.Read.{Read}
 use Rattle.molfile.specs.Molfile.{countsPlace, restBy}
 use Rattle.molfile.specs.Work.{countsReply}

@@ -1,5 +1,4 @@
 -- `text::put_three` meets its contract. Assumes nothing.
-use mathlib.Core.Path.{_≡_, refl, sym, ap, _∙_}
 use Rattle.text.proofs.Putting.{as-word}
 use Rattle.text.proofs.Written.{three-is}
 use borrow.Author.Needs.{needs}
