@@ -1,5 +1,6 @@
 """The processes that judge: one that is killed ends the run in words, and none outlives the command, however that ends."""
 
+import contextlib
 import os
 import random
 import signal
@@ -65,7 +66,8 @@ class Killed(Room):
             one, workers = self.begun(*(["judge", self.decks] if turn % 2 else ["board", self.decks, "-o", board]))
             time.sleep(self.chance.random() * 0.1)
             victim = self.chance.choice(workers)
-            os.kill(victim, signal.SIGKILL)
+            with contextlib.suppress(ProcessLookupError):  # it is over already, as the line below says then
+                os.kill(victim, signal.SIGKILL)
             status = one.wait(30)
             said = one.stderr.read().decode()
             if f"{DECKS} decks: {DECKS} accepted" in said:  # it was over already
@@ -93,7 +95,8 @@ class Killed(Room):
 
     def test_a_worker_obeys(self):
         one, workers = self.begun("judge", self.decks)
-        os.kill(workers[0], signal.SIGTERM)
+        with contextlib.suppress(ProcessLookupError):
+            os.kill(workers[0], signal.SIGTERM)
         self.assertIn(one.wait(30), (2, 0))
 
 
