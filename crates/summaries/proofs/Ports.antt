@@ -44,36 +44,13 @@ module _ {s : List ℕ} (lent : LentBytes s) where
   kept = record { six = fields-bytes; sight = vertex-bytes s; far = far-byte }
 
 pub small-held : {n : ℕ} {v : Vertex} → n ≤ 32 → SmallSight n v → SmallCounts v
-small-held h p = record {
-  sum = omega (arith, p .sum);
-  even = omega (arith, p .even);
-  odd = omega (arith, p .odd);
-  evens = omega (arith, p .evens);
-  odds = omega (arith, p .odds);
-  ones = omega (arith, p .ones);
-  twos = omega (arith, p .twos);
-  farthest = omega (arith, p .farthest);
-}
+small-held h p = omega (arith, p)
 
 pub room-held : {n : ℕ} {x : Indices} → n ≤ 32 → SixHeld n x → SmallFields x
-room-held h p = record {
-  atoms = omega (arith, p .atoms);
-  w = omega (arith, p .w);
-  even = omega (arith, p .even);
-  odd = omega (arith, p .odd);
-  polarity = omega (arith, p .polarity);
-  largest = omega (arith, p .largest);
-}
+room-held h p = omega (arith, p)
 
 pub room-bytes : {x : Indices} → SixBytes x → SmallFields x
-room-bytes p = record {
-  atoms = omega (arith, p .atoms);
-  w = omega (arith, p .w);
-  even = omega (arith, p .even);
-  odd = omega (arith, p .odd);
-  polarity = omega (arith, p .polarity);
-  largest = omega (arith, p .largest);
-}
+room-bytes p = omega (arith, p)
 
 -- whatever the bytes are
 pub seen-small : (s : List ℕ) (i : ℕ) → SmallCounts (vertexAt s i)
