@@ -25,6 +25,7 @@ pub mod Notions
 pub mod Examples
 pub mod Bonds
 pub mod SetLaws
+pub mod Lowest
 pub mod Walk
 pub mod Distance
 pub mod Search

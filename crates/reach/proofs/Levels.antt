@@ -23,10 +23,11 @@ use Rattle.block.specs.Opened.{neighboursOf}
 use Rattle.block.specs.Told.{block-drawn, drawn-atoms, drawn-sound}
 use Rattle.block.specs.declared.Indices.{Indices}
 use Rattle.block.specs.declared.IndicesReply.the-variants.{Of, Refused}
-use Rattle.reach.specs.Reach.{Joined, Reach, LowSums, Room, Added, Reached, LevelsUpTo, firstLevel, upTo, fartherOf}
+use Rattle.reach.specs.Reach.{Joined, Reach, AllNext, LowSums, Room, Added, Reached, LevelsUpTo, firstLevel, upTo, fartherOf, halved}
 use Rattle.reach.specs.declared.Both.{Both}
 use Rattle.reach.proofs.Beginning.{first-below, first-deep, reach-first, up-first, first-wanting}
-use Rattle.reach.proofs.Summing.{up-next, up-most, up-more, up-all, met-all, deeper, apart, room, all-connected, last-is, count-reach, one-farther}
+use Rattle.reach.proofs.Meeting.{next-all}
+use Rattle.reach.proofs.Summing.{up-next, up-most, up-more, up-all, all-met, met-all, deeper, apart, room, all-connected, last-is, one-farther}
 
 pub record Level (n : ℕ) (xs : List ℕ) (k : ℕ) (near sets reached : List ℕ) (s : Both) (met d : ℕ) : Type 0 where
   pub near-size : length near ≡ mostAtoms
@@ -42,7 +43,7 @@ pub record Turned (n : ℕ) (xs : List ℕ) (d : ℕ) (near sets : List ℕ) (me
   pub sets-size : length sets ≡ mostAtoms
   pub reach : Reach (graphOf n xs) (suc d) near
   pub wide : Reach (graphOf n xs) (suc d) sets
-  pub met-is : met ≡ sum n (λ v. ones (around near v))
+  pub met-is : met ≡ upTo (graphOf n xs) each (suc d)
 
 cube : {n c : ℕ} → n ≤ mostAtoms → c ≤ mostAtoms → n * (n * c) ≤ mostAtoms * (mostAtoms * mostAtoms)
 cube l h = mul-le-mul l (mul-le-mul l h)
@@ -101,11 +102,8 @@ module _ (n : ℕ) (xs : List ℕ) (drawn : drawnReply n xs ≡ read tt) where
       pub spare : Room k reached
       spare = let h : d ≤ mostAtoms = omega (arith, deepest) in record { room = λ v w. omega (arith, L .counts .wanting v w, mul-le-mul (few .high) h) }
 
-      -- one bond farther
-      module _ {near′ sets′ : List ℕ} {met′ : ℕ} (T : Turned n xs d near′ sets′ met′) where
-        here : met′ ≡ upTo g each (suc d)
-        here = T .met-is ∙ count-reach g (suc d) near′ (T .reach)
-
+      -- one bond farther so many pairs are met
+      module _ {met′ : ℕ} (here : met′ ≡ upTo g each (suc d)) where
         pub grows : met ≤ met′
         grows = omega (arith, here, L .upto .met-is, up-more g d)
 
@@ -123,65 +121,76 @@ module _ (n : ℕ) (xs : List ℕ) (drawn : drawnReply n xs ≡ read tt) where
             gain (f (suc d)) u (upTo g f (suc d)) met (met′ - met)
             (ap (λ (m : ℕ). upTo g f (suc d) + f (suc d) * m) (L .upto .met-is) ∙ up-next g f d ∙ ap₂ (λ (x y : ℕ). x + f (suc d) * y) (sym e) (sym here ∙ k))
 
-        pub level-next : k ≤ n → (met′ ≡ met → ⊥) → (reached′ : List ℕ) → Added k near reached reached′ → Level n xs k near′ sets′ reached′ (fartherOf s (d + 1) (met′ - met)) met′ (d + 1)
-        level-next h ne reached′ A = rw (add-one d) (record {
-          near-size = T .near-size;
-          sets-size = T .sets-size;
-          reach = T .reach;
-          wide = T .wide;
-          upto = record {
-            all-is = added itself (s .all) (L .upto .all-is);
-            odd-is = added oddOf (s .odd) (L .upto .odd-is);
-            threes-is = added (isAt 3) (s .threes) (L .upto .threes-is);
-            met-is = here;
-            below = shallow;
-            deep = deeper g d (omega (arith, here, L .upto .met-is, grows));
-          };
-          counts = record { wanting = λ v w. omega (arith, A .added v w, L .counts .wanting v w, one-farther g d near (L .reach) v (omega arith)) };
-        })
+        pub upto-next : (met′ ≡ met → ⊥) → LevelsUpTo g (suc d) met′ (fartherOf s (suc d) (met′ - met))
+        upto-next ne = record {
+          all-is = added itself (s .all) (L .upto .all-is);
+          odd-is = added oddOf (s .odd) (L .upto .odd-is);
+          threes-is = added (isAt 3) (s .threes) (L .upto .threes-is);
+          met-is = here;
+          below = shallow;
+          deep = deeper g d (omega (arith, here, L .upto .met-is, grows));
+        }
 
-    -- no pair is left
-    module _ (over : n * n ≤ met) where
-      pub whole : (i j : ℕ) → Within n i → Within n j → distance g i j ≤ d
-      whole = met-all g d (omega (arith, L .upto .met-is))
+      pub counts-next : k ≤ n → (reached′ : List ℕ) → Added k near reached reached′ → Reached g k (suc d) reached′
+      counts-next h reached′ A = record { wanting = λ v w. omega (arith, A .added v w, L .counts .wanting v w, one-farther g d near (L .reach) v (omega arith)) }
 
-      linked : connected g ≡ true
-      linked = all-connected g sound d (L .upto .below) whole
+      -- all that are left are
+      pub all-here : (sets₀ : List ℕ) → sets₀ ≡ neighboursOf g → AllNext n near sets₀ → n * n ≡ upTo g each (suc d)
+      all-here sets₀ e A = sym (all-met g (suc d) (next-all g sound (few .high) d near sets₀ (L .reach) e A))
 
-      molecule : Molecule g
-      molecule = connected-molecule sound linked
+      pub level-next : {near′ sets′ : List ℕ} {met′ : ℕ} (T : Turned n xs d near′ sets′ met′) → k ≤ n → (met′ ≡ met → ⊥) → (reached′ : List ℕ) → Added k near reached reached′
+          → Level n xs k near′ sets′ reached′ (fartherOf s (d + 1) (met′ - met)) met′ (d + 1)
+      level-next T h ne reached′ A = rw (add-one d) (record {
+        near-size = T .near-size;
+        sets-size = T .sets-size;
+        reach = T .reach;
+        wide = T .wide;
+        upto = upto-next (T .met-is) ne;
+        counts = counts-next h reached′ A;
+      })
 
-      twice : (f : ℕ → ℕ) (u : ℕ) → f 0 ≡ 0 → u ≡ upTo g f d → u / 2 ≡ total g f
-      twice f u z e = omega (arith, e, up-all g molecule f z d whole)
+  -- no pair is left
+  module _ {s : Both} {met d : ℕ} (U : LevelsUpTo (graphOf n xs) d met s) (over : n * n ≤ met) where
+    pub whole : (i j : ℕ) → Within n i → Within n j → distance g i j ≤ d
+    whole = met-all g d (omega (arith, U .met-is))
 
-      parts : total g evenOf + total g oddOf ≡ total g itself
-      unfolding total
-      parts =
-          sym (sumPairs-add n (λ i j. evenOf (distance g i j)) (λ i j. oddOf (distance g i j)))
-          ∙ sumPairs-cong n (λ i j w v. parts-of .parts (distance g i j))
+    linked : connected g ≡ true
+    linked = all-connected g sound d (U .below) whole
 
-      all-twice : s .all / 2 ≡ total g itself
-      all-twice = twice itself (s .all) refl (L .upto .all-is)
+    molecule : Molecule g
+    molecule = connected-molecule sound linked
 
-      odd-twice : s .odd / 2 ≡ total g oddOf
-      unfolding oddOf
-      odd-twice = twice oddOf (s .odd) refl (L .upto .odd-is)
+    twice : (f : ℕ → ℕ) (u : ℕ) → f 0 ≡ 0 → u ≡ upTo g f d → u / 2 ≡ total g f
+    twice f u z e = omega (arith, e, up-all g molecule f z d whole)
 
-      threes-twice : s .threes / 2 ≡ total g (isAt 3)
-      unfolding isAt
-      threes-twice = twice (isAt 3) (s .threes) refl (L .upto .threes-is)
+    parts : total g evenOf + total g oddOf ≡ total g itself
+    unfolding total
+    parts =
+        sym (sumPairs-add n (λ i j. evenOf (distance g i j)) (λ i j. oddOf (distance g i j)))
+        ∙ sumPairs-cong n (λ i j w v. parts-of .parts (distance g i j))
 
-      pub largest-last : largest g ≡ d
-      largest-last = last-is g molecule d (few .low) whole (L .upto .deep)
+    all-twice : s .all / 2 ≡ total g itself
+    all-twice = twice itself (s .all) refl (U .all-is)
 
-      pub odd-less : s .odd / 2 ≤ s .all / 2
-      odd-less = omega (arith, all-twice, odd-twice, parts)
+    odd-twice : s .odd / 2 ≡ total g oddOf
+    unfolding oddOf
+    odd-twice = twice oddOf (s .odd) refl (U .odd-is)
 
-      pub level-end : Of (record { atoms = n; w = s .all / 2; even = s .all / 2 - s .odd / 2; odd = s .odd / 2; polarity = s .threes / 2; largest = d }) ≡ saidIndices (indicesReply n xs)
-      unfolding indicesReply indicesOf
-      level-end =
-          let v : s .all / 2 - s .odd / 2 ≡ total g evenOf = omega (arith, all-twice, odd-twice, parts) in
-          rw (block-drawn n xs, drawn, linked) (λ k. Of (record { atoms = n; w = all-twice k; even = v k; odd = odd-twice k; polarity = threes-twice k; largest = sym largest-last k }))
+    threes-twice : s .threes / 2 ≡ total g (isAt 3)
+    unfolding isAt
+    threes-twice = twice (isAt 3) (s .threes) refl (U .threes-is)
+
+    pub largest-last : largest g ≡ d
+    largest-last = last-is g molecule d (few .low) whole (U .deep)
+
+    pub odd-less : s .odd / 2 ≤ s .all / 2
+    odd-less = omega (arith, all-twice, odd-twice, parts)
+
+    pub level-end : Of (halved n s d) ≡ saidIndices (indicesReply n xs)
+    unfolding indicesReply indicesOf
+    level-end =
+        let v : s .all / 2 - s .odd / 2 ≡ total g evenOf = omega (arith, all-twice, odd-twice, parts) in
+        rw (block-drawn n xs, drawn, linked) (λ k. Of (record { atoms = n; w = all-twice k; even = v k; odd = odd-twice k; polarity = threes-twice k; largest = sym largest-last k }))
 
 -- a reply with indices is no refusal, and has one largest distance
 pub not-of : {r : Refusal} {x : Indices} → Refused r ≡ Of x → ⊥

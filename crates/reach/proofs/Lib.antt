@@ -2,6 +2,7 @@
 pub mod Settling
 pub mod Leaving
 pub mod Touching
+pub mod Meeting
 pub mod Summing
 pub mod Digits
 pub mod Beginning

@@ -1,16 +1,18 @@
 -- Work. The atoms within reach of each atom, as sets, and sums over the ordered pairs within reach.
-use Prim.Native.Nat.{ℕ, _+_, _*_, _^_, _≤_, _<_, min}
-use mathlib.Core.Bool.{Bool, false, _&&_, _||_, cond}
+use Prim.Native.Nat.{ℕ, _+_, _-_, _*_, _/_, _^_, _≤_, _<_, min}
+use mathlib.Core.Bool.{Bool, true, false, _&&_, _||_, cond}
 use mathlib.Core.List.{List, [], _∷_}
+use mathlib.Core.Logic.{_≢_}
 use mathlib.Core.Path.{_≡_}
-use lib.Bits.{bitOr}
+use lib.Bits.{bitAnd, bitOr, bitXor}
 use lib.Count.{ones}
 use lib.Dec.{eqb, leb}
 use lib.ListN.{length}
 use Rattle.graph.specs.Graph.{Graph, Bond, Within, distance, sum, itself, each, oddOf, isAt}
-use Rattle.graph.specs.Sets.{has, alone}
+use Rattle.graph.specs.Sets.{has, alone, firsts}
 use Rattle.block.specs.Block.{mostAtoms}
 use Rattle.block.specs.Near.{around}
+use Rattle.block.specs.declared.Indices.{Indices}
 use Rattle.reach.specs.declared.Both.{Both}
 
 -- the set of each of n atoms has that atom and its neighbours
@@ -27,6 +29,14 @@ pub record Reach (g : Graph) (d : ℕ) (sets : List ℕ) : Type 0 where
   pub fits : (v : ℕ) → Within (g .atoms) v → around sets v < 2 ^ g .atoms
   pub holds : (v w : ℕ) → Within (g .atoms) v → Within (g .atoms) w → has (around sets v) w ≡ leb (distance g v w) d
 
+-- each atom of a set has one of some others within its own reach
+abbrev pub AllMeet : List ℕ → ℕ → ℕ → Type 0
+AllMeet near some set = (w : ℕ) → 1 ≤ w → has set w ≡ true → bitAnd (around near w) some ≢ 0
+
+-- and so do, for each of n atoms, those that are not within its reach, with its neighbours
+abbrev pub AllNext : ℕ → List ℕ → List ℕ → Type 0
+AllNext n near drawn = (v : ℕ) → Within n v → AllMeet near (around drawn v) (bitXor (firsts n) (around near v))
+
 -- whether a bond joins v to an atom that passes
 unfoldable pub touched : List Bond → (ℕ → Bool) → ℕ → Bool
 touched [] p v = false
@@ -39,6 +49,10 @@ upTo g f d = sum (g .atoms) (λ i. sum (g .atoms) (λ j. cond (leb (distance g i
 -- with so many more pairs, which are d bonds apart
 abbrev pub fartherOf : Both → ℕ → ℕ → Both
 fartherOf s d pairs = record { all = s .all + d * pairs; odd = s .odd + oddOf d * pairs; threes = s .threes + isAt 3 d * pairs }
+
+-- the indices of n atoms at most d bonds apart, by the sums over all ordered pairs
+abbrev pub halved : ℕ → Both → ℕ → Indices
+halved n s d = record { atoms = n; w = s .all / 2; even = s .all / 2 - s .odd / 2; odd = s .odd / 2; polarity = s .threes / 2; largest = d }
 
 -- sums that leave room for more
 pub record LowSums (s : Both) : Type 0 where

@@ -6,12 +6,12 @@
 // together, are its vertex sum. The loops go by the number of bonds and of atoms and by no distance: that is why this is faster than a search from
 // each atom.
 ghost use mathlib.Core.Path.{_≡_};
-ghost use Prim.Native.Nat.{ℕ, suc, _*_, _-_, _≤_, _<_};
+ghost use Prim.Native.Nat.{ℕ, suc, _*_, _-_, _/_, _≤_, _<_};
 ghost use lib.Bits.{bitOr};
 ghost use lib.Count.{ones};
 ghost use lib.Dec.{ltb};
 ghost use lib.ListN.{length, getD};
-ghost use mathlib.Core.Bool.{cond};
+ghost use mathlib.Core.Bool.{true, cond};
 ghost use Rattle.graph.specs.Graph.{Within, sum, oddOf};
 ghost use Rattle.reply.specs.Read.{read};
 ghost use Rattle.block.specs.Block.{mostAtoms, graphOf, drawnReply};
@@ -20,11 +20,12 @@ ghost use Rattle.block.specs.Near.{around};
 ghost use Rattle.block.specs.Opened.{neighboursOf, drawnNear, openedNear};
 ghost use Rattle.half.specs.Half.{table};
 ghost use Rattle.reach.specs.Sums.{sumsReply, saidSums};
-ghost use Rattle.reach.specs.Reach.{Joined, Reach, LowSums, firstLevel, fartherOf, Room, Added, Reached};
+ghost use Rattle.reach.specs.Reach.{Joined, Reach, AllMeet, AllNext, LowSums, firstLevel, fartherOf, halved, Room, Added, Reached};
 use block::ATOMS;
 use block::Indices;
 use block::IndicesReply;
 use block::Neighbours;
+use block::first_atoms;
 use reply::Refusal;
 use reply::Reply;
 
@@ -141,9 +142,58 @@ fn farther(s: Both, d: u64, pairs: u64) -> Both
     }
 }
 
+// Whether each atom of a set has one of some others within its own reach.
+fn all_meet(near: &Sets, some: u64, set: u64) -> bool
+    ensures { λ r. ⌜ (r ≡ true → AllMeet (now (near .entry)) some set) ⌝ }
+{
+    let mut rest = set;
+    while rest != 0 {
+        let p = u64::trailing_zeros(rest) as usize;
+        if near[p] & some == 0 {
+            return false;
+        }
+        rest = rest & (rest - 1);
+    }
+    true
+}
+
+// Whether of n atoms those that are not within reach of each other are one bond farther apart: one has a neighbour of the other within its reach.
+fn all_next(near: &Sets, drawn: &Neighbours, n: usize) -> bool
+    requires { ⌜ n ≤ mostAtoms ⌝ }
+    ensures { λ r. ⌜ (r ≡ true → AllNext n (now (near .entry)) (now (drawn .entry))) ⌝ }
+{
+    let all = first_atoms(n);
+    let mut i = 0;
+    while i < n {
+        if !all_meet(near, drawn[i], all ^ near[i]) {
+            return false;
+        }
+        i += 1;
+    }
+    true
+}
+
+// The indices of n atoms of which none are more than d bonds apart.
+fn finished(n: usize, s: Both, d: u64) -> IndicesReply
+    requires { ⌜ s .odd / 2 ≤ s .all / 2 ⌝ }
+    ensures { λ r. ⌜ r ≡ IndicesReply.Of (halved n s d) ⌝ }
+{
+    let w = s.all / 2;
+    let odd = s.odd / 2;
+    let even = w - odd;
+    IndicesReply::Of(Indices {
+        atoms: n as u64,
+        w,
+        even,
+        odd,
+        polarity: s.threes / 2,
+        largest: d,
+    })
+}
+
 // The indices of a block that 1 to 6 do not refuse, or 7 where a level adds nothing before all pairs are met. As many ordered pairs are one bond
-// apart as the bonds have ends, a byte each: the first level needs no counting. And lent, for each of the first k atoms, how many atoms were within
-// its reach, all levels before the last together.
+// apart as the bonds have ends, a byte each: the first level needs no counting; and where no more pairs are left than atoms, the last level needs no
+// spreading. And lent, for each of the first k atoms, how many atoms were within its reach, all levels before the last together.
 fn summed(n: usize, bonds: &[u8], drawn: &Neighbours, k: usize, reached: &mut [u64]) -> IndicesReply
     requires { ⌜ (drawnReply n (now bonds) ≡ read tt) × (now drawn ≡ neighboursOf (graphOf n (now bonds))) × (k ≤ n) × (k ≤ length (now reached))
         × ((v : ℕ) → Within k v → around (now reached) v ≡ firstLevel (now bonds)) ⌝ }
@@ -163,6 +213,9 @@ fn summed(n: usize, bonds: &[u8], drawn: &Neighbours, k: usize, reached: &mut [u
     let mut d = first(bonds);
     while met < pairs {
         count(&near, k, reached);
+        if pairs - met <= n as u64 && all_next(&near, drawn, n) {
+            return finished(n, farther(s, d + 1, pairs - met), d + 1);
+        }
         spread(&near, n, bonds, &mut sets);
         let more = settled(&sets, n, &mut near);
         if more == met {
@@ -175,17 +228,7 @@ fn summed(n: usize, bonds: &[u8], drawn: &Neighbours, k: usize, reached: &mut [u
         s = farther(s, d, more - met);
         met = more;
     }
-    let w = s.all / 2;
-    let odd = s.odd / 2;
-    let even = w - odd;
-    IndicesReply::Of(Indices {
-        atoms: n as u64,
-        w,
-        even,
-        odd,
-        polarity: s.threes / 2,
-        largest: d,
-    })
+    finished(n, s, d)
 }
 
 // The indices of a block, or its refusal; and lent what `block::drawn` says.

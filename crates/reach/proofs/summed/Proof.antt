@@ -1,12 +1,16 @@
-use Prim.Native.Nat.{suc, _-_, _*_, _≤_, _<_}
-use mathlib.Core.Path.{_≡_, refl, sym}
+use Prim.Native.Nat.{ℕ, suc, _+_, _-_, _*_, _≤_, _<_}
+use mathlib.Core.Path.{_≡_, refl, sym, _∙_}
 use native.Mathlib.Nat.{mul-le-mul}
+use native.Mathlib.Numerals.{add-one}
 use native.Mathlib.Omega.{arith}
 use lib.ListN.{length}
+use Rattle.graph.specs.Graph.{each}
 use Rattle.reply.specs.Read.{read}
-use Rattle.block.specs.Block.{drawnReply}
+use Rattle.block.specs.Block.{mostAtoms, graphOf, drawnReply}
 use Rattle.block.specs.Numbered.{drawn-bytes}
-use Rattle.reach.proofs.Levels.{Level, Turned, few, level-start, shallow, low, spare, grows, fits, stuck, level-next, odd-less, level-end, not-of, of-reached}
+use Rattle.reach.proofs.Levels.{Level, Turned, few, level-start, shallow, low, spare, grows, fits, stuck, upto-next, counts-next, all-here, level-next, odd-less, level-end, not-of, of-reached}
+use Rattle.reach.specs.Reach.{LowSums, LevelsUpTo, upTo}
+use Rattle.reach.proofs.Summing.{count-reach}
 use Rattle.reach.proofs.Touching.{reach-joined}
 use Rattle.reach.proofs.summed.Statement.{statement}
 use Rattle.reach.proofs.summed.Tie as tie
@@ -45,6 +49,16 @@ more-in c = omega (arith, c .loop-test .taken, c .before .loop .inv .0)
 shallow-in : (c : tie.In-loop Inv-loop μ-loop) → suc (c .before .loop .d) < c .before .before .before .before .before .before .args .n
 shallow-in c = shallow _ _ (drawn-in c) (c .before .loop .inv .2) (more-in c)
 
+-- so many pairs more are met one bond farther
+farther-in : (t : tie.In-loop Inv-loop μ-loop) {met′ : ℕ} →
+    let l = t .before .loop in
+    let a = t .before .before .before .before .before .before .args in
+    met′ ≡ upTo (graphOf (a .n) (a .bonds .now)) each (suc (l .d)) → LowSums (l .s) × (l .d + 1 ≤ mostAtoms) × (met′ - l .met ≤ mostAtoms * mostAtoms)
+farther-in t e =
+    let f = drawn-in t in
+    let L = t .before .loop .inv .2 in
+    (low _ _ f L (more-in t), omega (arith, shallow-in t, few _ _ f), fits _ _ f L (more-in t) e)
+
 count-requires : tie.Need-count-requires Inv-loop μ-loop
 count-requires c κs =
     let t = c .before .before in
@@ -52,23 +66,74 @@ count-requires c κs =
     let l = t .before .loop .inv in
     (omega (arith, p .2, few _ _ (p .0)), omega (arith, p .3, l .1), spare _ _ (p .0) (l .2) (more-in t))
 
+sub-if1 : tie.Need-sub-if1 Inv-loop μ-loop
+sub-if1 c = let t = c .before .before .before .before .before in omega (arith, t .loop-test .taken)
+
+all-next-requires : tie.Need-all-next-requires Inv-loop μ-loop
+all-next-requires c κs = few _ _ (drawn-in (c .before .before .before .before .before .before .before)) .high
+
+-- all pairs that are left are one bond farther
+abbrev last-turn : tie.Then2 Inv-loop μ-loop → tie.In-loop Inv-loop μ-loop
+last-turn c = c .before .before .before .before .before .before .before .before .before
+
+all-found : (c : tie.Then2 Inv-loop μ-loop) →
+    let t = last-turn c in
+    let a = t .before .before .before .before .before .before .args in
+    a .n * a .n ≡ upTo (graphOf (a .n) (a .bonds .now)) each (suc (t .before .loop .d))
+all-found c =
+    let t = last-turn c in
+    all-here _ _ (drawn-in t) (t .before .loop .inv .2) (more-in t) _ (t .before .before .before .before .before .before .pre .1) (c .before .all-next .ensures (c .if2 .taken))
+
+add-farther : tie.Need-add-farther Inv-loop μ-loop
+add-farther c = let t = last-turn c in omega (arith, shallow-in t, few _ _ (drawn-in t))
+
+sub-farther : tie.Need-sub-farther Inv-loop μ-loop
+sub-farther c = omega (arith, last-turn c .loop-test .taken)
+
+farther-requires : tie.Need-farther-requires Inv-loop μ-loop
+farther-requires c κs = farther-in (last-turn c) (all-found c)
+
+finished-in : (c : tie.After-farther Inv-loop μ-loop) →
+    let t = last-turn (c .before) in
+    let a = t .before .before .before .before .before .before .args in
+    LevelsUpTo (graphOf (a .n) (a .bonds .now)) (t .before .loop .d + 1) (a .n * a .n) (c .farther .result)
+finished-in c =
+    let t = last-turn (c .before) in
+    rw (c .farther .ensures, add-one (t .before .loop .d)) (upto-next _ _ (drawn-in t) (t .before .loop .inv .2) (more-in t) (all-found (c .before)) (λ e. omega (arith, more-in t)))
+
+add-finished : tie.Need-add-finished Inv-loop μ-loop
+add-finished c = add-farther (c .before)
+
+finished-requires : tie.Need-finished-requires Inv-loop μ-loop
+finished-requires c κs = odd-less _ _ (drawn-in (last-turn (c .before))) (finished-in c) (omega arith)
+
+returns : tie.Need-returns Inv-loop μ-loop
+returns c =
+    let t = last-turn (c .before .before) in
+    let p = t .before .before .before .before .before .before .pre in
+    let f = c .finished .ensures in (
+      f ∙ level-end _ _ (p .0) (finished-in (c .before)) (omega arith),
+      λ x e. of-reached _ x (sym f ∙ e)
+          (rw (add-one (t .before .loop .d)) (counts-next _ _ (p .0) (t .before .loop .inv .2) (more-in t) (p .2) _ (c .before .before .before .before .before .before .before .before .count .ensures))),
+    )
+
 slice-aggregate-spread : tie.Need-slice-aggregate-spread Inv-loop μ-loop
-slice-aggregate-spread c = sym (c .before .before .before .before .before .before .before .before .loop .inv .2 .sets-size)
+slice-aggregate-spread c = sym (c .before .before .before .before .before .before .before .before .before .loop .inv .2 .sets-size)
 
 spread-requires : tie.Need-spread-requires Inv-loop μ-loop
-spread-requires c κs = let t = c .before .before .before .before .before .before .before in (drawn-in t, t .before .loop .inv .2 .sets-size)
+spread-requires c κs = let t = c .before .before .before .before .before .before .before .before in (drawn-in t, t .before .loop .inv .2 .sets-size)
 
 slice-aggregate-settled : tie.Need-slice-aggregate-settled Inv-loop μ-loop
-slice-aggregate-settled c = sym (c .before .before .before .before .before .before .before .before .before .before .before .before .loop .inv .2 .near-size)
+slice-aggregate-settled c = sym (c .before .before .before .before .before .before .before .before .before .before .before .before .before .loop .inv .2 .near-size)
 
 settled-requires : tie.Need-settled-requires Inv-loop μ-loop
-settled-requires c κs = let t = c .before .before .before .before .before .before .before .before .before .before .before in (few _ _ (drawn-in t) .high, t .before .loop .inv .2 .near-size)
+settled-requires c κs = let t = c .before .before .before .before .before .before .before .before .before .before .before .before in (few _ _ (drawn-in t) .high, t .before .loop .inv .2 .near-size)
 
 -- the turn, and what it finds
-abbrev turn : tie.After-near4 Inv-loop μ-loop → tie.In-loop Inv-loop μ-loop
-turn c = c .before .before .before .before .before .before .before .before .before .before .before .before .before
+abbrev turn : tie.After-near5 Inv-loop μ-loop → tie.In-loop Inv-loop μ-loop
+turn c = c .before .before .before .before .before .before .before .before .before .before .before .before .before .before
 
-found : (c : tie.After-near4 Inv-loop μ-loop) →
+found : (c : tie.After-near5 Inv-loop μ-loop) →
     let t = turn c in
     let a = t .before .before .before .before .before .before .args in
     let m = c .before .settled in
@@ -78,58 +143,56 @@ found c =
     let L = t .before .loop .inv .2 in
     let m = c .before .settled .ensures in
     let wide = c .before .before .before .before .before .spread .ensures (t .before .loop .d) (shallow-in t) (L .reach) (L .wide) in
+    let reach = reach-joined _ _ _ _ _ (m .1) (L .reach) wide in
     record {
-      near-size = c .near4 .given;
+      near-size = c .near5 .given;
       sets-size = c .before .before .before .before .sets2 .given;
-      reach = reach-joined _ _ _ _ _ (m .1) (L .reach) wide;
+      reach = reach;
       wide = wide;
-      met-is = m .0;
+      met-is = m .0 ∙ count-reach _ _ _ reach;
     }
 
-returns : tie.Need-returns Inv-loop μ-loop
-returns c = let t = turn (c .before) in (stuck _ _ (drawn-in t) (t .before .loop .inv .2) (more-in t) (found (c .before)) (omega (arith, c .if1 .taken)), λ x e. absurd (not-of e))
+returns-2 : tie.Need-returns-2 Inv-loop μ-loop
+returns-2 c = let t = turn (c .before) in (stuck _ _ (drawn-in t) (t .before .loop .inv .2) (more-in t) (found (c .before) .met-is) (omega (arith, c .if3 .taken)), λ x e. absurd (not-of e))
 
 add-d : tie.Need-add-d Inv-loop μ-loop
 add-d c = let t = turn (c .before) in omega (arith, shallow-in t, few _ _ (drawn-in t))
 
-sub-farther : tie.Need-sub-farther Inv-loop μ-loop
-sub-farther c = let t = turn (c .before) in grows _ _ (drawn-in t) (t .before .loop .inv .2) (more-in t) (found (c .before))
+sub-farther-2 : tie.Need-sub-farther-2 Inv-loop μ-loop
+sub-farther-2 c = let t = turn (c .before) in grows _ _ (drawn-in t) (t .before .loop .inv .2) (more-in t) (found (c .before) .met-is)
 
-farther-requires : tie.Need-farther-requires Inv-loop μ-loop
-farther-requires c κs =
-    let t = turn (c .before) in
-    let f = drawn-in t in
-    let L = t .before .loop .inv .2 in
-    (low _ _ f L (more-in t), omega (arith, shallow-in t, few _ _ f), fits _ _ f L (more-in t) (found (c .before)))
+farther-requires-2 : tie.Need-farther-requires-2 Inv-loop μ-loop
+farther-requires-2 c κs = farther-in (turn (c .before)) (found (c .before) .met-is)
 
 loop-less : tie.Need-loop-less Inv-loop μ-loop
 loop-less c =
     let t = turn (c .before .before) in
-    omega (arith, grows _ _ (drawn-in t) (t .before .loop .inv .2) (more-in t) (found (c .before .before)), c .before .if1 .left, t .loop-test .taken)
+    omega (arith, sub-farther-2 (c .before), c .before .if3 .left, t .loop-test .taken)
 
 loop-again : tie.Need-loop-again Inv-loop μ-loop
 loop-again c =
     let t = turn (c .before .before) in
     let p = t .before .before .before .before .before .before .pre in
     let l = t .before .loop .inv in
-    let A = c .before .before .before .before .before .before .before .before .before .before .before .before .count .ensures in
-    (refl, omega (arith, A .size, l .1), rw (c .farther .ensures) (level-next _ _ (p .0) (l .2) (more-in t) (found (c .before .before)) (p .2) (λ e. omega (arith, c .before .if1 .left)) _ A))
+    let A = c .before .before .before .before .before .before .before .before .before .before .before .before .before .count .ensures in
+    (refl, omega (arith, A .size, l .1), rw (c .farther2 .ensures) (level-next _ _ (p .0) (l .2) (more-in t) (found (c .before .before)) (p .2) (λ e. omega (arith, c .before .if3 .left)) _ A))
 
 -- in the end: no pair is left
 over : (c : tie.After-loop Inv-loop μ-loop) → let n = c .before .before .before .before .before .before .args .n in n * n ≤ c .before .loop .met
 over c = omega (arith, c .before .loop .inv .0, c .loop-test .left)
 
-sub-even : tie.Need-sub-even Inv-loop μ-loop
-sub-even c = let t = c .before .before in odd-less _ _ (t .before .before .before .before .before .before .pre .0) (t .before .loop .inv .2) (over t)
+finished-requires-2 : tie.Need-finished-requires-2 Inv-loop μ-loop
+finished-requires-2 c κs = odd-less _ _ (c .before .before .before .before .before .before .pre .0) (c .before .loop .inv .2 .upto) (over c)
 
-returns-2 : tie.Need-returns-2 Inv-loop μ-loop
-returns-2 c =
-    let t = c .before .before .before in
+returns-3 : tie.Need-returns-3 Inv-loop μ-loop
+returns-3 c =
+    let t = c .before in
     let L = t .before .loop .inv .2 in
-    (level-end _ _ (t .before .before .before .before .before .before .pre .0) L (over t), λ x e. of-reached _ x e (L .counts))
+    let f = c .finished2 .ensures in
+    (f ∙ level-end _ _ (t .before .before .before .before .before .before .pre .0) (L .upto) (over t), λ x e. of-reached _ x (sym f ∙ e) (L .counts))
 
 pub summed-spec : {M : Type 1} → statement M
 summed-spec =
-    tie.close (tie.spec Inv-loop μ-loop mul-pairs joined-requires add-met first-requires loop-holds count-requires slice-aggregate-spread spread-requires
-    slice-aggregate-settled settled-requires (λ c. omega arith) returns add-d sub-farther farther-requires loop-less loop-again sub-even (λ c. omega arith)
-    returns-2)
+    tie.close (tie.spec Inv-loop μ-loop mul-pairs joined-requires add-met first-requires loop-holds count-requires sub-if1 all-next-requires add-farther
+    sub-farther farther-requires add-finished finished-requires (λ c. omega arith) returns slice-aggregate-spread spread-requires slice-aggregate-settled
+    settled-requires (λ c. omega arith) returns-2 add-d sub-farther-2 farther-requires-2 loop-less loop-again finished-requires-2 (λ c. omega arith) returns-3)
