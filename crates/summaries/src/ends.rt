@@ -73,8 +73,7 @@ pub(crate) fn step_at(rows: &[StepRow], k: usize, z: usize) -> u64
     requires { ⌜ (k < length (now rows)) × (z < mostPlacements) ⌝ }
     ensures { λ r. ⌜ r ≡ getD (getD (now (rows .entry)) k []) z 0 ⌝ }
 {
-    let row = rows[k];
-    wide(row[z])
+    wide(rows[k][z])
 }
 
 // The fields of the block of an end, 256 times a block's number and one of its atoms; and what is seen from it.
