@@ -6,9 +6,8 @@ use mathlib.Core.Path.{_≡_, refl, sym, ap, ap₂, subst, _∙_}
 use native.Mathlib.Nat.{mul-le-mul, le-refl}
 use native.Mathlib.Numerals.{add-one}
 use native.Mathlib.Omega.{arith}
-use lib.Count.{ones}
 use lib.ListN.{length}
-use Rattle.graph.specs.Graph.{Graph, Within, Sound, Molecule, connected, distance, sum, total, itself, each, evenOf, oddOf, isAt}
+use Rattle.graph.specs.Graph.{Graph, Within, Sound, Molecule, connected, distance, total, itself, each, evenOf, oddOf, isAt}
 use Rattle.graph.specs.Farthest.{largest}
 use Rattle.graph.specs.Bounds.{tame-odd, tame-at}
 use Rattle.graph.specs.Parts.{parts-of}

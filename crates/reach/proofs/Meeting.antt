@@ -1,15 +1,14 @@
 -- Few pairs are left: whether all of them are one bond farther apart. Assumes nothing.
 use Prim.Native.Nat.{ℕ, suc, _+_, _-_, _^_, _≤_, _<_, min}
-use mathlib.Core.Bool.{Bool, true, false, not, _&&_, _||_, and-true, true≢false}
+use mathlib.Core.Bool.{true, false, and-true, true≢false}
 use mathlib.Core.List.{List}
 use mathlib.Core.Logic.{_≢_}
-use mathlib.Core.Path.{_≡_, refl, sym, ap, ap₂, subst, _∙_}
+use mathlib.Core.Path.{_≡_, refl, sym, ap, subst, _∙_}
 use native.Mathlib.Decide.{ℕ-discrete, decLt}
 use native.Mathlib.Omega.{arith}
 use borrow.Author.Tests.{ne-eqb, leb-true, lt-leb}
 use lib.Bits.{bitAnd, bitXor, and-le-l}
 use lib.Count.{trailingZeros}
-use lib.Dec.{leb}
 use lib.ListN.{getD}
 use Rattle.graph.specs.Graph.{Graph, Within, Sound, distance}
 use Rattle.graph.specs.Bonds.{both, bonded-sym}

@@ -1,6 +1,6 @@
 -- A sweep over the atoms, level by level: what holds while it runs. Assumes nothing.
 use Prim.Native.Nat.{ℕ, suc, _+_, _-_, _^_, min, _≤_, _<_}
-use mathlib.Core.Bool.{Bool, true, false, not, _&&_, _||_, cond, false≢true, true≢false}
+use mathlib.Core.Bool.{Bool, true, false, not, _&&_, cond, false≢true, true≢false}
 use mathlib.Core.List.{List}
 use mathlib.Core.Logic.{_≢_}
 use mathlib.Core.Path.{_≡_, refl, sym, _∙_, ap, subst⁻¹}
@@ -8,15 +8,16 @@ use native.Mathlib.Decide.{ℕ-discrete, decLt}
 use native.Mathlib.Numerals.{add-one}
 use native.Mathlib.Omega.{arith}
 use borrow.Author.Tests.{eqb-true, eq-eqb, ne-eqb}
-use lib.Bits.{bitAnd, bitXor, and-le-l}
+use lib.Bits.{bitAnd, and-le-l}
 use lib.Count.{trailingZeros}
 use lib.Dec.{eqb}
 use lib.ListN.{length, getD, set}
 use lib.Pow.{pow-mono}
 use lib.Seq.{getD-set-same, getD-set-other}
 use Rattle.graph.specs.Graph.{Within, sum}
-use Rattle.graph.specs.Sets.{has, alone}
-use Rattle.graph.specs.SetLaws.{has-and, has-xor, has-none, has-alone, none-above, lowest, taken-one}
+use Rattle.graph.specs.Lowest.{lowest-in, rest-less, rest-has}
+use Rattle.graph.specs.Sets.{has}
+use Rattle.graph.specs.SetLaws.{has-and, has-none, none-above}
 use Rattle.graph.specs.Sums.{sum-cong, sum-add, sum-none, sum-split, sum-min, sum-pick}
 use Rattle.block.specs.Block.{mostAtoms}
 use Rattle.block.specs.Drawn.{has-set}
@@ -28,41 +29,19 @@ first m = trailingZeros mostAtoms m
 
 -- its atom is taken out
 abbrev pub less : ℕ → ℕ
-less m = bitXor m (2 ^ first m)
+less m = bitAnd m (m - 1)
 
 module _ (m : ℕ) (some : m ≢ 0) (fits : m < 2 ^ mostAtoms) where
-  pub first-low : first m < mostAtoms
-  first-low = lowest mostAtoms m (omega arith) fits .0
-
-  pub first-has : has m (suc (first m)) ≡ true
-  first-has = lowest mostAtoms m (omega arith) fits .1
-
-  is-alone : 2 ^ first m ≡ alone (suc (first m))
-  is-alone = let q : first m ≡ suc (first m) - 1 = omega arith in ap (λ (x : ℕ). 2 ^ x) q
-
-  pub less-sum : less m + 2 ^ first m ≡ m
-  less-sum = rw is-alone (taken-one m (suc (first m)) first-has)
-
-  pub has-less : (w : ℕ) → 1 ≤ w → has (less m) w ≡ (has m w && not (eqb w (suc (first m))))
-  has-less w l = rw is-alone (has-xor m (alone (suc (first m))) w ∙ rw (has-alone (suc (first m)) w (omega arith) l) (elim (ℕ-discrete w (suc (first m))) [
-    | yes e ↦ rw (eq-eqb w (suc (first m)) e, e, first-has) refl
-    | no ne ↦ rw (ne-eqb w (suc (first m)) ne) (plain (has m w))
-  ]))
-    where
-      plain : (t : Bool) → ((t && not false) || (not t && false)) ≡ (t && not false)
-      plain true = refl
-      plain false = refl
-
   -- what the set has is what the lowest atom has, and the others
   pub over-less : (f : ℕ → ℕ) → overSet m f ≡ f (first m + 1) + overSet (less m) f
   over-less f =
       rw (add-one (first m))
-      (sum-cong mostAtoms (λ w h. rw (has-less w (h .low)) (at-one w (ℕ-discrete w (suc (first m)))))
+      (sum-cong mostAtoms (λ w h. rw (rest-has mostAtoms m some fits w (h .low)) (at-one w (ℕ-discrete w (suc (first m)))))
       ∙ sum-add mostAtoms (λ w. cond (eqb (suc (first m)) w) (f w) 0) (λ w. cond (has (less m) w) (f w) 0)
-      ∙ ap (λ (x : ℕ). x + overSet (less m) f) (sum-pick mostAtoms (suc (first m)) f (omega (arith, first-low))))
+      ∙ ap (λ (x : ℕ). x + overSet (less m) f) (sum-pick mostAtoms (suc (first m)) f (omega (arith, lowest-in mostAtoms m some fits .0))))
     where
       at-one : (w : ℕ) → Dec (w ≡ suc (first m)) → cond (has m w) (f w) 0 ≡ cond (eqb (suc (first m)) w) (f w) 0 + cond (has m w && not (eqb w (suc (first m)))) (f w) 0
-      at-one w (yes e) = rw (eq-eqb w (suc (first m)) e, eq-eqb (suc (first m)) w (sym e), e, first-has) (omega arith)
+      at-one w (yes e) = rw (eq-eqb w (suc (first m)) e, eq-eqb (suc (first m)) w (sym e), e, lowest-in mostAtoms m some fits .1) (omega arith)
       at-one w (no ne) = rw (ne-eqb w (suc (first m)) ne, ne-eqb (suc (first m)) w (λ e. ne (sym e))) (plain (has m w))
         where
           plain : (t : Bool) → cond t (f w) 0 ≡ 0 + cond (t && not false) (f w) 0
@@ -102,7 +81,7 @@ wide-set {n} {m} l w = omega (arith, w, grow)
 
 module _ {n : ℕ} (small : n ≤ mostAtoms) (rest : ℕ) (waits : rest < 2 ^ n) (some : rest ≢ 0) where
   its-first : has rest (suc (first rest)) ≡ true
-  its-first = first-has rest some (wide-set small waits)
+  its-first = lowest-in mostAtoms rest some (wide-set small waits) .1
 
   pub taken : Within n (suc (first rest))
   taken = elim (decLt n (suc (first rest))) [
@@ -216,7 +195,7 @@ module _ {n : ℕ} {B : ℕ → ℕ → Bool} {near : List ℕ} {key own F : ℕ
 
         stored : v < length row → Sweeping n key own F top cap d below (less rest) (set row v x)
         stored long = record {
-          waits = omega (arith, S .waits, less-sum rest some rest-fits);
+          waits = omega (arith, S .waits, rest-less mostAtoms rest some rest-fits);
           lower = λ w h k. getD-set-other row v w x 0 (λ e. omega (arith, ap key e, its-key)) ∙ S .lower w h k;
           under = S .under;
           here = λ m w h e. S .here m w h (both w h e);
@@ -229,7 +208,7 @@ module _ {n : ℕ} {B : ℕ → ℕ → Bool} {near : List ℕ} {key own F : ℕ
         }
           where
             both : (w : ℕ) → Within n w → has (less rest) w ≡ true → has rest w ≡ true
-            both w h e = go (has rest w) (sym (has-less rest some rest-fits w (h .low)) ∙ e)
+            both w h e = go (has rest w) (sym (rest-has mostAtoms rest some rest-fits w (h .low)) ∙ e)
               where
                 go : (t : Bool) → (t && not (eqb w v)) ≡ true → t ≡ true
                 go true q = refl
@@ -237,14 +216,14 @@ module _ {n : ℕ} {B : ℕ → ℕ → Bool} {near : List ℕ} {key own F : ℕ
 
             -- who still waits is another
             other : (w : ℕ) → Within n w → has (less rest) w ≡ true → w ≡ v → ⊥
-            other w h e q = go (has rest w) (rw (eq-eqb w v q) at (sym (has-less rest some rest-fits w (h .low)) ∙ e))
+            other w h e q = go (has rest w) (rw (eq-eqb w v q) at (sym (rest-has mostAtoms rest some rest-fits w (h .low)) ∙ e))
               where
                 go : (t : Bool) → (t && not true) ≡ true → ⊥
                 go true r = false≢true r
                 go false r = false≢true r
 
             still : (w : ℕ) → Within n w → (w ≡ v → ⊥) → has (less rest) w ≡ false → has rest w ≡ false
-            still w h ne e = go (has rest w) (rw (ne-eqb w v ne) at (sym (has-less rest some rest-fits w (h .low)) ∙ e))
+            still w h ne e = go (has rest w) (rw (ne-eqb w v ne) at (sym (rest-has mostAtoms rest some rest-fits w (h .low)) ∙ e))
               where
                 go : (t : Bool) → (t && not false) ≡ false → t ≡ false
                 go true q = absurd (true≢false q)

@@ -1,17 +1,15 @@
 -- `pull` meets its contract: what was taken and what the rest has are what the set has.
-use Prim.Native.Nat.{ℕ, _+_, _*_, _-_, _^_, _≤_, _<_}
+use Prim.Native.Nat.{ℕ, _+_, _*_, _^_, _≤_, _<_}
 use mathlib.Core.List.{List}
 use mathlib.Core.Path.{_≡_, ap}
 use mathlib.Core.Bool.{Bool, true, false, cond}
 use native.Mathlib.Omega.{arith}
-use lib.Bits.{bitAnd}
-use lib.Pow.{pow-pos}
+use Rattle.graph.specs.Lowest.{lowest-in, rest-less}
 use Rattle.graph.specs.Sets.{has}
-use Rattle.graph.specs.SetLaws.{lowest-dropped}
 use Rattle.graph.specs.Sums.{sum-le}
 use Rattle.block.specs.Block.{mostAtoms}
 use Rattle.shares.specs.Work.{full, at, overSet}
-use Rattle.shares.proofs.Sweeping.{first, less, first-low, less-sum, over-less, over-none}
+use Rattle.shares.proofs.Sweeping.{first, less, over-less, over-none}
 use Rattle.shares.proofs.sweeps.pull.Statement.{statement}
 use Rattle.shares.proofs.sweeps.pull.Tie as tie
 
@@ -37,7 +35,7 @@ loop-holds : tie.Need-loop-holds Inv-loop μ-loop
 loop-holds c = (c .pre .0, omega arith)
 
 small : (c : tie.In-loop Inv-loop μ-loop) → first (c .before .loop .rest) < mostAtoms
-small c = first-low _ (c .loop-test .taken) (c .before .loop .inv .0)
+small c = lowest-in mostAtoms _ (c .loop-test .taken) (c .before .loop .inv .0) .0
 
 cast-a : tie.Need-cast-a Inv-loop μ-loop
 cast-a c = omega (arith, small c)
@@ -59,20 +57,17 @@ step : (c : tie.In-loop Inv-loop μ-loop) → let l = c .before .loop in let a =
     l .sum + at (a .row .now) (first (l .rest) + 1) + overSet (less (l .rest)) (at (a .row .now)) ≡ overSet (a .set) (at (a .row .now))
 step c = omega (arith, c .before .loop .inv .1, over-less _ (c .loop-test .taken) (c .before .loop .inv .0) (at (c .before .before .args .row .now)))
 
-out : (c : tie.In-loop Inv-loop μ-loop) → let l = c .before .loop in bitAnd (l .rest) (l .rest - 1) ≡ less (l .rest)
-out c = lowest-dropped mostAtoms _ (omega (arith, c .loop-test .taken)) (c .before .loop .inv .0)
-
-fewer : (c : tie.In-loop Inv-loop μ-loop) → less (c .before .loop .rest) + 2 ^ first (c .before .loop .rest) ≡ c .before .loop .rest
-fewer c = less-sum _ (c .loop-test .taken) (c .before .loop .inv .0)
+fewer : (c : tie.In-loop Inv-loop μ-loop) → less (c .before .loop .rest) < c .before .loop .rest
+fewer c = rest-less mostAtoms _ (c .loop-test .taken) (c .before .loop .inv .0)
 
 add-sum-2 : tie.Need-add-sum-2 Inv-loop μ-loop
 add-sum-2 c = let d = c .before in let a = d .before .before .args in omega (arith, step d, low (a .set) (a .row .now) (d .before .before .pre .2))
 
 loop-less : tie.Need-loop-less Inv-loop μ-loop
-loop-less c = let d = c .before in rw (out d) (omega (arith, fewer d, pow-pos (first (d .before .loop .rest))))
+loop-less c = fewer (c .before)
 
 loop-again : tie.Need-loop-again Inv-loop μ-loop
-loop-again c = let d = c .before in rw (out d) (omega (arith, fewer d, d .before .loop .inv .0), step d)
+loop-again c = let d = c .before in (omega (arith, fewer d, d .before .loop .inv .0), step d)
 
 returns : tie.Need-returns Inv-loop μ-loop
 returns c =

@@ -3,14 +3,12 @@ use Prim.Native.Nat.{ℕ, suc, _+_, _*_, _-_, _^_, _≤_, _<_}
 use mathlib.Core.Bool.{Bool}
 use mathlib.Core.Path.{_≡_, refl, _∙_}
 use native.Mathlib.Omega.{arith}
-use lib.Bits.{bitAnd}
 use lib.ListN.{length, length-set}
-use lib.Pow.{pow-pos}
-use Rattle.graph.specs.SetLaws.{lowest-dropped}
+use Rattle.graph.specs.Lowest.{lowest-in, rest-less}
 use Rattle.block.specs.Block.{mostAtoms}
 use Rattle.shares.specs.Work.{at, NearSets, Levels, Rule}
 use Rattle.shares.proofs.Rows.{store-low}
-use Rattle.shares.proofs.Sweeping.{first, less, first-low, less-sum, wide-set, taken, asked-fits, Sweeping, sweeping-start, sweeping-level, sweeping-take, sweeping-done}
+use Rattle.shares.proofs.Sweeping.{first, less, wide-set, taken, asked-fits, Sweeping, sweeping-start, sweeping-level, sweeping-take, sweeping-done}
 use Rattle.shares.proofs.sweeps.sweep.Statement.{statement}
 use Rattle.shares.proofs.sweeps.sweep.Tie as tie
 
@@ -30,7 +28,7 @@ loop-holds c = let p = c .before .before .pre in (omega arith, p .1, p .2, λ n 
 small : (c : tie.Then1 Inv-loop μ-loop) → first (c .before .before .loop .rest) < mostAtoms
 small c =
     let p = c .before .before .before .before .before .pre .0 in
-    first-low _ (c .if1 .taken) (wide-set (p .4 .small) (c .before .before .loop .inv .3 _ _ (p .4)))
+    lowest-in mostAtoms _ (c .if1 .taken) (wide-set (p .4 .small) (c .before .before .loop .inv .3 _ _ (p .4))) .0
 
 cast-a : tie.Need-cast-a Inv-loop μ-loop
 cast-a c = omega (arith, small c)
@@ -45,15 +43,10 @@ element-copy-out-pull : tie.Need-element-copy-out-pull Inv-loop μ-loop
 element-copy-out-pull c = omega (arith, small c)
 
 -- what is left of those that wait
-out : (c : tie.Then1 Inv-loop μ-loop) → let r = c .before .before .loop .rest in bitAnd r (r - 1) ≡ less r
-out c =
-    let p = c .before .before .before .before .before .pre .0 in
-    lowest-dropped mostAtoms _ (omega (arith, c .if1 .taken)) (wide-set (p .4 .small) (c .before .before .loop .inv .3 _ _ (p .4)))
-
-fewer : (c : tie.Then1 Inv-loop μ-loop) → let r = c .before .before .loop .rest in less r + 2 ^ first r ≡ r
+fewer : (c : tie.Then1 Inv-loop μ-loop) → let r = c .before .before .loop .rest in less r < r
 fewer c =
     let p = c .before .before .before .before .before .pre .0 in
-    less-sum _ (c .if1 .taken) (wide-set (p .4 .small) (c .before .before .loop .inv .3 _ _ (p .4)))
+    rest-less mostAtoms _ (c .if1 .taken) (wide-set (p .4 .small) (c .before .before .loop .inv .3 _ _ (p .4)))
 
 pull-requires : tie.Need-pull-requires Inv-loop μ-loop
 pull-requires c κs =
@@ -88,7 +81,7 @@ slice-write-row c = omega (arith, small (c .before .before .before .before .befo
 loop-less : tie.Need-loop-less Inv-loop μ-loop
 loop-less c =
     let t = c .before .before .before .before .before in
-    rw (out t) (omega (arith, fewer t, pow-pos (first (t .before .before .loop .rest))))
+    omega (arith, fewer t)
 
 loop-again : tie.Need-loop-again Inv-loop μ-loop
 loop-again c =
@@ -96,8 +89,7 @@ loop-again c =
     let l = t .before .before .loop in
     let x = c .add in
     let s = c .before .before .pull in
-    let far : first (l .rest) + 1 < length (l .row) = omega (arith, small t, l .inv .1) in
-    rw (out t) (
+    let far : first (l .rest) + 1 < length (l .row) = omega (arith, small t, l .inv .1) in (
       l .inv .0,
       length-set (l .row) (first (l .rest) + 1) (x .result) ∙ l .inv .1,
       store-low (l .row) (first (l .rest) + 1) (x .result) far (l .inv .2) (omega (arith, x .ensures)),
