@@ -1,18 +1,16 @@
 // A core and arms, each joined by a bond to an atom of the core: composed arm by arm, so that the first arms can stay while the last one turns.
-use block::ATOMS;
 use block::DistanceRow;
 use block::Indices;
 use block::Vertex;
 use filling::fill;
 use joining::grown;
-use reply::is_outside;
 use reply::wide;
+use sighted::steps;
 use summary::SUMMARY;
 use summary::fields;
 use summary::seen;
 ghost use mathlib.Core.Path.{_≡_};
 ghost use Prim.Native.Nat.{_-_, _<_, min};
-ghost use Rattle.sighted.specs.Sighted.{stepsIn};
 ghost use Rattle.filling.specs.Reply.{fillBytes};
 ghost use Rattle.arms.specs.Arms.{mostArms, armRow, rowArm, armIn, armOf, portsNear, portIn, coreIn, coreOf, sightAt, stemOf, joinedTo};
 
@@ -155,16 +153,6 @@ pub fn arm_of(n: usize, bonds: &[u8], a: usize) -> Arm
     opened_arm(n, bonds, a, &mut [0u8; SUMMARY])
 }
 
-// The number of steps to atom b that a row says, as it stands there; 0 where there is no such atom.
-fn step_to(row: &DistanceRow, b: usize) -> u8
-    ensures { λ r. ⌜ r ≡ stepsIn (now (row .entry)) b ⌝ }
-{
-    if is_outside(ATOMS, b) {
-        return 0;
-    }
-    row[b - 1]
-}
-
 // The numbers of steps to the atoms where arms join that a row says.
 fn near_in(row: &DistanceRow, atoms: [u8; ARMS]) -> [u8; ARMS]
     ensures { λ r. ⌜ r ≡ portsNear (now (row .entry)) atoms ⌝ }
@@ -172,7 +160,7 @@ fn near_in(row: &DistanceRow, atoms: [u8; ARMS]) -> [u8; ARMS]
     let mut near = [0u8; ARMS];
     let mut j: usize = 0;
     while j < ARMS {
-        near[j] = step_to(row, atoms[j] as usize);
+        near[j] = steps(row, atoms[j] as usize);
         j += 1;
     }
     near

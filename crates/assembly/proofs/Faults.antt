@@ -83,19 +83,20 @@ module _ (shelf : Shelf) (placed : ℕ → Placement) (k : ℕ) where
     unfolding fault
     is-later z = rw (e, ne-eqb k 0 z)
 
-  pub faulty : (left : ℕ) → (fault shelf placed k ≡ 0 → ⊥) → placementsReply shelf placed k (suc left) ≡ refused (refusal (fault shelf placed k) (suc k))
+module _ (wrong : ℕ → ℕ) (k : ℕ) where
+  pub faulty : (left : ℕ) → (wrong k ≡ 0 → ⊥) → placementsReply wrong k (suc left) ≡ refused (refusal (wrong k) (suc k))
   unfolding placementsReply
-  faulty left e = rw (refuses (fault shelf placed k) e)
+  faulty left e = rw (refuses (wrong k) e)
     where
       refuses : (n : ℕ) → (n ≡ 0 → ⊥) → refuseFor n (suc k) ≡ refused (refusal n (suc k))
       refuses zero e = absurd (e refl)
       refuses (suc n) e = refl
 
-  pub faultless : (left : ℕ) → fault shelf placed k ≡ 0 → placementsReply shelf placed k (suc left) ≡ placementsReply shelf placed (suc k) left
+  pub faultless : (left : ℕ) → wrong k ≡ 0 → placementsReply wrong k (suc left) ≡ placementsReply wrong (suc k) left
   unfolding placementsReply
   faultless left e = rw e
 
-  pub none-left : placementsReply shelf placed k 0 ≡ read tt
+  pub none-left : placementsReply wrong k 0 ≡ read tt
   unfolding placementsReply
   none-left = refl
 
@@ -103,23 +104,23 @@ module _ (shelf : Shelf) (placed : ℕ → Placement) (k : ℕ) where
 same-refusal : {A : Type 0} (q r : Refusal) → _≡_ {A = Read A} (refused q) (refused r) → q ≡ r
 same-refusal q r e = cc
 
-placed-few : (shelf : Shelf) (placed : ℕ → Placement) (r : Refusal) (left k : ℕ) → placementsReply shelf placed k left ≡ refused r → r .place ≤ k + left
-placed-few shelf placed r zero k e = absurd (not-read (sym e ∙ none-left shelf placed k))
-placed-few shelf placed r (suc left) k e = go (fault shelf placed k) refl (placed-few shelf placed r left (suc k))
+placed-few : (wrong : ℕ → ℕ) (r : Refusal) (left k : ℕ) → placementsReply wrong k left ≡ refused r → r .place ≤ k + left
+placed-few wrong r zero k e = absurd (not-read (sym e ∙ none-left wrong k))
+placed-few wrong r (suc left) k e = go (wrong k) refl (placed-few wrong r left (suc k))
   where
-    go : (n : ℕ) → fault shelf placed k ≡ n → (placementsReply shelf placed (suc k) left ≡ refused r → r .place ≤ suc k + left) → r .place ≤ k + suc left
-    go zero f more = omega (arith, more (sym (faultless shelf placed k left f) ∙ e))
-    go (suc n) f more = rw (← (same-refusal _ r (sym (faulty shelf placed k left (omega arith)) ∙ e))) (omega arith)
+    go : (n : ℕ) → wrong k ≡ n → (placementsReply wrong (suc k) left ≡ refused r → r .place ≤ suc k + left) → r .place ≤ k + suc left
+    go zero f more = omega (arith, more (sym (faultless wrong k left f) ∙ e))
+    go (suc n) f more = rw (← (same-refusal _ r (sym (faulty wrong k left (omega arith)) ∙ e))) (omega arith)
 
 pub shelf-few : (shelf : Shelf) (xs : List ℕ) (r : Refusal) → shelfReply shelf xs ≡ refused r → r .place ≤ mostPlacements
 shelf-few shelf xs r = go (isOutside mostPlacements (placementCount xs)) refl
   where
-    go : (t : Bool) → isOutside mostPlacements (placementCount xs) ≡ t → (refuseIf t 15 0 then λ _. placementsReply shelf (placementAt xs) 0 (placementCount xs)) ≡ refused r → r .place ≤ mostPlacements
+    go : (t : Bool) → isOutside mostPlacements (placementCount xs) ≡ t → (refuseIf t 15 0 then λ _. placementsReply (fault shelf (placementAt xs)) 0 (placementCount xs)) ≡ refused r → r .place ≤ mostPlacements
     go true t e = rw (← (same-refusal (refusal 15 0) r e)) (omega arith)
-    go false t e = omega (arith, inside mostPlacements (placementCount xs) t, placed-few shelf (placementAt xs) r (placementCount xs) 0 e)
+    go false t e = omega (arith, inside mostPlacements (placementCount xs) t, placed-few (fault shelf (placementAt xs)) r (placementCount xs) 0 e)
 
 module _ (book : Book) (xs : List ℕ) where
-  pub count-within : isOutside mostPlacements (placementCount xs) ≡ false → assemblyReply book xs ≡ placementsReply (shelfOf book) (placementAt xs) 0 (placementCount xs)
+  pub count-within : isOutside mostPlacements (placementCount xs) ≡ false → assemblyReply book xs ≡ placementsReply (fault (shelfOf book) (placementAt xs)) 0 (placementCount xs)
   unfolding assemblyReply
   count-within e = rw e
 

@@ -50,6 +50,24 @@ degree-before n (b ∷ bs) v l h =
       ne-eqb (n + b .two) v (λ e. h (b .one) (any-head b bs 0 (b .one) (inr (refl, omega arith)))),
     ) (omega (arith, degree-before n bs v l (λ w j. h w (any-tail b bs 0 w j))))
 
+module _ (joins : ℕ → Join) where
+  pub joins-zero : (p a : ℕ) → joinsOn joins 0 p a ≡ 0
+  unfolding joinsOn sum
+  joins-zero p a = refl
+
+  pub joins-suc : (k p a : ℕ) → joinsOn joins (suc k) p a ≡ joinsOn joins k p a + joinEnds (joins (suc k)) (suc (suc k)) p a
+  unfolding joinsOn sum
+  joins-suc k p a = refl
+
+  -- no join to an earlier placement is on one that comes later
+  pub joins-none : (last p a : ℕ) → ((k : ℕ) → 1 ≤ k → k ≤ last → Within k (joins k .parent)) → suc last < p → joinsOn joins last p a ≡ 0
+  unfolding joinsOn joinEnds sum
+  joins-none zero p a h l = refl
+  joins-none (suc k) p a h l =
+      let s = h (suc k) (omega arith) (omega arith) in
+      rw (ne-eqb (joins (suc k) .parent) p (omega arith), ne-eqb (suc (suc k)) p (omega arith))
+      (omega (arith, joins-none k p a (λ i q r. h i q (omega arith)) (omega arith)))
+
 module _ (blocks : ℕ → Graph) (joins : ℕ → Join) where
   -- atoms of an earlier placement stand before a later one
   before : {m k i : ℕ} (l : ℕ) → Placed blocks m k i → k < l → atomOf blocks k i ≤ startAt blocks (l - 1)
@@ -67,23 +85,6 @@ module _ (blocks : ℕ → Graph) (joins : ℕ → Join) where
       go false t true v = ne-eqb (atomOf blocks k i) (atomOf blocks l j) (λ e. omega (arith, e, before l p (ltb-true k l v), q .atom))
       go false t false v =
           ne-eqb (atomOf blocks k i) (atomOf blocks l j) (λ e. omega (arith, e, before k q (omega (arith, eqb-false k l t, ltb-false k l v)), p .atom))
-
-  pub joins-zero : (p a : ℕ) → joinsOn joins 0 p a ≡ 0
-  unfolding joinsOn sum
-  joins-zero p a = refl
-
-  pub joins-suc : (k p a : ℕ) → joinsOn joins (suc k) p a ≡ joinsOn joins k p a + joinEnds (joins (suc k)) (suc (suc k)) p a
-  unfolding joinsOn sum
-  joins-suc k p a = refl
-
-  -- no join is on a placement that comes later
-  pub joins-none : (last p a : ℕ) → Assembled blocks joins last → suc last < p → joinsOn joins last p a ≡ 0
-  unfolding joinsOn joinEnds sum
-  joins-none zero p a h l = refl
-  joins-none (suc k) p a h l =
-      let s = h .stands (suc k) (omega arith) (omega arith) .parent in
-      rw (ne-eqb (joins (suc k) .parent) p (omega arith), ne-eqb (suc (suc k)) p (omega arith))
-      (omega (arith, joins-none k p a (sooner k (omega arith) h) (omega arith)))
 
   -- the bonds of one placement more
   degree-joined : (k v : ℕ) → let n = written blocks joins k .atoms in
@@ -141,7 +142,7 @@ module _ (blocks : ℕ → Graph) (joins : ℕ → Join) where
     where
       old : p ≤ suc k → degree (written blocks joins k .bonds) (atomOf blocks p a) ≡ degree (blocks (p - 1) .bonds) a + joinsOn joins k p a
           → degree (written blocks joins (suc k) .bonds) (atomOf blocks p a) ≡ degree (blocks (p - 1) .bonds) a + joinsOn joins (suc k) p a
-      old l e = omega (arith, e, old-atom k h (placed-sooner k l q), joins-suc k p a)
+      old l e = omega (arith, e, old-atom k h (placed-sooner k l q), joins-suc joins k p a)
 
       new : p ≡ suc (suc k) → degree (written blocks joins (suc k) .bonds) (atomOf blocks p a) ≡ degree (blocks (p - 1) .bonds) a + joinsOn joins (suc k) p a
       new l =
@@ -149,4 +150,4 @@ module _ (blocks : ℕ → Graph) (joins : ℕ → Join) where
           rw (e, l)
           (ap (λ (n : ℕ). degree (written blocks joins (suc k) .bonds) (n + a)) (size-written blocks joins k)
           ∙ new-atom k h (subst (λ (n : ℕ). Within (blocks n .atoms) a) e (q .atom))
-          ∙ omega (arith, joins-suc k (suc (suc k)) a, joins-none k (suc (suc k)) a (sooner k (omega arith) h) (omega arith)))
+          ∙ omega (arith, joins-suc joins k (suc (suc k)) a, joins-none joins k (suc (suc k)) a (λ i m r. h .stands i m (omega arith) .parent) (omega arith)))

@@ -100,15 +100,15 @@ module _ (shelf : Shelf) (placed : ℕ → Placement) where
   unfoldable pub fault : ℕ → ℕ
   fault k = cond (not (shelf .has (placed k .block))) 16 (cond (eqb k 0) (firstFault (placed k)) (laterFault k))
 
-  -- `left` placements from index k on, one by one
-  unfoldable pub placementsReply : ℕ → ℕ → Read (Unit {0})
-  placementsReply k zero = read tt
-  placementsReply k (suc left) = refuseFor (fault k) (suc k) then λ _. placementsReply (suc k) left
+-- `left` placements from index k on, one by one, by what is wrong with each
+unfoldable pub placementsReply : (ℕ → ℕ) → ℕ → ℕ → Read (Unit {0})
+placementsReply wrong k zero = read tt
+placementsReply wrong k (suc left) = refuseFor (wrong k) (suc k) then λ _. placementsReply wrong (suc k) left
 
 abbrev pub shelfReply : Shelf → List ℕ → Read (Unit {0})
 shelfReply shelf xs =
     refuseIf (isOutside mostPlacements (placementCount xs)) 15 0 then λ _.
-    placementsReply shelf (placementAt xs) 0 (placementCount xs)
+    placementsReply (fault shelf (placementAt xs)) 0 (placementCount xs)
 
 unfoldable pub assemblyReply : Book → List ℕ → Read (Unit {0})
 assemblyReply book xs = shelfReply (shelfOf book) xs

@@ -5,14 +5,14 @@ use mathlib.Core.List.{List}
 use mathlib.Core.Logic.{⊎-elim}
 use mathlib.Core.Path.{_≡_, refl}
 use native.Mathlib.Decide.{ℕ-discrete}
-use native.Mathlib.Nat.{le-suc-iff}
+use native.Mathlib.Nat.{le-suc-iff, eq-or-lt-of-le}
 use native.Mathlib.Omega.{arith}
 use borrow.Author.Tests.{eq-eqb, ne-eqb, leb-false, not-false}
 use lib.Dec.{eqb, leb}
 use Rattle.graph.specs.Graph.{Graph, Within, Molecule, degree}
 use Rattle.graph.specs.Assembly.{Join, atomOf, written, Assembled, Placed}
 use Rattle.graph.specs.Climb.{sooner}
-use Rattle.reply.specs.Read.{read, refuseIf, refuseFor, isOutside}
+use Rattle.reply.specs.Read.{read, _then_, refuseIf, refuseFor, isOutside}
 use Rattle.reply.specs.Chain.{then-read, if-read, for-read, neither}
 use Rattle.block.specs.Block.{limit}
 use Rattle.block.specs.Faults.{inside}
@@ -42,6 +42,29 @@ parent-faulty p = go (eqb p 0)
     go : (t : Bool) → _≡_ {A = ℕ} (cond t 23 24) 0 → ⊥
     go true e = omega arith
     go false e = omega arith
+
+-- with each placement that is read nothing is wrong
+fault-none : (wrong : ℕ → ℕ) (left k : ℕ) → placementsReply wrong k left ≡ read tt → (i : ℕ) → k ≤ i → i < k + left → wrong i ≡ 0
+unfolding placementsReply
+fault-none wrong zero k e i l h = absurd (omega arith)
+fault-none wrong (suc left) k e i l h =
+    let (u, p, f) = then-read (refuseFor (wrong k) (suc k)) _ e in
+    at (ℕ-discrete k i) (for-read (wrong k) (suc k) p) (λ m. fault-none wrong left (suc k) f i m (omega arith))
+  where
+    at : Dec (k ≡ i) → wrong k ≡ 0 → (suc k ≤ i → wrong i ≡ 0) → wrong i ≡ 0
+    at (yes q) z more = rw (← q) z
+    at (no q) z more = more (omega arith)
+
+-- two ways to tell what is wrong, which agree on a placement where nothing is wrong before it, give one reply
+pub wrong-same : (f g : ℕ → ℕ) → ((k : ℕ) → ((m : ℕ) → m < k → g m ≡ 0) → f k ≡ g k) → (left k : ℕ) → ((m : ℕ) → m < k → g m ≡ 0) → placementsReply f k left ≡ placementsReply g k left
+unfolding placementsReply
+wrong-same f g same zero k before = refl
+wrong-same f g same (suc left) k before = rw (same k before) (go (g k) refl (wrong-same f g same left (suc k)))
+  where
+    go : (n : ℕ) → g k ≡ n → (((m : ℕ) → m < suc k → g m ≡ 0) → placementsReply f (suc k) left ≡ placementsReply g (suc k) left)
+        → (refuseFor n (suc k) then λ _. placementsReply f (suc k) left) ≡ (refuseFor n (suc k) then λ _. placementsReply g (suc k) left)
+    go zero e more = more (λ m h. ⊎-elim (λ q. rw q e) (before m) (eq-or-lt-of-le {n = m} {m = k} (omega arith)))
+    go (suc n) e more = refl
 
 module _ (shelf : Shelf) (placed : ℕ → Placement) where
   abbrev sites : ℕ → Sites
@@ -80,26 +103,16 @@ module _ (shelf : Shelf) (placed : ℕ → Placement) where
     pub has : (k : ℕ) → k < count → shelf .has (placed k .block) ≡ true
     pub joined : (k : ℕ) → 1 ≤ k → k < count → Joined sites joins k
 
-  fault-none : (left k : ℕ) → placementsReply shelf placed k left ≡ read tt → (i : ℕ) → k ≤ i → i < k + left → fault shelf placed i ≡ 0
-  unfolding placementsReply
-  fault-none zero k e i l h = absurd (omega arith)
-  fault-none (suc left) k e i l h =
-      let (u, p, f) = then-read (refuseFor (fault shelf placed k) (suc k)) _ e in
-      at (ℕ-discrete k i) (for-read (fault shelf placed k) (suc k) p) (λ m. fault-none left (suc k) f i m (omega arith))
-    where
-      at : Dec (k ≡ i) → fault shelf placed k ≡ 0 → (suc k ≤ i → fault shelf placed i ≡ 0) → fault shelf placed i ≡ 0
-      at (yes q) z more = rw (← q) z
-      at (no q) z more = more (omega arith)
-
-  pub right : (count : ℕ) → placementsReply shelf placed 0 count ≡ read tt → PlacedRight count
+  pub well : (k : ℕ) → fault shelf placed k ≡ 0 → (shelf .has (placed k .block) ≡ true) × (1 ≤ k → Joined sites joins k)
   unfolding fault
-  right count e = record {
-    has = λ k h. not-false _ (past (not (shelf .has (placed k .block))) 16 _ (omega arith) (fault-none count 0 e k (omega arith) (omega arith)) .0);
-    joined = λ k l h.
-        let (b, f) = past (not (shelf .has (placed k .block))) 16 _ (omega arith) (fault-none count 0 e k (omega arith) (omega arith)) in
-        let f = rw (ne-eqb k 0 (omega arith)) at f in
-        later-right k f;
-  }
+  well k e =
+      let (b, f) = past (not (shelf .has (placed k .block))) 16 _ (omega arith) e in
+      (not-false _ b, λ l. later-right k (rw (ne-eqb k 0 (omega arith)) at f))
+
+  pub right : (count : ℕ) → placementsReply (fault shelf placed) 0 count ≡ read tt → PlacedRight count
+  right count e =
+      let none : (k : ℕ) → k < count → fault shelf placed k ≡ 0 = λ k h. fault-none (fault shelf placed) count 0 e k (omega arith) (omega arith) in
+      record { has = λ k h. well k (none k h) .0; joined = λ k l h. well k (none k h) .1 l }
 
 -- the whole assembly
 pub record WholeAssembly (book : Book) (xs : List ℕ) : Type 0 where
@@ -152,18 +165,18 @@ module _ (blocks : ℕ → Graph) (joins : ℕ → Join) where
 
   more : (g : Graph) (k p a : ℕ) → bondsOn g joins (suc k) p a ≡ bondsOn g joins k p a + joinEnds (joins (suc k)) (suc (suc k)) p a
   unfolding bondsOn
-  more g k p a = omega (arith, joins-suc blocks joins k p a)
+  more g k p a = omega (arith, joins-suc joins k p a)
 
   few : (last p a : ℕ) → Assembled blocks joins last → ((k v : ℕ) → k ≤ last → degree (blocks k .bonds) v ≤ limit) → ((k : ℕ) → 1 ≤ k → k ≤ last → Joined (λ i. sitesOf (blocks i)) joins k)
       → Within (suc last) p → bondsOn (blocks (p - 1)) joins last p a ≤ limit
   unfolding bondsOn
-  few zero p a h b j w = omega (arith, b (p - 1) a (omega arith), joins-zero blocks joins p a)
+  few zero p a h b j w = omega (arith, b (p - 1) a (omega arith), joins-zero joins p a)
   few (suc k) p a h b j w =
       ⊎-elim
       (λ l. omega (arith, more (blocks (p - 1)) k p a, grows-old k p a (j (suc k) (omega arith) (omega arith)) l (few k p a (sooner k (omega arith) h) (λ i v q. b i v (omega arith)) (λ i q r. j i q (omega arith)) (record { low = w .low; high = l }))))
       (λ l.
       let e : p - 1 ≡ suc k = omega arith in
-      let none = joins-none blocks joins k (suc (suc k)) a (sooner k (omega arith) h) (omega arith) in
+      let none = joins-none joins k (suc (suc k)) a (λ i q r. h .stands i q (omega arith) .parent) (omega arith) in
       rw (e, l) (omega (arith, more (blocks (suc k)) k (suc (suc k)) a, grows-new k a (j (suc k) (omega arith) (omega arith)) none (b (suc k) a (omega arith)))))
       (le-suc-iff .0 (w .high))
 

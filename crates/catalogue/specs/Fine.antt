@@ -191,9 +191,9 @@ module _ (book : Book) (xs : List ℕ) where
 
     -- joins that have no end at an atom
     no-ends : (last p a : ℕ) → ((i : ℕ) → 1 ≤ i → i ≤ last → joinEnds (joinOn placed i) (suc i) p a ≡ 0) → joinsOn (joinOn placed) last p a ≡ 0
-    no-ends zero p a h = joins-zero (graphOn book placed) (joinOn placed) p a
+    no-ends zero p a h = joins-zero (joinOn placed) p a
     no-ends (suc m) p a h =
-        joins-suc (graphOn book placed) (joinOn placed) m p a ∙ omega (arith, no-ends m p a (λ i l n. h i l (omega arith)), h (suc m) (omega arith) (omega arith))
+        joins-suc (joinOn placed) m p a ∙ omega (arith, no-ends m p a (λ i l n. h i l (omega arith)), h (suc m) (omega arith) (omega arith))
 
     -- no earlier join is at a core's atom that a later one takes
     site-free : (k : ℕ) → 1 ≤ k → k ≤ length ss → joinsOn (joinOn placed) (k - 1) 1 (placed k .site) ≡ 0
@@ -250,9 +250,9 @@ module _ (book : Book) (xs : List ℕ) where
     well zero h = first-well
     well (suc k) h = later-well (suc k) (omega arith) h
 
-    from : (left k : ℕ) → k + left ≤ suc (length ss) → placementsReply (shelfOf book) placed k left ≡ read tt
-    from zero k h = none-left (shelfOf book) placed k
-    from (suc left) k h = faultless (shelfOf book) placed k left (well k (omega arith)) ∙ from left (suc k) (omega arith)
+    from : (left k : ℕ) → k + left ≤ suc (length ss) → placementsReply (fault (shelfOf book) placed) k left ≡ read tt
+    from zero k h = none-left (fault (shelfOf book) placed) k
+    from (suc left) k h = faultless (fault (shelfOf book) placed) k left (well k (omega arith)) ∙ from left (suc k) (omega arith)
 
     -- it has one placement more than there are sites, and is not refused
     pub count-is : placementCount (productBytes xs ss js) ≡ suc (length ss)
@@ -263,7 +263,7 @@ module _ (book : Book) (xs : List ℕ) where
     choice-fine =
         let n = count-is in
         let few : isOutside mostPlacements (placementCount (productBytes xs ss js)) ≡ false = rw (n, ne-eqb (suc (length ss)) 0 (omega arith), le-ltb mostPlacements (suc (length ss)) (omega (arith, listed .few))) in
-        count-within book (productBytes xs ss js) few ∙ ap (placementsReply (shelfOf book) placed 0) n ∙ from (suc (length ss)) 0 (omega arith)
+        count-within book (productBytes xs ss js) few ∙ ap (placementsReply (fault (shelfOf book) placed) 0) n ∙ from (suc (length ss)) 0 (omega arith)
 
 -- Where a library is not refused, the product at each position, written out as an assembly over the deck's blocks, is not refused.
 pub product-fine : (d : List ℕ) (l : Library) (position : ℕ) → libraryReply d ≡ read l → position < products (l .sites) → assemblyReply (bookOf d (l .blocks)) (assemblyAt d l position) ≡ read tt

@@ -2,6 +2,7 @@
 use assembly::PLACEMENTS;
 use assembly::placement_at;
 use reply::is_outside;
+use reply::wide;
 use shelf::place_of;
 use shelf::summary_at;
 use sighted::steps;
@@ -16,7 +17,7 @@ fn inside(book: &[u8], number: u16, i: usize, j: usize) -> u64
     ensures { λ r. ⌜ (r ≡ farOf (now (book .entry)) number i j) × (r < 65) ⌝ }
 {
     let all = seen(summary_at(book, place_of(book, number as usize)), i);
-    steps(&all.row, j)
+    wide(steps(&all.row, j))
 }
 
 // The index of the placement that a join at index k leads to. A parent that is none of the earlier placements counts as the first.

@@ -17,7 +17,8 @@ use Rattle.records.specs.declared.Sheet.the-variants.{Five, Six}
 use Rattle.records.proofs.Numbers.{past}
 use Rattle.sheets.specs.Sheets.{allFields, allWidths, fieldCount, widths, fieldsOf, fieldsAt, claimedAt, fieldBytes, sheetRecord, sheetBytes, sheetPut, firstWrong}
 use Rattle.sheets.specs.Along.{widthsTotal, Narrow}
-use Rattle.sheets.specs.Back.{length-little, length-sheet, fields-some}
+use Rattle.records.specs.Back.{length-little}
+use Rattle.sheets.specs.Back.{length-sheet, fields-some}
 
 pub length-fields : (ws d : List ℕ) (at : ℕ) → length (fieldsAt ws d at) ≡ length ws
 unfolding fieldsAt

@@ -1,27 +1,21 @@
 -- Laws. What is written is read back, and two sheets differ in no field exactly when they are equal. Assumes nothing.
-use Prim.Native.Nat.{ℕ, zero, suc, _+_, _/_, _%_, _^_, _<_}
+use Prim.Native.Nat.{ℕ, zero, suc, _+_, _^_, _<_}
 use mathlib.Core.Bool.{Bool, true, false, cond}
 use mathlib.Core.List.{List, [], _∷_, _++_, append-assoc, append-nil}
 use mathlib.Core.Path.{_≡_, refl, sym, _∙_, ap, ap₂}
-use native.Mathlib.Nat.{div-lt-iff-lt-mul, pow-suc}
 use native.Mathlib.Omega.{arith}
 use borrow.Author.Tests.{eq-eqb, eqb-true}
 use lib.Dec.{eqb, lit<}
-use lib.ListN.{length, getD, take, drop, length-append}
-use lib.Seq.{getD-drop, drop-drop, drop-append-seam}
+use lib.ListN.{length, take, drop, length-append}
 use Rattle.block.specs.declared.Indices.{Indices}
-use Rattle.records.specs.Bytes.{byteAt, little, littleBytes}
+use Rattle.records.specs.Bytes.{little, littleBytes}
 use Rattle.records.specs.Records.{sheetKind}
 use Rattle.records.specs.declared.Sheet.{Sheet}
 use Rattle.records.specs.declared.Sheet.the-variants.{Five, Six}
 use Rattle.records.specs.Longer.{little-behind}
+use Rattle.records.specs.Back.{length-little, behind, little-back}
 use Rattle.sheets.specs.Sheets.{allFields, allWidths, fieldCount, widths, fieldsOf, fieldsAt, fieldBytes, sheetRecord, sheetBytes, firstWrong}
 use Rattle.sheets.specs.Along.{widthsTotal}
-
-pub length-little : (k n : ℕ) → length (littleBytes k n) ≡ k
-unfolding littleBytes
-length-little zero n = refl
-length-little (suc k) n = ap suc (length-little k (n / 256))
 
 -- the widths of a sheet are its payload, and there is one for each field
 pub widths-fill : (s : Sheet) → widthsTotal (widths s) ≡ sheetKind s .fixed
@@ -48,25 +42,6 @@ unfolding sheetRecord widthsTotal
 length-sheet s x =
     let head = sheetKind s .fixed ∷ sheetKind s .number ∷ [] in
     length-bytes (2 ∷ 2 ∷ widths s) (sheetKind s .fixed ∷ sheetKind s .number ∷ fieldsOf s x) (ap (λ (n : ℕ). suc (suc n)) (one-each s x)) ∙ omega (arith, widths-fill s)
-
--- the first byte of what stands at a place, and what stands behind it
-first-byte : (d : List ℕ) (at b : ℕ) (bs : List ℕ) → drop at d ≡ b ∷ bs → byteAt d at ≡ b
-first-byte d at b bs e =
-    let z : at ≡ at + 0 = omega arith in
-    ap (byteAt d) z ∙ sym (getD-drop at d 0 0) ∙ ap (λ (l : List ℕ). getD l 0 0) e
-
-behind : (d : List ℕ) (at : ℕ) (bs cs : List ℕ) (n : ℕ) → length bs ≡ n → drop at d ≡ bs ++ cs → drop (at + n) d ≡ cs
-behind d at bs cs n l e = rw (← l) (sym (drop-drop (length bs) at d) ∙ ap (drop (length bs)) e ∙ drop-append-seam bs cs)
-
--- a number that fits its bytes is read back from them
-little-back : (k n : ℕ) (d : List ℕ) (at : ℕ) (cs : List ℕ) → n < 256 ^ k → drop at d ≡ littleBytes k n ++ cs → little k d at ≡ n
-unfolding littleBytes little
-little-back zero n d at cs h e = omega arith
-little-back (suc k) n d at cs h e =
-    let b = n % 256 in
-    let rest = littleBytes k (n / 256) ++ cs in
-    let small : n / 256 < 256 ^ k = div-lt-iff-lt-mul (lit< tt) .1 (rw pow-suc at h) in
-    rw (first-byte d at b rest e, little-back k (n / 256) d (at + 1) cs small (behind d at (b ∷ []) rest 1 refl e)) (omega arith)
 
 -- each number fits its width
 abbrev pub FitWidths : List ℕ → List ℕ → Type 0

@@ -1,25 +1,23 @@
 -- Laws. Where the summaries are those of the molecules of a book, composing over them replies what the book's assembly does, and its fields are those of the one
 -- molecule with every atom and bond written out. Assumes nothing.
-use Prim.Native.Nat.{ℕ, zero, suc, _+_, _-_, _<_}
+use Prim.Native.Nat.{ℕ, _+_, _-_, _<_}
 use mathlib.Core.Bool.{Bool, true, false, _||_, not, cond}
 use mathlib.Core.List.{List}
-use mathlib.Core.Logic.{⊎-elim}
 use mathlib.Core.Path.{_≡_, refl, ap}
-use native.Mathlib.Nat.{eq-or-lt-of-le}
 use native.Mathlib.Omega.{arith}
 use lib.Dec.{eqb, leb}
 use lib.ListN.{length, take}
 use Rattle.graph.specs.Graph.{Within, Molecule, degree}
 use Rattle.graph.specs.Assembly.{written}
-use Rattle.reply.specs.Read.{Read, refused, read, _then_, refuseFor, isOutside}
+use Rattle.reply.specs.Read.{Read, refused, read, _then_, isOutside}
 use Rattle.block.specs.Block.{limit, graphOf, blockReply}
 use Rattle.block.specs.Faults.{inside}
 use Rattle.block.specs.Index.{indicesOf}
 use Rattle.block.specs.Told.{molecule}
 use Rattle.block.specs.declared.Indices.{Indices}
 use Rattle.assembly.specs.Book.{Book}
-use Rattle.assembly.specs.Placements.{placementCount, placementAt, Sites, atomSite, Shelf, shelfOf, graphOn, joinOf, joinOn, joinsOn, firstFault, parentFault, joinFault, sitesOn, laterFault, fault, placementsReply, shelfReply, assemblyReply}
-use Rattle.assembly.specs.Sound.{WholeAssembly, whole, assembled}
+use Rattle.assembly.specs.Placements.{placementCount, placementAt, Sites, atomSite, Shelf, shelfOf, graphOn, joinOf, joinOn, joinsOn, firstFault, parentFault, joinFault, sitesOn, laterFault, fault, shelfReply, assemblyReply}
+use Rattle.assembly.specs.Sound.{WholeAssembly, wrong-same, well, whole, assembled}
 use Rattle.assembly.specs.declared.Placement.{Placement}
 use Rattle.joining.specs.Parts.{sixIn}
 use Rattle.joining.specs.Table.{tableOf, sixOf, Told}
@@ -71,27 +69,11 @@ module _ {s t : Shelf} (same : SameShelves s t) (placed : ℕ → Placement) whe
           let w = inside k (placed k .parent) f in
           rw (h, e, f) (join-same placed k (same .sites (placed (placed k .parent - 1) .block) (before (placed k .parent - 1) (omega arith))) (same .sites (placed k .block) h))
 
-  has-block : (k : ℕ) → fault t placed k ≡ 0 → t .has (placed k .block) ≡ true
-  unfolding fault
-  has-block k e = go (t .has (placed k .block)) refl
-    where
-      go : (h : Bool) → t .has (placed k .block) ≡ h → t .has (placed k .block) ≡ true
-      go true h = h
-      go false h = let z : _≡_ {A = ℕ} 16 0 = rw h at e in absurd (omega arith)
-
-  placed-same : (left k : ℕ) → ((m : ℕ) → m < k → t .has (placed m .block) ≡ true) → placementsReply s placed k left ≡ placementsReply t placed k left
-  unfolding placementsReply
-  placed-same zero k before = refl
-  placed-same (suc left) k before = rw (fault-same k before) (go (fault t placed k) refl (placed-same left (suc k)))
-    where
-      go : (f : ℕ) → fault t placed k ≡ f → (((m : ℕ) → m < suc k → t .has (placed m .block) ≡ true) → placementsReply s placed (suc k) left ≡ placementsReply t placed (suc k) left)
-          → (refuseFor (fault t placed k) (suc k) then λ _. placementsReply s placed (suc k) left) ≡ (refuseFor (fault t placed k) (suc k) then λ _. placementsReply t placed (suc k) left)
-      go zero e more = rw e (more (λ m h. ⊎-elim (λ q. rw q (has-block k e)) (λ q. before m q) (eq-or-lt-of-le {n = m} {m = k} (omega arith))))
-      go (suc f) e more = rw e
-
 -- the same is refused over shelves that say the same
 pub shelf-same : {s t : Shelf} → SameShelves s t → (xs : List ℕ) → shelfReply s xs ≡ shelfReply t xs
-shelf-same same xs = rw (placed-same same (placementAt xs) (placementCount xs) 0 (λ m h. absurd (omega arith)))
+shelf-same {s} {t} same xs =
+    let placed = placementAt xs in
+    rw (wrong-same (fault s placed) (fault t placed) (λ k before. fault-same same placed k (λ m h. well t placed m (before m h) .0)) (placementCount xs) 0 (λ m h. absurd (omega arith)))
 
 -- the summaries of a book of molecules
 pub record HonestBook (b : List ℕ) (book : Book) : Type 0 where

@@ -145,7 +145,7 @@ module _ (shelf : Shelf) (placed : ℕ → Placement) where
       (either (eqb k 0) (firstFault (placed k)) _ (first-number (placed k))
       (either (isOutside k (placed k .parent)) (parentFault (placed k .parent)) _ (parent-number (placed k .parent)) (join-number _ _ _ k)))
 
-  placed-bounded : (c k left : ℕ) → k + left < c → Bounded c (placementsReply shelf placed k left)
+  placed-bounded : (c k left : ℕ) → k + left < c → Bounded c (placementsReply (fault shelf placed) k left)
   unfolding placementsReply
   placed-bounded c k zero h = tt
   placed-bounded c k (suc left) h =

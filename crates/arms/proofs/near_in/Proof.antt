@@ -25,7 +25,7 @@ loop-again c =
     let a = c .before .before .before .args in (
       length-set (l .near) (l .j) _ ∙ l .inv .0,
       omega arith,
-      put-next 0 (λ (i : ℕ). stepsIn (a .row .now) (getD (a .t2) i 0)) (l .near) (l .j) _ (omega (arith, l .inv .0)) (c .step-to .ensures) (l .inv .2),
+      put-next 0 (λ (i : ℕ). stepsIn (a .row .now) (getD (a .t2) i 0)) (l .near) (l .j) _ (omega (arith, l .inv .0)) (c .steps .ensures) (l .inv .2),
     )
 
 returns : tie.Need-returns Inv-loop μ-loop

@@ -15,14 +15,15 @@ use Rattle.climb.proofs.inside.Tie as tie
 
 returns : tie.Need-returns
 returns c =
-    let a = c .before .before .before .before .before .before .before .args in
+    let a = c .before .before .before .before .before .before .before .before .args in
     let b = a .book .now in
-    let e : (c .steps .result ≡ farOf b (a .number) (a .i) (a .j)) =
-    c .steps .ensures
-    ∙ ap (λ (s : Seen). stepsIn (s .row) (a .j)) (c .before .before .before .seen .ensures)
-    ∙ ap (λ (s : List ℕ). farAt s (a .i) (a .j)) (c .before .before .before .before .summary-at .ensures .bytes)
-    ∙ ap (λ (x : ℕ). farAt (summaryAt b x) (a .i) (a .j)) (c .before .before .before .before .before .place-of .ensures) in
+    let e : (c .wide .result ≡ farOf b (a .number) (a .i) (a .j)) =
+    c .wide .ensures .0
+    ∙ c .before .steps .ensures
+    ∙ ap (λ (s : Seen). stepsIn (s .row) (a .j)) (c .before .before .before .before .seen .ensures)
+    ∙ ap (λ (s : List ℕ). farAt s (a .i) (a .j)) (c .before .before .before .before .before .summary-at .ensures .bytes)
+    ∙ ap (λ (x : ℕ). farAt (summaryAt b x) (a .i) (a .j)) (c .before .before .before .before .before .before .place-of .ensures) in
     (e, omega (arith, e, far-few (summaryAt b (placeOf b (a .number))) (a .i) (a .j)))
 
 pub inside-spec : {M : Type 1} → statement M
-inside-spec = tie.close (tie.spec (λ c κs. search needs) (λ c κs. search needs) (λ c κs. search needs) (λ c κs. search needs) returns)
+inside-spec = tie.close (tie.spec (λ c κs. search needs) (λ c κs. search needs) (λ c κs. search needs) (λ c κs. search needs) (λ c κs. search needs) returns)
