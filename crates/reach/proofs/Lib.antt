@@ -1,7 +1,7 @@
 -- Laws of sets within reach and of the sums over them.
 pub mod Settling
 pub mod Leaving
-pub mod Touching
+pub mod Spreading
 pub mod Summing
 pub mod Digits
 pub mod Beginning

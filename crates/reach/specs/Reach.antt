@@ -1,13 +1,13 @@
 -- Work. The atoms within reach of each atom, as sets, and sums over the ordered pairs within reach.
-use Prim.Native.Nat.{ℕ, _+_, _*_, _^_, _≤_, _<_, min}
-use mathlib.Core.Bool.{Bool, false, _&&_, _||_, cond}
-use mathlib.Core.List.{List, [], _∷_}
+use Prim.Native.Nat.{ℕ, _+_, _-_, _*_, _^_, _≤_, _<_, min}
+use mathlib.Core.Bool.{cond}
+use mathlib.Core.List.{List}
 use mathlib.Core.Path.{_≡_}
 use lib.Bits.{bitOr}
 use lib.Count.{ones}
-use lib.Dec.{eqb, leb}
-use lib.ListN.{length}
-use Rattle.graph.specs.Graph.{Graph, Bond, Within, distance, sum, itself, each, oddOf, isAt}
+use lib.Dec.{leb}
+use lib.ListN.{length, set}
+use Rattle.graph.specs.Graph.{Graph, Within, distance, sum, itself, each, oddOf, isAt}
 use Rattle.graph.specs.Sets.{has, alone}
 use Rattle.block.specs.Block.{mostAtoms}
 use Rattle.block.specs.Near.{around}
@@ -27,10 +27,12 @@ pub record Reach (g : Graph) (d : ℕ) (sets : List ℕ) : Type 0 where
   pub fits : (v : ℕ) → Within (g .atoms) v → around sets v < 2 ^ g .atoms
   pub holds : (v w : ℕ) → Within (g .atoms) v → Within (g .atoms) w → has (around sets v) w ≡ leb (distance g v w) d
 
--- whether a bond joins v to an atom that passes
-unfoldable pub touched : List Bond → (ℕ → Bool) → ℕ → Bool
-touched [] p v = false
-touched (b ∷ bs) p v = ((eqb (b .one) v && p (b .two)) || (eqb (b .two) v && p (b .one))) || touched bs p v
+-- the set of atom u takes in what atom v reached; and that of v what u reached
+abbrev pub taking : List ℕ → ℕ → ℕ → List ℕ → List ℕ
+taking near u v sets = set sets (u - 1) (bitOr (around sets u) (around near v))
+
+abbrev pub exchanged : List ℕ → ℕ → ℕ → List ℕ → List ℕ
+exchanged near u v sets = taking near v u (taking near u v sets)
 
 -- f summed over all ordered pairs at most d bonds apart, each atom with itself too
 unfoldable pub upTo : Graph → (ℕ → ℕ) → ℕ → ℕ

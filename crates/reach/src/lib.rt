@@ -20,7 +20,7 @@ ghost use Rattle.block.specs.Near.{around};
 ghost use Rattle.block.specs.Opened.{neighboursOf, drawnNear, openedNear};
 ghost use Rattle.half.specs.Half.{table};
 ghost use Rattle.reach.specs.Sums.{sumsReply, saidSums};
-ghost use Rattle.reach.specs.Reach.{Joined, Reach, LowSums, firstLevel, fartherOf, Room, Added, Reached};
+ghost use Rattle.reach.specs.Reach.{Joined, Reach, LowSums, exchanged, firstLevel, fartherOf, Room, Added, Reached};
 use block::ATOMS;
 use block::Indices;
 use block::IndicesReply;
@@ -65,7 +65,19 @@ fn first(bonds: &[u8]) -> u64
     if bonds.len() == 0 { 0 } else { 1 }
 }
 
-// One bond farther: to the set of each atom come those of its neighbours.
+// The ends of a bond take in what the other end reached.
+fn exchange(near: &Sets, one: u8, two: u8, sets: &mut [u64])
+    requires { ⌜ Within mostAtoms one × Within mostAtoms two × (length (now sets) ≡ mostAtoms) ⌝ }
+    ensures { λ _. ⌜ now (sets .exit) ≡ exchanged (now (near .entry)) one two (now (sets .entry)) ⌝ }
+{
+    let u = one as usize - 1;
+    let v = two as usize - 1;
+    sets[u] = sets[u] | near[v];
+    sets[v] = sets[v] | near[u];
+}
+
+// One bond farther: to the set of each atom come those of its neighbours. Two bonds a turn, one of each half, wait less for each other; of an odd
+// number the middle one comes twice, which adds nothing.
 fn spread(near: &Sets, n: usize, bonds: &[u8], sets: &mut [u64])
     requires { ⌜ (drawnReply n (now bonds) ≡ read tt) × (length (now sets) ≡ mostAtoms) ⌝ }
     ensures { λ _. ⌜ ((d : ℕ) → suc d < n → Reach (graphOf n (now (bonds .entry))) d (now (near .entry))
@@ -73,12 +85,12 @@ fn spread(near: &Sets, n: usize, bonds: &[u8], sets: &mut [u64])
         → Reach (graphOf n (now (bonds .entry))) (suc d) (now (sets .exit))) ⌝ }
 {
     let m = bonds.len() / 2;
+    let half = m - m / 2;
     let mut k = 0;
-    while k < m {
-        let u = bonds[2 * k] as usize - 1;
-        let v = bonds[2 * k + 1] as usize - 1;
-        sets[u] = sets[u] | near[v];
-        sets[v] = sets[v] | near[u];
+    while k < half {
+        let j = k + m / 2;
+        exchange(near, bonds[2 * k], bonds[2 * k + 1], sets);
+        exchange(near, bonds[2 * j], bonds[2 * j + 1], sets);
         k += 1;
     }
 }

@@ -7,7 +7,7 @@ use Rattle.reply.specs.Read.{read}
 use Rattle.block.specs.Block.{drawnReply}
 use Rattle.block.specs.Numbered.{drawn-bytes}
 use Rattle.reach.proofs.Levels.{Level, Turned, few, level-start, shallow, low, spare, grows, fits, stuck, level-next, odd-less, level-end, not-of, of-reached}
-use Rattle.reach.proofs.Touching.{reach-joined}
+use Rattle.reach.proofs.Spreading.{reach-joined}
 use Rattle.reach.proofs.summed.Statement.{statement}
 use Rattle.reach.proofs.summed.Tie as tie
 
