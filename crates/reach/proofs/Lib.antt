@@ -1,6 +1,5 @@
 -- Laws of sets within reach and of the sums over them.
 pub mod Settling
-pub mod Leaving
 pub mod Spreading
 pub mod Summing
 pub mod Digits

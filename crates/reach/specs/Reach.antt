@@ -6,10 +6,11 @@ use mathlib.Core.Path.{_≡_}
 use lib.Bits.{bitOr}
 use lib.Count.{ones}
 use lib.Dec.{leb}
-use lib.ListN.{length, set}
+use lib.ListN.{length, getD, set}
 use Rattle.graph.specs.Graph.{Graph, Within, distance, sum, itself, each, oddOf, isAt}
 use Rattle.graph.specs.Sets.{has, alone}
 use Rattle.block.specs.Block.{mostAtoms}
+use Rattle.block.specs.Lent.{EntriesFilled}
 use Rattle.block.specs.Near.{around}
 use Rattle.reach.specs.declared.Both.{Both}
 
@@ -62,11 +63,15 @@ pub record Room (n : ℕ) (reached : List ℕ) : Type 0 where
   pub room : (v : ℕ) → Within n v → around reached v ≤ mostAtoms * mostAtoms
 
 -- how many atoms the set of each of n atoms has is added
-pub record Added (n : ℕ) (sets old new : List ℕ) : Type 0 where
-  pub size : length new ≡ length old
-  pub added : (v : ℕ) → Within n v → around new v ≡ around old v + ones (around sets v)
+abbrev pub Added : ℕ → List ℕ → List ℕ → List ℕ → Type 0
+Added n sets old new = EntriesFilled n (λ i. getD old i 0 + ones (getD sets i 0)) old new
 
--- the numbers of atoms within reach of each of the first k, at less than d bonds together; what is wanting to all atoms is the vertex sum, once all
--- are at most d bonds away
-pub record Reached (g : Graph) (k d : ℕ) (reached : List ℕ) : Type 0 where
-  pub wanting : (v : ℕ) → Within k v → around reached v + sum (g .atoms) (λ w. min (distance g v w) d) ≡ g .atoms * d
+-- of so many levels of n atoms each what is left to each of them, which reached itself and so many
+abbrev pub Left : ℕ → ℕ → ℕ → List ℕ → List ℕ → Type 0
+Left n levels own old new = EntriesFilled n (λ i. n * levels - (own + getD old i 0)) old new
+
+-- the numbers of atoms within reach of each of the first k, from 1 to less than d bonds together, where each reached itself before; what is wanting to
+-- all atoms is the vertex sum, once all are at most d bonds away
+pub record Reached (g : Graph) (own k d : ℕ) (reached : List ℕ) : Type 0 where
+  pub wanting : (v : ℕ) → Within k v → own + around reached v + sum (g .atoms) (λ w. min (distance g v w) d) ≡ g .atoms * d
+  pub behind : (p : ℕ) → k ≤ p → getD reached p 0 ≡ 0

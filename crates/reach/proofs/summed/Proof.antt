@@ -113,7 +113,7 @@ loop-again c =
     let p = t .before .before .before .before .before .before .pre in
     let l = t .before .loop .inv in
     let A = c .before .before .before .before .before .before .before .before .before .before .before .before .count .ensures in
-    (refl, omega (arith, A .size, l .1), rw (c .farther .ensures) (level-next _ _ (p .0) (l .2) (more-in t) (found (c .before .before)) (p .2) (λ e. omega (arith, c .before .if1 .left)) _ A))
+    (refl, omega (arith, A .same, l .1), rw (c .farther .ensures) (level-next _ _ (p .0) (l .2) (more-in t) (found (c .before .before)) (p .2) (λ e. omega (arith, c .before .if1 .left)) _ A))
 
 -- in the end: no pair is left
 over : (c : tie.After-loop Inv-loop μ-loop) → let n = c .before .before .before .before .before .before .args .n in n * n ≤ c .before .loop .met
