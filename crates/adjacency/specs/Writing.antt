@@ -2,20 +2,18 @@
 use Prim.Native.Nat.{ℕ, zero, suc, _<_, _≤_}
 use mathlib.Core.Bool.{Bool, true, false, _&&_}
 use mathlib.Core.List.{List, _++_}
-use mathlib.Core.Path.{_≡_, refl, _∙_, ap}
+use mathlib.Core.Path.{_≡_, refl, _∙_}
 use native.Mathlib.Omega.{arith}
 use borrow.Author.Tests.{lt-ltb, le-ltb, ltb-true}
 use lib.Dec.{ltb}
 use lib.ListN.{length, take, drop}
 use lib.Seq.{take-at}
 use Rattle.graph.specs.Graph.{bonded, anyJoins, Within}
-use Rattle.reply.specs.Read.{Read, refused, read, refusal, _then_}
-use Rattle.reply.specs.declared.Reply.the-variants.{Fine, Refused}
+use Rattle.reply.specs.Read.{Read, refused, read, refusal}
 use Rattle.block.specs.Block.{bondsOf, graphOf, blockReply}
-use Rattle.block.specs.Opened.{neighboursOf, openedReply, saidOpened}
-use Rattle.block.specs.Drawn.{has-neighbour}
+use Rattle.block.specs.Opened.{neighboursOf, openedNear}
+use Rattle.block.specs.Drawn.{has-neighbour, opened-near}
 use Rattle.block.specs.Told.{few-atoms}
-use Rattle.block.specs.declared.Opened.{Opened}
 use Rattle.reply.specs.declared.Refusal.{Refusal}
 use Rattle.text.specs.Put.{Puts}
 use Rattle.text.proofs.Putting.{same-length, at-front}
@@ -46,31 +44,12 @@ module _ (n : ℕ) (p q : ℕ → ℕ → Bool) (h : (i j : ℕ) → Within n i 
   unfolding textBy
   text-same = rw (lines-same n (omega arith))
 
--- what a block's reading tells: its refusal, or its neighbours
-module _ (n : ℕ) (xs : List ℕ) (o : Opened) (is : o ≡ saidOpened (openedReply n xs)) where
-  pub opened-refused : (r : Refusal) → Refused r ≡ o .reply → blockReply n xs ≡ refused r
-  unfolding openedReply
-  opened-refused r e = go (blockReply n xs) (e ∙ ap (λ (p : Opened). p .reply) is)
-    where
-      go : (m : Read (Unit {0})) → Refused r ≡ saidOpened (m then λ _. read (neighboursOf (graphOf n xs))) .reply → m ≡ refused r
-      go (refused q) f = cc
-      go (read u) f = let z : _≡_ {A = ℕ} 0 1 = cc in absurd (omega arith)
-
-  pub opened-fine : Fine ≡ o .reply → (blockReply n xs ≡ read tt) × (o .near ≡ neighboursOf (graphOf n xs))
-  unfolding openedReply
-  opened-fine e = go (blockReply n xs) (e ∙ ap (λ (p : Opened). p .reply) is) (ap (λ (p : Opened). p .near) is)
-    where
-      go : (m : Read (Unit {0})) → Fine ≡ saidOpened (m then λ _. read (neighboursOf (graphOf n xs))) .reply → o .near ≡ saidOpened (m then λ _. read (neighboursOf (graphOf n xs))) .near
-          → (m ≡ read tt) × (o .near ≡ neighboursOf (graphOf n xs))
-      go (refused q) f g = let z : _≡_ {A = ℕ} 0 1 = cc in absurd (omega arith)
-      go (read u) f g = (refl, g)
-
 module _ (n : ℕ) (xs : List ℕ) (fine : blockReply n xs ≡ read tt) where
-  pub by-sets : (near : List ℕ) → near ≡ neighboursOf (graphOf n xs) → textBy (joinedIn near) n ≡ writtenText n (bondsOf xs)
+  pub by-sets : (near : List ℕ) → near ≡ openedNear n xs → textBy (joinedIn near) n ≡ writtenText n (bondsOf xs)
   unfolding bonded
   by-sets near e =
       let a = few-atoms n xs fine in
-      rw e (text-same n (joinedIn (neighboursOf (graphOf n xs))) (anyJoins (bondsOf xs)) (λ i j v w l. has-neighbour (graphOf n xs) i j (omega arith) w))
+      rw (e ∙ opened-near n xs fine) (text-same n (joinedIn (neighboursOf (graphOf n xs))) (anyJoins (bondsOf xs)) (λ i j v w l. has-neighbour (graphOf n xs) i j (omega arith) w))
 
   pub write-given : (room : ℕ) → neighboursWriteReply n xs room ≡ givenReply (writtenText n (bondsOf xs)) room
   unfolding neighboursWriteReply

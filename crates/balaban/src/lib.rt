@@ -60,12 +60,11 @@ fn reckon(n: usize, bonds: &[u8], sums: &[u64; ATOMS]) -> u64
 pub fn index(n: usize, bonds: &[u8]) -> NumberReply
     ensures { λ r. ⌜ r ≡ saidNumber (balabanReply n (now (bonds .entry))) ⌝ }
 {
-    let seen = reach::vertex_sums(n, bonds);
-    let reply = seen.reply;
+    let mut sums = [0u64; ATOMS];
+    let reply = reach::vertex_sums(n, bonds, &mut sums);
     match reply {
         Reply::Refused(refusal) => NumberReply::Refused(refusal),
         Reply::Fine => {
-            let sums = seen.at;
             let j = reckon(n, bonds, &sums);
             NumberReply::Of(j)
         }

@@ -18,16 +18,12 @@ use Rattle.half.specs.Rows.{row-size, row-same, row-past, row-other}
 use Rattle.block.specs.Block.{mostAtoms, graphOf, blockReply}
 use Rattle.block.specs.Rows.{table, rowOf, noRow, saidRow, rowReply, farOf, halfTable, unlessRefused}
 use Rattle.block.specs.Tables.{length-table, getD-table}
-use Rattle.block.specs.Opened.{neighboursOf, openedReply, saidOpened}
-use Rattle.block.specs.Near.{ReadyBlock}
 use Rattle.block.specs.Told.{row-read}
-use Rattle.block.specs.Drawn.{drawn-is}
 use Rattle.block.specs.Halved.{table-end}
 use Rattle.block.specs.Lent.{zeros}
 use Rattle.reply.specs.declared.Refusal.{Refusal}
 use Rattle.reply.specs.declared.Reply.the-variants.{Fine, Refused}
 use Rattle.block.specs.declared.OneRow.{OneRow}
-use Rattle.block.specs.declared.Opened.{Opened}
 
 -- of a table the first i entries are F's, and the others are none
 pub record Filled {A : Type 0} (F : ℕ → A) (none d : A) (all : List A) (i : ℕ) : Type 0 where
@@ -135,15 +131,3 @@ module _ (n : ℕ) (xs : List ℕ) where
 
       pub row-fine : Within n i → v .reply ≡ Fine → v .row ≡ rowOf (graphOf n xs) i → v .largest ≡ farthest (graphOf n xs) i → v ≡ saidRow (rowReply n xs i)
       row-fine w p q l = rw (row-read n xs fine w) (λ j. record { reply = p j; row = q j; largest = l j })
-
-  -- a block that was read
-  module _ (v : Opened) where
-    pub opened-refused : (r : Refusal) → blockReply n xs ≡ refused r → v .reply ≡ Refused r → v .near ≡ noRow → v ≡ saidOpened (openedReply n xs)
-    unfolding openedReply
-    opened-refused r b p q = rw b (λ j. record { reply = p j; near = q j })
-
-    pub opened-fine : ReadyBlock n xs (v .near) → v .reply ≡ Fine → v ≡ saidOpened (openedReply n xs)
-    unfolding openedReply
-    opened-fine R p =
-        let q : v .near ≡ neighboursOf (graphOf n xs) = drawn-is (graphOf n xs) (v .near) (R .shown) in
-        rw (R .fine) (λ j. record { reply = p j; near = q j })

@@ -2,33 +2,24 @@
 use Prim.Native.Nat.{ℕ, _%_}
 use mathlib.Core.Bool.{true, false}
 use mathlib.Core.List.{List, []}
-use mathlib.Core.Path.{_≡_, refl, sym, _∙_}
+use mathlib.Core.Path.{_≡_, sym, _∙_}
 use lib.Dec.{eqb, ltb}
 use lib.ListN.{length}
 use native.Mathlib.Omega.{arith}
-use Rattle.graph.specs.Graph.{connected}
-use Rattle.reply.specs.Read.{Read, refused, read, refusal, isOutside, saidReply}
+use Rattle.graph.specs.Graph.{Graph, connected}
+use Rattle.reply.specs.Read.{Read, refused, refusal, isOutside, saidReply}
+use Rattle.reply.specs.Chain.{fine-read, refused-read}
 use Rattle.block.specs.Block.{mostAtoms, mostBytes, bondsOf, graphOf, bondsReply, drawnReply, blockReply}
-use Rattle.block.specs.Drawn.{drawn-is}
-use Rattle.block.specs.Near.{ShowsGraph, Drawing, Admitting}
-use Rattle.block.specs.Opened.{drawnNear}
+use Rattle.block.specs.Near.{ReadyBlock, Drawing}
+use Rattle.block.specs.Opened.{openedNear}
+use Rattle.block.specs.Drawn.{drawn-is, opened-near}
 use Rattle.block.specs.Told.{block-drawn, drawn-refused}
-use Rattle.block.specs.declared.Opened.{Opened}
 use Rattle.reply.specs.declared.Refusal.{Refusal}
 use Rattle.reply.specs.declared.Reply.{Reply}
 use Rattle.reply.specs.declared.Reply.the-variants.{Fine, Refused}
 
 pub not-fine : {r : Refusal} → Refused r ≡ Fine → ⊥
 not-fine e = let z : _≡_ {A = ℕ} 0 1 = cc in omega arith
-
--- what a reply says is what was read
-pub said-fine : (m : Read (Unit {0})) → Fine ≡ saidReply m → m ≡ read tt
-said-fine (refused r) e = absurd (not-fine (sym e))
-said-fine (read u) e = refl
-
-pub said-refused : (m : Read (Unit {0})) (r : Refusal) → Refused r ≡ saidReply m → m ≡ refused r
-said-refused (refused s) r e = cc
-said-refused (read u) r e = absurd (not-fine e)
 
 module _ (n : ℕ) (xs : List ℕ) where
   abbrev replies : Reply → Type 0
@@ -52,28 +43,26 @@ module _ (n : ℕ) (xs : List ℕ) where
       unfolding drawnReply
       reply-bonds l r e = rw (p, q, l) e
 
-  -- a refused block has no neighbours to give
-  pub draw-refused : (b : Opened) (f : Refusal) → b .reply ≡ Refused f → replies (Refused f) → Drawing n xs b
-  draw-refused b f e r = record { replied = e ∙ r; drawn = λ q. absurd (not-fine (sym e ∙ q)) }
-
-  pub admit-refused : (b : Opened) (f : Refusal) → b .reply ≡ Refused f → Refused f ≡ saidReply (blockReply n xs) → Admitting n xs b
-  admit-refused b f e r = record { replied = e ∙ r; ready = λ q. absurd (not-fine (sym e ∙ q)) }
-
   -- then 7
   pub reply-fault : (f : Refusal) → replies (Refused f) → Refused f ≡ saidReply (blockReply n xs)
-  reply-fault f e = rw (drawn-refused n xs f (said-refused (drawnReply n xs) f e))
+  reply-fault f e = rw (drawn-refused n xs f (refused-read (drawnReply n xs) f (sym e)))
 
   pub reply-fine : replies Fine → connected (graphOf n xs) ≡ true → Fine ≡ saidReply (blockReply n xs)
-  reply-fine e c = rw (block-drawn n xs, said-fine (drawnReply n xs) e, c)
+  reply-fine e c = rw (block-drawn n xs, fine-read (drawnReply n xs) (sym e), c)
 
   pub reply-apart : replies Fine → connected (graphOf n xs) ≡ false → Refused (refusal 7 0) ≡ saidReply (blockReply n xs)
-  reply-apart e c = rw (block-drawn n xs, said-fine (drawnReply n xs) e, c)
+  reply-apart e c = rw (block-drawn n xs, fine-read (drawnReply n xs) (sym e), c)
 
-  -- the neighbours beside the reply
-  pub near-refused : (old : List ℕ) (f : Refusal) → replies (Refused f) → old ≡ drawnNear n xs old
-  unfolding drawnNear
-  near-refused old f e = rw (said-refused (drawnReply n xs) f e, drawnNear)
+-- a refused block has no neighbours to give, and the others are ready
+pub drawing-refused : {m : Read (Unit {0})} {g : Graph} {near : List ℕ} (reply : Reply) (f : Refusal) → reply ≡ Refused f → Refused f ≡ saidReply m → Drawing m g reply near
+drawing-refused reply f e r = record { replied = e ∙ r; drawn = λ q. absurd (not-fine (sym e ∙ q)) }
 
-  pub near-fine : (old near : List ℕ) → replies Fine → ShowsGraph (graphOf n xs) near → near ≡ drawnNear n xs old
-  unfolding drawnNear
-  near-fine old near e D = rw (said-fine (drawnReply n xs) e, drawnNear) (drawn-is (graphOf n xs) near D)
+module _ (n : ℕ) (xs : List ℕ) {near : List ℕ} {reply : Reply} (D : Drawing (blockReply n xs) (graphOf n xs) reply near) where
+  pub admit-refused : {f : Refusal} → reply ≡ Refused f → blockReply n xs ≡ refused f
+  admit-refused e = refused-read (blockReply n xs) _ (sym (D .replied) ∙ e)
+
+  pub admit-ready : reply ≡ Fine → ReadyBlock n xs near
+  admit-ready e = record { fine = fine-read (blockReply n xs) (sym (D .replied) ∙ e); shown = D .drawn e }
+
+  pub near-opened : reply ≡ Fine → near ≡ openedNear n xs
+  near-opened e = drawn-is (graphOf n xs) near (D .drawn e) ∙ sym (opened-near n xs (admit-ready e .fine))

@@ -17,13 +17,13 @@ use Rattle.graph.specs.Sums.{wider, last, sum-cong, sum-none}
 use Rattle.graph.specs.Distance.{not-true}
 use Rattle.graph.specs.Sets.{has, alone}
 use Rattle.graph.specs.SetLaws.{has-or, has-xor, has-alone, none-above, taken-one}
-use Rattle.reply.specs.Read.{Read, refused, read, _then_, saidReply}
-use Rattle.block.specs.Block.{mostAtoms, graphOf, blockReply}
-use Rattle.block.specs.Rows.{table}
+use Rattle.reply.specs.Read.{refused, read}
+use Rattle.block.specs.Block.{mostAtoms, graphOf, drawnReply, blockReply}
+use Rattle.block.specs.Rows.{table, noRow}
 use Rattle.block.specs.Tables.{length-table, getD-table}
 use Rattle.block.specs.Near.{around, ShowsGraph}
-use Rattle.block.specs.Opened.{setOf, neighboursOf, openedReply, saidOpened}
-use Rattle.block.specs.declared.Opened.{Opened}
+use Rattle.block.specs.Opened.{setOf, neighboursOf, drawnNear, openedNear}
+use Rattle.reply.specs.declared.Refusal.{Refusal}
 
 pub set-fits : (n : ℕ) (p : ℕ → Bool) → setOf n p < 2 ^ n
 unfolding sum
@@ -132,11 +132,20 @@ has-neighbour g u v w x =
     ∙ has-set (g .atoms) (bonded g (suc (u - 1))) v x
     ∙ ap (λ (y : ℕ). bonded g y v) k
 
--- the reply beside the neighbours is the block's
-pub opened-reply : (n : ℕ) (xs : List ℕ) (v : Opened) → v ≡ saidOpened (openedReply n xs) → v .reply ≡ saidReply (blockReply n xs)
-unfolding openedReply
-opened-reply n xs v e = ap (λ (o : Opened). o .reply) e ∙ go (blockReply n xs)
-  where
-    go : (R : Read (Unit {0})) → saidOpened (R then λ _. read (neighboursOf (graphOf n xs))) .reply ≡ saidReply R
-    go (refused r) = refl
-    go (read u) = refl
+-- what is lent after a block was read, refused or not
+module _ (n : ℕ) (xs : List ℕ) where
+  pub none-drawn : {r : Refusal} → drawnReply n xs ≡ refused r → drawnNear n xs ≡ noRow
+  unfolding drawnNear
+  none-drawn e = rw (e, drawnNear)
+
+  pub drawn-near : drawnReply n xs ≡ read tt → drawnNear n xs ≡ neighboursOf (graphOf n xs)
+  unfolding drawnNear
+  drawn-near e = rw (e, drawnNear)
+
+  pub none-opened : {r : Refusal} → blockReply n xs ≡ refused r → openedNear n xs ≡ noRow
+  unfolding openedNear
+  none-opened e = rw (e, openedNear)
+
+  pub opened-near : blockReply n xs ≡ read tt → openedNear n xs ≡ neighboursOf (graphOf n xs)
+  unfolding openedNear
+  opened-near e = rw (e, openedNear)

@@ -1,15 +1,15 @@
 -- Work. The neighbours of each atom as a set in one number, and what they say of a graph.
 use Prim.Native.Nat.{ℕ, _+_, _-_, _^_, _≤_, _<_}
 use mathlib.Core.Bool.{Bool, true}
-use mathlib.Core.List.{List, []}
+use mathlib.Core.List.{List}
 use mathlib.Core.Path.{_≡_}
 use lib.Bits.{bitOr}
 use lib.ListN.{length, getD, set}
 use Rattle.graph.specs.Graph.{Graph, Bond, Within, anyJoins, bonded, degree}
 use Rattle.graph.specs.Sets.{has, alone}
-use Rattle.reply.specs.Read.{read, saidReply}
-use Rattle.block.specs.Block.{mostAtoms, bondsOf, graphOf, bondsReply, drawnReply, blockReply}
-use Rattle.block.specs.declared.Opened.{Opened}
+use Rattle.reply.specs.Read.{Read, read, saidReply}
+use Rattle.block.specs.Block.{mostAtoms, graphOf, blockReply}
+use Rattle.reply.specs.declared.Reply.{Reply}
 use Rattle.reply.specs.declared.Reply.the-variants.{Fine}
 
 -- the neighbours of atom u, and how many bonds it has
@@ -50,17 +50,7 @@ pub record ReadyBlock (n : ℕ) (xs : List ℕ) (near : List ℕ) : Type 0 where
   pub fine : blockReply n xs ≡ read tt
   pub shown : ShowsGraph (graphOf n xs) near
 
--- what reading the bonds gives: the reply to them and, where they are fine, the neighbours
-pub record Reading (n : ℕ) (xs : List ℕ) (r : Opened) : Type 0 where
-  pub replied : r .reply ≡ saidReply (bondsReply n [] (bondsOf xs))
-  pub drawn : r .reply ≡ Fine → ShowsGraph (graphOf n xs) (r .near)
-
--- what a block gives before it is known to be connected
-pub record Drawing (n : ℕ) (xs : List ℕ) (r : Opened) : Type 0 where
-  pub replied : r .reply ≡ saidReply (drawnReply n xs)
-  pub drawn : r .reply ≡ Fine → ShowsGraph (graphOf n xs) (r .near)
-
--- what a block gives: the reply to it and, where it is fine, the neighbours
-pub record Admitting (n : ℕ) (xs : List ℕ) (r : Opened) : Type 0 where
-  pub replied : r .reply ≡ saidReply (blockReply n xs)
-  pub ready : r .reply ≡ Fine → ReadyBlock n xs (r .near)
+-- what reading gives: the reply and, where it is fine, the neighbours of a graph
+pub record Drawing (m : Read (Unit {0})) (g : Graph) (reply : Reply) (near : List ℕ) : Type 0 where
+  pub replied : reply ≡ saidReply m
+  pub drawn : reply ≡ Fine → ShowsGraph g near

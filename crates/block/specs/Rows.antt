@@ -20,6 +20,11 @@ rowOf g i = table mostAtoms (λ j. cond (ltb j (g .atoms)) (distance g i (suc j)
 abbrev pub noRow : List ℕ
 noRow = replicate mostAtoms 0
 
+-- what a lent row is afterwards: what is read, and all 0 where it is refused
+abbrev pub lentRow : Read (List ℕ) → List ℕ
+lentRow (refused r) = noRow
+lentRow (read row) = row
+
 -- the row of one atom, and the largest distance from it: 18 at place 0 where there is no such atom
 unfoldable pub rowReply : ℕ → List ℕ → ℕ → Read (List ℕ × ℕ)
 rowReply n xs i =

@@ -6,12 +6,11 @@ use Rattle.reply.specs.Read.{saidReply, saidNumber}
 use Rattle.reply.specs.Chain.{unique}
 use Rattle.block.specs.Block.{mostAtoms, drawnReply, blockReply}
 use Rattle.block.specs.Rows.{halfAfter, farAfter, rowReply, saidRow}
-use Rattle.block.specs.Opened.{drawnNear, openedReply, saidOpened}
+use Rattle.block.specs.Opened.{drawnNear, openedNear}
 use Rattle.block.specs.Index.{vertexReply, saidVertex, distanceReply, pairsReply, saidPairs}
 use Rattle.reply.specs.declared.Reply.{Reply}
 use Rattle.reply.specs.declared.NumberReply.{NumberReply}
 use Rattle.block.specs.declared.OneRow.{OneRow}
-use Rattle.block.specs.declared.Opened.{Opened}
 use Rattle.block.specs.declared.VertexReply.{VertexReply}
 use Rattle.block.specs.declared.Pairs.{Pairs}
 
@@ -19,17 +18,20 @@ module _ (n : ℕ) (xs : List ℕ) where
   pub unique-check : (r s : Reply) → r ≡ saidReply (blockReply n xs) → s ≡ saidReply (blockReply n xs) → r ≡ s
   unique-check r s = unique
 
-  -- the lent neighbours o before
-  pub unique-drawn : (o : List ℕ) (r s : Reply) (p q : List ℕ) → (r ≡ saidReply (drawnReply n xs)) × (p ≡ drawnNear n xs o) → (s ≡ saidReply (drawnReply n xs)) × (q ≡ drawnNear n xs o) → (r ≡ s) × (p ≡ q)
-  unique-drawn o r s p q x y = (unique (x .0) (y .0), unique (x .1) (y .1))
+  -- the reply, and the lent neighbours
+  pub unique-drawn : (r s : Reply) (p q : List ℕ) → (r ≡ saidReply (drawnReply n xs)) × (p ≡ drawnNear n xs) → (s ≡ saidReply (drawnReply n xs)) × (q ≡ drawnNear n xs) → (r ≡ s) × (p ≡ q)
+  unique-drawn r s p q x y = (unique (x .0) (y .0), unique (x .1) (y .1))
 
-  pub unique-neighbours : (r s : Opened) → r ≡ saidOpened (openedReply n xs) → s ≡ saidOpened (openedReply n xs) → r ≡ s
-  unique-neighbours r s = unique
+  pub unique-neighbours : (r s : Reply) (p q : List ℕ) → (r ≡ saidReply (blockReply n xs)) × (p ≡ openedNear n xs) → (s ≡ saidReply (blockReply n xs)) × (q ≡ openedNear n xs) → (r ≡ s) × (p ≡ q)
+  unique-neighbours r s p q x y = (unique (x .0) (y .0), unique (x .1) (y .1))
 
-  -- the reply, and the lent half and largest distances, h and f before
-  pub unique-table : (h f : List ℕ) (r s : Opened) (p q u v : List ℕ) → (r ≡ saidOpened (openedReply n xs)) × (p ≡ halfAfter n xs h) × (u ≡ farAfter n xs f)
-      → (s ≡ saidOpened (openedReply n xs)) × (q ≡ halfAfter n xs h) × (v ≡ farAfter n xs f) → (r ≡ s) × (p ≡ q) × (u ≡ v)
-  unique-table h f r s p q u v x y = (unique (x .0) (y .0), unique (x .1) (y .1), unique (x .2) (y .2))
+  -- and the lent half and largest distances, h and f before
+  pub unique-table : (h f : List ℕ) (r s : Reply) (a b p q u v : List ℕ) → (r ≡ saidReply (blockReply n xs)) × (a ≡ openedNear n xs) × (p ≡ halfAfter n xs h) × (u ≡ farAfter n xs f)
+      → (s ≡ saidReply (blockReply n xs)) × (b ≡ openedNear n xs) × (q ≡ halfAfter n xs h) × (v ≡ farAfter n xs f) → (r ≡ s) × (a ≡ b) × (p ≡ q) × (u ≡ v)
+  unique-table h f r s a b p q u v x y = (unique (x .0) (y .0), unique (x .1) (y .1), unique (x .2) (y .2), unique (x .3) (y .3))
+
+  pub unique-halved : (h : List ℕ) (r s : Reply) (p q : List ℕ) → (r ≡ saidReply (blockReply n xs)) × (p ≡ halfAfter n xs h) → (s ≡ saidReply (blockReply n xs)) × (q ≡ halfAfter n xs h) → (r ≡ s) × (p ≡ q)
+  unique-halved h r s p q x y = (unique (x .0) (y .0), unique (x .1) (y .1))
 
   pub unique-row : (i : ℕ) (r s : OneRow) → r ≡ saidRow (rowReply n xs i) → s ≡ saidRow (rowReply n xs i) → r ≡ s
   unique-row i r s = unique

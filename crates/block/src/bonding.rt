@@ -5,13 +5,13 @@ use reply::Refusal;
 use reply::Reply;
 use reply::is_outside;
 ghost use mathlib.Core.Path.{_≡_};
-ghost use mathlib.Core.List.{List};
+ghost use mathlib.Core.List.{List, []};
 ghost use Prim.Native.Nat.{_≤_};
 ghost use lib.ListN.{length};
 ghost use Rattle.graph.specs.Graph.{Bond, bond};
-ghost use Rattle.block.specs.Block.{mostAtoms, bondFault};
+ghost use Rattle.block.specs.Block.{mostAtoms, bondsOf, graphOf, bondFault, bondsReply};
 ghost use Rattle.block.specs.Rows.{noRow};
-ghost use Rattle.block.specs.Near.{HoldsBonds, Reading};
+ghost use Rattle.block.specs.Near.{HoldsBonds, Drawing};
 
 // The refusal number of the bond a-b after those that were read, or 0.
 fn fault(n: usize, near: &[u64], count: &[u8; ATOMS], a: u8, b: u8) -> usize
@@ -44,7 +44,7 @@ fn fault(n: usize, near: &[u64], count: &[u8; ATOMS], a: u8, b: u8) -> usize
 // The refusals 3 to 6 of the bonds, and in what is lent, empty before, the neighbours.
 pub(crate) fn build(n: usize, bonds: &[u8], near: &mut [u64]) -> Reply
     requires { ⌜ (n ≤ mostAtoms) × (now near ≡ noRow) ⌝ }
-    ensures { λ r. ⌜ Reading n (now (bonds .entry)) (record { reply = r; near = now (near .exit) }) ⌝ }
+    ensures { λ r. ⌜ Drawing (bondsReply n [] (bondsOf (now (bonds .entry)))) (graphOf n (now (bonds .entry))) r (now (near .exit)) ⌝ }
 {
     let mut count = [0u8; ATOMS];
     let m = bonds.len() / 2;

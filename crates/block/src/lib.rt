@@ -2,12 +2,12 @@
 ghost use mathlib.Core.Path.{_≡_};
 ghost use Prim.Native.Nat.{min};
 ghost use Rattle.reply.specs.Read.{saidReply, saidNumber};
-ghost use Rattle.block.specs.Block.{mostAtoms, drawnReply, blockReply};
+ghost use Rattle.block.specs.Block.{mostAtoms, graphOf, drawnReply, blockReply};
 ghost use Rattle.block.specs.Rows.{noRow, halfAfter, farAfter, rowReply, saidRow};
 ghost use Rattle.block.specs.Index.{vertexReply, saidVertex, distanceReply, pairsReply, saidPairs};
 ghost use Rattle.block.specs.Sums.{entry, vertexBy};
-ghost use Rattle.block.specs.Opened.{drawnNear, openedReply, saidOpened};
-ghost use Rattle.block.specs.Near.{Drawing, Admitting};
+ghost use Rattle.block.specs.Opened.{drawnNear, openedNear};
+ghost use Rattle.block.specs.Near.{Drawing};
 
 mod bonding;
 mod search;
@@ -86,12 +86,6 @@ pub struct Pairs {
 // The neighbours of each atom: those of atom u are a set, at u - 1; atom v is in it where its binary digit at v - 1 is 1.
 pub type Neighbours = [u64; ATOMS];
 
-// A block that was read: the reply to it, and its neighbours; all sets are empty where it is refused.
-pub struct Opened {
-    pub reply: Reply,
-    pub near: Neighbours,
-}
-
 // What some distances add up to: the even ones and the odd ones, how many there are of each, and how many are 1 and 2.
 struct Tally {
     pub even: u64,
@@ -105,7 +99,7 @@ struct Tally {
 // Refusals 1 to 6 of a block and, where there is none, in what is lent, empty before, the neighbours.
 fn draw(n: usize, bonds: &[u8], near: &mut [u64]) -> Reply
     requires { ⌜ now near ≡ noRow ⌝ }
-    ensures { λ r. ⌜ Drawing n (now (bonds .entry)) (record { reply = r; near = now (near .exit) }) ⌝ }
+    ensures { λ r. ⌜ Drawing (drawnReply n (now (bonds .entry))) (graphOf n (now (bonds .entry))) r (now (near .exit)) ⌝ }
 {
     if is_outside(ATOMS, n) {
         return refused(1);
@@ -119,24 +113,24 @@ fn draw(n: usize, bonds: &[u8], near: &mut [u64]) -> Reply
     bonding::build(n, bonds, near)
 }
 
-// Refusals 1 to 6 of a block, and in what is lent its neighbours. A refused block changes nothing that is lent.
+// Refusals 1 to 6 of a block, and in what is lent its neighbours; all sets are empty where it is refused.
 pub fn drawn(n: usize, bonds: &[u8], near: &mut Neighbours) -> Reply
     ensures reply { λ r. ⌜ r ≡ saidReply (drawnReply n (now (bonds .entry))) ⌝ }
-    ensures near { λ _. ⌜ now (near .exit) ≡ drawnNear n (now (bonds .entry)) (now (near .entry)) ⌝ }
+    ensures near { λ _. ⌜ now (near .exit) ≡ drawnNear n (now (bonds .entry)) ⌝ }
 {
-    let mut sets = [0u64; ATOMS];
-    let reply = draw(n, bonds, &mut sets);
+    *near = [0u64; ATOMS];
+    let reply = draw(n, bonds, near);
     let Reply::Fine = reply else {
+        *near = [0u64; ATOMS];
         return reply;
     };
-    *near = sets;
     reply
 }
 
 // The reply to a block and, where it is fine, in what is lent, empty before, the neighbours.
 fn admit(n: usize, bonds: &[u8], near: &mut [u64]) -> Reply
     requires { ⌜ now near ≡ noRow ⌝ }
-    ensures { λ r. ⌜ Admitting n (now (bonds .entry)) (record { reply = r; near = now (near .exit) }) ⌝ }
+    ensures { λ r. ⌜ Drawing (blockReply n (now (bonds .entry))) (graphOf n (now (bonds .entry))) r (now (near .exit)) ⌝ }
 {
     let reply = draw(n, bonds, near);
     let Reply::Fine = reply else {
@@ -149,19 +143,18 @@ fn admit(n: usize, bonds: &[u8], near: &mut [u64]) -> Reply
     }
 }
 
-// The reply to a block and its neighbours.
-pub fn neighbours(n: usize, bonds: &[u8]) -> Opened
-    ensures { λ r. ⌜ r ≡ saidOpened (openedReply n (now (bonds .entry))) ⌝ }
+// The reply to a block, and in what is lent its neighbours; all sets are empty where it is refused.
+pub fn neighbours(n: usize, bonds: &[u8], near: &mut Neighbours) -> Reply
+    ensures reply { λ r. ⌜ r ≡ saidReply (blockReply n (now (bonds .entry))) ⌝ }
+    ensures near { λ _. ⌜ now (near .exit) ≡ openedNear n (now (bonds .entry)) ⌝ }
 {
-    let mut near = [0u64; ATOMS];
-    let reply = admit(n, bonds, &mut near);
+    *near = [0u64; ATOMS];
+    let reply = admit(n, bonds, near);
     let Reply::Fine = reply else {
-        return Opened {
-            reply,
-            near: [0u64; ATOMS],
-        };
+        *near = [0u64; ATOMS];
+        return reply;
     };
-    Opened { reply, near }
+    reply
 }
 
 // Whether a block is refused, with which number and where: the bond's number from 1, or 0.
@@ -172,24 +165,39 @@ pub fn check(n: usize, bonds: &[u8]) -> Reply
     admit(n, bonds, &mut near)
 }
 
-// The reply to a block and its neighbours; and in what is lent half of its distances, and how far the farthest is from each atom, all 0 beyond
-// the atoms. A refused block changes nothing that is lent.
-pub fn table(n: usize, bonds: &[u8], half: &mut Half, far: &mut Farthest) -> Opened
-    ensures reply { λ r. ⌜ r ≡ saidOpened (openedReply n (now (bonds .entry))) ⌝ }
+// The reply to a block, and in what is lent its neighbours, half of its distances, and how far the farthest is from each atom, all 0 beyond the atoms.
+// Where it is refused, all sets are empty and the others are left as they were.
+pub fn table(
+    n: usize,
+    bonds: &[u8],
+    near: &mut Neighbours,
+    half: &mut Half,
+    far: &mut Farthest,
+) -> Reply
+    ensures reply { λ r. ⌜ r ≡ saidReply (blockReply n (now (bonds .entry))) ⌝ }
+    ensures near { λ _. ⌜ now (near .exit) ≡ openedNear n (now (bonds .entry)) ⌝ }
     ensures half { λ _. ⌜ now (half .exit) ≡ halfAfter n (now (bonds .entry)) (now (half .entry)) ⌝ }
     ensures far { λ _. ⌜ now (far .exit) ≡ farAfter n (now (bonds .entry)) (now (far .entry)) ⌝ }
 {
-    let mut near = [0u64; ATOMS];
-    let reply = admit(n, bonds, &mut near);
+    *near = [0u64; ATOMS];
+    let reply = admit(n, bonds, near);
     let Reply::Fine = reply else {
-        return Opened {
-            reply,
-            near: [0u64; ATOMS],
-        };
+        *near = [0u64; ATOMS];
+        return reply;
     };
     *half = [0u8; PAIRS];
-    search::from_all(&near, n, half, far);
-    Opened { reply, near }
+    search::from_all(near, n, half, far);
+    reply
+}
+
+// The reply to a block, and in what is lent half of its distances, all 0 beyond the atoms. A refused block changes nothing that is lent.
+pub fn halved(n: usize, bonds: &[u8], half: &mut Half) -> Reply
+    ensures reply { λ r. ⌜ r ≡ saidReply (blockReply n (now (bonds .entry))) ⌝ }
+    ensures half { λ _. ⌜ now (half .exit) ≡ halfAfter n (now (bonds .entry)) (now (half .entry)) ⌝ }
+{
+    let mut near = [0u64; ATOMS];
+    let mut far = [0u8; ATOMS];
+    table(n, bonds, &mut near, half, &mut far)
 }
 
 // The distances from atom i of a block and the largest of them, or its refusal; 18 at place 0 where there is no such atom.
@@ -247,9 +255,7 @@ pub fn distance(n: usize, bonds: &[u8], i: usize, j: usize) -> NumberReply
     ensures { λ r. ⌜ r ≡ saidNumber (distanceReply n (now (bonds .entry)) i j) ⌝ }
 {
     let mut half = [0u8; PAIRS];
-    let mut far = [0u8; ATOMS];
-    let seen = table(n, bonds, &mut half, &mut far);
-    let reply = seen.reply;
+    let reply = halved(n, bonds, &mut half);
     match reply {
         Reply::Refused(refusal) => NumberReply::Refused(refusal),
         Reply::Fine => {
@@ -285,17 +291,14 @@ pub fn vertex_sums(n: usize, bonds: &[u8], a: usize) -> VertexReply
 pub fn pair_counts(n: usize, bonds: &[u8]) -> Pairs
     ensures { λ r. ⌜ r ≡ saidPairs (pairsReply n (now (bonds .entry))) ⌝ }
 {
-    let mut near = [0u64; ATOMS];
-    let reply = admit(n, bonds, &mut near);
+    let mut half = [0u8; PAIRS];
+    let reply = halved(n, bonds, &mut half);
     let Reply::Fine = reply else {
         return Pairs {
             reply,
             at: [0u16; ATOMS],
         };
     };
-    let mut far = [0u8; ATOMS];
-    let mut half = [0u8; PAIRS];
-    search::from_all(&near, n, &mut half, &mut far);
     let at = totals::count_pairs(&half, n);
     Pairs { reply, at }
 }

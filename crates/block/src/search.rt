@@ -69,14 +69,13 @@ pub(crate) fn from_all(near: &[u64], n: usize, half: &mut [u8], far: &mut Farthe
     ensures half { λ _. ⌜ ((xs : List ℕ) → ReadyBlock n xs (now (near .entry)) → now (half .exit) ≡ halfTable n xs) ⌝ }
     ensures far { λ _. ⌜ ((xs : List ℕ) → ReadyBlock n xs (now (near .entry)) → now (far .exit) ≡ farOf n xs) ⌝ }
 {
-    let mut deep = [0u8; ATOMS];
+    *far = [0u8; ATOMS];
     let mut i = 0;
     while i < n {
         let mut row = [0u8; ATOMS];
         let ended = from_atom(near, n, i + 1, &mut row);
         put_row(half, i + 1, &row, n);
-        deep[i] = ended.last;
+        far[i] = ended.last;
         i += 1;
     }
-    *far = deep;
 }

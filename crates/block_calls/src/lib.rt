@@ -100,7 +100,10 @@ pub fn szeged(atoms: usize, bonds: &[u8], terms: &mut [u64], index: &mut [u64]) 
         ⌝ }
 {
     if index.len() < 1 {
-        return unlent(atoms, bonds);
+        // What `unlent` says, in less stack.
+        let mut none = [0u64; 0];
+        let answer = szeged::terms(atoms, bonds, &mut none);
+        return give_number(index, answer);
     }
     let answer = szeged::terms(atoms, bonds, terms);
     give_number(index, answer)

@@ -168,10 +168,10 @@ pub fn write(n: usize, bonds: &[u8], out: &mut [u8]) -> NumberReply
         now (out .exit) ≡ textAfter (neighboursWriteReply n (now (bonds .entry)) (length (now (out .entry)))) (now (out .entry))
         ⌝ }
 {
-    let opened = block::neighbours(n, bonds);
-    let reply = opened.reply;
+    let mut near = [0u64; ATOMS];
+    let reply = block::neighbours(n, bonds, &mut near);
     match reply {
         Reply::Refused(refusal) => NumberReply::Refused(refusal),
-        Reply::Fine => write_fine(n, &opened.near, out),
+        Reply::Fine => write_fine(n, &near, out),
     }
 }

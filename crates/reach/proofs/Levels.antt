@@ -6,7 +6,7 @@ use mathlib.Core.Path.{_≡_, refl, sym, ap, ap₂, subst, _∙_}
 use native.Mathlib.Nat.{mul-le-mul, le-refl}
 use native.Mathlib.Numerals.{add-one}
 use native.Mathlib.Omega.{arith}
-use lib.ListN.{length}
+use lib.ListN.{length, getD}
 use Rattle.graph.specs.Graph.{Graph, Within, Sound, Molecule, connected, distance, total, itself, each, evenOf, oddOf, isAt}
 use Rattle.graph.specs.Farthest.{largest}
 use Rattle.graph.specs.Bounds.{tame-odd, tame-at}
@@ -17,7 +17,6 @@ use Rattle.reply.specs.Read.{read, refusal}
 use Rattle.reply.specs.declared.Refusal.{Refusal}
 use Rattle.block.specs.Block.{mostAtoms, graphOf, drawnReply}
 use Rattle.block.specs.Index.{indicesOf, indicesReply, saidIndices}
-use Rattle.block.specs.Near.{around}
 use Rattle.block.specs.Opened.{neighboursOf}
 use Rattle.block.specs.Told.{block-drawn, drawn-atoms, drawn-sound}
 use Rattle.block.specs.declared.Indices.{Indices}
@@ -34,7 +33,7 @@ pub record Level (n : ℕ) (xs : List ℕ) (k : ℕ) (near sets reached : List �
   pub reach : Reach (graphOf n xs) d near
   pub wide : Reach (graphOf n xs) d sets
   pub upto : LevelsUpTo (graphOf n xs) d met s
-  pub counts : Reached (graphOf n xs) k d reached
+  pub counts : Reached (graphOf n xs) (firstLevel xs) k d reached
 
 -- what a turn finds: the sets one bond farther, and how many atoms they have
 pub record Turned (n : ℕ) (xs : List ℕ) (d : ℕ) (near sets : List ℕ) (met : ℕ) : Type 0 where
@@ -61,10 +60,10 @@ module _ (n : ℕ) (xs : List ℕ) (drawn : drawnReply n xs ≡ read tt) where
   sound : Sound g
   sound = drawn-sound n xs drawn
 
-  pub level-start : (k : ℕ) (near sets reached : List ℕ) → near ≡ neighboursOf g → k ≤ n → Joined n near sets → ((v : ℕ) → Within k v → around reached v ≡ firstLevel xs)
+  pub level-start : (k : ℕ) (near sets reached : List ℕ) → near ≡ neighboursOf g → k ≤ n → Joined n near sets → ((p : ℕ) → getD reached p 0 ≡ 0)
       → Level n xs k sets sets reached (record { all = length xs; odd = length xs; threes = 0 }) (n + length xs) (firstLevel xs)
   unfolding oddOf isAt
-  level-start k near sets reached e h J one = record {
+  level-start k near sets reached e h J none = record {
     near-size = J .size;
     sets-size = J .size;
     reach = R;
@@ -77,7 +76,7 @@ module _ (n : ℕ) (xs : List ℕ) (drawn : drawnReply n xs ≡ read tt) where
       below = first-below n xs drawn;
       deep = first-deep n xs drawn;
     };
-    counts = record { wanting = λ v w. omega (arith, one v w, first-wanting n xs drawn v (omega arith)) };
+    counts = record { wanting = λ v w. omega (arith, none (v - 1), first-wanting n xs drawn v (omega arith)); behind = λ p l. none p };
   }
     where
       R : Reach g (firstLevel xs) sets
@@ -130,8 +129,8 @@ module _ (n : ℕ) (xs : List ℕ) (drawn : drawnReply n xs ≡ read tt) where
           deep = deeper g d (omega (arith, here, L .upto .met-is, grows));
         }
 
-      pub counts-next : k ≤ n → (reached′ : List ℕ) → Added k near reached reached′ → Reached g k (suc d) reached′
-      counts-next h reached′ A = record { wanting = λ v w. omega (arith, A .added v w, L .counts .wanting v w, one-farther g d near (L .reach) v (omega arith)) }
+      pub counts-next : k ≤ n → (reached′ : List ℕ) → Added k near reached reached′ → Reached g (firstLevel xs) k (suc d) reached′
+      counts-next h reached′ A = record { wanting = λ v w. omega (arith, A .first (v - 1) (omega arith), L .counts .wanting v w, one-farther g d near (L .reach) v (omega arith)); behind = λ p l. A .kept p l ∙ L .counts .behind p l }
 
       -- all that are left are
       pub all-here : (sets₀ : List ℕ) → sets₀ ≡ neighboursOf g → AllNext n near sets₀ → n * n ≡ upTo g each (suc d)
@@ -195,8 +194,8 @@ module _ (n : ℕ) (xs : List ℕ) (drawn : drawnReply n xs ≡ read tt) where
 pub not-of : {r : Refusal} {x : Indices} → Refused r ≡ Of x → ⊥
 not-of e = let z : _≡_ {A = ℕ} 0 1 = cc in omega arith
 
-pub of-reached : {g : Graph} {k : ℕ} {reached : List ℕ} (y x : Indices) → Of y ≡ Of x → Reached g k (y .largest) reached → Reached g k (x .largest) reached
-of-reached {g} {k} {reached} y x e R = subst (λ (d : ℕ). Reached g k d reached) (same y x e) R
+pub of-reached : {g : Graph} {own k : ℕ} {reached : List ℕ} (y x : Indices) → Of y ≡ Of x → Reached g own k (y .largest) reached → Reached g own k (x .largest) reached
+of-reached {g} {own} {k} {reached} y x e R = subst (λ (d : ℕ). Reached g own k d reached) (same y x e) R
   where
     same : (y x : Indices) → Of y ≡ Of x → y .largest ≡ x .largest
     same y x e = cc

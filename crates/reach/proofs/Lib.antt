@@ -1,7 +1,6 @@
 -- Laws of sets within reach and of the sums over them.
 pub mod Settling
-pub mod Leaving
-pub mod Touching
+pub mod Spreading
 pub mod Meeting
 pub mod Summing
 pub mod Digits

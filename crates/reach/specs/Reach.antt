@@ -1,16 +1,17 @@
 -- Work. The atoms within reach of each atom, as sets, and sums over the ordered pairs within reach.
 use Prim.Native.Nat.{ℕ, _+_, _-_, _*_, _/_, _^_, _≤_, _<_, min}
-use mathlib.Core.Bool.{Bool, true, false, _&&_, _||_, cond}
-use mathlib.Core.List.{List, [], _∷_}
+use mathlib.Core.Bool.{true, cond}
+use mathlib.Core.List.{List}
 use mathlib.Core.Logic.{_≢_}
 use mathlib.Core.Path.{_≡_}
 use lib.Bits.{bitAnd, bitOr, bitXor}
 use lib.Count.{ones}
-use lib.Dec.{eqb, leb}
-use lib.ListN.{length}
-use Rattle.graph.specs.Graph.{Graph, Bond, Within, distance, sum, itself, each, oddOf, isAt}
+use lib.Dec.{leb}
+use lib.ListN.{length, getD, set}
+use Rattle.graph.specs.Graph.{Graph, Within, distance, sum, itself, each, oddOf, isAt}
 use Rattle.graph.specs.Sets.{has, alone, firsts}
 use Rattle.block.specs.Block.{mostAtoms}
+use Rattle.block.specs.Lent.{EntriesFilled}
 use Rattle.block.specs.Near.{around}
 use Rattle.block.specs.declared.Indices.{Indices}
 use Rattle.reach.specs.declared.Both.{Both}
@@ -37,10 +38,12 @@ AllMeet near some set = (w : ℕ) → 1 ≤ w → has set w ≡ true → bitAnd 
 abbrev pub AllNext : ℕ → List ℕ → List ℕ → Type 0
 AllNext n near drawn = (v : ℕ) → Within n v → AllMeet near (around drawn v) (bitXor (firsts n) (around near v))
 
--- whether a bond joins v to an atom that passes
-unfoldable pub touched : List Bond → (ℕ → Bool) → ℕ → Bool
-touched [] p v = false
-touched (b ∷ bs) p v = ((eqb (b .one) v && p (b .two)) || (eqb (b .two) v && p (b .one))) || touched bs p v
+-- the set of atom u takes in what atom v reached; and that of v what u reached
+abbrev pub taking : List ℕ → ℕ → ℕ → List ℕ → List ℕ
+taking near u v sets = set sets (u - 1) (bitOr (around sets u) (around near v))
+
+abbrev pub exchanged : List ℕ → ℕ → ℕ → List ℕ → List ℕ
+exchanged near u v sets = taking near v u (taking near u v sets)
 
 -- f summed over all ordered pairs at most d bonds apart, each atom with itself too
 unfoldable pub upTo : Graph → (ℕ → ℕ) → ℕ → ℕ
@@ -74,11 +77,15 @@ pub record Room (n : ℕ) (reached : List ℕ) : Type 0 where
   pub room : (v : ℕ) → Within n v → around reached v ≤ mostAtoms * mostAtoms
 
 -- how many atoms the set of each of n atoms has is added
-pub record Added (n : ℕ) (sets old new : List ℕ) : Type 0 where
-  pub size : length new ≡ length old
-  pub added : (v : ℕ) → Within n v → around new v ≡ around old v + ones (around sets v)
+abbrev pub Added : ℕ → List ℕ → List ℕ → List ℕ → Type 0
+Added n sets old new = EntriesFilled n (λ i. getD old i 0 + ones (getD sets i 0)) old new
 
--- the numbers of atoms within reach of each of the first k, at less than d bonds together; what is wanting to all atoms is the vertex sum, once all
--- are at most d bonds away
-pub record Reached (g : Graph) (k d : ℕ) (reached : List ℕ) : Type 0 where
-  pub wanting : (v : ℕ) → Within k v → around reached v + sum (g .atoms) (λ w. min (distance g v w) d) ≡ g .atoms * d
+-- of so many levels of n atoms each what is left to each of them, which reached itself and so many
+abbrev pub Left : ℕ → ℕ → ℕ → List ℕ → List ℕ → Type 0
+Left n levels own old new = EntriesFilled n (λ i. n * levels - (own + getD old i 0)) old new
+
+-- the numbers of atoms within reach of each of the first k, from 1 to less than d bonds together, where each reached itself before; what is wanting to
+-- all atoms is the vertex sum, once all are at most d bonds away
+pub record Reached (g : Graph) (own k d : ℕ) (reached : List ℕ) : Type 0 where
+  pub wanting : (v : ℕ) → Within k v → own + around reached v + sum (g .atoms) (λ w. min (distance g v w) d) ≡ g .atoms * d
+  pub behind : (p : ℕ) → k ≤ p → getD reached p 0 ≡ 0

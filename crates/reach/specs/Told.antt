@@ -1,39 +1,26 @@
--- Laws. What a reply with vertex sums tells, and one with neighbours: it is the block's refusal, or the block is fine and they are its. Assumes nothing.
+-- Laws. What lent vertex sums tell, and a reply with indices: it is the block's refusal, or the block is fine and they are its. Assumes nothing.
 use Prim.Native.Nat.{ℕ}
 use mathlib.Core.List.{List}
-use mathlib.Core.Path.{_≡_, refl, sym, ap, _∙_}
+use mathlib.Core.Path.{_≡_, refl, sym}
 use native.Mathlib.Omega.{arith}
-use Rattle.reply.specs.Read.{Read, refused, read, _then_, saidReply}
-use Rattle.reply.specs.Chain.{fine-read, refused-read}
+use Rattle.reply.specs.Read.{Read, refused, read, _then_}
 use Rattle.reply.specs.declared.Refusal.{Refusal}
-use Rattle.reply.specs.declared.Reply.the-variants.{Fine, Refused}
-use Rattle.block.specs.Block.{graphOf, drawnReply, blockReply}
+use Rattle.block.specs.Block.{graphOf, blockReply}
 use Rattle.block.specs.Index.{indicesOf, indicesReply, saidIndices}
-use Rattle.block.specs.Opened.{neighboursOf, openedReply, drawnNear, openedNear}
-use Rattle.block.specs.Told.{fine-drawn}
+use Rattle.block.specs.Rows.{noRow, lentRow}
 use Rattle.block.specs.declared.Indices.{Indices}
 use Rattle.block.specs.declared.IndicesReply.the-variants as measured
-use Rattle.reach.specs.Sums.{vertexSumsOf, sumsReply, saidSums}
-use Rattle.reach.specs.declared.VertexSums.{VertexSums}
+use Rattle.reach.specs.Sums.{vertexSumsOf, sumsReply}
 
--- the reply beside the sums is the block's
-beside : (x : Read (Unit {0})) (sums : List ℕ) → saidSums (x then λ _. read sums) .reply ≡ saidReply x
-beside (refused r) sums = refl
-beside (read u) sums = refl
-
-module _ (n : ℕ) (xs : List ℕ) (v : VertexSums) (e : v ≡ saidSums (sumsReply n xs)) where
-  reply-is : v .reply ≡ saidReply (blockReply n xs)
+-- the lent vertex sums of a block, refused or not
+module _ (n : ℕ) (xs : List ℕ) where
+  pub sums-none : {r : Refusal} → blockReply n xs ≡ refused r → lentRow (sumsReply n xs) ≡ noRow
   unfolding sumsReply
-  reply-is = ap (λ (w : VertexSums). w .reply) e ∙ beside (blockReply n xs) (vertexSumsOf (graphOf n xs))
+  sums-none e = rw e
 
-  pub sums-refusal : (r : Refusal) → v .reply ≡ Refused r → blockReply n xs ≡ refused r
-  sums-refusal r q = refused-read (blockReply n xs) r (sym reply-is ∙ q)
-
-  pub sums-told : v .reply ≡ Fine → (blockReply n xs ≡ read tt) × (v .at ≡ vertexSumsOf (graphOf n xs))
+  pub sums-told : blockReply n xs ≡ read tt → lentRow (sumsReply n xs) ≡ vertexSumsOf (graphOf n xs)
   unfolding sumsReply
-  sums-told q =
-      let f = fine-read (blockReply n xs) (sym reply-is ∙ q) in
-      (f, ap (λ (w : VertexSums). w .at) e ∙ rw f refl)
+  sums-told e = rw e
 
 -- what a reply with indices tells
 module _ (n : ℕ) (xs : List ℕ) where
@@ -61,19 +48,3 @@ module _ (n : ℕ) (xs : List ℕ) where
       go : (b : Read (Unit {0})) → saidIndices (b then λ _. read (indicesOf (graphOf n xs))) ≡ measured.Of x → (b ≡ read tt) × (x ≡ indicesOf (graphOf n xs))
       go (refused s) f = absurd (not-refused x s (sym f))
       go (read tt) f = (refl, same (indicesOf (graphOf n xs)) f)
-
-  -- WHAT OPENING TELLS: with the indices come the block's neighbours; a refusal leaves what is lent
-  pub near-kept : (old : List ℕ) (r : Refusal) → blockReply n xs ≡ refused r → old ≡ openedNear n xs old
-  unfolding openedNear openedReply
-  near-kept old r e = rw (e, openedNear)
-
-  pub fine-near : (old : List ℕ) → blockReply n xs ≡ read tt → openedNear n xs old ≡ neighboursOf (graphOf n xs)
-  unfolding openedNear openedReply
-  fine-near old f = rw (f, openedNear)
-
-  pub drawn-near : (old : List ℕ) → drawnReply n xs ≡ read tt → drawnNear n xs old ≡ neighboursOf (graphOf n xs)
-  unfolding drawnNear
-  drawn-near old d = rw (d, drawnNear)
-
-  pub near-drawn : (old before : List ℕ) → blockReply n xs ≡ read tt → drawnNear n xs before ≡ openedNear n xs old
-  near-drawn old before f = drawn-near before (fine-drawn n xs f) ∙ sym (fine-near old f)

@@ -6,21 +6,20 @@
 // together, are its vertex sum. The loops go by the number of bonds and of atoms and by no distance: that is why this is faster than a search from
 // each atom.
 ghost use mathlib.Core.Path.{_≡_};
-ghost use Prim.Native.Nat.{ℕ, suc, _*_, _-_, _/_, _≤_, _<_};
+ghost use Prim.Native.Nat.{ℕ, suc, _+_, _*_, _/_, _≤_, _<_};
 ghost use lib.Bits.{bitOr};
 ghost use lib.Count.{ones};
-ghost use lib.Dec.{ltb};
 ghost use lib.ListN.{length, getD};
-ghost use mathlib.Core.Bool.{true, cond};
+ghost use mathlib.Core.Bool.{true};
 ghost use Rattle.graph.specs.Graph.{Within, sum, oddOf};
-ghost use Rattle.reply.specs.Read.{read};
-ghost use Rattle.block.specs.Block.{mostAtoms, graphOf, drawnReply};
+ghost use Rattle.reply.specs.Read.{read, saidReply};
+ghost use Rattle.block.specs.Block.{mostAtoms, graphOf, drawnReply, blockReply};
 ghost use Rattle.block.specs.Index.{indicesReply, saidIndices};
 ghost use Rattle.block.specs.Near.{around};
-ghost use Rattle.block.specs.Opened.{neighboursOf, drawnNear, openedNear};
-ghost use Rattle.half.specs.Half.{table};
-ghost use Rattle.reach.specs.Sums.{sumsReply, saidSums};
-ghost use Rattle.reach.specs.Reach.{Joined, Reach, AllMeet, AllNext, LowSums, firstLevel, fartherOf, halved, Room, Added, Reached};
+ghost use Rattle.block.specs.Opened.{neighboursOf, drawnNear};
+ghost use Rattle.block.specs.Rows.{lentRow};
+ghost use Rattle.reach.specs.Sums.{sumsReply};
+ghost use Rattle.reach.specs.Reach.{Joined, Reach, AllMeet, AllNext, exchanged, LowSums, firstLevel, fartherOf, halved, Room, Added, Left, Reached};
 use block::ATOMS;
 use block::Indices;
 use block::IndicesReply;
@@ -37,12 +36,6 @@ struct Both {
     pub all: u64,
     pub odd: u64,
     pub threes: u64,
-}
-
-// The vertex sum of each atom, that of atom v at v - 1; all 0 where the block is refused.
-pub struct VertexSums {
-    pub reply: Reply,
-    pub at: [u64; ATOMS],
 }
 
 // Each of n atoms with its neighbours.
@@ -66,7 +59,19 @@ fn first(bonds: &[u8]) -> u64
     if bonds.len() == 0 { 0 } else { 1 }
 }
 
-// One bond farther: to the set of each atom come those of its neighbours.
+// The ends of a bond take in what the other end reached.
+fn exchange(near: &Sets, one: u8, two: u8, sets: &mut [u64])
+    requires { ⌜ Within mostAtoms one × Within mostAtoms two × (length (now sets) ≡ mostAtoms) ⌝ }
+    ensures { λ _. ⌜ now (sets .exit) ≡ exchanged (now (near .entry)) one two (now (sets .entry)) ⌝ }
+{
+    let u = one as usize - 1;
+    let v = two as usize - 1;
+    sets[u] = sets[u] | near[v];
+    sets[v] = sets[v] | near[u];
+}
+
+// One bond farther: to the set of each atom come those of its neighbours. Two bonds a turn, one of each half, wait less for each other; of an odd
+// number the middle one comes twice, which adds nothing.
 fn spread(near: &Sets, n: usize, bonds: &[u8], sets: &mut [u64])
     requires { ⌜ (drawnReply n (now bonds) ≡ read tt) × (length (now sets) ≡ mostAtoms) ⌝ }
     ensures { λ _. ⌜ ((d : ℕ) → suc d < n → Reach (graphOf n (now (bonds .entry))) d (now (near .entry))
@@ -74,12 +79,12 @@ fn spread(near: &Sets, n: usize, bonds: &[u8], sets: &mut [u64])
         → Reach (graphOf n (now (bonds .entry))) (suc d) (now (sets .exit))) ⌝ }
 {
     let m = bonds.len() / 2;
+    let half = m - m / 2;
     let mut k = 0;
-    while k < m {
-        let u = bonds[2 * k] as usize - 1;
-        let v = bonds[2 * k + 1] as usize - 1;
-        sets[u] = sets[u] | near[v];
-        sets[v] = sets[v] | near[u];
+    while k < half {
+        let j = k + m / 2;
+        exchange(near, bonds[2 * k], bonds[2 * k + 1], sets);
+        exchange(near, bonds[2 * j], bonds[2 * j + 1], sets);
         k += 1;
     }
 }
@@ -193,12 +198,13 @@ fn finished(n: usize, s: Both, d: u64) -> IndicesReply
 
 // The indices of a block that 1 to 6 do not refuse, or 7 where a level adds nothing before all pairs are met. As many ordered pairs are one bond
 // apart as the bonds have ends, a byte each: the first level needs no counting; and where no more pairs are left than atoms, the last level needs no
-// spreading. And lent, for each of the first k atoms, how many atoms were within its reach, all levels before the last together.
+// spreading. And lent, 0 before, for each of the first k atoms, how many atoms were within its reach, all levels from the first to the one before the
+// last together.
 fn summed(n: usize, bonds: &[u8], drawn: &Neighbours, k: usize, reached: &mut [u64]) -> IndicesReply
     requires { ⌜ (drawnReply n (now bonds) ≡ read tt) × (now drawn ≡ neighboursOf (graphOf n (now bonds))) × (k ≤ n) × (k ≤ length (now reached))
-        × ((v : ℕ) → Within k v → around (now reached) v ≡ firstLevel (now bonds)) ⌝ }
+        × ((p : ℕ) → getD (now reached) p 0 ≡ 0) ⌝ }
     ensures reply { λ r. ⌜ r ≡ saidIndices (indicesReply n (now (bonds .entry))) ⌝ }
-    ensures reached { λ r. ⌜ ((x : Indices) → r ≡ IndicesReply.Of x → Reached (graphOf n (now (bonds .entry))) k (x .largest) (now (reached .exit))) ⌝ }
+    ensures reached { λ r. ⌜ ((x : Indices) → r ≡ IndicesReply.Of x → Reached (graphOf n (now (bonds .entry))) (firstLevel (now (bonds .entry))) k (x .largest) (now (reached .exit))) ⌝ }
 {
     let pairs = n as u64 * n as u64;
     let ends = bonds.len() as u64;
@@ -231,10 +237,10 @@ fn summed(n: usize, bonds: &[u8], drawn: &Neighbours, k: usize, reached: &mut [u
     finished(n, s, d)
 }
 
-// The indices of a block, or its refusal; and lent what `block::drawn` says.
-fn indices(n: usize, bonds: &[u8], near: &mut Neighbours) -> IndicesReply
+// The indices of a block, its bonds read once, or its refusal; and lent what `block::drawn` says: its neighbours, where 1 to 6 do not refuse it.
+pub fn opened(n: usize, bonds: &[u8], near: &mut Neighbours) -> IndicesReply
     ensures reply { λ r. ⌜ r ≡ saidIndices (indicesReply n (now (bonds .entry))) ⌝ }
-    ensures near { λ _. ⌜ now (near .exit) ≡ drawnNear n (now (bonds .entry)) (now (near .entry)) ⌝ }
+    ensures near { λ _. ⌜ now (near .exit) ≡ drawnNear n (now (bonds .entry)) ⌝ }
 {
     let reply = block::drawn(n, bonds, near);
     match reply {
@@ -251,64 +257,43 @@ pub fn measure(n: usize, bonds: &[u8]) -> IndicesReply
     ensures { λ r. ⌜ r ≡ saidIndices (indicesReply n (now (bonds .entry))) ⌝ }
 {
     let mut near = [0u64; ATOMS];
-    indices(n, bonds, &mut near)
+    opened(n, bonds, &mut near)
 }
 
-// A block that is opened, its bonds read once: its indices, and in what is lent its neighbours; or its refusal, which changes nothing that is lent.
-pub fn opened(n: usize, bonds: &[u8], near: &mut Neighbours) -> IndicesReply
-    ensures reply { λ r. ⌜ r ≡ saidIndices (indicesReply n (now (bonds .entry))) ⌝ }
-    ensures near { λ _. ⌜ now (near .exit) ≡ openedNear n (now (bonds .entry)) (now (near .entry)) ⌝ }
-{
-    let mut sets = [0u64; ATOMS];
-    let reply = indices(n, bonds, &mut sets);
-    match reply {
-        IndicesReply::Refused(refusal) => IndicesReply::Refused(refusal),
-        IndicesReply::Of(x) => {
-            *near = sets;
-            IndicesReply::Of(x)
-        }
-    }
-}
-
-// What is left of so many levels of n atoms each, for each of the n atoms: a distance is how many levels an atom was not within reach.
-fn left(n: usize, levels: u64, reached: &Sets) -> Sets
-    requires { ⌜ (n ≤ mostAtoms) × (levels ≤ mostAtoms) × ((v : ℕ) → Within n v → around (now reached) v ≤ n * levels) ⌝ }
-    ensures { λ r. ⌜ r ≡ table mostAtoms (λ i. cond (ltb i n) (n * levels - getD (now (reached .entry)) i 0) 0) ⌝ }
+// What is left of so many levels of n atoms each, for each of the n atoms, which reached so many and itself: a distance is how many levels an atom was
+// not within reach.
+fn left(n: usize, levels: u64, own: u64, sums: &mut [u64])
+    requires { ⌜ (n ≤ mostAtoms) × (levels ≤ mostAtoms) × (n ≤ length (now sums)) × ((v : ℕ) → Within n v → own + around (now sums) v ≤ n * levels) ⌝ }
+    ensures { λ _. ⌜ Left n levels own (now (sums .entry)) (now (sums .exit)) ⌝ }
 {
     let all = n as u64 * levels;
-    let mut at = [0u64; ATOMS];
     let mut i = 0;
     while i < n {
-        at[i] = all - reached[i];
+        sums[i] = all - (own + sums[i]);
         i += 1;
     }
-    at
 }
 
-// The vertex sum of each atom of a block; all is 0 beyond the atoms, and where the block is refused.
-pub fn vertex_sums(n: usize, bonds: &[u8]) -> VertexSums
-    ensures { λ r. ⌜ r ≡ saidSums (sumsReply n (now (bonds .entry))) ⌝ }
+// The reply to a block, and in what is lent the vertex sum of each atom, that of atom v at v - 1; all is 0 beyond the atoms, and where it is refused.
+pub fn vertex_sums(n: usize, bonds: &[u8], sums: &mut [u64; ATOMS]) -> Reply
+    ensures reply { λ r. ⌜ r ≡ saidReply (blockReply n (now (bonds .entry))) ⌝ }
+    ensures sums { λ _. ⌜ now (sums .exit) ≡ lentRow (sumsReply n (now (bonds .entry))) ⌝ }
 {
+    *sums = [0u64; ATOMS];
     let mut near = [0u64; ATOMS];
     let reply = block::drawn(n, bonds, &mut near);
     let Reply::Fine = reply else {
-        return VertexSums {
-            reply,
-            at: [0u64; ATOMS],
-        };
+        return reply;
     };
-    // Before the first level each atom has reached itself.
-    let own = first(bonds);
-    let mut reached = [own; ATOMS];
-    let answer = summed(n, bonds, &near, n, &mut reached);
+    let answer = summed(n, bonds, &near, n, sums);
     match answer {
-        IndicesReply::Refused(refusal) => VertexSums {
-            reply: Reply::Refused(refusal),
-            at: [0u64; ATOMS],
-        },
+        IndicesReply::Refused(refusal) => {
+            *sums = [0u64; ATOMS];
+            Reply::Refused(refusal)
+        }
         IndicesReply::Of(indices) => {
-            let at = left(n, indices.largest, &reached);
-            VertexSums { reply, at }
+            left(n, indices.largest, first(bonds), sums);
+            reply
         }
     }
 }

@@ -6,42 +6,17 @@ use native.Mathlib.Omega.{arith}
 use lib.ListN.{length, getD, replicate}
 use Rattle.graph.specs.Graph.{Within, distance, sum}
 use Rattle.graph.specs.Notions.{Plain, lcmStarts}
-use Rattle.reply.specs.Read.{Read, refused, read, _then_}
+use Rattle.reply.specs.Read.{read}
 use Rattle.half.specs.Half.{halfRow}
 use Rattle.block.specs.Block.{mostAtoms, mostBytes, bondsOf, graphOf, blockReply}
 use Rattle.block.specs.Rows.{rowOf, farOf, halfTable}
-use Rattle.block.specs.Opened.{neighboursOf, openedReply, saidOpened}
+use Rattle.block.specs.Opened.{neighboursOf}
 use Rattle.block.specs.Drawn.{neighbour-fits, has-neighbour}
 use Rattle.block.specs.Told.{few-atoms, fine-drawn, drawn-plain, molecule, entry-at, farthest-at}
 use Rattle.block.specs.Halved.{table-row}
 use Rattle.block.specs.Numbered.{few-bytes}
 use Rattle.block.specs.Lent.{zeros}
-use Rattle.reply.specs.declared.Refusal.{Refusal}
-use Rattle.reply.specs.declared.Reply.the-variants.{Fine, Refused}
-use Rattle.block.specs.declared.Opened.{Opened}
-use Rattle.block.proofs.Replies.{not-fine}
 use Rattle.shares.specs.Work.{BlockGiven, WholeBlock, Sofar}
-
--- what a block that was read tells
-module _ (n : ℕ) (xs : List ℕ) (v : Opened) (is : v ≡ saidOpened (openedReply n xs)) where
-  abbrev sets : List ℕ
-  sets = neighboursOf (graphOf n xs)
-
-  pub opened-in : v .reply ≡ Fine → (blockReply n xs ≡ read tt) × (v .near ≡ sets)
-  unfolding openedReply
-  opened-in = go (blockReply n xs) is
-    where
-      go : (m : Read (Unit {0})) → v ≡ saidOpened (m then λ _. read sets) → v .reply ≡ Fine → (m ≡ read tt) × (v .near ≡ sets)
-      go (refused r) e f = absurd (not-fine (sym (ap (λ (x : Opened). x .reply) e) ∙ f))
-      go (read u) e f = (refl, ap (λ (x : Opened). x .near) e)
-
-  pub opened-out : (r : Refusal) → v .reply ≡ Refused r → blockReply n xs ≡ refused r
-  unfolding openedReply
-  opened-out r = go (blockReply n xs) is
-    where
-      go : (m : Read (Unit {0})) → v ≡ saidOpened (m then λ _. read sets) → v .reply ≡ Refused r → m ≡ refused r
-      go (refused q) e f = let h : Refused q ≡ Refused r = sym (ap (λ (x : Opened). x .reply) e) ∙ f in cc
-      go (read u) e f = absurd (not-fine (sym f ∙ ap (λ (x : Opened). x .reply) e))
 
 module _ (n : ℕ) (xs : List ℕ) (fine : blockReply n xs ≡ read tt) where
   pub plain : Plain n (bondsOf xs)

@@ -81,10 +81,10 @@ pub fn contributions(n: usize, bonds: &[u8], out: &mut [u64]) -> NumberReply
 {
     let mut half = [0u8; PAIRS];
     let mut far = [0u8; ATOMS];
-    let opened = block::table(n, bonds, &mut half, &mut far);
-    let reply = opened.reply;
+    let mut near = [0u64; ATOMS];
+    let reply = block::table(n, bonds, &mut near, &mut half, &mut far);
     match reply {
         Reply::Refused(refusal) => NumberReply::Refused(refusal),
-        Reply::Fine => answered(n, bonds, &opened.near, &half, &far, out),
+        Reply::Fine => answered(n, bonds, &near, &half, &far, out),
     }
 }

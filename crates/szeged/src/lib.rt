@@ -8,7 +8,6 @@ ghost use Rattle.block.specs.Block.{mostAtoms, bondsOf, graphOf, blockReply};
 ghost use Rattle.block.specs.Rows.{halfTable};
 ghost use Rattle.szeged.specs.Reply.{szegedReply, szegedEntries};
 ghost use Rattle.szeged.specs.Work.{CloserCounted, Product, TermsTask, Done};
-use block::ATOMS;
 use block::DistanceRow;
 use half::Half;
 use half::PAIRS;
@@ -86,9 +85,7 @@ pub fn terms(n: usize, bonds: &[u8], out: &mut [u64]) -> NumberReply
         ⌝ }
 {
     let mut half = [0u8; PAIRS];
-    let mut far = [0u8; ATOMS];
-    let opened = block::table(n, bonds, &mut half, &mut far);
-    let reply = opened.reply;
+    let reply = block::halved(n, bonds, &mut half);
     match reply {
         Reply::Refused(refusal) => NumberReply::Refused(refusal),
         Reply::Fine => answered(n, bonds, &half, out),

@@ -8,25 +8,25 @@ use borrow.Author.Tests.{eq-eqb, ne-eqb, lt-ltb, le-ltb}
 use Rattle.reply.specs.Read.{isOutside}
 use Rattle.block.specs.Block.{mostAtoms, mostBytes}
 use Rattle.block.specs.Faults.{inside}
-use Rattle.block.proofs.Replies.{reply-one, reply-odd, reply-long, reply-bonds, draw-refused}
+use Rattle.block.proofs.Replies.{reply-one, reply-odd, reply-long, reply-bonds, drawing-refused}
 use Rattle.block.proofs.draw.Statement.{statement}
 use Rattle.block.proofs.draw.Tie as tie
 
 returns : tie.Need-returns
-returns c = draw-refused _ _ _ _ (c .refused .ensures) (reply-one _ _ (sym (c .before .before .is-outside .ensures) ∙ c .before .if1 .taken))
+returns c = drawing-refused _ _ (c .refused .ensures) (reply-one _ _ (sym (c .before .before .is-outside .ensures) ∙ c .before .if1 .taken))
 
 -- what has passed at each place: the atom count, the number of bytes
 sized : (c : tie.Else1) → isOutside mostAtoms (c .before .before .before .before .args .n) ≡ false
 sized c = sym (c .before .is-outside .ensures) ∙ c .if1 .left
 
 returns-2 : tie.Need-returns-2
-returns-2 c = draw-refused _ _ _ _ (c .refused2 .ensures) (reply-odd _ _ (sized (c .before .before)) (ne-eqb _ _ (c .before .if2 .taken)))
+returns-2 c = drawing-refused _ _ (c .refused2 .ensures) (reply-odd _ _ (sized (c .before .before)) (ne-eqb _ _ (c .before .if2 .taken)))
 
 paired : (c : tie.Else2) → eqb (length (c .before .before .before .before .before .args .bonds .now) % 2) 0 ≡ true
 paired c = eq-eqb _ _ (c .if2 .left)
 
 returns-3 : tie.Need-returns-3
-returns-3 c = draw-refused _ _ _ _ (c .refused3 .ensures) (reply-long _ _ (sized (c .before .before .before)) (paired (c .before .before)) (lt-ltb _ _ (c .before .if3 .taken)))
+returns-3 c = drawing-refused _ _ (c .refused3 .ensures) (reply-long _ _ (sized (c .before .before .before)) (paired (c .before .before)) (lt-ltb _ _ (c .before .if3 .taken)))
 
 few : (c : tie.Else3) → ltb mostBytes (length (c .before .before .before .before .before .before .args .bonds .now)) ≡ false
 few c = le-ltb _ _ (c .if3 .left)

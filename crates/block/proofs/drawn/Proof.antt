@@ -1,23 +1,20 @@
-use mathlib.Core.Path.{refl, sym, _∙_}
+use mathlib.Core.Path.{sym, _∙_}
 use borrow.Author.Needs.{needs}
-use Rattle.block.proofs.Replies.{near-refused, near-fine}
+use Rattle.reply.specs.Chain.{fine-read, refused-read}
+use Rattle.block.specs.Drawn.{drawn-is, none-drawn, drawn-near}
 use Rattle.block.proofs.drawn.Statement.{statement}
 use Rattle.block.proofs.drawn.Tie as tie
 
-draw-requires : tie.Need-draw-requires
-draw-requires c κs = refl
-
 returns : tie.Need-returns
 returns c =
-    let e = c .enum-told2 .given .1 in
     let r = c .before .before .before .draw .ensures .replied in
-    (r, near-refused _ _ _ _ (sym e ∙ r))
+    (r, sym (none-drawn _ _ (refused-read _ _ (sym r ∙ c .before .enum-told2 .given .1))))
 
 returns-2 : tie.Need-returns-2
 returns-2 c =
     let e = c .enum-told .given .1 in
-    let d = c .before .before .before .draw .ensures in
-    (d .replied, near-fine _ _ _ _ (sym e ∙ d .replied) (d .drawn e))
+    let d = c .before .before .draw .ensures in
+    (d .replied, drawn-is _ _ (d .drawn e) ∙ sym (drawn-near _ _ (fine-read _ (sym (d .replied) ∙ e))))
 
 pub drawn-spec : {M : Type 1} → statement M
-drawn-spec = tie.close (tie.spec (λ c. search needs) draw-requires (λ c. search needs) (λ c. search needs) returns returns-2)
+drawn-spec = tie.close (tie.spec (λ c κs. search needs) (λ c. search needs) (λ c. search needs) returns returns-2)

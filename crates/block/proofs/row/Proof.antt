@@ -7,7 +7,7 @@ use Rattle.block.specs.Found.{SearchTask}
 use Rattle.block.specs.Faults.{inside}
 use Rattle.block.specs.Told.{passed}
 use Rattle.block.proofs.Filling.{row-refused, row-outside, row-fine}
-use Rattle.block.proofs.Replies.{said-refused}
+use Rattle.block.proofs.Replies.{admit-refused, admit-ready}
 use Rattle.block.proofs.row.Statement.{statement}
 use Rattle.block.proofs.row.Tie as tie
 
@@ -17,11 +17,11 @@ admit-requires c κs = refl
 returns : tie.Need-returns
 returns c =
     let e = c .enum-told2 .given .1 in
-    row-refused _ _ _ _ _ (said-refused _ _ (sym e ∙ c .before .before .before .admit .ensures .replied)) e refl refl
+    row-refused _ _ _ _ _ (admit-refused _ _ (c .before .before .before .admit .ensures) e) e refl refl
 
 -- the block is fine, and i is one of its atoms
 ready : (c : tie.After-enum-told) → let s = c .before .before .before .before .before .before .args in ReadyBlock (s .n) (s .bonds .now) (c .before .before .before .admit .last .1 .1 .0)
-ready c = c .before .before .before .admit .ensures .ready (c .enum-told .given .1)
+ready c = admit-ready _ _ (c .before .before .before .admit .ensures) (c .enum-told .given .1)
 
 returns-2 : tie.Need-returns-2
 returns-2 c = row-outside _ _ _ _ (ready (c .before .before) .fine) (sym (c .before .is-outside .ensures) ∙ c .if1 .taken) refl refl refl

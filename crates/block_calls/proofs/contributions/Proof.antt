@@ -1,5 +1,5 @@
 -- `block_calls::contributions` meets its contract.
-use mathlib.Core.Path.{_∙_}
+use mathlib.Core.Path.{refl, _∙_}
 use native.Mathlib.Omega.{arith}
 use denote.Ref.{now}
 use borrow.Author.Needs.{needs}
@@ -14,7 +14,7 @@ use Rattle.block_calls.proofs.contributions.Tie as tie
 returns : tie.Need-returns
 returns c =
     let a = c .before .before .before .before .before .args in
-    block-lacking (a .atoms) (now (a .bonds)) (sharesReply (a .atoms) (now (a .bonds)) (length (now (a .shares)))) _ (now (a .shares)) (now (a .denominator)) (c .unlent .result) (omega arith) (c .unlent .ensures)
+    block-lacking (a .atoms) (now (a .bonds)) (sharesReply (a .atoms) (now (a .bonds)) (length (now (a .shares)))) _ (now (a .shares)) (now (a .denominator)) (c .unlent .result) (omega arith) (c .unlent .ensures, refl)
 
 returns-2 : tie.Need-returns-2
 returns-2 c =

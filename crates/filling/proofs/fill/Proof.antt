@@ -4,8 +4,9 @@ use native.Mathlib.Omega.{arith}
 use borrow.Author.Needs.{needs}
 use lib.ListN.{length}
 use Rattle.reply.specs.Read.{saidReply}
-use Rattle.block.specs.Told.{few-atoms}
-use Rattle.reach.specs.Told.{indices-refused, indices-fine, fine-near}
+use Rattle.block.specs.Drawn.{drawn-near}
+use Rattle.block.specs.Told.{few-atoms, fine-drawn}
+use Rattle.reach.specs.Told.{indices-refused, indices-fine}
 use Rattle.filling.proofs.Told.{reply-refused, reply-short, reply-fine, bytes-stay, bytes-put, all-put}
 use Rattle.filling.proofs.fill.Statement.{statement}
 use Rattle.filling.proofs.fill.Tie as tie
@@ -42,7 +43,7 @@ returns-3 c =
     let e = reply-fine (a .n) (a .bonds .now) f (length (a .out .now)) (omega (arith, i .if1 .left)) in (
       sym (ap saidReply e),
       bytes-put (a .n) (a .bonds .now) (a .number) (a .out .now) e
-          (all-put (a .n) (a .bonds .now) f (a .out .now) (a .number) _ x (c .before .before .before .before .before .before .before .put-head .ensures) _ (o .opened .ensures .1 ∙ fine-near (a .n) (a .bonds .now) _ f) (c .before .before .put-atoms .ensures)),
+          (all-put (a .n) (a .bonds .now) f (a .out .now) (a .number) _ x (c .before .before .before .before .before .before .before .put-head .ensures) _ (o .opened .ensures .1 ∙ drawn-near (a .n) (a .bonds .now) (fine-drawn (a .n) (a .bonds .now) f)) (c .before .before .put-atoms .ensures)),
     )
 
 pub fill-spec : {M : Type 1} → statement M

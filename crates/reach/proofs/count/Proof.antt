@@ -1,19 +1,20 @@
-use Prim.Native.Nat.{_-_, _≤_}
-use mathlib.Core.Path.{_≡_, refl}
+use Prim.Native.Nat.{suc, _-_, _≤_}
+use mathlib.Core.Path.{_≡_}
+use native.Mathlib.Nat.{le-refl}
 use native.Mathlib.Omega.{arith}
-use lib.ListN.{length, length-set}
-use Rattle.reach.proofs.Settling.{Adding, adding-none, adding-more, room-here}
+use Rattle.block.specs.Lent.{filled-none, filled-store}
+use Rattle.reach.specs.Reach.{Added}
 use Rattle.reach.proofs.count.Statement.{statement}
 use Rattle.reach.proofs.count.Tie as tie
 
 abbrev Inv-loop : tie.InvT-loop
-Inv-loop sets k reached₀ i₀ reached i = (i ≤ k) × (length reached ≡ length reached₀) × Adding sets reached₀ reached i
+Inv-loop sets k reached₀ i₀ reached i = (i ≤ k) × Added i sets reached₀ reached
 
 abbrev μ-loop : tie.MeasureT-loop
 μ-loop sets k reached₀ i₀ reached i = k - i
 
 loop-holds : tie.Need-loop-holds Inv-loop μ-loop
-loop-holds c = (omega arith, refl, adding-none _ _)
+loop-holds c = (omega arith, filled-none)
 
 size-requires : tie.Need-size-requires Inv-loop μ-loop
 size-requires c κs = tt
@@ -21,18 +22,20 @@ size-requires c κs = tt
 add-reached : tie.Need-add-reached Inv-loop μ-loop
 add-reached c =
     let p = c .before .before .before .before in
-    omega (arith, room-here (p .loop .inv .2) (p .before .before .pre .2) (c .before .before .before .loop-test .taken), c .before .size .ensures .1)
+    let i = p .loop .i in
+    let k : suc i - 1 ≡ i = omega arith in
+    let room = rw k at (p .before .before .pre .2 .room (suc i) (record { low = omega arith; high = omega arith })) in
+    omega (arith, room, p .loop .inv .1 .kept i (le-refl i), c .before .size .ensures .1)
 
 loop-again : tie.Need-loop-again Inv-loop μ-loop
 loop-again c =
     let l = c .before .before .before .before .loop in
-    (omega arith, rw length-set (l .inv .1), rw (c .before .size .ensures .0) (adding-more _ _ _ (l .i) (omega arith) (l .inv .2)))
+    (omega arith, filled-store (l .inv .1) (omega (arith, l .inv .1 .same)) _ (rw (l .inv .1 .kept (l .i) (le-refl (l .i)), c .before .size .ensures .0)))
 
 returns : tie.Need-returns Inv-loop μ-loop
 returns c =
     let e : c .before .loop .i ≡ c .before .before .before .args .k = omega arith in
-    let S = rw e at (c .before .loop .inv .2) in
-    record { size = S .long; added = S .added }
+    rw e at (c .before .loop .inv .1)
 
 pub count-spec : {M : Type 1} → statement M
 count-spec =

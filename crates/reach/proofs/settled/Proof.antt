@@ -14,16 +14,16 @@ abbrev μ-loop : tie.MeasureT-loop
 μ-loop sets n near₀ met₀ i₀ near met i = n - i
 
 loop-holds : tie.Need-loop-holds Inv-loop μ-loop
-loop-holds c = (omega arith, settling-none _ _ (c .before .pre .1))
+loop-holds c = (omega arith, settling-none _ _)
 
 slice-read-set : tie.Need-slice-read-set Inv-loop μ-loop
-slice-read-set c = omega (arith, c .before .before .loop .inv .1 .size)
+slice-read-set c = omega (arith, c .before .before .loop .inv .1 .filled .same)
 
 size-requires : tie.Need-size-requires Inv-loop μ-loop
 size-requires c κs = tt
 
 slice-write-near : tie.Need-slice-write-near Inv-loop μ-loop
-slice-write-near c = omega (arith, c .before .before .before .before .loop .inv .1 .size)
+slice-write-near c = omega (arith, c .before .before .before .before .loop .inv .1 .filled .same)
 
 add-met : tie.Need-add-met Inv-loop μ-loop
 add-met c = omega (arith, c .size .ensures .1, c .before .before .before .before .loop .inv .1 .low)
@@ -35,13 +35,13 @@ loop-again c =
     (omega arith, rw (z .0) (settling-more _ _ _ _ (l .i) (omega arith) (omega (arith, z .0, z .1)) (l .inv .1)))
 
 same-length : tie.Need-same-length Inv-loop μ-loop
-same-length c = omega (arith, c .before .loop .inv .1 .size, c .before .before .before .pre .1)
+same-length c = c .before .loop .inv .1 .filled .same
 
 returns : tie.Need-returns Inv-loop μ-loop
 returns c =
     let e : c .before .loop .i ≡ c .before .before .before .args .n = omega arith in
     let S = rw e at (c .before .loop .inv .1) in
-    (S .met-is ∙ sum-cong _ (λ v w. ap ones (sym (S .joined v w))), S .joined)
+    (S .met-is ∙ sum-cong _ (λ v w. ap ones (sym (S .filled .first (v - 1) (omega arith)))), λ v w. S .filled .first (v - 1) (omega arith))
 
 pub settled-spec : {M : Type 1} → statement M
 settled-spec =

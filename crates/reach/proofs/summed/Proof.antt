@@ -11,7 +11,7 @@ use Rattle.block.specs.Numbered.{drawn-bytes}
 use Rattle.reach.proofs.Levels.{Level, Turned, few, level-start, shallow, low, spare, grows, fits, stuck, upto-next, counts-next, all-here, level-next, odd-less, level-end, not-of, of-reached}
 use Rattle.reach.specs.Reach.{LowSums, LevelsUpTo, upTo}
 use Rattle.reach.proofs.Summing.{count-reach}
-use Rattle.reach.proofs.Touching.{reach-joined}
+use Rattle.reach.proofs.Spreading.{reach-joined}
 use Rattle.reach.proofs.summed.Statement.{statement}
 use Rattle.reach.proofs.summed.Tie as tie
 
@@ -175,7 +175,7 @@ loop-again c =
     let p = t .before .before .before .before .before .before .pre in
     let l = t .before .loop .inv in
     let A = c .before .before .before .before .before .before .before .before .before .before .before .before .before .count .ensures in
-    (refl, omega (arith, A .size, l .1), rw (c .farther2 .ensures) (level-next _ _ (p .0) (l .2) (more-in t) (found (c .before .before)) (p .2) (λ e. omega (arith, c .before .if3 .left)) _ A))
+    (refl, omega (arith, A .same, l .1), rw (c .farther2 .ensures) (level-next _ _ (p .0) (l .2) (more-in t) (found (c .before .before)) (p .2) (λ e. omega (arith, c .before .if3 .left)) _ A))
 
 -- in the end: no pair is left
 over : (c : tie.After-loop Inv-loop μ-loop) → let n = c .before .before .before .before .before .before .args .n in n * n ≤ c .before .loop .met

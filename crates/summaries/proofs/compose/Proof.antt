@@ -6,7 +6,7 @@ use Rattle.graph.specs.Graph.{Within}
 use Rattle.reply.specs.Read.{read}
 use Rattle.block.specs.Index.{saidIndices}
 use Rattle.block.specs.declared.IndicesReply.the-variants as measured
-use Rattle.block.proofs.Replies.{said-fine, said-refused}
+use Rattle.reply.specs.Chain.{fine-read, refused-read}
 use Rattle.assembly.specs.Placements.{mostPlacements, placementAt, shelfReply}
 use Rattle.assembly.specs.Sound.{PlacedRight}
 use Rattle.shelf.specs.Shelf.{shelfIn}
@@ -21,7 +21,7 @@ lent c = record { byte = λ i. omega (arith, c .shared-slice-known .given i) }
 -- nothing is refused
 fine : (c : tie.After-enum-told) → let s = c .before .before .before .before .before in shelfReply (shelfIn (s .args .book .now)) (s .args .xs .now) ≡ read tt
 fine c = let s = c .before .before .before .before .before in
-    said-fine (shelfReply (shelfIn (s .args .book .now)) (s .args .xs .now)) (sym (c .enum-told .given .1) ∙ c .before .before .check .ensures)
+    fine-read (shelfReply (shelfIn (s .args .book .now)) (s .args .xs .now)) (sym (c .before .before .check .ensures) ∙ c .enum-told .given .1)
 
 few : (c : tie.After-le16-at) → Within mostPlacements (c .le16-at .result)
 few c = let s = c .before .before .before .before .before .before in
@@ -40,7 +40,7 @@ placed-requires c κs =
 returns : tie.Need-returns
 returns c =
     let a = c .before .before .before .before .before .before .args in
-    ap saidIndices (sym (reply-refused (a .book .now) (a .xs .now) (said-refused (shelfReply (shelfIn (a .book .now)) (a .xs .now)) _ (sym (c .before .reply .given .1) ∙ c .before .before .before .check .ensures))))
+    ap saidIndices (sym (reply-refused (a .book .now) (a .xs .now) (refused-read (shelfReply (shelfIn (a .book .now)) (a .xs .now)) _ (sym (c .before .before .before .check .ensures) ∙ c .before .reply .given .1))))
 
 returns-2 : tie.Need-returns-2
 returns-2 c =

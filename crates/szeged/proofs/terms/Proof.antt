@@ -1,8 +1,6 @@
 -- `terms` meets its contract: the block's refusal, or the answer for a block that is not refused.
 use mathlib.Core.Path.{sym, _∙_, ap}
 use Rattle.reply.specs.Chain.{fine-read, refused-read}
-use Rattle.block.specs.Block.{blockReply}
-use Rattle.block.specs.Drawn.{opened-reply}
 use Rattle.block.specs.Halved.{half-lent}
 use Rattle.reply.specs.Read.{saidNumber}
 use Rattle.szeged.proofs.Reply.{reply-refused, entries-stay, tree-told}
@@ -12,14 +10,13 @@ use Rattle.szeged.proofs.terms.Tie as tie
 
 answered-requires : tie.Need-answered-requires
 answered-requires c κs =
-    let a = c .before .before .before .before .before .before .before .before .before .args in
-    let t = c .before .before .before .before .table in
-    (fine-read (blockReply (a .n) (a .bonds .now)) (sym (opened-reply _ _ _ (t .ensures .0)) ∙ c .before .before .enum-told .given .1), t .ensures .1 .0 ∙ half-lent (a .n) (a .bonds .now))
+    let h = c .before .before .before .before .halved .ensures in
+    (fine-read _ (sym (h .0) ∙ c .before .before .enum-told .given .1), h .1 ∙ half-lent _ _)
 
 returns : tie.Need-returns
 returns c =
-    let a = c .before .before .before .before .before .before .before .before .args in
-    let e = reply-refused (a .n) (a .bonds .now) _ (refused-read (blockReply (a .n) (a .bonds .now)) _ (sym (opened-reply _ _ _ (c .before .before .before .table .ensures .0)) ∙ c .before .reply .given .1)) in
+    let a = c .before .before .before .before .before .before .before .args in
+    let e = reply-refused (a .n) (a .bonds .now) _ (refused-read _ _ (sym (c .before .before .before .halved .ensures .0) ∙ c .before .reply .given .1)) in
     let r = sym (ap saidNumber e) in
     (r, (entries-stay (a .n) (a .bonds .now) (a .out .now) e, tree-told (a .n) (a .bonds .now) _ _ r))
 

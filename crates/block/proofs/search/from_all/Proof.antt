@@ -14,17 +14,17 @@ use Rattle.block.proofs.search.from_all.Statement.{statement}
 use Rattle.block.proofs.search.from_all.Tie as tie
 
 abbrev Inv-loop : tie.InvT-loop
-Inv-loop near n half₀ far deep₀ i₀ half deep i = (i ≤ n) × (n ≤ mostAtoms) × ((xs : List ℕ) → ReadyBlock n xs near → Rows n xs half deep i)
+Inv-loop near n half₀ far₀ i₀ half far i = (i ≤ n) × (n ≤ mostAtoms) × ((xs : List ℕ) → ReadyBlock n xs near → Rows n xs half far i)
 
 abbrev μ-loop : tie.MeasureT-loop
-μ-loop near n half₀ far deep₀ i₀ half deep i = n - i
+μ-loop near n half₀ far₀ i₀ half far i = n - i
 
 loop-holds : tie.Need-loop-holds Inv-loop μ-loop
-loop-holds c = (omega arith, c .before .before .pre .0 .1 .shown .small, λ xs R. rw (c .before .before .pre .1) (rows-start _ xs))
+loop-holds c = (omega arith, c .before .before .before .pre .0 .1 .shown .small, λ xs R. rw (c .before .before .before .pre .1) (rows-start _ xs))
 
 from-atom-requires : tie.Need-from-atom-requires Inv-loop μ-loop
 from-atom-requires c κs =
-    let s = c .before .before .before .before .before in
+    let s = c .before .before .before .before .before .before in
     let (xs, R) = s .pre .0 in
     ((graphOf (s .args .n) xs, record { shown = R .shown; size = refl; start = omega arith }), refl)
 
@@ -45,12 +45,12 @@ loop-again c =
 
 same-length : tie.Need-same-length Inv-loop μ-loop
 same-length c =
-    let (xs, R) = c .before .before .before .before .pre .0 in
-    c .before .loop .inv .2 xs R .size ∙ sym (ap length (c .before .before .before .before .pre .1) ∙ length-replicate {A = ℕ} allPairs 0)
+    let (xs, R) = c .before .before .before .before .before .pre .0 in
+    c .before .loop .inv .2 xs R .size ∙ sym (ap length (c .before .before .before .before .before .pre .1) ∙ length-replicate {A = ℕ} allPairs 0)
 
 returns : tie.Need-returns Inv-loop μ-loop
 returns c =
-    let e : c .before .loop .i ≡ c .before .before .before .before .args .n = omega arith in
+    let e : c .before .loop .i ≡ c .before .before .before .before .before .args .n = omega arith in
     (λ xs R. rows-end _ xs (R .fine) _ _ (rw e at (c .before .loop .inv .2 xs R)) .0, λ xs R. rows-end _ xs (R .fine) _ _ (rw e at (c .before .loop .inv .2 xs R)) .1)
 
 pub from-all-spec : {M : Type 1} → statement M
