@@ -18,7 +18,8 @@ use Rattle.graph.specs.Graph.{Graph, Within, Sound, Walk, bonded, connected, di
 use Rattle.graph.specs.Farthest.{farthest}
 use Rattle.graph.specs.Connected.{connected-from, unconnected, connected-molecule}
 use Rattle.graph.specs.Sets.{has, alone, firsts}
-use Rattle.graph.specs.SetLaws.{has-and, has-or, has-xor, has-none, has-alone, has-firsts, none-above, lowest, taken-one, taken-some}
+use Rattle.graph.specs.Lowest.{lowest-in, rest-less, rest-has}
+use Rattle.graph.specs.SetLaws.{has-and, has-or, has-xor, has-none, has-alone, has-firsts, none-above, taken-one, taken-some}
 use Rattle.graph.specs.Search.{State, Seen, Deepens, begin, depth-below, looked, deepened, met-distance, unmet-walk, last-level}
 use Rattle.block.specs.Block.{mostAtoms}
 use Rattle.block.specs.Rows.{table, rowOf}
@@ -95,7 +96,7 @@ module _ (g : Graph) (near : List ℕ) (i : ℕ) where
         u = suc p
 
         low : (p < mostAtoms) × (has level u ≡ true)
-        low = lowest mostAtoms level (omega arith) fits-level
+        low = lowest-in mostAtoms level some fits-level
 
         pub small : p < mostAtoms
         small = low .0
@@ -109,21 +110,11 @@ module _ (g : Graph) (near : List ℕ) (i : ℕ) where
         pub shallow : d < mostAtoms
         shallow = omega (arith, depth-below g i (sound D) (view row rest level next d) (R .seen) u u-atom (low .1), D .small)
 
-        is-alone : 2 ^ p ≡ alone u
-        is-alone = let q : p ≡ suc p - 1 = omega arith in ap (λ (x : ℕ). 2 ^ x) q
+        pub less : bitAnd level (level - 1) < level
+        less = rest-less mostAtoms level some fits-level
 
-        pub less : bitXor level (2 ^ p) + 2 ^ p ≡ level
-        less = rw is-alone (taken-one level u (low .1))
-
-        waits-then : (v : ℕ) → Within (g .atoms) v → has (bitXor level (2 ^ p)) v ≡ (has level v && not (eqb v u))
-        waits-then v b = rw is-alone (has-xor level (alone u) v ∙ rw (has-alone u v (omega arith) (b .low)) (elim (ℕ-discrete v u) [
-          | yes e ↦ rw (eq-eqb v u e, e, low .1) refl
-          | no ne ↦ rw (ne-eqb v u ne) (plain (has level v))
-        ]))
-          where
-            plain : (t : Bool) → ((t && not false) || (not t && false)) ≡ (t && not false)
-            plain true = refl
-            plain false = refl
+        waits-then : (v : ℕ) → Within (g .atoms) v → has (bitAnd level (level - 1)) v ≡ (has level v && not (eqb v u))
+        waits-then v b = rest-has mostAtoms level some fits-level v (b .low)
 
         near-then : (v : ℕ) → Within (g .atoms) v → has (bitOr next (getD near p 0)) v ≡ (has next v || bonded g u v)
         near-then v b =
@@ -131,7 +122,7 @@ module _ (g : Graph) (near : List ℕ) (i : ℕ) where
             has-or next (getD near p 0) v
             ∙ ap (λ (t : Bool). has next v || t) (ap (λ (x : ℕ). has (getD near x 0) v) (sym q) ∙ D .drawn u v u-atom b)
 
-        level-then : (v : ℕ) → Within (g .atoms) v → cond (has (bitXor level (2 ^ p)) v) d (getD (set row p d) (v - 1) 0) ≡ cond (has level v) d (getD row (v - 1) 0)
+        level-then : (v : ℕ) → Within (g .atoms) v → cond (has (bitAnd level (level - 1)) v) d (getD (set row p d) (v - 1) 0) ≡ cond (has level v) d (getD row (v - 1) 0)
         level-then v b = elim (ℕ-discrete v u) [
           | yes e ↦
               let q : v - 1 ≡ p = omega arith in
@@ -141,17 +132,17 @@ module _ (g : Graph) (near : List ℕ) (i : ℕ) where
               (ap (cond (has level v) d) (getD-set-other row p (v - 1) d 0 (omega arith)))
         ]
 
-        pub run-looked : Running (set row p d) rest (bitXor level (2 ^ p)) (bitOr next (getD near p 0)) d
+        pub run-looked : Running (set row p d) rest (bitAnd level (level - 1)) (bitOr next (getD near p 0)) d
         run-looked = record {
           size = length-set row p d ∙ R .size;
           behind = λ q l. getD-set-other row p q d 0 (omega (arith, u-atom)) ∙ R .behind q l;
           fits = omega (arith, R .fits, less);
-          seen = looked g i (sound D) (view row rest level next d) (R .seen) (view (set row p d) rest (bitXor level (2 ^ p)) (bitOr next (getD near p 0)) d) u u-atom (low .1)
+          seen = looked g i (sound D) (view row rest level next d) (R .seen) (view (set row p d) rest (bitAnd level (level - 1)) (bitOr next (getD near p 0)) d) u u-atom (low .1)
               (record { met = λ v b. refl; waits = waits-then; near = near-then; level = level-then; depth = refl });
         }
 
         -- the atom that was looked at is at the deepest level
-        pub looked-at : Within (g .atoms) u × (cond (has (bitXor level (2 ^ p)) u) d (getD (set row p d) (u - 1) 0) ≡ d)
+        pub looked-at : Within (g .atoms) u × (cond (has (bitAnd level (level - 1)) u) d (getD (set row p d) (u - 1) 0) ≡ d)
         looked-at = (u-atom, level-then u u-atom ∙ rw (low .1) refl)
 
     -- no atom waits: one level deeper
@@ -208,7 +199,7 @@ module _ (g : Graph) (near : List ℕ) (i : ℕ) where
 
         apart : rest ≢ 0 → connected g ≡ false
         apart ne =
-            let (l, h) = lowest mostAtoms rest (omega arith) (fits-word (omega (arith, R .fits))) in
+            let (l, h) = lowest-in mostAtoms rest ne (fits-word (omega (arith, R .fits))) in
             unconnected (sound D) i (suc (first rest)) (R .seen .start) (inside h) (left-out (suc (first rest)) h)
           where
             inside : has rest (suc (first rest)) ≡ true → Within (g .atoms) (suc (first rest))

@@ -1,15 +1,15 @@
-use Prim.Native.Nat.{_+_, _-_, _^_, _<_, min}
+use Prim.Native.Nat.{_+_, _-_, _<_, min}
 use mathlib.Core.Path.{_≡_, ap}
 use native.Mathlib.Omega.{arith}
 use borrow.Author.Needs.{needs}
-use lib.Bits.{bitAnd, bitOr, bitXor}
+use lib.Bits.{bitOr}
 use lib.ListN.{length, getD}
 use lib.Pow.{pow-pos}
 use Rattle.graph.specs.Graph.{Graph, Within}
-use Rattle.graph.specs.SetLaws.{shifted-one, taken-some, lowest-dropped}
+use Rattle.graph.specs.SetLaws.{shifted-one, taken-some}
 use Rattle.block.specs.Block.{mostAtoms}
 use Rattle.block.specs.Found.{SearchTask}
-use Rattle.block.proofs.Meeting.{Running, Over, first, fits-level, run-start, small, shallow, less, run-looked, looked-at, run-deeper, run-over, run-end}
+use Rattle.block.proofs.Meeting.{Running, Over, first, run-start, small, shallow, less, run-looked, looked-at, run-deeper, run-over, run-end}
 use Rattle.block.proofs.search.from_atom.Statement.{statement}
 use Rattle.block.proofs.search.from_atom.Tie as tie
 
@@ -67,12 +67,6 @@ shared-slice-read-next c =
 add-d : tie.Need-add-d Inv-loop μ-loop
 add-d c = omega (arith, small-in (c .before .before))
 
--- that atom is taken out
-out : (c : tie.In-loop Inv-loop μ-loop) → let l = c .before .loop in bitAnd (l .level) (l .level - 1) ≡ bitXor (l .level) (2 ^ first (l .level))
-out c =
-    let (g, T) = c .before .before .before .before .before .pre .0 in
-    lowest-dropped mostAtoms _ (omega (arith, c .loop-test .taken)) (fits-level g _ _ (T .shown) _ _ _ _ _ (c .before .loop .inv g T .0))
-
 loop-less : tie.Need-loop-less Inv-loop μ-loop
 loop-less c =
     let d = c .before .before in
@@ -84,19 +78,19 @@ loop-again c g T =
     let d = c .before .before in
     let R = d .before .loop .inv g T .0 in
     let L = run-looked g _ _ (T .shown) _ _ _ _ _ R (d .loop-test .taken) in
-    let none = rw (out d) at (c .if1 .taken) in
+    let none = c .if1 .taken in
     (run-deeper g _ _ (T .shown) _ _ _ _ _ L none, λ e. run-over g _ _ (T .shown) _ _ _ _ _ L none e _ (looked-at g _ _ (T .shown) _ _ _ _ _ R (d .loop-test .taken)))
 
 loop-less-2 : tie.Need-loop-less-2 Inv-loop μ-loop
 loop-less-2 c =
     let d = c .before .before in
     let (g, T) = d .before .before .before .before .before .pre .0 in
-    rw (out d) (omega (arith, less g _ _ (T .shown) _ _ _ _ _ (d .before .loop .inv g T .0) (d .loop-test .taken), pow-pos (first (d .before .loop .level))))
+    omega (arith, less g _ _ (T .shown) _ _ _ _ _ (d .before .loop .inv g T .0) (d .loop-test .taken))
 
 loop-again-2 : tie.Need-loop-again-2 Inv-loop μ-loop
 loop-again-2 c g T =
     let d = c .before .before in
-    (rw (out d) (run-looked g _ _ (T .shown) _ _ _ _ _ (d .before .loop .inv g T .0) (d .loop-test .taken)), λ e. absurd (c .if1 .left e))
+    (run-looked g _ _ (T .shown) _ _ _ _ _ (d .before .loop .inv g T .0) (d .loop-test .taken), λ e. absurd (c .if1 .left e))
 
 sub-t18 : tie.Need-sub-t18 Inv-loop μ-loop
 sub-t18 c =
