@@ -1,7 +1,7 @@
 -- Laws. What lent vertex sums tell, and a reply with indices: it is the block's refusal, or the block is fine and they are its. Assumes nothing.
 use Prim.Native.Nat.{ℕ}
 use mathlib.Core.List.{List}
-use mathlib.Core.Path.{_≡_, refl, sym}
+use mathlib.Core.Path.{_≡_, refl, ap}
 use native.Mathlib.Omega.{arith}
 use Rattle.reply.specs.Read.{Read, refused, read, _then_}
 use Rattle.reply.specs.declared.Refusal.{Refusal}
@@ -23,28 +23,19 @@ module _ (n : ℕ) (xs : List ℕ) where
   sums-told e = rw e
 
 -- what a reply with indices tells
-module _ (n : ℕ) (xs : List ℕ) where
-  not-refused : (x : Indices) (r : Refusal) → measured.Of x ≡ measured.Refused r → ⊥
-  not-refused x r f = let z : _≡_ {A = ℕ} 0 1 = cc in absurd (omega arith)
+told-refused : (b : Read (Unit {0})) (x : Indices) {r : Refusal} → saidIndices (b then λ _. read x) ≡ measured.Refused r → b ≡ refused r
+told-refused (refused s) x e = ap refused (cc)
+told-refused (read u) x e = let z : _≡_ {A = ℕ} 0 1 = cc in absurd (omega arith)
 
+told-fine : (b : Read (Unit {0})) {x y : Indices} → saidIndices (b then λ _. read x) ≡ measured.Of y → (b ≡ read tt) × (y ≡ x)
+told-fine (refused s) e = let z : _≡_ {A = ℕ} 0 1 = cc in absurd (omega arith)
+told-fine (read u) e = (refl, cc)
+
+module _ (n : ℕ) (xs : List ℕ) where
   pub indices-refused : (r : Refusal) → saidIndices (indicesReply n xs) ≡ measured.Refused r → blockReply n xs ≡ refused r
   unfolding indicesReply
-  indices-refused r = go (blockReply n xs)
-    where
-      go : (b : Read (Unit {0})) → saidIndices (b then λ _. read (indicesOf (graphOf n xs))) ≡ measured.Refused r → b ≡ refused r
-      go (refused s) f = same s f
-        where
-          same : (s : Refusal) → measured.Refused s ≡ measured.Refused r → _≡_ {A = Read (Unit {0})} (refused s) (refused r)
-          same s f = cc
-      go (read u) f = absurd (not-refused (indicesOf (graphOf n xs)) r f)
+  indices-refused r = told-refused (blockReply n xs) (indicesOf (graphOf n xs))
 
   pub indices-fine : (x : Indices) → saidIndices (indicesReply n xs) ≡ measured.Of x → (blockReply n xs ≡ read tt) × (x ≡ indicesOf (graphOf n xs))
   unfolding indicesReply
-  indices-fine x = go (blockReply n xs)
-    where
-      same : (y : Indices) → measured.Of y ≡ measured.Of x → x ≡ y
-      same y f = cc
-
-      go : (b : Read (Unit {0})) → saidIndices (b then λ _. read (indicesOf (graphOf n xs))) ≡ measured.Of x → (b ≡ read tt) × (x ≡ indicesOf (graphOf n xs))
-      go (refused s) f = absurd (not-refused x s (sym f))
-      go (read tt) f = (refl, same (indicesOf (graphOf n xs)) f)
+  indices-fine x = told-fine (blockReply n xs)

@@ -1,50 +1,41 @@
 -- `fill` meets its contract.
-use mathlib.Core.Path.{sym, _∙_, ap}
+use mathlib.Core.Path.{_≡_, sym, _∙_, ap}
 use native.Mathlib.Omega.{arith}
 use borrow.Author.Needs.{needs}
 use lib.ListN.{length}
-use Rattle.reply.specs.Read.{saidReply}
+use Rattle.reply.specs.Read.{read, saidReply}
+use Rattle.block.specs.Block.{graphOf, blockReply}
 use Rattle.block.specs.Drawn.{drawn-near}
+use Rattle.block.specs.Index.{indicesOf}
 use Rattle.block.specs.Told.{few-atoms, fine-drawn}
 use Rattle.reach.specs.Told.{indices-refused, indices-fine}
 use Rattle.filling.proofs.Told.{reply-refused, reply-short, reply-fine, bytes-stay, bytes-put, all-put}
 use Rattle.filling.proofs.fill.Statement.{statement}
 use Rattle.filling.proofs.fill.Tie as tie
 
+-- a block with indices is fine, and they are its
+told : (c : tie.After-reply2) → let a = c .before .before .before .before .before .before .args in
+    (blockReply (a .n) (a .bonds .now) ≡ read tt) × (c .reply2 .given .0 .0 ≡ indicesOf (graphOf (a .n) (a .bonds .now)))
+told c = indices-fine _ _ _ (sym (c .before .before .opened .ensures .0) ∙ c .reply2 .given .1)
+
 returns : tie.Need-returns
-returns c =
-    let o = c .before .before .before .before in
-    let a = o .before .before .before .before .args in
-    let (f, x) = indices-fine (a .n) (a .bonds .now) _ (sym (o .opened .ensures .0) ∙ c .before .before .reply2 .given .1) in
-    let e = reply-short (a .n) (a .bonds .now) f (length (a .out .now)) (c .if1 .taken) in
-    (sym (ap saidReply e), bytes-stay (a .n) (a .bonds .now) (a .number) (a .out .now) e)
+returns c = let e = reply-short _ _ (told (c .before .before) .0) _ (c .if1 .taken) in (sym (ap saidReply e), bytes-stay _ _ _ _ e)
 
 put-atoms-requires : tie.Need-put-atoms-requires
-put-atoms-requires c κs =
-    let i = c .before .before .before .before .before .before in
-    let o = i .before .before .before .before in
-    let a = o .before .before .before .before .args in
-    let (f, x) = indices-fine (a .n) (a .bonds .now) _ (sym (o .opened .ensures .0) ∙ i .before .before .reply2 .given .1) in
-    few-atoms (a .n) (a .bonds .now) f .high
+put-atoms-requires c κs = few-atoms _ _ (told (c .before .before .before .before .before .before .before .before) .0) .high
 
 returns-2 : tie.Need-returns-2
 returns-2 c =
-    let o = c .before .before .before in
-    let a = o .before .before .before .before .args in
-    let e = reply-refused (a .n) (a .bonds .now) (length (a .out .now)) (indices-refused (a .n) (a .bonds .now) _ (sym (o .opened .ensures .0) ∙ c .before .reply .given .1)) in
-    (sym (ap saidReply e), bytes-stay (a .n) (a .bonds .now) (a .number) (a .out .now) e)
+    let e = reply-refused _ _ _ (indices-refused _ _ _ (sym (c .before .before .before .opened .ensures .0) ∙ c .before .reply .given .1)) in
+    (sym (ap saidReply e), bytes-stay _ _ _ _ e)
 
 returns-3 : tie.Need-returns-3
 returns-3 c =
     let i = c .before .before .before .before .before .before .before .before .before in
-    let o = i .before .before .before .before in
-    let a = o .before .before .before .before .args in
-    let (f, x) = indices-fine (a .n) (a .bonds .now) _ (sym (o .opened .ensures .0) ∙ i .before .before .reply2 .given .1) in
-    let e = reply-fine (a .n) (a .bonds .now) f (length (a .out .now)) (omega (arith, i .if1 .left)) in (
-      sym (ap saidReply e),
-      bytes-put (a .n) (a .bonds .now) (a .number) (a .out .now) e
-          (all-put (a .n) (a .bonds .now) f (a .out .now) (a .number) _ x (c .before .before .before .before .before .before .before .put-head .ensures) _ (o .opened .ensures .1 ∙ drawn-near (a .n) (a .bonds .now) (fine-drawn (a .n) (a .bonds .now) f)) (c .before .before .put-atoms .ensures)),
-    )
+    let (f, x) = told (i .before .before) in
+    let near = i .before .before .before .before .opened .ensures .1 ∙ drawn-near _ _ (fine-drawn _ _ f) in
+    let e = reply-fine _ _ f (length (i .before .before .before .before .before .before .before .before .args .out .now)) (omega (arith, i .if1 .left)) in
+    (sym (ap saidReply e), bytes-put _ _ _ _ e (all-put _ _ f _ _ _ x (c .before .before .before .before .before .before .before .put-head .ensures) _ near (c .before .before .put-atoms .ensures)))
 
 pub fill-spec : {M : Type 1} → statement M
 fill-spec =
