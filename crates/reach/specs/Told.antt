@@ -2,15 +2,15 @@
 use Prim.Native.Nat.{ℕ}
 use mathlib.Core.List.{List}
 use mathlib.Core.Path.{_≡_, refl, sym, ap, _∙_}
-use native.Mathlib.Omega.{arith}
 use Rattle.reply.specs.Read.{Read, refused, read, _then_, saidReply}
-use Rattle.reply.specs.Chain.{fine-read, refused-read}
+use Rattle.reply.specs.Chain.{fine-read, refused-read, made-refused, made-read}
 use Rattle.reply.specs.declared.Refusal.{Refusal}
 use Rattle.reply.specs.declared.Reply.the-variants.{Fine, Refused}
 use Rattle.block.specs.Block.{graphOf, drawnReply, blockReply}
 use Rattle.block.specs.Index.{indicesOf, indicesReply, saidIndices}
 use Rattle.block.specs.Opened.{neighboursOf, openedReply, drawnNear, openedNear}
 use Rattle.block.specs.Told.{fine-drawn}
+use Rattle.block.specs.Said.{indices-told}
 use Rattle.block.specs.declared.Indices.{Indices}
 use Rattle.block.specs.declared.IndicesReply.the-variants as measured
 use Rattle.reach.specs.Sums.{vertexSumsOf, sumsReply, saidSums}
@@ -37,30 +37,13 @@ module _ (n : ℕ) (xs : List ℕ) (v : VertexSums) (e : v ≡ saidSums (sumsRep
 
 -- what a reply with indices tells
 module _ (n : ℕ) (xs : List ℕ) where
-  not-refused : (x : Indices) (r : Refusal) → measured.Of x ≡ measured.Refused r → ⊥
-  not-refused x r f = let z : _≡_ {A = ℕ} 0 1 = cc in absurd (omega arith)
-
   pub indices-refused : (r : Refusal) → saidIndices (indicesReply n xs) ≡ measured.Refused r → blockReply n xs ≡ refused r
   unfolding indicesReply
-  indices-refused r = go (blockReply n xs)
-    where
-      go : (b : Read (Unit {0})) → saidIndices (b then λ _. read (indicesOf (graphOf n xs))) ≡ measured.Refused r → b ≡ refused r
-      go (refused s) f = same s f
-        where
-          same : (s : Refusal) → measured.Refused s ≡ measured.Refused r → _≡_ {A = Read (Unit {0})} (refused s) (refused r)
-          same s f = cc
-      go (read u) f = absurd (not-refused (indicesOf (graphOf n xs)) r f)
+  indices-refused r e = made-refused (blockReply n xs) (λ _. indicesOf (graphOf n xs)) (sym (indices-told _ _ (sym e)))
 
   pub indices-fine : (x : Indices) → saidIndices (indicesReply n xs) ≡ measured.Of x → (blockReply n xs ≡ read tt) × (x ≡ indicesOf (graphOf n xs))
   unfolding indicesReply
-  indices-fine x = go (blockReply n xs)
-    where
-      same : (y : Indices) → measured.Of y ≡ measured.Of x → x ≡ y
-      same y f = cc
-
-      go : (b : Read (Unit {0})) → saidIndices (b then λ _. read (indicesOf (graphOf n xs))) ≡ measured.Of x → (b ≡ read tt) × (x ≡ indicesOf (graphOf n xs))
-      go (refused s) f = absurd (not-refused x s (sym f))
-      go (read tt) f = (refl, same (indicesOf (graphOf n xs)) f)
+  indices-fine x e = let (u, f, same) = made-read (blockReply n xs) (λ _. indicesOf (graphOf n xs)) (sym (indices-told _ _ (sym e))) in (f, sym same)
 
   -- WHAT OPENING TELLS: with the indices come the block's neighbours; a refusal leaves what is lent
   pub near-kept : (old : List ℕ) (r : Refusal) → blockReply n xs ≡ refused r → old ≡ openedNear n xs old
