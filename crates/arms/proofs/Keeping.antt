@@ -1,5 +1,5 @@
 -- A row that is filled place by place, and one arm more. Assumes nothing.
-use Prim.Native.Nat.{ℕ, _+_, _<_}
+use Prim.Native.Nat.{ℕ, _+_, _≤_, _<_}
 use mathlib.Core.Bool.{Bool, true, false}
 use mathlib.Core.List.{List}
 use mathlib.Core.Path.{_≡_, refl, sym, _∙_}
@@ -7,7 +7,7 @@ use native.Mathlib.Numerals.{add-one}
 use native.Mathlib.Omega.{arith}
 use borrow.Author.Tests.{eqb-true, eqb-false}
 use lib.Dec.{eqb}
-use lib.ListN.{length, getD, set}
+use lib.ListN.{length, getD, set, length-set}
 use lib.Seq.{ext-getD, getD-set-same, getD-set-other}
 use Rattle.block.specs.Rows.{table}
 use Rattle.block.specs.Tables.{length-table, getD-table}
@@ -29,8 +29,21 @@ module _ {A : Type 0} (none : A) (f : ℕ → A) (l : List A) where
       go true q = let z : j ≡ k = eqb-true j k q in rw z (getD-set-same l k x none h ∙ e)
       go false q = let z = eqb-false j k q in getD-set-other l k j x none z ∙ old j (omega (arith, z))
 
-  pub put-all : (n : ℕ) → length l ≡ n → ((j : ℕ) → j < n → getD l j none ≡ f j) → l ≡ table n f
-  put-all n e h = ext-getD none l (table n f) (e ∙ sym (length-table n f)) (λ j i. h j (omega (arith, e)) ∙ sym (getD-table n f j none (omega (arith, e))))
+-- a row of n places, of which the first k say f
+pub record FilledTo {A : Type 0} (none : A) (f : ℕ → A) (n : ℕ) (l : List A) (k : ℕ) : Type 0 where
+  pub size : length l ≡ n
+  pub few : k ≤ n
+  pub says : (j : ℕ) → j < k → getD l j none ≡ f j
+
+module _ {A : Type 0} {none : A} {f : ℕ → A} {n : ℕ} {l : List A} where
+  pub filled-none : length l ≡ n → FilledTo none f n l 0
+  filled-none e = record { size = e; few = omega arith; says = λ j h. absurd (omega arith) }
+
+  pub filled-next : {k : ℕ} {x : A} → FilledTo none f n l k → k < n → x ≡ f k → FilledTo none f n (set l k x) (k + 1)
+  filled-next {k} {x} p h e = record { size = length-set l k x ∙ p .size; few = omega arith; says = put-next none f l k x (omega (arith, p .size)) e (p .says) }
+
+  pub filled-all : {k : ℕ} → FilledTo none f n l k → n ≤ k → l ≡ table n f
+  filled-all p h = ext-getD none l (table n f) (p .size ∙ sym (length-table n f)) (λ j i. p .says j (omega (arith, p .size)) ∙ sym (getD-table n f j none (omega (arith, p .size))))
 
 pub arm-kept : (s : List ℕ) (a : ℕ) (x : Indices) (y : Seen) → x ≡ storedFields s → y ≡ seenAt s a → record { six = x; end = y .counts } ≡ armIn s a
 arm-kept s a x y e q = rw (e, q)
@@ -39,10 +52,9 @@ pub port-kept : (s atoms : List ℕ) (a : ℕ) (x : Seen) (near : List ℕ) → 
 unfolding portIn
 port-kept s atoms a x near e h = rw h (rw e refl)
 
-pub core-kept : (s atoms : List ℕ) (x : Indices) (ends : List Port) → x ≡ storedFields s → length ends ≡ mostArms → ((j : ℕ) → j < mostArms → getD ends j noPort ≡ portIn s atoms (getD atoms j 0))
-    → record { six = x; ends = ends } ≡ coreIn s atoms
+pub core-kept : (s atoms : List ℕ) (x : Indices) (ends : List Port) → x ≡ storedFields s → ends ≡ table mostArms (λ k. portIn s atoms (getD atoms k 0)) → record { six = x; ends = ends } ≡ coreIn s atoms
 unfolding coreIn
-core-kept s atoms x ends e n h = rw (e, put-all noPort (λ k. portIn s atoms (getD atoms k 0)) ends mostArms n h)
+core-kept s atoms x ends e h = rw (e, h)
 
 -- one arm more
 module _ (ends : List Port) (arms : List Arm) (b : ℕ) (v₀ : Vertex) where

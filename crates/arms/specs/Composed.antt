@@ -9,7 +9,7 @@ use Rattle.block.specs.declared.Indices.{Indices}
 use Rattle.block.specs.declared.Vertex.{Vertex}
 use Rattle.joining.specs.Parts.{Part, grow, joinSix, farIn, sightIn, sixIn}
 use Rattle.joining.specs.Whole.{far-old, sight-old}
-use Rattle.joining.specs.Bounds.{SmallPart, SixBytes, held-bytes, sight-held, six-held}
+use Rattle.joining.specs.Bounds.{SmallPart, SixBytes, sight-held, six-held}
 use Rattle.joining.specs.Joining.{grownOf, joinedOf}
 use Rattle.joining.specs.Small.{SmallCounts, grown-small, joined-small}
 use Rattle.summary.specs.Layout.{storedFields, vertexAt, farAt, keptOf}
@@ -52,7 +52,7 @@ module _ {s : ℕ → List ℕ} {joins : ℕ → Join} {n : ℕ} {core : Core} {
   counts m i h = small-held (omega (arith, t .few)) (sight-held joins kept m 0 i (omega (arith, t .few)))
 
   own-counts : (k i : ℕ) → SmallCounts (parts k .sight i)
-  own-counts k i = small-held (omega arith) (held-bytes (kept k .sight i))
+  own-counts k i = omega (arith, kept k .sight i)
 
   sight-next : (m i : ℕ) → m < n → grow (sightIn parts joins m 0 i) (parts 0 .far (joins (suc m) .site) i) (parts (suc m) .sight (joins (suc m) .own)) ≡ sightIn parts joins (suc m) 0 i
   sight-next m i h =

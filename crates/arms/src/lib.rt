@@ -5,6 +5,7 @@ use block::Vertex;
 use filling::fill;
 use joining::grown;
 use reply::wide;
+use sighted::NO_VERTEX;
 use sighted::steps;
 use summary::SUMMARY;
 use summary::fields;
@@ -24,17 +25,6 @@ const NO_FIELDS: Indices = Indices {
     odd: 0,
     polarity: 0,
     largest: 0,
-};
-
-const NO_VERTEX: Vertex = Vertex {
-    sum: 0,
-    even: 0,
-    odd: 0,
-    evens: 0,
-    odds: 0,
-    ones: 0,
-    twos: 0,
-    farthest: 0,
 };
 
 // What is kept of a block as an arm: its fields, and what is counted from the atom where it joins.

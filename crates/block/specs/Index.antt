@@ -25,6 +25,10 @@ abbrev pub saidIndices : Read Indices → IndicesReply
 saidIndices (refused r) = measured.Refused r
 saidIndices (read x) = measured.Of x
 
+abbrev pub toldIndices : IndicesReply → Read Indices
+toldIndices (measured.Refused r) = refused r
+toldIndices (measured.Of x) = read x
+
 -- the even count includes the atom itself, at distance 0
 unfoldable pub vertexOf : Graph → ℕ → Vertex
 vertexOf g a = record {

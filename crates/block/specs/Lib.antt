@@ -21,6 +21,7 @@ pub mod Lent
 pub mod Faults
 pub mod Tables
 pub mod Told
+pub mod Said
 pub mod Drawn
 pub mod Halved
 pub mod Measures

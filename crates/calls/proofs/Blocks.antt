@@ -6,13 +6,14 @@ use borrow.Author.Tests.{eq-eqb, ne-eqb}
 use Rattle.reply.specs.Read.{Read, refused, read, saidReply}
 use Rattle.reply.specs.declared.Reply.{Reply}
 use Rattle.reply.specs.declared.Reply.the-variants as reply
-use Rattle.block.specs.Index.{saidIndices}
+use Rattle.block.specs.Index.{saidIndices, toldIndices}
+use Rattle.block.specs.Said.{indices-told}
 use Rattle.block.specs.declared.Indices.{Indices}
 use Rattle.block.specs.declared.IndicesReply.{IndicesReply}
 use Rattle.records.specs.declared.Sheet.the-variants.{Five, Six}
 use Rattle.records.specs.declared.Sheet.{Sheet}
 use Rattle.calls.specs.Convention.{Lent}
-use Rattle.calls.specs.Blocks.{toldIndices, fieldsList, sheetFor}
+use Rattle.calls.specs.Blocks.{fieldsList, sheetFor}
 
 abbrev pub toldBlock : Reply → Read (Unit {0})
 toldBlock (reply.Refused r) = refused r
@@ -21,10 +22,6 @@ toldBlock reply.Fine = read tt
 pub block-told : (a : Reply) (R : Read (Unit {0})) → a ≡ saidReply R → toldBlock a ≡ R
 block-told a (refused r) e = ap toldBlock e
 block-told a (read tt) e = ap toldBlock e
-
-indices-told : (a : IndicesReply) (R : Read Indices) → a ≡ saidIndices R → toldIndices a ≡ R
-indices-told a (refused r) e = ap toldIndices e
-indices-told a (read x) e = ap toldIndices e
 
 pub lent-fields : {old new : List ℕ} {x : ℕ} (s : Sheet) (a : IndicesReply) (R : Read Indices) → a ≡ saidIndices R → Lent (fieldsList s (toldIndices a)) old x new → Lent (fieldsList s R) old x new
 lent-fields {old} {new} {x} s a R e l = subst (λ (Q : Read Indices). Lent (fieldsList s Q) old x new) (indices-told a R e) l

@@ -3,22 +3,16 @@ use Prim.Native.Nat.{ℕ}
 use mathlib.Core.Bool.{cond}
 use mathlib.Core.List.{List}
 use lib.Dec.{eqb}
-use Rattle.reply.specs.Read.{Read, refused, read, _then_}
+use Rattle.reply.specs.Read.{Read, read, _then_}
 use Rattle.block.specs.Block.{blockReply}
 use Rattle.block.specs.declared.Indices.{Indices}
-use Rattle.block.specs.declared.IndicesReply.{IndicesReply}
 use Rattle.block.specs.declared.IndicesReply.the-variants as measured
 use Rattle.records.specs.declared.Sheet.{Sheet}
 use Rattle.records.specs.declared.Sheet.the-variants.{Five, Six}
 use Rattle.sheets.specs.Sheets.{fieldsOf}
 use Rattle.calls.specs.Convention.{thenNine}
 
--- what a reply says that has indices
-abbrev pub toldIndices : IndicesReply → Read Indices
-toldIndices (measured.Refused r) = refused r
-toldIndices (measured.Of x) = read x
-
--- their fields on a sheet
+-- six fields on a sheet
 abbrev pub fieldsList : Sheet → Read Indices → Read (List ℕ)
 fieldsList sheet answer = answer then λ x. read (fieldsOf sheet x)
 

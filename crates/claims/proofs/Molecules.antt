@@ -9,13 +9,14 @@ use borrow.Author.Tests.{le-ltb}
 use lib.Dec.{eqb}
 use lib.ListN.{length}
 use Rattle.graph.specs.Graph.{Graph}
-use Rattle.reply.specs.Read.{Read, refused, read, _then_, refuseIf, saidNumber}
-use Rattle.reply.specs.Chain.{not-read, number-told}
+use Rattle.reply.specs.Read.{Read, read, _then_, refuseIf, saidNumber}
+use Rattle.reply.specs.Chain.{not-read, number-told, made-refused, made-read}
 use Rattle.reply.specs.declared.Refusal.{Refusal}
 use Rattle.reply.specs.declared.NumberReply.the-variants as number
 use Rattle.block.specs.Block.{mostBytes, bondsOf, graphOf, blockReply}
 use Rattle.block.specs.Index.{indicesOf, indicesReply, saidIndices}
 use Rattle.block.specs.Numbered.{bonds-length, few-bytes, least-bonds}
+use Rattle.block.specs.Said.{indices-told}
 use Rattle.block.specs.declared.Indices.{Indices}
 use Rattle.block.specs.declared.IndicesReply.the-variants as measured
 use Rattle.deck.specs.Deck.{Deck, deckReply}
@@ -26,6 +27,7 @@ use Rattle.compose.specs.Fields.{fieldsReply}
 use Rattle.judging.specs.Judging.{saidVerdict}
 use Rattle.judging.specs.declared.Verdict.{Verdict}
 use Rattle.judging.specs.declared.Verdict.the-variants as verdict
+use Rattle.reach.specs.Told.{indices-refused}
 use Rattle.szeged.specs.Szeged.{szeged}
 use Rattle.szeged.specs.Reply.{szegedReply}
 use Rattle.sets.specs.Sets.{hosoya, merrifieldSimmons}
@@ -42,39 +44,21 @@ use Rattle.claims.specs.Molecules.{deckTruth, deckClaimsReply, isTree, o
 module _ (d cs : List ℕ) where
   pub deck-refused : {r : Refusal} → measured.Refused r ≡ saidIndices (fieldsReply Composed d) → verdict.Refused r ≡ saidVerdict (deckClaimsReply d cs)
   unfolding fieldsReply deckClaimsReply
-  deck-refused {r} = go (deckReply Composed d)
-    where
-      go : (m : Read Deck) → measured.Refused r ≡ saidIndices (m then λ k. read (indicesOf (moleculeOf d k))) → verdict.Refused r ≡ saidVerdict (m then λ k. claimsReply (deckTruth (moleculeOf d k)) cs)
-      go (refused q) e = let same : r ≡ q = cc in ap verdict.Refused same
-      go (read k) e = absurd (let z : _≡_ {A = ℕ} 0 1 = cc in omega arith)
+  deck-refused e = let f = made-refused (deckReply Composed d) _ (sym (indices-told _ _ e)) in rw f
 
   pub deck-read : {x : Indices} (own : List ℕ) {v : Verdict} → measured.Of x ≡ saidIndices (fieldsReply Composed d) → own ≡ allFields x → v ≡ saidVerdict (claimsReply (truth own 0 true) cs)
       → v ≡ saidVerdict (deckClaimsReply d cs)
   unfolding fieldsReply deckClaimsReply deckTruth
-  deck-read {x} own {v} e o q = q ∙ ap (λ (l : List ℕ). saidVerdict (claimsReply (truth l 0 true) cs)) o ∙ go (deckReply Composed d) e
-    where
-      go : (m : Read Deck) → measured.Of x ≡ saidIndices (m then λ k. read (indicesOf (moleculeOf d k)))
-          → saidVerdict (claimsReply (truth (allFields x) 0 true) cs) ≡ saidVerdict (m then λ k. claimsReply (truth (allFields (indicesOf (moleculeOf d k))) 0 true) cs)
-      go (refused q) f = absurd (let z : _≡_ {A = ℕ} 0 1 = cc in omega arith)
-      go (read k) f = let same : x ≡ indicesOf (moleculeOf d k) = cc in ap (λ (y : Indices). saidVerdict (claimsReply (truth (allFields y) 0 true) cs)) same
+  deck-read own e o q =
+      let (k, f, same) = made-read (deckReply Composed d) _ (sym (indices-told _ _ e)) in
+      q ∙ ap (λ (l : List ℕ). saidVerdict (claimsReply (truth l 0 true) cs)) (o ∙ ap allFields (sym same))
+      ∙ ap (λ (m : Read Deck). saidVerdict (m then λ k. claimsReply (deckTruth (moleculeOf d k)) cs)) (sym f)
 
 -- of a block
 module _ (n : ℕ) (xs cs : List ℕ) where
   pub block-refused : {r : Refusal} → measured.Refused r ≡ saidIndices (indicesReply n xs) → verdict.Refused r ≡ saidVerdict (blockClaimsReply n xs cs)
-  unfolding indicesReply blockClaimsReply
-  block-refused {r} = go (blockReply n xs)
-    where
-      go : (m : Read (Unit {0})) → measured.Refused r ≡ saidIndices (m then λ _. read (indicesOf (graphOf n xs))) → verdict.Refused r ≡ saidVerdict (m then λ _. claimsReply (blockTruth (graphOf n xs)) cs)
-      go (refused q) e = let same : r ≡ q = cc in ap verdict.Refused same
-      go (read u) e = absurd (let z : _≡_ {A = ℕ} 0 1 = cc in omega arith)
-
-pub block-fine : (n : ℕ) (xs : List ℕ) {x : Indices} → measured.Of x ≡ saidIndices (indicesReply n xs) → (blockReply n xs ≡ read tt) × (x ≡ indicesOf (graphOf n xs))
-unfolding indicesReply
-block-fine n xs {x} = go (blockReply n xs)
-  where
-    go : (m : Read (Unit {0})) → measured.Of x ≡ saidIndices (m then λ _. read (indicesOf (graphOf n xs))) → (m ≡ read tt) × (x ≡ indicesOf (graphOf n xs))
-    go (refused q) e = absurd (let z : _≡_ {A = ℕ} 0 1 = cc in omega arith)
-    go (read u) e = (refl, (cc))
+  unfolding blockClaimsReply
+  block-refused e = rw (indices-refused n xs _ (sym e))
 
 -- Of a block that is not refused.
 module _ (n : ℕ) (xs : List ℕ) (fine : blockReply n xs ≡ read tt) where

@@ -2,11 +2,12 @@
 use Prim.Native.Nat.{ℕ, _-_}
 use mathlib.Core.List.{List}
 use mathlib.Core.Path.{_≡_, refl, sym, _∙_, ap}
-use native.Mathlib.Omega.{arith}
 use Rattle.graph.specs.Assembly.{written}
 use Rattle.reply.specs.Read.{Read, refused, read, refusal, _then_}
+use Rattle.reply.specs.Chain.{made-refused, made-read}
 use Rattle.reply.specs.declared.Refusal.{Refusal}
-use Rattle.block.specs.Index.{indicesOf, saidIndices}
+use Rattle.block.specs.Index.{indicesOf, saidIndices, toldIndices}
+use Rattle.block.specs.Said.{indices-told}
 use Rattle.block.specs.declared.Indices.{Indices}
 use Rattle.block.specs.declared.IndicesReply.{IndicesReply}
 use Rattle.block.specs.declared.IndicesReply.the-variants as measured
@@ -36,23 +37,6 @@ fields-fine form d k x e q = rw (e, q)
 abbrev whole : Book → List ℕ → Indices
 whole book xs = indicesOf (written (graphOn book (placementAt xs)) (joinOn (placementAt xs)) (placementCount xs - 1))
 
-module _ (book : Book) (xs : List ℕ) where
-  written-refused : (r : Refusal) → saidIndices (writtenReply book xs) ≡ measured.Refused r → assemblyReply book xs ≡ refused r
-  unfolding writtenReply
-  written-refused r = go (assemblyReply book xs)
-    where
-      go : (a : Read (Unit {0})) → saidIndices (a then λ _. read (whole book xs)) ≡ measured.Refused r → a ≡ refused r
-      go (refused q) e = cc
-      go (read u) e = absurd (let z : _≡_ {A = ℕ} 0 1 = cc in omega arith)
-
-  written-of : (x : Indices) → saidIndices (writtenReply book xs) ≡ measured.Of x → (assemblyReply book xs ≡ read tt) × (x ≡ whole book xs)
-  unfolding writtenReply
-  written-of x = go (assemblyReply book xs)
-    where
-      go : (a : Read (Unit {0})) → saidIndices (a then λ _. read (whole book xs)) ≡ measured.Of x → (a ≡ read tt) × (x ≡ whole book xs)
-      go (refused q) e = absurd (let z : _≡_ {A = ℕ} 0 1 = cc in omega arith)
-      go (read u) e = (refl, cc)
-
 -- a deck whose blocks are read
 module _ (form : Form) (d : List ℕ) (k : Deck) (e : openReply assemblyKind d ≡ read k) where
   molecule-is : whole (bookOf d (k .blocks)) (payloadAt d (k .assembly)) ≡ indicesOf (moleculeOf d k)
@@ -63,11 +47,12 @@ module _ (form : Form) (d : List ℕ) (k : Deck) (e : openReply assemblyKind d �
       ap (λ (n : ℕ). indicesOf (written (graphOn b (placementAt xs)) (joinOn (placementAt xs)) (n - 1))) (sym (ap (λ (x : Deck). x .placements) (kept assemblyKind d (open-read assemblyKind d e .1) .places)))
 
   module _ (b xs : List ℕ) (h : HonestBook b (bookOf d (k .blocks))) (p : xs ≡ payloadAt d (k .assembly)) (answer : IndicesReply) (q : answer ≡ saidIndices (composedReply b xs)) where
-    told : answer ≡ saidIndices (writtenReply (bookOf d (k .blocks)) (payloadAt d (k .assembly)))
-    told = q ∙ ap saidIndices (composed-written b (bookOf d (k .blocks)) xs h ∙ ap (writtenReply (bookOf d (k .blocks))) p)
+    told : toldIndices answer ≡ (assemblyReply (bookOf d (k .blocks)) (payloadAt d (k .assembly)) then λ _. read (whole (bookOf d (k .blocks)) (payloadAt d (k .assembly))))
+    unfolding writtenReply
+    told = indices-told answer _ (q ∙ ap saidIndices (composed-written b (bookOf d (k .blocks)) xs h ∙ ap (writtenReply (bookOf d (k .blocks))) p))
 
     pub is-refused : (r : Refusal) → answer ≡ measured.Refused r → assemblyReply (bookOf d (k .blocks)) (payloadAt d (k .assembly)) ≡ refused r
-    is-refused r f = written-refused (bookOf d (k .blocks)) (payloadAt d (k .assembly)) r (sym told ∙ f)
+    is-refused r f = made-refused _ _ (sym told ∙ ap toldIndices f)
 
     pub placed-badly : (r : Refusal) → answer ≡ measured.Refused r → saidComposed (refused (refusal (r .number) (placementPlace (k .assembly) r))) ≡ saidComposed (composeReply form d)
     unfolding assemblyReplyAt
@@ -76,9 +61,9 @@ module _ (form : Form) (d : List ℕ) (k : Deck) (e : openReply assemblyKind d �
     pub placed-well : (x : Indices) → answer ≡ measured.Of x → saidComposed (behindReply form d x (k .sheet)) ≡ saidComposed (composeReply form d)
     unfolding assemblyReplyAt behindReply
     placed-well x f =
-        let (fine, same) = written-of (bookOf d (k .blocks)) (payloadAt d (k .assembly)) x (sym told ∙ f) in
+        let (u, fine, same) = made-read (assemblyReply (bookOf d (k .blocks)) (payloadAt d (k .assembly))) _ (sym told ∙ ap toldIndices f) in
         let a : assemblyReplyAt d (k .blocks) (k .assembly) ≡ read tt = rw fine refl in
-        go a (same ∙ molecule-is) (sheetReply form d (k .sheet)) refl
+        go a (sym same ∙ molecule-is) (sheetReply form d (k .sheet)) refl
       where
         go : assemblyReplyAt d (k .blocks) (k .assembly) ≡ read tt → x ≡ indicesOf (moleculeOf d k) → (s : Read (Unit {0})) → sheetReply form d (k .sheet) ≡ s
             → saidComposed (s then λ _. read (record { fields = x; sheet = k .sheet })) ≡ saidComposed (composeReply form d)

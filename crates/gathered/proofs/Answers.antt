@@ -9,8 +9,10 @@ use lib.Dec.{ltb}
 use lib.ListN.{length}
 use Rattle.reply.specs.Read.{Read, refused, read, refusal, _then_, refuseIf, refuseFor}
 use Rattle.reply.specs.declared.Refusal.{Refusal}
-use Rattle.block.specs.Index.{saidIndices}
+use Rattle.block.specs.Index.{saidIndices, toldIndices}
+use Rattle.block.specs.Said.{indices-told}
 use Rattle.block.specs.declared.Indices.{Indices}
+use Rattle.block.specs.declared.IndicesReply.{IndicesReply}
 use Rattle.block.specs.declared.IndicesReply.the-variants as measured
 use Rattle.records.specs.Records.{assemblyKind, payloadAt, endAt, recordReply}
 use Rattle.records.specs.declared.Sheet.{Sheet}
@@ -23,15 +25,6 @@ use Rattle.queues.proofs.Answers.{short-reply, long-reply}
 use Rattle.deck.specs.Deck.{longestDeck, moved, placementPlace, endReply}
 use Rattle.sheets.specs.Sheets.{sheetBytes}
 use Rattle.gathered.specs.Gathered.{behindHead, overRecord, overOutput, sheetTold}
-
--- what the code's fields say of the answer
-pub told-refused : (m : Read Indices) (r : Refusal) → saidIndices m ≡ measured.Refused r → m ≡ refused r
-told-refused (refused q) r e = cc
-told-refused (read x) r e = let z : _≡_ {A = ℕ} 0 1 = cc in absurd (omega arith)
-
-pub told-read : (m : Read Indices) (x : Indices) → saidIndices m ≡ measured.Of x → m ≡ read x
-told-read (refused q) x e = let z : _≡_ {A = ℕ} 0 1 = cc in absurd (omega arith)
-told-read (read y) x e = cc
 
 -- the placement's first byte
 pub placed-refused : (m : Read Indices) (r : Refusal) → m ≡ refused r → measured.Refused (refusal (r .number) (6 * r .place)) ≡ saidIndices (moved (placementPlace 0) m)
@@ -109,11 +102,5 @@ module _ (t : List ℕ) (q : Queue) (s : Sheet) (d : List ℕ) (n : ℕ) where
           go zero z = absurd (z refl)
           go (suc k) z = refl
 
-      told-record : f ≡ 0 → sheetTold t q s d n ≡ overRecord (composeTold t q (payloadAt d 0)) d
-      told-record z = faults ∙ rw (sym e ∙ z)
-
-      pub record-told-refused : (r : Refusal) → f ≡ 0 → saidIndices (overRecord (composeTold t q (payloadAt d 0)) d) ≡ measured.Refused r → sheetTold t q s d n ≡ refused r
-      record-told-refused r z h = told-record z ∙ told-refused _ r h
-
-      pub record-told-read : (x : Indices) → f ≡ 0 → saidIndices (overRecord (composeTold t q (payloadAt d 0)) d) ≡ measured.Of x → sheetTold t q s d n ≡ read x
-      record-told-read x z h = told-record z ∙ told-read _ x h
+      pub record-told : (a : IndicesReply) → f ≡ 0 → a ≡ saidIndices (overRecord (composeTold t q (payloadAt d 0)) d) → sheetTold t q s d n ≡ toldIndices a
+      record-told a z h = faults ∙ rw (sym e ∙ z) (sym (indices-told a _ h))

@@ -1,5 +1,5 @@
 -- Laws. Numbers of a byte or two, composed, stay small whatever they are. Assumes nothing.
-use Prim.Native.Nat.{ℕ, zero, suc, _+_, _*_, _-_, _^_, _≤_, _<_}
+use Prim.Native.Nat.{ℕ, zero, suc, _+_, _*_, _-_, _^_, _≤_, _<_, max}
 use mathlib.Core.Bool.{Bool, true, false, cond}
 use mathlib.Core.Path.{_≡_, refl}
 use native.Mathlib.Nat.{mul-le-mul}
@@ -11,43 +11,38 @@ use Rattle.joining.specs.Parts.{Part, evenBeyond, oddBeyond, beyond, bot
 use Rattle.block.specs.declared.Indices.{Indices}
 use Rattle.block.specs.declared.Vertex.{Vertex}
 
--- what an atom of n placements counts is small
-pub record SmallSight (n : ℕ) (v : Vertex) : Type 0 where
-  pub sum : v .sum < 2 ^ 24 * n
-  pub even : v .even < 2 ^ 23 * n
-  pub odd : v .odd < 2 ^ 23 * n
-  pub evens : v .evens < 2 ^ 8 * n
-  pub odds : v .odds < 2 ^ 8 * n
-  pub ones : v .ones < 2 ^ 8 * n
-  pub twos : v .twos < 2 ^ 8 * n
-  pub farthest : v .farthest < 2 ^ 9 * n
+-- what an atom counts is below some numbers: its sum, the parts of it, the counts, and the farthest
+pub record Below (sums parts counts far : ℕ) (v : Vertex) : Type 0 where
+  pub sum : v .sum < sums
+  pub even : v .even < parts
+  pub odd : v .odd < parts
+  pub evens : v .evens < counts
+  pub odds : v .odds < counts
+  pub ones : v .ones < counts
+  pub twos : v .twos < counts
+  pub farthest : v .farthest < far
 
--- the counts are bytes, the sums are of two bytes
-pub record Bytes (v : Vertex) : Type 0 where
-  pub sum : v .sum < 2 ^ 17
-  pub even : v .even < 2 ^ 16
-  pub odd : v .odd < 2 ^ 16
-  pub evens : v .evens < 2 ^ 8
-  pub odds : v .odds < 2 ^ 8
-  pub ones : v .ones < 2 ^ 8
-  pub twos : v .twos < 2 ^ 8
-  pub farthest : v .farthest < 2 ^ 8
+-- of n placements; and of one, where the counts are bytes and the sums are of two bytes
+abbrev pub SmallSight : ℕ → Vertex → Type 0
+SmallSight n = Below (2 ^ 24 * n) (2 ^ 23 * n) (2 ^ 8 * n) (2 ^ 9 * n)
 
-pub record SixHeld (n : ℕ) (x : Indices) : Type 0 where
-  pub atoms : x .atoms < 2 ^ 8 * n
-  pub w : x .w < 2 ^ 46 * n
-  pub even : x .even < 2 ^ 45 * n
-  pub odd : x .odd < 2 ^ 45 * n
-  pub polarity : x .polarity < 2 ^ 45 * n
-  pub largest : x .largest < 2 ^ 10 * n
+abbrev pub Bytes : Vertex → Type 0
+Bytes = Below (2 ^ 17) (2 ^ 16) (2 ^ 8) (2 ^ 8)
 
-pub record SixBytes (x : Indices) : Type 0 where
-  pub atoms : x .atoms < 2 ^ 8
-  pub w : x .w < 2 ^ 33
-  pub even : x .even < 2 ^ 32
-  pub odd : x .odd < 2 ^ 32
-  pub polarity : x .polarity < 2 ^ 32
-  pub largest : x .largest < 2 ^ 8
+-- the same of six fields
+pub record SixBelow (few sums parts far : ℕ) (x : Indices) : Type 0 where
+  pub atoms : x .atoms < few
+  pub w : x .w < sums
+  pub even : x .even < parts
+  pub odd : x .odd < parts
+  pub polarity : x .polarity < parts
+  pub largest : x .largest < far
+
+abbrev pub SixHeld : ℕ → Indices → Type 0
+SixHeld n = SixBelow (2 ^ 8 * n) (2 ^ 46 * n) (2 ^ 45 * n) (2 ^ 10 * n)
+
+abbrev pub SixBytes : Indices → Type 0
+SixBytes = SixBelow (2 ^ 8) (2 ^ 33) (2 ^ 32) (2 ^ 8)
 
 pub record SmallPart (p : Part) : Type 0 where
   pub six : SixBytes (p .six)
@@ -72,89 +67,53 @@ at-times d x = omega (arith, mul-le-mul (at-most 0 d) (le x))
     le : (x : ℕ) → x ≤ x
     le x = omega arith
 
--- a placement more that is seen from its own atoms, and from those that were there
-held-new : {n d : ℕ} {v o : Vertex} → Within 31 n → d < 2 ^ 8 → Bytes v → SmallSight n o → SmallSight (suc n) (grow v d o)
-unfolding grow both beyond evenBeyond oddBeyond
-held-new {n} {d} {v} {o} w h b q =
-    let x : d + 1 ≤ 2 ^ 8 = omega arith in
-    let a : o .odds ≤ 2 ^ 8 * n = omega (arith, q .odds) in
-    let e : o .evens ≤ 2 ^ 8 * n = omega (arith, q .evens) in
-    let p : (d + 1) * o .odds ≤ 2 ^ 8 * (2 ^ 8 * n) = mul-le-mul x a in
-    let r : (d + 1) * o .evens ≤ 2 ^ 8 * (2 ^ 8 * n) = mul-le-mul x e in
-    let even = either (isEven d) ((d + 1) * o .odds + o .odd) ((d + 1) * o .evens + o .even) (2 ^ 16 * n + 2 ^ 23 * n) (omega (arith, q .odd)) (omega (arith, q .even)) in
-    let odd = either (isEven d) ((d + 1) * o .evens + o .even) ((d + 1) * o .odds + o .odd) (2 ^ 16 * n + 2 ^ 23 * n) (omega (arith, q .even)) (omega (arith, q .odd)) in
-    record {
-      sum = omega (arith, b .sum, even, odd);
-      even = omega (arith, b .even, even);
-      odd = omega (arith, b .odd, odd);
-      evens = omega (arith, b .evens, either (isEven d) (o .odds) (o .evens) (2 ^ 8 * n) (q .odds) (q .evens));
-      odds = omega (arith, b .odds, either (isEven d) (o .evens) (o .odds) (2 ^ 8 * n) (q .evens) (q .odds));
-      ones = omega (arith, b .ones, at-most 0 d);
-      twos = omega (arith, b .twos, at-times d (o .ones), at-most 1 d, q .ones);
-      farthest = omega (arith, b .farthest, q .farthest);
-    }
-
-held-old : {n d : ℕ} {v o : Vertex} → Within 31 n → d < 2 ^ 9 * n → SmallSight n v → Bytes o → SmallSight (suc n) (grow v d o)
-unfolding grow both beyond evenBeyond oddBeyond
-held-old {n} {d} {v} {o} w h q b =
-    let x : d + 1 ≤ 2 ^ 14 = omega arith in
-    let a : o .odds ≤ 2 ^ 8 = omega (arith, b .odds) in
-    let e : o .evens ≤ 2 ^ 8 = omega (arith, b .evens) in
-    let p : (d + 1) * o .odds ≤ 2 ^ 14 * 2 ^ 8 = mul-le-mul x a in
-    let r : (d + 1) * o .evens ≤ 2 ^ 14 * 2 ^ 8 = mul-le-mul x e in
-    let even = either (isEven d) ((d + 1) * o .odds + o .odd) ((d + 1) * o .evens + o .even) (2 ^ 23) (omega (arith, b .odd)) (omega (arith, b .even)) in
-    let odd = either (isEven d) ((d + 1) * o .evens + o .even) ((d + 1) * o .odds + o .odd) (2 ^ 23) (omega (arith, b .even)) (omega (arith, b .odd)) in
-    record {
-      sum = omega (arith, q .sum, even, odd);
-      even = omega (arith, q .even, even);
-      odd = omega (arith, q .odd, odd);
-      evens = omega (arith, q .evens, either (isEven d) (o .odds) (o .evens) (2 ^ 8) (b .odds) (b .evens));
-      odds = omega (arith, q .odds, either (isEven d) (o .evens) (o .odds) (2 ^ 8) (b .evens) (b .odds));
-      ones = omega (arith, q .ones, at-most 0 d);
-      twos = omega (arith, q .twos, at-times d (o .ones), at-most 1 d, b .ones);
-      farthest = omega (arith, q .farthest, b .farthest);
-    }
-
-pub held-bytes : {v : Vertex} → Bytes v → SmallSight 1 v
-held-bytes b = record { sum = omega (arith, b .sum); even = omega (arith, b .even); odd = omega (arith, b .odd); evens = omega (arith, b .evens); odds = omega (arith, b .odds); ones = omega (arith, b .ones); twos = omega (arith, b .twos); farthest = omega (arith, b .farthest) }
-
 times : (x y a b : ℕ) → x < a → y < b → x * y ≤ a * b
 times x y a b p q = mul-le-mul (omega arith) (omega arith)
 
--- the fields of a join
+-- what is counted of both sides of a join
+grown-below : {s e c f S E C F d D : ℕ} {v o : Vertex} → d < D → Below s e c f v → Below S E C F o → Below (s + (D * C + E) + (D * C + E)) (e + (D * C + E)) (c + C) (max f (D + F)) (grow v d o)
+unfolding grow both beyond evenBeyond oddBeyond
+grown-below {s} {e} {c} {f} {S} {E} {C} {F} {d} {D} {v} {o} h p q =
+    let x : (d + 1) * o .odds ≤ D * C = mul-le-mul (omega arith) (omega (arith, q .odds)) in
+    let y : (d + 1) * o .evens ≤ D * C = mul-le-mul (omega arith) (omega (arith, q .evens)) in
+    let even = either (isEven d) ((d + 1) * o .odds + o .odd) ((d + 1) * o .evens + o .even) (D * C + E) (omega (arith, q .odd)) (omega (arith, q .even)) in
+    let odd = either (isEven d) ((d + 1) * o .evens + o .even) ((d + 1) * o .odds + o .odd) (D * C + E) (omega (arith, q .even)) (omega (arith, q .odd)) in
+    record {
+      sum = omega (arith, p .sum, even, odd);
+      even = omega (arith, p .even, even);
+      odd = omega (arith, p .odd, odd);
+      evens = omega (arith, p .evens, either (isEven d) (o .odds) (o .evens) C (q .odds) (q .evens));
+      odds = omega (arith, p .odds, either (isEven d) (o .evens) (o .odds) C (q .evens) (q .odds));
+      ones = omega (arith, p .ones, at-most 0 d, q .ones);
+      twos = omega (arith, p .twos, at-times d (o .ones), at-most 1 d, q .ones);
+      farthest = omega (arith, p .farthest, q .farthest);
+    }
+
+-- a placement more that is seen from its own atoms, and from those that were there
+held-new : {n d : ℕ} {v o : Vertex} → Within 31 n → d < 2 ^ 8 → Bytes v → SmallSight n o → SmallSight (suc n) (grow v d o)
+held-new w h b q = let g = grown-below h b q in omega (arith, g)
+
+held-old : {n d : ℕ} {v o : Vertex} → Within 31 n → d < 2 ^ 9 * n → SmallSight n v → Bytes o → SmallSight (suc n) (grow v d o)
+held-old w h q b = let g = grown-below h q b in omega (arith, g)
+
+-- the fields of a join: the sums of one parity, from both ends
+across-most : (e s o z a p b q : ℕ) → e < 2 ^ 28 → s < 2 ^ 13 → o < 2 ^ 28 → z < 2 ^ 13 → a < 2 ^ 8 → p < 2 ^ 16 → b < 2 ^ 8 → q < 2 ^ 16
+    → e * a + s * a + s * p + o * b + z * b + z * q < 2 ^ 44
+across-most e s o z a p b q he hs ho hz ha hp hb hq =
+    omega (arith, times e a (2 ^ 28) (2 ^ 8) he ha, times s a (2 ^ 13) (2 ^ 8) hs ha, times s p (2 ^ 13) (2 ^ 16) hs hp, times o b (2 ^ 28) (2 ^ 8) ho hb, times z b (2 ^ 13) (2 ^ 8) hz hb, times z q (2 ^ 13) (2 ^ 16) hz hq)
+
 even-most : {c o : Vertex} → SmallSight 32 c → Bytes o → evenAcross c o < 2 ^ 44
 unfolding evenAcross
-even-most {c} {o} p q =
-    omega (
-      arith,
-      times (c .even) (o .odds) (2 ^ 28) (2 ^ 8) (p .even) (q .odds),
-      times (c .evens) (o .odds) (2 ^ 13) (2 ^ 8) (p .evens) (q .odds),
-      times (c .evens) (o .odd) (2 ^ 13) (2 ^ 16) (p .evens) (q .odd),
-      times (c .odd) (o .evens) (2 ^ 28) (2 ^ 8) (p .odd) (q .evens),
-      times (c .odds) (o .evens) (2 ^ 13) (2 ^ 8) (p .odds) (q .evens),
-      times (c .odds) (o .even) (2 ^ 13) (2 ^ 16) (p .odds) (q .even),
-    )
+even-most p q = across-most _ _ _ _ _ _ _ _ (p .even) (p .evens) (p .odd) (p .odds) (q .odds) (q .odd) (q .evens) (q .even)
 
 odd-most : {c o : Vertex} → SmallSight 32 c → Bytes o → oddAcross c o < 2 ^ 44
 unfolding oddAcross
-odd-most {c} {o} p q =
-    omega (
-      arith,
-      times (c .even) (o .evens) (2 ^ 28) (2 ^ 8) (p .even) (q .evens),
-      times (c .evens) (o .evens) (2 ^ 13) (2 ^ 8) (p .evens) (q .evens),
-      times (c .evens) (o .even) (2 ^ 13) (2 ^ 16) (p .evens) (q .even),
-      times (c .odd) (o .odds) (2 ^ 28) (2 ^ 8) (p .odd) (q .odds),
-      times (c .odds) (o .odds) (2 ^ 13) (2 ^ 8) (p .odds) (q .odds),
-      times (c .odds) (o .odd) (2 ^ 13) (2 ^ 16) (p .odds) (q .odd),
-    )
-
-pub held-more : {n : ℕ} {v : Vertex} (m : ℕ) → n ≤ m → SmallSight n v → SmallSight m v
-held-more m h p = record { sum = omega (arith, p .sum); even = omega (arith, p .even); odd = omega (arith, p .odd); evens = omega (arith, p .evens); odds = omega (arith, p .odds); ones = omega (arith, p .ones); twos = omega (arith, p .twos); farthest = omega (arith, p .farthest) }
+odd-most p q = across-most _ _ _ _ _ _ _ _ (p .even) (p .evens) (p .odd) (p .odds) (q .evens) (q .even) (q .odds) (q .odd)
 
 held-six : {n : ℕ} {x y : Indices} {c o : Vertex} → Within 31 n → SixHeld n x → SixBytes y → SmallSight n c → Bytes o → SixHeld (suc n) (joinSix x y c o)
 unfolding joinSix
 held-six {n} {x} {y} {c} {o} w p q h b =
-    let k = held-more 32 (omega arith) h in
+    let k : SmallSight 32 c = omega (arith, h) in
     let even = even-most k b in
     let odd = odd-most k b in
     record {
@@ -181,7 +140,7 @@ module _ {parts : ℕ → Part} (joins : ℕ → Join) (kept : (k : ℕ) → Sma
 
   pub sight-held : (m k i : ℕ) → m ≤ 31 → SmallSight (suc m) (sightIn parts joins m k i)
   unfolding sightIn
-  sight-held zero k i p = held-bytes (kept 0 .sight i)
+  sight-held zero k i p = omega (arith, kept 0 .sight i)
   sight-held (suc m) k i p = go (λ k i. sight-held m k i (omega arith)) (eqb k (suc m)) refl
     where
       go : ((k i : ℕ) → SmallSight (suc m) (sightIn parts joins m k i)) → (x : Bool) → eqb k (suc m) ≡ x → SmallSight (suc (suc m)) (sightIn parts joins (suc m) k i)
@@ -190,8 +149,6 @@ module _ {parts : ℕ → Part} (joins : ℕ → Join) (kept : (k : ℕ) → Sma
 
   pub six-held : (m : ℕ) → m ≤ 31 → SixHeld (suc m) (sixIn parts joins m)
   unfolding sixIn
-  six-held zero p =
-      let s = kept 0 .six in
-      record { atoms = omega (arith, s .atoms); w = omega (arith, s .w); even = omega (arith, s .even); odd = omega (arith, s .odd); polarity = omega (arith, s .polarity); largest = omega (arith, s .largest) }
+  six-held zero p = omega (arith, kept 0 .six)
   six-held (suc m) p =
       held-six (omega arith) (six-held m (omega arith)) (kept (suc m) .six) (sight-held m (joins (suc m) .parent - 1) (joins (suc m) .site) (omega arith)) (kept (suc m) .sight (joins (suc m) .own))

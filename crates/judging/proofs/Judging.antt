@@ -7,6 +7,7 @@ use borrow.Author.Tests.{lt-ltb, le-ltb}
 use lib.ListN.{length}
 use Rattle.reply.specs.Read.{Read, refused, read, _then_, refusal}
 use Rattle.block.specs.Index.{indicesOf, saidIndices}
+use Rattle.block.specs.Said.{indices-told}
 use Rattle.block.specs.declared.Indices.{Indices}
 use Rattle.reply.specs.declared.Refusal.{Refusal}
 use Rattle.block.specs.declared.IndicesReply.the-variants as measured
@@ -52,15 +53,6 @@ pub fields-read : (form : Form) (d : List ℕ) (k : Deck) (x : Indices) → deck
 unfolding fieldsReply
 fields-read form d k x e q = rw (e, q)
 
-fields-told : (form : Form) (d : List ℕ) (x : Read Indices) → saidIndices x ≡ saidIndices (fieldsReply form d) → x ≡ fieldsReply form d
-fields-told form d x = go x (fieldsReply form d)
-  where
-    go : (a b : Read Indices) → saidIndices a ≡ saidIndices b → a ≡ b
-    go (refused r) (refused s) e = cc
-    go (refused r) (read y) e = absurd (let z : _≡_ {A = ℕ} 0 1 = cc in omega arith)
-    go (read y) (refused s) e = absurd (let z : _≡_ {A = ℕ} 0 1 = cc in omega arith)
-    go (read x) (read y) e = cc
-
 pub judge-refused : (d : List ℕ) (r : Refusal) → deckReply Judged d ≡ refused r → verdict.Refused r ≡ saidVerdict (judgeReply d)
 unfolding judgeReply
 judge-refused d r e = rw e
@@ -93,4 +85,4 @@ module _ (s : Sheet) (d : List ℕ) (n : ℕ) where
   write-fields h l = rw (le-ltb longestDeck (length d) h, le-ltb n (sheetBytes s) l)
 
   pub write-told : (x : Read Indices) → length d ≤ longestDeck → sheetBytes s ≤ n → saidIndices x ≡ saidIndices (fieldsReply Composed d) → sheetWriteReply s d n ≡ x
-  write-told x h l e = write-fields h l ∙ sym (fields-told Composed d x e)
+  write-told x h l e = write-fields h l ∙ sym (indices-told _ _ e) ∙ indices-told _ x refl

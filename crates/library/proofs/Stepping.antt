@@ -8,29 +8,24 @@ use borrow.Author.Tests.{ltb-true}
 use lib.Dec.{ltb}
 use Rattle.reply.specs.Read.{Read, refused, read, ifElse}
 use Rattle.reply.specs.Chain.{then-read}
-use Rattle.reply.specs.declared.Refusal.{Refusal}
 use Rattle.block.specs.declared.Indices.{Indices}
 use Rattle.catalogue.specs.Library.{Library, libraryReply}
 use Rattle.catalogue.specs.Products.{products, productAt, Product, done, made, productReply}
 use Rattle.catalogue.specs.Fine.{few-products}
 use Rattle.library.specs.Said.{saidProduct}
+use Rattle.library.specs.declared.ProductReply.{ProductReply}
 use Rattle.library.specs.declared.ProductReply.the-variants as product
 
--- a product that is said
-pub said-refused : (y : Read Product) (q : Refusal) → saidProduct y ≡ product.Refused q → y ≡ refused q
-said-refused (refused r) q e = cc
-said-refused (read done) q e = absurd (let z : _≡_ {A = ℕ} 0 1 = cc in omega arith)
-said-refused (read (made x)) q e = absurd (let z : _≡_ {A = ℕ} 0 1 = cc in omega arith)
+-- what is said of a product
+abbrev pub toldProduct : ProductReply → Read Product
+toldProduct (product.Refused r) = refused r
+toldProduct product.Done = read done
+toldProduct (product.Of x) = read (made x)
 
-pub said-done : (y : Read Product) → saidProduct y ≡ product.Done → y ≡ read done
-said-done (refused r) e = absurd (let z : _≡_ {A = ℕ} 0 1 = cc in omega arith)
-said-done (read done) e = refl
-said-done (read (made x)) e = absurd (let z : _≡_ {A = ℕ} 0 1 = cc in omega arith)
-
-pub said-of : (y : Read Product) (x : Indices) → saidProduct y ≡ product.Of x → y ≡ read (made x)
-said-of (refused r) x e = absurd (let z : _≡_ {A = ℕ} 0 1 = cc in omega arith)
-said-of (read done) x e = absurd (let z : _≡_ {A = ℕ} 0 1 = cc in omega arith)
-said-of (read (made y)) x e = let i : y ≡ x = cc in ap (λ (z : Indices). read (made z)) i
+pub product-told : (a : ProductReply) (y : Read Product) → a ≡ saidProduct y → toldProduct a ≡ y
+product-told a (refused r) e = ap toldProduct e
+product-told a (read done) e = ap toldProduct e
+product-told a (read (made x)) e = ap toldProduct e
 
 -- a position that has a product is small
 pub made-low : (d : List ℕ) (position : ℕ) (x : Indices) → productReply d position ≡ read (made x) → position < 4096

@@ -4,12 +4,13 @@ use mathlib.Core.Bool.{Bool, true, false}
 use mathlib.Core.List.{List, _++_}
 use mathlib.Core.Path.{_≡_, refl, sym, _∙_, ap}
 use native.Mathlib.Omega.{arith}
-use borrow.Author.Tests.{eqb-true, eqb-false, ltb-true, ltb-false}
-use lib.Dec.{eqb, ltb}
+use borrow.Author.Tests.{ltb-true, ltb-false}
+use lib.Dec.{ltb}
 use lib.ListN.{length, getD, drop, set, length-append, length-drop, length-set, List·getD-append}
-use lib.Seq.{ext-getD, getD-set-same, getD-set-other, getD-append-add, getD-drop}
+use lib.Seq.{ext-getD, getD-set-other, getD-append-add, getD-drop}
 use Rattle.block.specs.Rows.{table}
 use Rattle.block.specs.Tables.{length-table, getD-table}
+use Rattle.arms.proofs.Keeping.{put-next}
 
 pub record Filled (f : ℕ → ℕ) (old row : List ℕ) (at : ℕ) : Type 0 where
   pub long : length row ≡ length old
@@ -22,13 +23,9 @@ filled-start f old = record { long = refl; new = λ i h. absurd (omega arith); r
 pub filled-next : {f : ℕ → ℕ} {old row : List ℕ} {at : ℕ} → Filled f old row at → at < length row → (v : ℕ) → v ≡ f at → Filled f old (set row at v) (at + 1)
 filled-next {f} {old} {row} {at} t h v e = record {
   long = length-set row at v ∙ t .long;
-  new = λ i l. go i l (eqb i at) refl;
+  new = put-next 0 f row at v h e (t .new);
   rest = λ i l. getD-set-other row at i v 0 (λ z. omega (arith, z)) ∙ t .rest i (omega arith);
 }
-  where
-    go : (i : ℕ) → i < at + 1 → (b : Bool) → eqb i at ≡ b → getD (set row at v) i 0 ≡ f i
-    go i l true q = let z : i ≡ at = eqb-true i at q in rw z (getD-set-same row at v 0 h ∙ e)
-    go i l false q = let z = eqb-false i at q in getD-set-other row at i v 0 z ∙ t .new i (omega (arith, z))
 
 pub filled-whole : (f : ℕ → ℕ) (old row : List ℕ) (at : ℕ) → Filled f old row at → at ≤ length old → row ≡ table at f ++ drop at old
 filled-whole f old row at t h =

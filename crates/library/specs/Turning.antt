@@ -1,9 +1,8 @@
 -- Work. The last site turns while the others stay: what they are joined to gives the fields of each product of the turn. And how far a run has come.
 use Prim.Native.Nat.{ℕ, zero, suc, _+_, _*_, _-_, _/_, _%_, _≤_, _<_}
 use mathlib.Core.List.{List, [], _∷_}
-use mathlib.Core.Logic.{⊎-elim}
 use mathlib.Core.Path.{_≡_, refl, sym, _∙_, ap, ap₂, subst}
-use native.Mathlib.Nat.{eq-or-lt-of-le, mul-add-div-right, mul-add-mod-self-right, div-add-mod', div-eq-of-lt, div-lt-iff-lt-mul, mod-eq-of-lt, mod-lt, mul-le-mul-right}
+use native.Mathlib.Nat.{mul-add-div-right, mul-add-mod-self-right, div-add-mod', div-eq-of-lt, div-lt-iff-lt-mul, mod-eq-of-lt, mod-lt, mul-le-mul-right}
 use native.Mathlib.Omega.{arith}
 use lib.ListN.{length, getD, set, take, drop}
 use lib.Seq.{getD-set-same, getD-set-other}
@@ -15,6 +14,7 @@ use Rattle.catalogue.specs.Products.{products, choiceAt, productAt}
 use Rattle.catalogue.specs.declared.Site.{Site}
 use Rattle.catalogue.specs.Said.{noSite}
 use Rattle.catalogue.specs.Table.{sitesIn}
+use Rattle.arms.proofs.Keeping.{put-next}
 use Rattle.arms.specs.Arms.{noArm, stemOf, joinedTo, stem-joined, rowArm}
 use Rattle.arms.specs.declared.Arm.{Arm}
 use Rattle.arms.specs.declared.Core.{Core}
@@ -115,15 +115,12 @@ module _ {d : List ℕ} {l : Library} {bs : List BlockAt} {xs : List ℕ} {sites
     before i q = getD-set-other arms k i arm noArm (λ e. omega (arith, e))
 
     picked-on : Picked all turned (suc k) (set arms k arm)
-    picked-on = record { arm = λ i q. ⊎-elim (λ e. last i e) (λ h. first i h) (eq-or-lt-of-le {n = i} {m = k} (omega arith)) }
+    picked-on =
+        let z : mostCandidates * k + digit + j ≡ mostCandidates * k + getD turned k 0 = omega (arith, getD-set-same digits k (digit + j) 0 within) in
+        record { arm = λ i q. put-next noArm (λ (i : ℕ). rowArm (getD all (mostCandidates * i + getD turned i 0) [])) arms k arm (omega (arith, wide, few (t .held))) (ap (λ (p : ℕ). rowArm (getD all p [])) z) old i (omega arith) }
       where
-        last : (i : ℕ) → i ≡ k → getD (set arms k arm) i noArm ≡ rowArm (getD all (mostCandidates * i + getD turned i 0) [])
-        last i e =
-            let z : mostCandidates * k + digit + j ≡ mostCandidates * k + getD turned k 0 = omega (arith, getD-set-same digits k (digit + j) 0 within) in
-            rw e (here ∙ ap (λ (p : ℕ). rowArm (getD all p [])) z)
-
-        first : (i : ℕ) → i < k → getD (set arms k arm) i noArm ≡ rowArm (getD all (mostCandidates * i + getD turned i 0) [])
-        first i q = before i q ∙ picked .arm i q ∙ ap (λ (x : ℕ). rowArm (getD all (mostCandidates * i + x) [])) (sym (getD-set-other digits k i (digit + j) 0 (λ e. omega (arith, e))))
+        old : (i : ℕ) → i < k → getD arms i noArm ≡ rowArm (getD all (mostCandidates * i + getD turned i 0) [])
+        old i q = picked .arm i q ∙ ap (λ (x : ℕ). rowArm (getD all (mostCandidates * i + x) [])) (sym (getD-set-other digits k i (digit + j) 0 (λ e. omega (arith, e))))
 
     product-on : joinedTo (stemOf c arms k) (rowArm (getD all (mostCandidates * k + digit + j) [])) ≡ productAt d l (position + j)
     product-on =

@@ -6,8 +6,8 @@ use mathlib.Core.Path.{_≡_, refl, _∙_, ap, subst}
 use native.Mathlib.Omega.{arith}
 use borrow.Author.Tests.{eqb-false, leb-false}
 use lib.Dec.{eqb, ltb, leb}
-use lib.ListN.{length, getD, take, drop as rest, length-drop}
-use lib.Seq.{sets, length-take-le, take-take}
+use lib.ListN.{length, getD, take, drop as rest}
+use lib.Seq.{sets, take-take}
 use Rattle.reply.specs.Read.{Read, refused, read, _then_, refuseIf}
 use Rattle.reply.specs.Chain.{then-read, if-read}
 use Rattle.records.specs.Bytes.{part}
@@ -16,7 +16,7 @@ use Rattle.queues.specs.Calls.{CallNumber, Trade, Call, add, look, drop,
 use Rattle.queues.specs.Model.{Entry, lookup, has, without, Meaning, toldAdd, toldLook, toldDrop, told, left}
 use Rattle.queues.specs.Seeks.{taken-most}
 use Rattle.queues.specs.Entries.{has-positive, has-number}
-use Rattle.queues.specs.Storage.{Storable, held-place, place-within, stores-empty, stores-added, stores-dropped}
+use Rattle.queues.specs.Storage.{Storable, stores-empty, stores-added, stores-dropped}
 use Rattle.queues.specs.Room.{room-by}
 use Rattle.queues.specs.Keeps.{Proper, AllProper, stored, KeepsQueue, HonestTrade}
 
@@ -35,12 +35,6 @@ module _ {G F O S T : Type 0} (trade : Trade G F O S T) (m : Meaning G F O T) (w
   module _ {s : List ℕ} {q : List (Entry G)} (k : KeepsQueue trade m wide s q) (x : ℕ) (e : has (m .nothing) q x ≡ true) where
     pub proper-at : Proper trade m (lookup (m .nothing) q x)
     proper-at = lookup-proper q x (k .proper) (has-positive (m .nothing) q x e) (has-number (m .nothing) q x e)
-
-    pub place-long : length (placeAt (trade .width) s (placeHolding (trade .width) s x)) ≡ trade .width
-    place-long =
-        let p = placeHolding (trade .width) s x in
-        let l = place-within (trade .width) p (held-place (numberIn (trade .width) s) x (k .stores .numbers x ∙ e)) in
-        length-take-le (trade .width) (rest (trade .width * p) s) (omega (arith, length-drop (trade .width * p) s, k .stores .size, l))
 
     -- the place of a number that is held begins with what was stored
     pub stands : let b = trade .stored x (lookup (m .nothing) q x .goods) in take (length b) (placeAt (trade .width) s (placeHolding (trade .width) s x)) ≡ b

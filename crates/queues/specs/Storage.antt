@@ -8,7 +8,7 @@ use mathlib.Core.Path.{_≡_, refl, sym, _∙_, ap}
 use native.Mathlib.Decide.{ℕ-discrete}
 use native.Mathlib.Nat.{mul-le-mul-left}
 use native.Mathlib.Omega.{arith}
-use borrow.Author.Tests.{lt-ltb, ltb-true, ltb-false, ne-eqb, eqb-false}
+use borrow.Author.Tests.{lt-ltb, ltb-true, ltb-false, ne-eqb}
 use lib.Dec.{eqb, ltb}
 use lib.ListN.{length, getD}
 use lib.Seq.{sets, length-sets, take-length}
@@ -21,14 +21,6 @@ use Rattle.queues.specs.Entries.{Apart, lookup-first, lookup-later, has-
 
 -- which number is held by numbers at places
 module _ (g : ℕ → ℕ) (x : ℕ) where
-  pub held-positive : heldBy g x ≡ true → 1 ≤ x
-  unfolding heldBy
-  held-positive h = go (eqb x 0) refl h
-    where
-      go : (t : Bool) → eqb x 0 ≡ t → (not t && ltb (placeBy g x) places) ≡ true → 1 ≤ x
-      go true e h = let z : _≡_ {A = ℕ} 0 1 = cc in absurd (omega arith)
-      go false e h = omega (arith, eqb-false x 0 e)
-
   pub held-place : heldBy g x ≡ true → (placeBy g x) < places
   unfolding heldBy
   held-place h = go (eqb x 0) (ltb (placeBy g x) places) refl h

@@ -50,14 +50,20 @@ pub counts-told : (a : CountsReply) (x : Read Counts) → a ≡ saidCounts x →
 counts-told a (refused r) e = ap toldCounts e
 counts-told a (read c) e = ap toldCounts e
 
--- and of an answer that has such counts
+-- what is refused or read of an answer that is made of another
+pub made-refused : {A B : Type 0} (x : Read A) (f : A → B) {r : Refusal} → (x then λ a. read (f a)) ≡ refused r → x ≡ refused r
+made-refused (refused q) f e = cc
+made-refused (read a) f e = absurd (not-read (sym e))
+
+pub made-read : {A B : Type 0} (x : Read A) (f : A → B) {b : B} → (x then λ a. read (f a)) ≡ read b → (a : A) × (x ≡ read a) × (f a ≡ b)
+made-read (refused q) f e = absurd (not-read e)
+made-read (read a) f e = (a, refl, cc)
+
 pub counted-refused : {A : Type 0} (x : Read A) (f : A → Counts) {r : Refusal} → saidCounts (x then λ a. read (f a)) ≡ counts.Refused r → x ≡ refused r
-counted-refused (refused q) f e = ap refused (cc)
-counted-refused (read a) f e = let z : _≡_ {A = ℕ} 0 1 = cc in absurd (omega arith)
+counted-refused x f e = made-refused x f (sym (counts-told _ _ (sym e)))
 
 pub counted-read : {A : Type 0} (x : Read A) (f : A → Counts) {c : Counts} → saidCounts (x then λ a. read (f a)) ≡ counts.Of c → (a : A) × (x ≡ read a) × (f a ≡ c)
-counted-read (refused q) f e = let z : _≡_ {A = ℕ} 0 1 = cc in absurd (omega arith)
-counted-read (read a) f e = (a, refl, cc)
+counted-read x f e = made-read x f (sym (counts-told _ _ (sym e)))
 
 -- two answers that are both what a promise says are equal
 pub unique : {A : Type 0} {r s t : A} → r ≡ t → s ≡ t → r ≡ s

@@ -15,7 +15,7 @@ use Rattle.block.specs.declared.Vertex.{Vertex}
 use Rattle.joining.specs.Parts.{sightIn, sixIn, grow, joinSix}
 use Rattle.joining.specs.Table.{Fits}
 use Rattle.joining.specs.Climb.{far-same, far-later, far-earlier, sight-here, sight-there, six-here}
-use Rattle.joining.specs.Bounds.{SmallSight, SixHeld, SixBytes, SmallPart, far-most, sight-held, six-held, held-bytes}
+use Rattle.joining.specs.Bounds.{SmallSight, SixHeld, SixBytes, SmallPart, far-most, sight-held, six-held}
 use Rattle.joining.specs.Small.{SmallCounts, SmallFields}
 use Rattle.summary.specs.Layout.{summaryBytes, storedAtoms, storedFields, vertexAt, farAt, keptOf}
 use Rattle.shelf.specs.Shelf.{summaryAt}
@@ -54,7 +54,7 @@ room-bytes p = omega (arith, p)
 
 -- whatever the bytes are
 pub seen-small : (s : List ℕ) (i : ℕ) → SmallCounts (vertexAt s i)
-seen-small s i = small-held (omega arith) (held-bytes (vertex-bytes s i))
+seen-small s i = omega (arith, vertex-bytes s i)
 
 module _ {b ls : List ℕ} {count : ℕ} (r : ReadyShelf b ls count) where
   all : (k : ℕ) → SmallPart (keptIn b ls k)

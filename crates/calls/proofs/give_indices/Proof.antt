@@ -3,7 +3,8 @@ use mathlib.Core.Path.{ap}
 use denote.Ref.{now}
 use borrow.Author.Needs.{needs}
 use Rattle.block.specs.declared.IndicesReply.{IndicesReply}
-use Rattle.calls.specs.Blocks.{toldIndices, fieldsList}
+use Rattle.block.specs.Index.{toldIndices}
+use Rattle.calls.specs.Blocks.{fieldsList}
 use Rattle.calls.proofs.Laws.{lent-refused, lent-read}
 use Rattle.calls.proofs.give_indices.Statement.{statement}
 use Rattle.calls.proofs.give_indices.Tie as tie

@@ -4,7 +4,7 @@ use denote.Ref.{now}
 use lib.ListN.{length}
 use borrow.Author.Needs.{needs}
 use Rattle.judging.specs.Judging.{saidSheetWritten, sheetOut}
-use Rattle.gathered.proofs.Answers.{short-table, told-fault, record-told-refused, record-told-read}
+use Rattle.gathered.proofs.Answers.{short-table, told-fault, record-told}
 use Rattle.gathered.proofs.compose.Statement.{statement}
 use Rattle.gathered.proofs.compose.Tie as tie
 
@@ -29,7 +29,7 @@ returns-3 c =
     let f = m .before .before .fault in
     let t = m .before .before .before in
     let a = t .before .before .before .before .args in
-    let e = record-told-refused (now (a .table)) (a .queue) (a .sheet) (now (a .d)) (length (now (a .out))) (t .if1 .left) (f .result) (f .ensures) (r .0 .0) (m .before .if2 .left) (sym (m .composed .ensures) ∙ r .1) in
+    let e = record-told (now (a .table)) (a .queue) (a .sheet) (now (a .d)) (length (now (a .out))) (t .if1 .left) (f .result) (f .ensures) _ (m .before .if2 .left) (sym (r .1) ∙ m .composed .ensures) in
     (sym (ap saidSheetWritten e), sym (ap (sheetOut (a .sheet) _) e))
 
 returns-4 : tie.Need-returns-4
@@ -39,7 +39,7 @@ returns-4 c =
     let f = m .before .before .fault in
     let t = m .before .before .before in
     let a = t .before .before .before .before .args in
-    let e = record-told-read (now (a .table)) (a .queue) (a .sheet) (now (a .d)) (length (now (a .out))) (t .if1 .left) (f .result) (f .ensures) (r .0 .0) (m .before .if2 .left) (sym (m .composed .ensures) ∙ r .1) in
+    let e = record-told (now (a .table)) (a .queue) (a .sheet) (now (a .d)) (length (now (a .out))) (t .if1 .left) (f .result) (f .ensures) _ (m .before .if2 .left) (sym (r .1) ∙ m .composed .ensures) in
     (sym (ap saidSheetWritten e), c .before .before .put-sheet .ensures ∙ sym (ap (sheetOut (a .sheet) _) e))
 
 pub compose-spec : {M : Type 1} → statement M

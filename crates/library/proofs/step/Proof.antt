@@ -8,7 +8,7 @@ use borrow.Author.Needs.{needs}
 use Rattle.library.specs.Steps.{stepOut, saidStep}
 use Rattle.library.specs.Running.{step-long, step-short, step-product}
 use Rattle.library.specs.declared.StepReply.the-variants as stepped
-use Rattle.library.proofs.Stepping.{made-low, said-refused, said-done, said-of}
+use Rattle.library.proofs.Stepping.{made-low, product-told}
 use Rattle.library.proofs.step.Statement.{statement}
 use Rattle.library.proofs.step.Tie as tie
 
@@ -19,16 +19,16 @@ returns-2 : tie.Need-returns-2
 returns-2 c = let a = c .before .before .before .before .before .args in let e = step-short (a .sheet) (a .d .now) (a .position) (length (a .out .now)) (c .before .before .if1 .left) (omega (arith, c .if2 .taken, c .before .bytes-of .ensures)) in (sym (ap (saidStep (suc (a .position))) e), sym (ap (stepOut (a .sheet) _) e))
 
 add-t17 : tie.Need-add-t17
-add-t17 c = let a = c .before .before .before .before .before .before .before .before .before .before .before .before .before .args in omega (arith, made-low (a .d .now) (a .position) _ (said-of _ _ (sym (c .before .before .before .before .before .before .before .product .ensures) ∙ c .before .before .before .before .before .told2 .given .1)))
+add-t17 c = let a = c .before .before .before .before .before .before .before .before .before .before .before .before .before .args in omega (arith, made-low (a .d .now) (a .position) _ (sym (product-told _ _ (sym (c .before .before .before .before .before .told2 .given .1) ∙ c .before .before .before .before .before .before .before .product .ensures))))
 
 returns-3 : tie.Need-returns-3
-returns-3 c = let a = c .before .before .before .before .before .before .before .before .before .args in let e = step-product (a .sheet) (a .d .now) (a .position) (length (a .out .now)) (c .before .before .before .before .before .before .if1 .left) (omega (arith, c .before .before .before .before .if2 .left, c .before .before .before .before .before .bytes-of .ensures)) ∙ said-refused _ _ (sym (c .before .before .before .product .ensures) ∙ c .before .told .given .1) in (sym (ap (saidStep (suc (a .position))) e), sym (ap (stepOut (a .sheet) _) e))
+returns-3 c = let a = c .before .before .before .before .before .before .before .before .before .args in let e = step-product (a .sheet) (a .d .now) (a .position) (length (a .out .now)) (c .before .before .before .before .before .before .if1 .left) (omega (arith, c .before .before .before .before .if2 .left, c .before .before .before .before .before .bytes-of .ensures)) ∙ sym (product-told _ _ (sym (c .before .told .given .1) ∙ c .before .before .before .product .ensures)) in (sym (ap (saidStep (suc (a .position))) e), sym (ap (stepOut (a .sheet) _) e))
 
 returns-4 : tie.Need-returns-4
-returns-4 c = let a = c .before .before .before .before .before .before .before .before .args in let e = step-product (a .sheet) (a .d .now) (a .position) (length (a .out .now)) (c .before .before .before .before .before .if1 .left) (omega (arith, c .before .before .before .if2 .left, c .before .before .before .before .bytes-of .ensures)) ∙ said-done _ (sym (c .before .before .product .ensures) ∙ c .enum-told .given .1) in (sym (ap (saidStep (suc (a .position))) e), sym (ap (stepOut (a .sheet) _) e))
+returns-4 c = let a = c .before .before .before .before .before .before .before .before .args in let e = step-product (a .sheet) (a .d .now) (a .position) (length (a .out .now)) (c .before .before .before .before .before .if1 .left) (omega (arith, c .before .before .before .if2 .left, c .before .before .before .before .bytes-of .ensures)) ∙ sym (product-told _ _ (sym (c .enum-told .given .1) ∙ c .before .before .product .ensures)) in (sym (ap (saidStep (suc (a .position))) e), sym (ap (stepOut (a .sheet) _) e))
 
 returns-5 : tie.Need-returns-5
-returns-5 c = let a = c .before .before .before .before .before .before .before .before .before .before .before .before .before .args in let e = step-product (a .sheet) (a .d .now) (a .position) (length (a .out .now)) (c .before .before .before .before .before .before .before .before .before .before .if1 .left) (omega (arith, c .before .before .before .before .before .before .before .before .if2 .left, c .before .before .before .before .before .before .before .before .before .bytes-of .ensures)) ∙ said-of _ _ (sym (c .before .before .before .before .before .before .before .product .ensures) ∙ c .before .before .before .before .before .told2 .given .1) in
+returns-5 c = let a = c .before .before .before .before .before .before .before .before .before .before .before .before .before .args in let e = step-product (a .sheet) (a .d .now) (a .position) (length (a .out .now)) (c .before .before .before .before .before .before .before .before .before .before .if1 .left) (omega (arith, c .before .before .before .before .before .before .before .before .if2 .left, c .before .before .before .before .before .before .before .before .before .bytes-of .ensures)) ∙ sym (product-told _ _ (sym (c .before .before .before .before .before .told2 .given .1) ∙ c .before .before .before .before .before .before .before .product .ensures)) in
     (ap stepped.Next (add-one (a .position)) ∙ sym (ap (saidStep (suc (a .position))) e), c .before .before .put-sheet .ensures ∙ sym (ap (stepOut (a .sheet) _) e))
 
 pub step-spec : {M : Type 1} → statement M

@@ -5,7 +5,7 @@ use borrow.Author.Needs.{needs}
 use Rattle.reply.specs.Read.{Read}
 use Rattle.catalogue.specs.Products.{Product}
 use Rattle.library.specs.Running.{step-long, step-short, step-product}
-use Rattle.library.proofs.Stepping.{said-refused, said-done, said-of}
+use Rattle.library.proofs.Stepping.{product-told}
 use Rattle.library_calls.specs.Libraries.{withNext, stepCode}
 use Rattle.library_calls.proofs.unlent_step.Statement.{statement}
 use Rattle.library_calls.proofs.unlent_step.Tie as tie
@@ -17,13 +17,13 @@ returns-2 : tie.Need-returns-2
 returns-2 c = let a = c .before .before .before .before .args in sym (ap (λ (x : Read Product). stepCode (withNext 0 x)) (step-short (a .sheet) (a .deck .now) (a .position) (a .room) (c .before .before .if1 .left) (omega (arith, c .if2 .taken, c .before .bytes-of .ensures))))
 
 returns-3 : tie.Need-returns-3
-returns-3 c = let a = c .before .before .before .before .before .before .before .before .before .args in c .code-of .ensures ∙ sym (ap (λ (x : Read Product). stepCode (withNext 0 x)) (step-product (a .sheet) (a .deck .now) (a .position) (a .room) (c .before .before .before .before .before .before .before .if1 .left) (omega (arith, c .before .before .before .before .before .if2 .left, c .before .before .before .before .before .before .bytes-of .ensures)) ∙ said-refused _ _ (sym (c .before .before .before .before .product .ensures) ∙ c .before .before .answer .given .1)))
+returns-3 c = let a = c .before .before .before .before .before .before .before .before .before .args in c .code-of .ensures ∙ sym (ap (λ (x : Read Product). stepCode (withNext 0 x)) (step-product (a .sheet) (a .deck .now) (a .position) (a .room) (c .before .before .before .before .before .before .before .if1 .left) (omega (arith, c .before .before .before .before .before .if2 .left, c .before .before .before .before .before .before .bytes-of .ensures)) ∙ sym (product-told _ _ (sym (c .before .before .answer .given .1) ∙ c .before .before .before .before .product .ensures))))
 
 returns-4 : tie.Need-returns-4
-returns-4 c = let a = c .before .before .before .before .before .before .before .args in sym (ap (λ (x : Read Product). stepCode (withNext 0 x)) (step-product (a .sheet) (a .deck .now) (a .position) (a .room) (c .before .before .before .before .before .if1 .left) (omega (arith, c .before .before .before .if2 .left, c .before .before .before .before .bytes-of .ensures)) ∙ said-done _ (sym (c .before .before .product .ensures) ∙ c .enum-told .given .1)))
+returns-4 c = let a = c .before .before .before .before .before .before .before .args in sym (ap (λ (x : Read Product). stepCode (withNext 0 x)) (step-product (a .sheet) (a .deck .now) (a .position) (a .room) (c .before .before .before .before .before .if1 .left) (omega (arith, c .before .before .before .if2 .left, c .before .before .before .before .bytes-of .ensures)) ∙ sym (product-told _ _ (sym (c .enum-told .given .1) ∙ c .before .before .product .ensures))))
 
 returns-5 : tie.Need-returns-5
-returns-5 c = let a = c .before .before .before .before .before .before .before .args in sym (ap (λ (x : Read Product). stepCode (withNext 0 x)) (step-product (a .sheet) (a .deck .now) (a .position) (a .room) (c .before .before .before .before .before .if1 .left) (omega (arith, c .before .before .before .if2 .left, c .before .before .before .before .bytes-of .ensures)) ∙ said-of _ (c .enum-told2 .given .0 .0) (sym (c .before .before .product .ensures) ∙ c .enum-told2 .given .1)))
+returns-5 c = let a = c .before .before .before .before .before .before .before .args in sym (ap (λ (x : Read Product). stepCode (withNext 0 x)) (step-product (a .sheet) (a .deck .now) (a .position) (a .room) (c .before .before .before .before .before .if1 .left) (omega (arith, c .before .before .before .if2 .left, c .before .before .before .before .bytes-of .ensures)) ∙ sym (product-told _ _ (sym (c .enum-told2 .given .1) ∙ c .before .before .product .ensures))))
 
 pub unlent-step-spec : {M : Type 1} → statement M
 unlent-step-spec =

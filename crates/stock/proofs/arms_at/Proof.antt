@@ -1,11 +1,11 @@
 -- `stock::arms_at` meets its contract. The loop's invariant: the first k arms are kept. Assumes nothing.
-use Prim.Native.Nat.{ℕ, _-_, _≤_, _<_}
-use mathlib.Core.Path.{_≡_, refl, _∙_}
+use Prim.Native.Nat.{_-_}
+use mathlib.Core.Path.{refl}
 use native.Mathlib.Omega.{arith}
-use lib.ListN.{length, take, getD, length-set}
+use lib.ListN.{take, getD}
 use borrow.Author.Needs.{needs}
 use Rattle.arms.specs.Arms.{noArm}
-use Rattle.arms.proofs.Keeping.{put-next, put-all}
+use Rattle.arms.proofs.Keeping.{FilledTo, filled-none, filled-next, filled-all}
 use Rattle.catalogue.specs.Library.{mostSites}
 use Rattle.catalogue.specs.Said.{noSite}
 use Rattle.stock.specs.Stock.{armAt, armsAt}
@@ -13,30 +13,20 @@ use Rattle.stock.proofs.arms_at.Statement.{statement}
 use Rattle.stock.proofs.arms_at.Tie as tie
 
 abbrev Inv-loop : tie.InvT-loop
-Inv-loop d blocks count xs sites digits arms₀ k₀ arms k =
-    (length arms ≡ mostSites) × (k ≤ mostSites) × ((j : ℕ) → j < k → getD arms j noArm ≡ armAt d (take count blocks) xs (getD sites j noSite) (getD digits j 0))
+Inv-loop d blocks count xs sites digits arms₀ k₀ arms k = FilledTo noArm (λ j. armAt d (take count blocks) xs (getD sites j noSite) (getD digits j 0)) mostSites arms k
 
 abbrev μ-loop : tie.MeasureT-loop
 μ-loop d blocks count xs sites digits arms₀ k₀ arms k = mostSites - k
 
 loop-holds : tie.Need-loop-holds Inv-loop μ-loop
-loop-holds c = (refl, omega arith, λ j h. absurd (omega arith))
+loop-holds c = filled-none refl
 
 loop-again : tie.Need-loop-again Inv-loop μ-loop
-loop-again c =
-    let l = c .before .before .before .loop in
-    let a = c .before .before .before .before .before .before .args in (
-      length-set (l .arms) (l .k) _ ∙ l .inv .0,
-      omega arith,
-      put-next noArm (λ (j : ℕ). armAt (a .d .now) (take (a .count) (a .blocks)) (a .xs .now) (getD (a .t5) j noSite) (getD (a .t6) j 0)) (l .arms) (l .k) _ (omega (arith, l .inv .0)) (c .arm-at .ensures) (l .inv .2),
-    )
+loop-again c = filled-next (c .before .before .before .loop .inv) (omega arith) (c .arm-at .ensures)
 
 returns : tie.Need-returns Inv-loop μ-loop
 unfolding armsAt
-returns c =
-    let l = c .before .loop in
-    let a = c .before .before .before .before .args in
-    put-all noArm (λ (j : ℕ). armAt (a .d .now) (take (a .count) (a .blocks)) (a .xs .now) (getD (a .t5) j noSite) (getD (a .t6) j 0)) (l .arms) mostSites (l .inv .0) (λ j h. l .inv .2 j (omega arith))
+returns c = filled-all (c .before .loop .inv) (omega arith)
 
 pub arms-at-spec : {M : Type 1} → statement M
 arms-at-spec =

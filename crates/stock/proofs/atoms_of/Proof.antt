@@ -1,10 +1,10 @@
 -- `stock::atoms_of` meets its contract. The loop's invariant: the first k atoms are the sites'. Assumes nothing.
-use Prim.Native.Nat.{ℕ, _-_, _≤_, _<_}
-use mathlib.Core.Path.{_≡_, refl, _∙_}
+use Prim.Native.Nat.{_-_}
+use mathlib.Core.Path.{refl}
 use native.Mathlib.Omega.{arith}
-use lib.ListN.{length, getD, length-set}
+use lib.ListN.{getD}
 use borrow.Author.Needs.{needs}
-use Rattle.arms.proofs.Keeping.{put-next, put-all}
+use Rattle.arms.proofs.Keeping.{FilledTo, filled-none, filled-next, filled-all}
 use Rattle.catalogue.specs.Library.{mostSites}
 use Rattle.catalogue.specs.Said.{noSite}
 use Rattle.stock.specs.Stock.{atomsOf}
@@ -12,28 +12,20 @@ use Rattle.stock.proofs.atoms_of.Statement.{statement}
 use Rattle.stock.proofs.atoms_of.Tie as tie
 
 abbrev Inv-loop : tie.InvT-loop
-Inv-loop sites atoms₀ k₀ atoms k = (length atoms ≡ mostSites) × (k ≤ mostSites) × ((j : ℕ) → j < k → getD atoms j 0 ≡ getD sites j noSite .atom)
+Inv-loop sites atoms₀ k₀ atoms k = FilledTo 0 (λ j. getD sites j noSite .atom) mostSites atoms k
 
 abbrev μ-loop : tie.MeasureT-loop
 μ-loop sites atoms₀ k₀ atoms k = mostSites - k
 
 loop-holds : tie.Need-loop-holds Inv-loop μ-loop
-loop-holds c = (refl, omega arith, λ j h. absurd (omega arith))
+loop-holds c = filled-none refl
 
 loop-again : tie.Need-loop-again Inv-loop μ-loop
-loop-again c =
-    let l = c .before .before .loop in
-    let a = c .before .before .before .args in (
-      length-set (l .atoms) (l .k) _ ∙ l .inv .0,
-      omega arith,
-      put-next 0 (λ (j : ℕ). getD (a .t1) j noSite .atom) (l .atoms) (l .k) _ (omega (arith, l .inv .0)) refl (l .inv .2),
-    )
+loop-again c = filled-next (c .before .before .loop .inv) (omega arith) refl
 
 returns : tie.Need-returns Inv-loop μ-loop
 unfolding atomsOf
-returns c =
-    let l = c .before .loop in
-    put-all 0 (λ (j : ℕ). getD (c .before .before .args .t1) j noSite .atom) (l .atoms) mostSites (l .inv .0) (λ j h. l .inv .2 j (omega arith))
+returns c = filled-all (c .before .loop .inv) (omega arith)
 
 pub atoms-of-spec : {M : Type 1} → statement M
 atoms-of-spec =
