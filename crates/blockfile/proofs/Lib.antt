@@ -1,1 +1,2 @@
--- No laws.
+-- Laws that the proofs cite.
+pub mod Lows

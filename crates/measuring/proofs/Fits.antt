@@ -15,7 +15,7 @@ use Rattle.reply.specs.declared.CountsReply.{CountsReply}
 use Rattle.block.specs.Block.{mostBytes, blockReply}
 use Rattle.block.specs.Index.{indicesReply}
 use Rattle.block.specs.Told.{passed}
-use Rattle.molfile.specs.Molfile.{linesReply, keptAtoms, bytesOf, molfileReply}
+use Rattle.molfile.specs.Molfile.{linesReply, keptAtoms, bytesOf, fileReply, molfileReply}
 use Rattle.molfile.specs.Said.{filledBonds, molfileBytes}
 use Rattle.measuring.specs.Measuring.{Fits, countedReply, measureReply}
 
@@ -48,7 +48,7 @@ module _ {A : Type 0} (R : Read A) (counts : A → Counts) (bytes : A → List �
 
 module _ (d : List ℕ) where
   pub never-nine : (molfileReply d mostBytes then λ _. indicesReply (keptAtoms d) (bytesOf d)) ≡ measureReply d
-  unfolding molfileReply measureReply indicesReply
+  unfolding fileReply measureReply indicesReply
   never-nine = go (linesReply d) (blockReply (keptAtoms d) (bytesOf d)) refl
     where
       go : (L B : Read (Unit {0})) → blockReply (keptAtoms d) (bytesOf d) ≡ B
@@ -59,7 +59,7 @@ module _ (d : List ℕ) where
 
   pub molfile-cut : (old new : List ℕ) → length old ≡ mostBytes → new ≡ molfileBytes d old → molfileReply d mostBytes ≡ read tt
       → (2 * (length (bytesOf d) / 2) ≤ length new) × (take (2 * (length (bytesOf d) / 2)) new ≡ bytesOf d)
-  unfolding molfileReply filledBonds
+  unfolding fileReply filledBonds
   molfile-cut old new l h e =
       let (u, a, b) = then-read (linesReply d) (λ _. blockReply (keptAtoms d) (bytesOf d) then λ _. refuseIf (ltb mostBytes (length (bytesOf d))) 9 0) e in
       let (v, f, g) = then-read (blockReply (keptAtoms d) (bytesOf d)) (λ _. refuseIf (ltb mostBytes (length (bytesOf d))) 9 0) b in

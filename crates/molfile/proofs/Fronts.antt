@@ -1,24 +1,25 @@
--- Laws. What stands at the front of numbers that were lent for all the bonds that three digits say. Assumes nothing.
-use Prim.Native.Nat.{ℕ, zero, suc, _*_, _≤_}
+-- Laws. What a reader makes of what is kept of a file. Assumes nothing.
+use Prim.Native.Nat.{ℕ, zero, suc, _*_, _/_, _<_, _≤_}
 use mathlib.Core.Bool.{Bool, true, false, _||_, cond}
 use mathlib.Core.List.{List, [], _∷_}
-use mathlib.Core.Path.{_≡_, sym, _∙_, ap}
+use mathlib.Core.Path.{_≡_, refl, sym, _∙_, ap, subst}
 use native.Mathlib.Omega.{arith}
-use lib.ListN.{length, take, drop, length-append, length-drop}
-use lib.Seq.{sets, take-at, length-take-le, length-sets}
+use borrow.Author.Tests.{lt-ltb, le-ltb}
+use lib.ListN.{length, take, drop, length-append, length-take}
+use lib.Seq.{sets, take-at, length-take-le}
 use Rattle.graph.specs.Graph.{Bond}
-use Rattle.reply.specs.Read.{refused, read}
+use Rattle.reply.specs.Read.{Read, refused, read, refusal}
 use Rattle.reply.specs.declared.Refusal.{Refusal}
-use Rattle.block.specs.Block.{mostAtoms}
-use Rattle.molfile.specs.Molfile.{atomLineCount, bondLineCount, bondOfLine, droppedIn, newNumber, keptBytes, linesReply, keptReply, keptAtoms, bytesOf}
-use Rattle.molfile.specs.Said.{saidKept, keptNumbers}
-use Rattle.molfile.specs.Work.{most, lows}
+use Rattle.reply.specs.declared.CountsReply.{CountsReply}
+use Rattle.reply.specs.declared.CountsReply.the-variants as counts
+use Rattle.text.proofs.Putting.{at-front}
+use Rattle.molfile.specs.Molfile.{bondLineCount, bondOfLine, droppedIn, newNumber, keptBytes, linesReply, keptAtoms, bytesOf, fittingReply, fileReply}
+use Rattle.molfile.specs.Said.{saidAnswer, saidMolfile, saidKept, filledBonds, fileNumbers, keptNumbers}
+use Rattle.molfile.specs.Work.{most}
 use Rattle.molfile.specs.declared.Kept.{Kept}
 use Rattle.molfile.specs.declared.KeptRead.the-variants as kept
-use Rattle.molfile.proofs.Chains.{lines-parts, counts-few, kept-lines, kept-refused-lines, fills}
-use Rattle.molfile.proofs.Files.{ends-within}
+use Rattle.molfile.proofs.Chains.{lines-parts, counts-few}
 use Rattle.molfile.proofs.Replies.{kept-refused, kept-of}
-use Rattle.molfile.proofs.Lows.{lows-small, narrowed}
 
 -- two numbers a bond at most
 bytes-few : (dropped : ℕ → Bool) (f : ℕ → Bond) (m : ℕ) → length (keptBytes dropped f m) ≤ 2 * m
@@ -38,44 +39,63 @@ bytes-few dropped f (suc k) =
 pub bytes-room : (d : List ℕ) → linesReply d ≡ read tt → length (bytesOf d) ≤ 2 * most
 bytes-room d e = omega (arith, counts-few d (lines-parts d e .0), bytes-few (droppedIn d) (bondOfLine d) (bondLineCount d))
 
--- the numbers of the kept bonds stand at the front
-pub record Front (d pairs : List ℕ) (k : Kept) : Type 0 where
+-- what is kept, as far as there was room, stands at the front
+pub record Front (d row : List ℕ) (room : ℕ) (k : Kept) : Type 0 where
   pub fine : linesReply d ≡ read tt
-  pub atoms-are : keptAtoms d ≡ k .atoms
-  pub count : length (bytesOf d) ≡ k .numbers
-  pub size : length pairs ≡ 2 * most
-  pub few : k .numbers ≤ 2 * most
-  pub numbers-are : take (k .numbers) pairs ≡ bytesOf d
+  pub atoms-are : k .atoms ≡ keptAtoms d
+  pub few : (k .numbers ≤ room) × (k .numbers ≤ length row)
+  pub taken : length (take (k .numbers) row) ≡ k .numbers
+  pub numbers-are : take (k .numbers) row ≡ take room (bytesOf d)
 
-pub front : (d pairs zs : List ℕ) (k : Kept) → length zs ≡ 2 * most → saidKept d (keptReply d (length zs)) ≡ kept.Of k → pairs ≡ keptNumbers d zs → Front d pairs k
-front d pairs zs k e r p =
-    let t = kept-of d (keptReply d (length zs)) r in
-    let f = kept-lines d (length zs) (t .0) in
-    let b = bytes-room d f in
-    let xs = bytesOf d in
-    let q = p ∙ fills xs zs (t .0) in
-    record {
-      fine = f;
-      atoms-are = t .1;
-      count = t .2;
-      size = omega (arith, ap length q, length-append xs (drop (length xs) zs), length-drop (length xs) zs);
-      few = omega (arith, t .2);
+pub front : (d zs : List ℕ) {row : List ℕ} {room : ℕ} {k : Kept} → length zs ≡ room → saidKept d (length zs) (linesReply d) ≡ kept.Of k → row ≡ keptNumbers d zs → Front d row room k
+unfolding filledBonds
+front d zs {row} {room} {k} e r p =
+    let t = kept-of d (length zs) (linesReply d) r in
+    let xs = take (length zs) (bytesOf d) in
+    let q = p ∙ ap (λ (m : Read (Unit {0})). filledBonds m xs zs) (t .0) in
+    let f : (k .numbers ≤ length zs) × (k .numbers ≤ length row) = omega (arith, t .2, ap length q, length-take (length zs) (bytesOf d), length-append xs (drop (length xs) zs)) in
+    subst (λ (n : ℕ). Front d row n k) e (record {
+      fine = t .0;
+      atoms-are = sym (t .1);
+      few = f;
+      taken = length-take-le (k .numbers) row (f .1);
       numbers-are = ap (take (k .numbers)) q ∙ take-at xs (drop (length xs) zs) (k .numbers) (t .2);
-    }
+    })
 
-pub front-refused : (d zs : List ℕ) (r : Refusal) → length zs ≡ 2 * most → saidKept d (keptReply d (length zs)) ≡ kept.Refused r → linesReply d ≡ refused r
-front-refused d zs r e s = kept-refused-lines d r (ap (keptReply d) (sym e) ∙ kept-refused d (keptReply d (length zs)) s)
+-- the answer for n atoms and bonds, by what a kind of reader refuses of them, and what is lent afterwards
+module _ (kind : ℕ → List ℕ → Read (Unit {0})) where
+  abbrev pub Answers : ℕ → List ℕ → List ℕ → CountsReply → List ℕ → Type 0
+  Answers n xs out r after = (r ≡ saidAnswer n xs (fittingReply kind n xs (length out))) × (after ≡ filledBonds (fittingReply kind n xs (length out)) xs out)
 
-module _ {d pairs : List ℕ} {k : Kept} (F : Front d pairs k) where
-  pub taken : length (take (k .numbers) pairs) ≡ k .numbers
-  taken = length-take-le (k .numbers) pairs (omega (arith, F .few, F .size))
+  abbrev pub Reads : List ℕ → List ℕ → CountsReply → List ℕ → Type 0
+  Reads d out r after = (r ≡ saidMolfile d (fileReply kind d (length out))) × (after ≡ fileNumbers kind d out)
 
-  -- as bytes, where a block may have so many atoms
-  pub bytes-are : (bytes zs : List ℕ) → length zs ≡ 2 * most → bytes ≡ sets zs 0 (lows (take (k .numbers) pairs)) → k .atoms ≤ mostAtoms → take (k .numbers) bytes ≡ bytesOf d
-  bytes-are bytes zs e p l =
-      narrowed (take (k .numbers) pairs) zs bytes (k .numbers) taken (omega (arith, F .few)) p
-      ∙ ap lows (F .numbers-are)
-      ∙ lows-small (droppedIn d) (bondOfLine d) (atomLineCount d) (omega (arith, F .atoms-are)) (bondLineCount d) (ends-within d (lines-parts d (F .fine) .1))
+  pub alike : (out : List ℕ) {n n′ : ℕ} {xs ys after : List ℕ} {r : CountsReply} → n ≡ n′ → xs ≡ ys → Answers n xs out r after → Answers n′ ys out r after
+  alike out e f a = rw (← e, ← f) a
 
-  pub bytes-size : (bytes zs : List ℕ) → length zs ≡ 2 * most → bytes ≡ sets zs 0 (lows (take (k .numbers) pairs)) → length bytes ≡ 2 * most
-  bytes-size bytes zs e p = ap length p ∙ length-sets zs 0 (lows (take (k .numbers) pairs)) ∙ e
+  pub refused-alike : (out : List ℕ) {n : ℕ} {xs ys after : List ℕ} {r : CountsReply} {s : Refusal} → kind n xs ≡ refused s → kind n ys ≡ refused s → Answers n xs out r after → Answers n ys out r after
+  unfolding filledBonds
+  refused-alike out e f a = rw f (rw e at a)
+
+  module _ (n : ℕ) (xs out : List ℕ) where
+    pub answers-refused : {r : Refusal} → kind n xs ≡ refused r → Answers n xs out (counts.Refused r) out
+    unfolding filledBonds
+    answers-refused e = rw e (refl, refl)
+
+    pub answers-short : kind n xs ≡ read tt → length out < length xs → Answers n xs out (counts.Refused (refusal 9 0)) out
+    unfolding filledBonds
+    answers-short e l = rw (e, lt-ltb (length out) (length xs) l) (refl, refl)
+
+    pub answers-fine : {after : List ℕ} → kind n xs ≡ read tt → length xs ≤ length out → after ≡ sets out 0 xs → Answers n xs out (counts.Of (record { atoms = n; bonds = length xs / 2 })) after
+    unfolding filledBonds
+    answers-fine e l p = rw (e, le-ltb (length out) (length xs) l) (refl, at-front {before = out} {text = xs} {r = length xs} (record { bytes = p; end = omega arith }) l .1)
+
+  -- that for a file is that for what is kept of it
+  module _ (d out : List ℕ) where
+    pub reads-refused : (room : ℕ) {r : Refusal} → saidKept d room (linesReply d) ≡ kept.Refused r → Reads d out (counts.Refused r) out
+    unfolding fileReply filledBonds
+    reads-refused room e = rw (kept-refused d room (linesReply d) e) (refl, refl)
+
+    pub reads-kept : {r : CountsReply} {after : List ℕ} → linesReply d ≡ read tt → Answers (keptAtoms d) (bytesOf d) out r after → Reads d out r after
+    unfolding fileReply
+    reads-kept e a = rw e a

@@ -7,7 +7,6 @@ pub mod Numbering
 pub mod Files
 pub mod Same
 pub mod Filling
-pub mod Lows
 pub mod Chains
 pub mod Symbols
 pub mod Replies

@@ -6,7 +6,7 @@ use Rattle.graph.specs.Graph.{joins, anyJoins, bonded, anyAtom, reaches, firstF
 use Rattle.reply.specs.Read.{Read, refused, read}
 use Rattle.block.specs.Block.{bondsOf, bondFault, bondsReply, blockReply}
 use Rattle.text.specs.Text.{ascii, allDigits, isNumber, valueFrom, numberOf, untilFeed, lineEnd, hasCarriage, lineChars, nextLine, laterLine, startsWith, lineStarts}
-use Rattle.molfile.specs.Molfile.{bondOfLine, hydrogenIn, symbolAt, oneH, hydrogenAt, inTurn, lineReply, numbersReply, bondReply, endLineReply, linesReply, passingBelow, isDropped, keptBytes, keptAtoms, bytesOf, molfileReply}
+use Rattle.molfile.specs.Molfile.{bondOfLine, hydrogenIn, symbolAt, oneH, hydrogenAt, inTurn, lineReply, numbersReply, bondReply, endLineReply, linesReply, passingBelow, isDropped, keptBytes, keptAtoms, bytesOf, fileReply, molfileReply}
 
 -- what is told of a file: its refusal, or its atoms and the bytes of its bonds
 pub data Told : Type 0 where
@@ -18,7 +18,7 @@ says d (refused r) = no (r .number) (r .place)
 says d (read u) = yes (keptAtoms d) (bytesOf d)
 
 unfoldable pub told : List ℕ → Told
-unfolding says joins anyJoins bonded anyAtom reaches firstFrom distance allAtoms connected degree bondsOf bondFault bondsReply blockReply allDigits isNumber valueFrom numberOf untilFeed lineEnd hasCarriage lineChars nextLine laterLine startsWith lineStarts bondOfLine hydrogenIn symbolAt oneH hydrogenAt inTurn lineReply numbersReply bondReply endLineReply linesReply passingBelow isDropped keptBytes molfileReply
+unfolding says joins anyJoins bonded anyAtom reaches firstFrom distance allAtoms connected degree bondsOf bondFault bondsReply blockReply allDigits isNumber valueFrom numberOf untilFeed lineEnd hasCarriage lineChars nextLine laterLine startsWith lineStarts bondOfLine hydrogenIn symbolAt oneH hydrogenAt inTurn lineReply numbersReply bondReply endLineReply linesReply passingBelow isDropped keptBytes fileReply
 told d = says d (molfileReply d 128)
 
 atom : List ℕ → List ℕ

@@ -1,5 +1,5 @@
 -- Definitions. A V2000 molfile: what its lines say, its refusals 25, 26 and 27, which hydrogens are dropped, and the block that is left. Places are bytes of the file, counted from 0.
-use Prim.Native.Nat.{ℕ, zero, suc, _+_, _*_}
+use Prim.Native.Nat.{ℕ, zero, suc, _+_}
 use mathlib.Core.Bool.{Bool, true, false, _&&_, _||_, not, cond}
 use mathlib.Core.List.{List, [], _∷_, _++_}
 use lib.Dec.{eqb, leb, ltb}
@@ -164,15 +164,16 @@ keptAtoms d = newNumber (droppedIn d) (atomLineCount d)
 abbrev pub bytesOf : List ℕ → List ℕ
 bytesOf d = keptBytes (droppedIn d) (bondOfLine d) (bondLineCount d)
 
--- what is kept: the file's refusals, then 9 where fewer numbers are lent than two a bond line
-unfoldable pub keptReply : List ℕ → ℕ → Read (Unit {0})
-keptReply d room =
-    linesReply d then λ _.
-    refuseIf (ltb room (2 * bondLineCount d)) 9 0
+-- n atoms and the bonds between them, two numbers each: what a kind of reader refuses of these, then 9 where fewer numbers are lent than the bonds take
+abbrev pub fittingReply : (ℕ → List ℕ → Read (Unit {0})) → ℕ → List ℕ → ℕ → Read (Unit {0})
+fittingReply kind n xs room =
+    kind n xs then λ _.
+    refuseIf (ltb room (length xs)) 9 0
 
--- the file's refusals, the block's over the kept bonds, then 9 where fewer bytes are lent than they take
-unfoldable pub molfileReply : List ℕ → ℕ → Read (Unit {0})
-molfileReply d room =
-    linesReply d then λ _.
-    blockReply (keptAtoms d) (bytesOf d) then λ _.
-    refuseIf (ltb room (length (bytesOf d))) 9 0
+-- the file's refusals, then those of what is kept
+unfoldable pub fileReply : (ℕ → List ℕ → Read (Unit {0})) → List ℕ → ℕ → Read (Unit {0})
+fileReply kind d room = linesReply d then λ _. fittingReply kind (keptAtoms d) (bytesOf d) room
+
+-- as a block
+abbrev pub molfileReply : List ℕ → ℕ → Read (Unit {0})
+molfileReply = fileReply blockReply

@@ -3,12 +3,12 @@ use Prim.Native.Nat.{ℕ}
 use mathlib.Core.List.{List}
 use mathlib.Core.Path.{_≡_, sym, _∙_}
 use lib.ListN.{length}
-use Rattle.molfile.specs.Molfile.{restOf, keptReply}
+use Rattle.molfile.specs.Molfile.{linesReply, restOf}
 use Rattle.molfile.specs.Said.{saidKept, keptNumbers}
 use Rattle.molfile.specs.declared.KeptRead.{KeptRead}
 
 module _ (d out : List ℕ) where
-  pub unique-kept : (r s : KeptRead) → r ≡ saidKept d (keptReply d (length out)) → s ≡ saidKept d (keptReply d (length out)) → r ≡ s
+  pub unique-kept : (r s : KeptRead) → r ≡ saidKept d (length out) (linesReply d) → s ≡ saidKept d (length out) (linesReply d) → r ≡ s
   unique-kept r s p q = p ∙ sym q
 
   pub unique-numbers : (a b : List ℕ) → a ≡ keptNumbers d out → b ≡ keptNumbers d out → a ≡ b

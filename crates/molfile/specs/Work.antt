@@ -1,13 +1,12 @@
 -- Work. What the functions over the lists of a file do: the marks of its hydrogens, the ends of its bonds, the weights and new numbers of its atoms.
-use Prim.Native.Nat.{ℕ, zero, suc, _+_, _%_, _<_}
+use Prim.Native.Nat.{ℕ, zero, suc, _+_, _<_}
 use mathlib.Core.Bool.{Bool, _&&_, _||_, cond}
 use mathlib.Core.List.{List, [], _∷_, _++_}
 use mathlib.Core.Path.{_≡_}
-use lib.Dec.{eqb, ltb}
-use lib.ListN.{length, getD, drop}
+use lib.Dec.{eqb}
+use lib.ListN.{length, getD, take, drop}
 use Rattle.graph.specs.Graph.{Bond, bond, Within}
-use Rattle.reply.specs.Read.{Read, refused, read, _then_, refuseIf}
-use Rattle.block.specs.Block.{blockReply}
+use Rattle.reply.specs.Read.{Read, refused, read, _then_}
 use Rattle.text.specs.Text.{nextLine}
 use Rattle.text.specs.Said.{lineAt}
 use Rattle.molfile.specs.Molfile.{countsPlace, atomLinePlace, bondLinePlace, restPlace, atomLineCount, bondLineCount, endsOfLine, bondOfLine, hydrogenAt, inTurn, headerReply, numbersReply, atomReply, bondReplyOf, endLineReply, newNumber, keptBytes}
@@ -160,17 +159,8 @@ pub record MarksGiven (h : ℕ → Bool) (f : ℕ → Bond) (n m : ℕ) (marks o
   pub two : (k : ℕ) → k < m → getD twos k 0 ≡ f k .two
   pub within : (k : ℕ) → k < m → Within n (f k .one) × Within n (f k .two)
 
--- what is kept: so many atoms, and the numbers of these bonds at the front of what is lent
+-- what is kept: so many atoms, and as many numbers of these bonds as there is room for at the front of what is lent
 pub record KeepsBonds (dropped : ℕ → Bool) (f : ℕ → Bond) (n m : ℕ) (out after : List ℕ) (r : Kept) : Type 0 where
   pub atoms : r .atoms ≡ newNumber dropped n
-  pub count : r .numbers ≡ length (keptBytes dropped f m)
-  pub numbers-are : after ≡ keptBytes dropped f m ++ drop (length (keptBytes dropped f m)) out
-
--- the last byte of each number
-unfoldable pub lows : List ℕ → List ℕ
-lows [] = []
-lows (x ∷ xs) = x % 256 ∷ lows xs
-
--- the block's refusals over the kept bonds, then 9
-unfoldable pub answerReply : ℕ → List ℕ → ℕ → Read (Unit {0})
-answerReply n xs room = blockReply n xs then λ _. refuseIf (ltb room (length xs)) 9 0
+  pub count : r .numbers ≡ length (take (length out) (keptBytes dropped f m))
+  pub numbers-are : after ≡ take (length out) (keptBytes dropped f m) ++ drop (length (take (length out) (keptBytes dropped f m))) out

@@ -1,15 +1,15 @@
 // V2000 molfiles: what is kept of one, hydrogens with one bond dropped. `blockfile` reads it as a block, `wholefile` as one molecule of up to 999 atoms.
 //
-// The lines of a file come once, in the order in which they stand. Marks of hydrogens, ends of bonds, weights and new numbers stand in arrays of one
-// size, so that any file takes the same stack. An atom's weight is 1 for each bond and 1 more for one that leads to an H, so that one pass over the
-// bonds says which H go. Line feeds are looked for in 16 bytes at a time.
+// The lines of a file come once, in the order in which they stand. Marks of hydrogens, ends of bonds and weights stand in arrays of one size, so that any
+// file takes the same stack; the new numbers come in the weights' place. An atom's weight is 1 for each bond and 1 more for one that leads to an H, so
+// that one pass over the bonds says which H go. Line feeds are looked for in 16 bytes at a time.
 ghost use mathlib.Core.Path.{_≡_};
 ghost use Prim.Native.Nat.{_+_, _≤_};
 ghost use lib.ListN.{length};
 ghost use Rattle.reply.specs.Read.{read};
 ghost use Rattle.text.specs.Text.{threeAt, lineChars};
 ghost use Rattle.text.specs.Said.{fieldNumber};
-ghost use Rattle.molfile.specs.Molfile.{countsPlace, atomLinePlace, bondLinePlace, atomLineCount, bondLineCount, symbolAt, isH, oneH, hydrogenAt, inTurn, lineReply, headerReply, numbersReply, bondReply, keptReply};
+ghost use Rattle.molfile.specs.Molfile.{countsPlace, atomLinePlace, bondLinePlace, atomLineCount, bondLineCount, symbolAt, isH, oneH, hydrogenAt, inTurn, lineReply, headerReply, numbersReply, bondReply, linesReply};
 ghost use Rattle.molfile.specs.Said.{saidKept, keptNumbers};
 ghost use Rattle.molfile.specs.Work.{most, markOf, saidLine, saidWalk, numbersAt, saidNumbers, countsReply, AtomsRead, BondsRead, RestRead, ListsRead};
 use reply::Refusal;
@@ -22,7 +22,7 @@ mod ending;
 
 pub use ending::rest_place;
 
-// How many atoms of a molfile are kept, and how many numbers their bonds take, two each.
+// How many atoms of a molfile are kept, and how many numbers of their bonds, two each, were put.
 pub struct Kept {
     pub atoms: usize,
     pub numbers: usize,
@@ -327,7 +327,7 @@ fn lists(d: &[u8], x: Numbers, marks: &mut [u8], ones: &mut [u16], twos: &mut [u
 // What is kept of a file whose counts line is read.
 fn listed(text: &[u8], x: Numbers, out: &mut [u16]) -> KeptRead
     requires { ⌜ (x ≡ numbersAt (now text) (countsPlace (now text))) × (countsReply (now text) ≡ read tt) ⌝ }
-    ensures reply { λ r. ⌜ r ≡ saidKept (now (text .entry)) (keptReply (now (text .entry)) (length (now (out .entry)))) ⌝ }
+    ensures reply { λ r. ⌜ r ≡ saidKept (now (text .entry)) (length (now (out .entry))) (linesReply (now (text .entry))) ⌝ }
     ensures numbers { λ _. ⌜ now (out .exit) ≡ keptNumbers (now (text .entry)) (now (out .entry)) ⌝ }
 {
     let mut marks = [0u8; MOST];
@@ -337,22 +337,16 @@ fn listed(text: &[u8], x: Numbers, out: &mut [u16]) -> KeptRead
     match reply {
         Walk::Refused(r) => KeptRead::Refused(r),
         Walk::At(_) => {
-            if out.len() < 2 * x.two {
-                return KeptRead::Refused(Refusal {
-                    number: 9,
-                    place: 0,
-                });
-            }
             let k = dropping::kept(x.one, x.two, &marks, &ones, &twos, out);
             KeptRead::Of(k)
         }
     }
 }
 
-// What is kept of a molfile once hydrogens are dropped: how many atoms, and its bonds at the front of what is lent, two numbers each; later numbers stay. Or
-// it is a refusal, and no number changes: 25 to 27 of its lines in file order, then 9 where fewer numbers are lent than two a bond line.
+// What is kept of a molfile once hydrogens are dropped: how many atoms, and as many numbers of its bonds, two each, as there is room for, at the front of what
+// is lent; later numbers stay. Or it is a refusal, 25 to 27 of its lines in file order, and no number changes.
 pub fn kept_bonds(text: &[u8], out: &mut [u16]) -> KeptRead
-    ensures reply { λ r. ⌜ r ≡ saidKept (now (text .entry)) (keptReply (now (text .entry)) (length (now (out .entry)))) ⌝ }
+    ensures reply { λ r. ⌜ r ≡ saidKept (now (text .entry)) (length (now (out .entry))) (linesReply (now (text .entry))) ⌝ }
     ensures numbers { λ _. ⌜ now (out .exit) ≡ keptNumbers (now (text .entry)) (now (out .entry)) ⌝ }
 {
     let seen = counts_line(text);

@@ -17,7 +17,7 @@ use Rattle.block.specs.Block.{mostBytes, bondsOf, bondFault, bondsReply, blockR
 use Rattle.block.specs.Numbered.{few-bytes}
 use Rattle.block.specs.Told.{passed, few-atoms}
 use Rattle.text.specs.Text.{ascii, three, isNumber, numberOf, threeAt, lineChars, laterLine, startsWith, lineStarts}
-use Rattle.molfile.specs.Molfile.{countsPlace, atomLinePlace, atomLineCount, bondLineCount, bondLinePlace, restPlace, endsOfLine, bondOfLine, symbolAt, hydrogenAt, inTurn, numbersReply, endLineReply, headerReply, atomReply, bondReplyOf, linesReply, hydrogenIn, passingBelow, isDropped, newNumber, keptBytes, keptAtoms, bytesOf, molfileReply}
+use Rattle.molfile.specs.Molfile.{countsPlace, atomLinePlace, atomLineCount, bondLineCount, bondLinePlace, restPlace, endsOfLine, bondOfLine, symbolAt, hydrogenAt, inTurn, numbersReply, endLineReply, headerReply, atomReply, bondReplyOf, linesReply, hydrogenIn, passingBelow, isDropped, newNumber, keptBytes, keptAtoms, bytesOf, fileReply, molfileReply}
 use Rattle.molfile.proofs.Lines.{line-long, numbers-both, bond-inside, bond-is}
 use Rattle.molfile.proofs.Symbols.{h-none}
 use Rattle.text.proofs.Written.{three-back}
@@ -230,7 +230,7 @@ pub record ReadsBack (n : ℕ) (xs : List ℕ) (room : ℕ) (text : List ℕ) : 
   pub reply : molfileReply text room ≡ refuseIf (ltb room (length xs)) 9 0
 
 pub reads-back : (n : ℕ) (xs : List ℕ) (room : ℕ) → blockReply n xs ≡ read tt → ReadsBack n xs room (molfileText n (bondsOf xs))
-unfolding molfileReply molfileText
+unfolding fileReply molfileText
 reads-back n xs room fine =
     let f = few n xs fine in
     let a = lines-atoms n xs fine in

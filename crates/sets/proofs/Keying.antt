@@ -13,7 +13,7 @@ use Rattle.graph.specs.Graph.{bond, Within}
 use Rattle.block.specs.Block.{mostAtoms, bondsOf}
 use Rattle.block.specs.Numbered.{bondAt, rest, rest-sum, rest-over}
 use Rattle.block.specs.Lent.{zeros}
-use Rattle.sets.specs.Merging.{places, unit, mark, tally, key, BondsListed, Keyed}
+use Rattle.sets.specs.Merging.{places, unit, mark, tally, key, added, BondsListed, Adds, Keyed}
 use Rattle.sets.proofs.Storing.{more-at}
 
 -- the keys before bond k from 0, and what they are at most
@@ -42,42 +42,42 @@ keying-start xs root w = record {
 -- the next bond is added at its one end, then at the other
 module _ {xs : List ℕ} {root k : ℕ} {keys : List ℕ} (l : BondsListed xs root) (s : Keying xs root k keys) (i : k < length xs / 2) {a b : ℕ}
     (p : a ≡ bondAt xs k .one) (q : b ≡ bondAt xs k .two) where
-  abbrev once : List ℕ
-  once = set keys a (getD keys a 0 + (unit + b))
-
-  pub a-within : Within mostAtoms a
+  a-within : Within mostAtoms a
   a-within = subst⁻¹ (Within mostAtoms) p (l .ends k i .0)
 
-  pub b-within : Within mostAtoms b
+  b-within : Within mostAtoms b
   b-within = subst⁻¹ (Within mostAtoms) q (l .ends k i .1)
 
-  pub a-fits : getD keys a 0 ≤ 2 * unit + 2 * (unit + mostAtoms) * mostAtoms
-  a-fits = omega (arith, s .most a a-within, l .few)
+  pub first-adds : Adds keys a b
+  first-adds = record { there = omega (arith, a-within, s .size); other = b-within .high; room = omega (arith, s .most a a-within, l .few) }
 
-  at-once : (v : ℕ) → getD once v 0 ≡ cond (eqb a v) (unit + b) 0 + getD keys v 0
-  at-once v = more-at keys a (unit + b) v (omega (arith, a-within, s .size))
+  module _ {once : List ℕ} (e : once ≡ added keys a b) where
+    at-once : (v : ℕ) → getD once v 0 ≡ cond (eqb a v) (unit + b) 0 + getD keys v 0
+    at-once v = rw e (more-at keys a (unit + b) v (omega (arith, a-within, s .size)))
 
-  pub b-fits : getD once b 0 ≤ 2 * unit + 2 * (unit + mostAtoms) * mostAtoms + (unit + mostAtoms)
-  b-fits = omega (arith, at-once b, if-most (eqb a b) (unit + b), b-within, s .most b b-within, l .few)
+    size-once : length once ≡ places
+    size-once = rw e (length-set keys a (getD keys a 0 + (unit + b))) ∙ s .size
 
-  pub keying-next : Keying xs root (k + 1) (set once b (getD once b 0 + (unit + a)))
-  unfolding mark
-  keying-next = record {
-    size = length-set once b (getD once b 0 + (unit + a)) ∙ length-set keys a (getD keys a 0 + (unit + b)) ∙ s .size;
-    is = λ v h. omega (arith, both v, ap₂ (λ (x y : ℕ). mark v (bond x y)) p q, rest-sum (mark v) xs k i, s .is v h, ap (λ (j : ℕ). tally (rest xs j) v) after);
-    most = λ v h. omega (arith, both v, if-most (eqb a v) (unit + b), if-most (eqb b v) (unit + a), a-within, b-within, s .most v h);
-  }
-    where
-      after : k + 1 ≡ suc k
-      after = omega arith
+    pub second-adds : Adds once b a
+    second-adds = record {
+      there = omega (arith, b-within, size-once);
+      other = a-within .high;
+      room = omega (arith, at-once b, if-most (eqb a b) (unit + b), b-within, s .most b b-within, l .few);
+    }
 
-      both : (v : ℕ) → getD (set once b (getD once b 0 + (unit + a))) v 0 ≡ cond (eqb a v) (unit + b) 0 + cond (eqb b v) (unit + a) 0 + getD keys v 0
-      both v =
-          omega (
-            arith,
-            more-at once b (unit + a) v (omega (arith, b-within, s .size, length-set keys a (getD keys a 0 + (unit + b)))),
-            at-once v,
-          )
+    pub keying-next : {twice : List ℕ} → twice ≡ added once b a → Keying xs root (k + 1) twice
+    unfolding mark
+    keying-next {twice} f = record {
+      size = rw f (length-set once b (getD once b 0 + (unit + a))) ∙ size-once;
+      is = λ v h. omega (arith, both v, ap₂ (λ (x y : ℕ). mark v (bond x y)) p q, rest-sum (mark v) xs k i, s .is v h, ap (λ (j : ℕ). tally (rest xs j) v) after);
+      most = λ v h. omega (arith, both v, if-most (eqb a v) (unit + b), if-most (eqb b v) (unit + a), a-within, b-within, s .most v h);
+    }
+      where
+        after : k + 1 ≡ suc k
+        after = omega arith
+
+        both : (v : ℕ) → getD twice v 0 ≡ cond (eqb a v) (unit + b) 0 + cond (eqb b v) (unit + a) 0 + getD keys v 0
+        both v = omega (arith, ap (λ (l : List ℕ). getD l v 0) f, more-at once b (unit + a) v (omega (arith, b-within, size-once)), at-once v)
 
 pub keying-end : {xs : List ℕ} {root k : ℕ} {keys : List ℕ} → Keying xs root k keys → length xs / 2 ≤ k → Keyed xs root keys
 keying-end {xs} {root} {k} {keys} s l = record { size = s .size; is = λ v h. omega (arith, s .is v h, rest-over (mark v) xs k l) }

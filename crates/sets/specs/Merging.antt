@@ -4,7 +4,7 @@ use mathlib.Core.Bool.{Bool, true, false, cond}
 use mathlib.Core.List.{List}
 use mathlib.Core.Path.{_≡_}
 use lib.Dec.{eqb}
-use lib.ListN.{length, getD}
+use lib.ListN.{length, getD, set}
 use Rattle.graph.specs.Graph.{Bond, Within, sumBonds}
 use Rattle.reply.specs.Read.{read}
 use Rattle.block.specs.Block.{mostAtoms, bondsOf, blockReply}
@@ -77,6 +77,15 @@ pub record BondsListed (xs : List ℕ) (root : ℕ) : Type 0 where
   pub few : length xs ≤ 2 * mostAtoms
   pub start : Within mostAtoms root
   pub ends : (k : ℕ) → k < length xs / 2 → Within mostAtoms (bondAt xs k .one) × Within mostAtoms (bondAt xs k .two)
+
+-- a bond to b is added to the key of a, for which there is room
+abbrev pub added : List ℕ → ℕ → ℕ → List ℕ
+added keys a b = set keys a (getD keys a 0 + (unit + b))
+
+pub record Adds (keys : List ℕ) (a b : ℕ) : Type 0 where
+  pub there : a < length keys
+  pub other : b ≤ mostAtoms
+  pub room : getD keys a 0 ≤ 2 * unit + (2 * mostAtoms + 1) * (unit + mostAtoms)
 
 pub record Keyed (xs : List ℕ) (root : ℕ) (keys : List ℕ) : Type 0 where
   pub size : length keys ≡ places

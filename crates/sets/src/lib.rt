@@ -8,7 +8,7 @@ ghost use mathlib.Core.Path.{_≡_};
 ghost use Rattle.reply.specs.Read.{refusal};
 ghost use Rattle.block.specs.Block.{graphOf};
 ghost use Rattle.sets.specs.Reply.{setsOf, setsReply, setsFromReply, saidSets};
-ghost use Rattle.sets.specs.Merging.{weight, taken, WeightPair, Store, Stored, BondsListed, Keyed, Rooted};
+ghost use Rattle.sets.specs.Merging.{weight, taken, added, WeightPair, Store, Stored, BondsListed, Adds, Keyed, Rooted};
 use block::ATOMS;
 use reply::Refusal;
 use reply::Reply;
@@ -35,7 +35,7 @@ struct Weight {
 const PLACES: usize = ATOMS + 1;
 
 // What a bond adds to the key of an atom, beside the number of its other end. So a key below twice that, and not below it, tells of one bond, and to which atom.
-const UNIT: usize = 256;
+const UNIT: u16 = 256;
 
 // A child with the weight (u, v) is merged into an atom with the weight (x, y).
 fn combine(kind: bool, x: u64, y: u64, u: u64, v: u64) -> Weight
@@ -67,20 +67,28 @@ fn merge(kind: bool, xs: &mut [u64], ys: &mut [u64], u: usize, v: usize)
     ys[u] = 0;
 }
 
+// A bond to atom b is added to the key of atom a.
+fn add(keys: &mut [u16], a: usize, b: usize)
+    requires { ⌜ Adds (now keys) a b ⌝ }
+    ensures { λ _. ⌜ now (keys .exit) ≡ added (now (keys .entry)) a b ⌝ }
+{
+    keys[a] = keys[a] + (UNIT + b as u16);
+}
+
 // The key of each atom. The root's is that of an atom with two bonds more, so that it never tells of one.
-fn keyed(bonds: &[u8], root: usize) -> [usize; PLACES]
+fn keyed(bonds: &[u8], root: usize) -> [u16; PLACES]
     requires { ⌜ BondsListed (now bonds) root ⌝ }
     ensures { λ r. ⌜ Keyed (now (bonds .entry)) root r ⌝ }
 {
-    let mut keys = [0usize; PLACES];
+    let mut keys = [0u16; PLACES];
     keys[root] = 2 * UNIT;
     let m = bonds.len() / 2;
     let mut k = 0;
     while k < m {
         let a = reply::wide(bonds[2 * k]) as usize;
         let b = reply::wide(bonds[2 * k + 1]) as usize;
-        keys[a] = keys[a] + (UNIT + b);
-        keys[b] = keys[b] + (UNIT + a);
+        add(&mut keys, a, b);
+        add(&mut keys, b, a);
         k += 1;
     }
     keys
@@ -103,10 +111,10 @@ fn recursion(n: usize, bonds: &[u8], root: usize) -> Sets
     while left > 0 {
         let key = keys[a];
         if key / UNIT == 1 {
-            let p = key % UNIT;
+            let p = (key % UNIT) as usize;
             merge(true, &mut all, &mut free, a, p);
             merge(false, &mut omitted, &mut chosen, a, p);
-            keys[p] = keys[p] - (UNIT + a);
+            keys[p] = keys[p] - (UNIT + a as u16);
             keys[a] = 0;
             left -= 1;
             a = p;

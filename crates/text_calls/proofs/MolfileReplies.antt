@@ -1,15 +1,14 @@
 -- Laws. Molfiles with the numbers beside them: each case of the reply. Assumes nothing.
 use Prim.Native.Nat.{ℕ, _≤_, _<_}
-use mathlib.Core.List.{List, []}
+use mathlib.Core.List.{List}
 use mathlib.Core.Path.{_≡_, refl, sym, _∙_, ap}
-use lib.Dec.{eqb, ltb}
+use lib.Dec.{ltb}
 use lib.ListN.{length}
-use Rattle.reply.specs.Read.{Read, refused, read, _then_, refuseIf, saidNumber, toldNumber}
+use Rattle.reply.specs.Read.{Read, refused, read, _then_, saidNumber, toldNumber}
 use Rattle.reply.specs.declared.NumberReply.{NumberReply}
-use Rattle.block.specs.Block.{bondsOf, bondsReply, blockReply}
-use Rattle.molfile.specs.Molfile.{keptAtoms, bytesOf, linesReply, molfileReply}
+use Rattle.block.specs.Block.{bondsOf, blockReply}
+use Rattle.molfile.specs.Molfile.{keptAtoms, bytesOf, linesReply, fileReply}
 use Rattle.molfile.specs.Said.{filledBonds}
-use Rattle.wholefile.specs.Whole.{moleculeReply, wholeFileReply}
 use Rattle.molwriter.specs.Written.{molfileText, molfileWriteReply, filledText}
 use Rattle.calls.specs.Convention.{coded, outAfter, numberList, Lent, thenNine}
 use Rattle.calls.specs.Blocks.{unlentReply}
@@ -17,13 +16,9 @@ use Rattle.calls.proofs.Laws.{and-on, nine-then, nine-room, nine-behind, beside
 use Rattle.text_calls.specs.Molfiles.{MolfileWritten}
 
 -- READING. What comes before 9, whatever the room is.
-pub any-room : (d : List ℕ) (some room : ℕ) → thenNine (molfileReply d some) ≡ thenNine (molfileReply d room)
-unfolding molfileReply
-any-room d some room = nine-then (linesReply d) _ _ (λ _. nine-then (blockReply (keptAtoms d) (bytesOf d)) _ _ (λ _. nine-room (ltb some (length (bytesOf d))) ∙ sym (nine-room (ltb room (length (bytesOf d))))))
-
-pub any-room-whole : (d : List ℕ) (some room : ℕ) → thenNine (wholeFileReply d some) ≡ thenNine (wholeFileReply d room)
-unfolding wholeFileReply moleculeReply
-any-room-whole d some room = nine-then (linesReply d) _ _ (λ _. nine-then (refuseIf (eqb (keptAtoms d) 0) 1 0) _ _ (λ _. nine-then (bondsReply (keptAtoms d) [] (bondsOf (bytesOf d))) _ _ (λ _. nine-room (ltb some (length (bytesOf d))) ∙ sym (nine-room (ltb room (length (bytesOf d)))))))
+pub any-room : (kind : ℕ → List ℕ → Read (Unit {0})) (d : List ℕ) (some room : ℕ) → thenNine (fileReply kind d some) ≡ thenNine (fileReply kind d room)
+unfolding fileReply
+any-room kind d some room = nine-then (linesReply d) _ _ (λ _. nine-then (kind (keptAtoms d) (bytesOf d)) _ _ (λ _. nine-room (ltb some (length (bytesOf d))) ∙ sym (nine-room (ltb room (length (bytesOf d))))))
 
 pub bonds-filled : (R : Read (Unit {0})) (xs out : List ℕ) → filledBonds R xs out ≡ outAfter (R then λ _. read xs) out
 unfolding filledBonds

@@ -9,9 +9,9 @@ use lib.Dec.{eqb, leb, ltb}
 use lib.ListN.{length, drop}
 use Rattle.reply.specs.Read.{Read, read, refuseIf, isOutside}
 use Rattle.reply.specs.Chain.{then-read, if-read}
-use Rattle.block.specs.Block.{mostBytes, bondsOf, bondsReply, blockReply}
+use Rattle.block.specs.Block.{mostBytes, bondsOf, blockReply}
 use Rattle.text.specs.Text.{isNumber, threeAt, lineChars, laterLine, lineStarts}
-use Rattle.molfile.specs.Molfile.{countsPlace, atomLinePlace, atomLineCount, bondLineCount, bondLinePlace, restPlace, endsOfLine, inTurn, lineReply, numbersReply, bondReply, endWord, endLineReply, headerReply, atomReply, bondReplyOf, linesReply, keptAtoms, bytesOf, molfileReply}
+use Rattle.molfile.specs.Molfile.{countsPlace, atomLinePlace, atomLineCount, bondLineCount, bondLinePlace, restPlace, endsOfLine, inTurn, lineReply, numbersReply, bondReply, endWord, endLineReply, headerReply, atomReply, bondReplyOf, linesReply, keptAtoms, bytesOf, fileReply, molfileReply}
 use Rattle.molfile.specs.Work.{most}
 use Rattle.molfile.proofs.Fronts.{bytes-room}
 use Rattle.wholefile.specs.Whole.{moleculeReply, wholeFileReply}
@@ -64,24 +64,25 @@ module _ (d : List ℕ) (c : ℕ) (big : mostBytes < c) (l : length d < c) where
       then-bounded c (inTurn (bondLineCount d) (bondReplyOf d)) _ (turn-bounded c (bondLineCount d) (bondReplyOf d) (λ i. bond-bounded (atomLineCount d) (bondLinePlace d i))) (λ x h.
       if-bounded c (not (lineStarts endWord true (drop (restPlace d) d))) 25 (length d) (omega (arith, l))))))
 
-  molfile-bounded : (room : ℕ) → Bounded c (molfileReply d room)
-  unfolding molfileReply
-  molfile-bounded room =
-      let b = blockReply (keptAtoms d) (bytesOf d) in
+  file-bounded : (kind : ℕ → List ℕ → Read (Unit {0})) → (linesReply d ≡ read tt → Bounded c (kind (keptAtoms d) (bytesOf d))) → (room : ℕ) → Bounded c (fileReply kind d room)
+  unfolding fileReply
+  file-bounded kind h room =
       then-bounded c (linesReply d) _ lines-bounded (λ u e.
-      then-bounded c b _ (wider (suc mostBytes) c b (omega arith) (block-bounded (keptAtoms d) (bytesOf d))) (λ v f.
+      then-bounded c (kind (keptAtoms d) (bytesOf d)) _ (h e) (λ v f.
       if-bounded c (ltb room (length (bytesOf d))) 9 0 (omega arith)))
+
+  molfile-bounded : (room : ℕ) → Bounded c (molfileReply d room)
+  molfile-bounded = file-bounded blockReply (λ e. wider (suc mostBytes) c (blockReply (keptAtoms d) (bytesOf d)) (omega arith) (block-bounded (keptAtoms d) (bytesOf d)))
 
   -- as one molecule: the place of a bond is at most how many there are
   whole-bounded : 2 * most < c → (room : ℕ) → Bounded c (wholeFileReply d room)
-  unfolding wholeFileReply moleculeReply
-  whole-bounded wide room =
+  unfolding moleculeReply
+  whole-bounded wide =
       let n = keptAtoms d in
       let xs = bytesOf d in
-      then-bounded c (linesReply d) _ lines-bounded (λ u e.
+      file-bounded moleculeReply (λ e.
       then-bounded c (refuseIf (eqb n 0) 1 0) _ (if-bounded c (eqb n 0) 1 0 (omega arith)) (λ v f.
-      then-bounded c (bondsReply n [] (bondsOf xs)) _ (bonds-bounded n c [] (bondsOf xs) (omega (arith, fewer-bonds xs, bytes-room d e))) (λ w g.
-      if-bounded c (ltb room (length xs)) 9 0 (omega arith))))
+      bonds-bounded n c [] (bondsOf xs) (omega (arith, fewer-bonds xs, bytes-room d e))))
 
 -- WHATEVER THE TEXT: 0 exactly where nothing is refused; else the refusal's number, and its place as far as 56 bits go
 pub molfile-read-tells : (d : List ℕ) (room entries : ℕ) → TellsText (readReply d room entries)

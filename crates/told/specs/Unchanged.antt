@@ -12,7 +12,7 @@ use Rattle.records.specs.declared.Sheet.{Sheet}
 use Rattle.shares.specs.Reply.{sharesReply, sharesEntries}
 use Rattle.shares.specs.Examples as shares
 use Rattle.szeged.specs.Reply.{szegedReply, filledTerms, szegedEntries}
-use Rattle.molfile.specs.Molfile.{keptReply, molfileReply}
+use Rattle.molfile.specs.Molfile.{linesReply, molfileReply}
 use Rattle.molfile.specs.Said.{filledBonds, molfileBytes, keptNumbers}
 use Rattle.wholefile.specs.Whole.{wholeFileReply}
 use Rattle.wholefile.specs.Said.{wholeNumbers}
@@ -131,8 +131,8 @@ bonds-kept x xs out r e = rw e
 pub molfile-unchanged : (d out : List ℕ) (r : Refusal) → molfileReply d (length out) ≡ refused r → molfileBytes d out ≡ out
 molfile-unchanged d out r e = bonds-kept (molfileReply d (length out)) _ out r e
 
-pub kept-unchanged : (d out : List ℕ) (r : Refusal) → keptReply d (length out) ≡ refused r → keptNumbers d out ≡ out
-kept-unchanged d out r e = bonds-kept (keptReply d (length out)) _ out r e
+pub kept-unchanged : (d out : List ℕ) (r : Refusal) → linesReply d ≡ refused r → keptNumbers d out ≡ out
+kept-unchanged d out r e = bonds-kept (linesReply d) _ out r e
 
 pub whole-unchanged : (d out : List ℕ) (r : Refusal) → wholeFileReply d (length out) ≡ refused r → wholeNumbers d out ≡ out
 whole-unchanged d out r e = bonds-kept (wholeFileReply d (length out)) _ out r e

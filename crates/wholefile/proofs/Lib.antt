@@ -1,4 +1,3 @@
 -- Laws that the proofs cite.
 pub mod Looking
 pub mod Listing
-pub mod Chains

@@ -1,19 +1,17 @@
 -- Laws. What the bonds before say of two atoms, bond by bond. Assumes nothing.
 use Prim.Native.Nat.{ℕ, _+_, _*_, _≤_, _<_}
 use mathlib.Core.Bool.{Bool, true, false, _||_, cond}
-use mathlib.Core.List.{List, _++_}
-use mathlib.Core.Path.{_≡_, refl, sym, _∙_, ap}
+use mathlib.Core.List.{List}
+use mathlib.Core.Path.{_≡_, refl, sym, _∙_}
 use native.Mathlib.Omega.{arith}
 use native.Mathlib.Numerals.{add-one}
 use lib.Dec.{eqb, leb}
 use borrow.Author.Tests.{le-leb, lt-leb}
-use lib.ListN.{length, getD, set, take, drop}
-use lib.Seq.{sets, take-all}
+use lib.ListN.{getD}
 use Rattle.graph.specs.Graph.{joins, anyJoins, degree}
 use Rattle.block.specs.Block.{limit}
 use Rattle.block.specs.Numbered.{bondAt}
 use Rattle.block.proofs.Reading.{before}
-use Rattle.text.proofs.Putting.{one-more, at-front}
 use Rattle.wholefile.specs.Said.{seenBy}
 
 -- what the first k bonds say
@@ -57,13 +55,3 @@ full {r} {d} e l = le-leb limit d (omega arith)
 
 pub roomy : {r d : ℕ} → r ≡ d → r < limit → leb limit d ≡ false
 roomy {r} {d} e l = lt-leb limit d (omega arith)
-
--- numbers put one by one
-pub put-more : (xs out₀ out : List ℕ) (i : ℕ) → i < length xs → out ≡ sets out₀ 0 (take i xs) → set out i (getD xs i 0) ≡ sets out₀ 0 (take (i + 1) xs)
-put-more xs out₀ out i l p = one-more out₀ 0 xs out i i (omega arith) l p
-
-pub put-all : (xs out₀ out : List ℕ) (i : ℕ) → length xs ≤ i → out ≡ sets out₀ 0 (take i xs) → out ≡ sets out₀ 0 xs
-put-all xs out₀ out i l p = p ∙ ap (sets out₀ 0) (take-all i xs l)
-
-pub put-front : (xs out after : List ℕ) → after ≡ sets out 0 xs → length xs ≤ length out → after ≡ xs ++ drop (length xs) out
-put-front xs out after p h = at-front {before = out} {after = after} {text = xs} {r = length xs} (record { bytes = p; end = omega arith }) h .1

@@ -6,7 +6,7 @@ use Rattle.graph.specs.Graph.{joins, anyJoins, degree}
 use Rattle.reply.specs.Read.{Read, refused, read}
 use Rattle.block.specs.Block.{bondsOf, bondFault, bondsReply}
 use Rattle.text.specs.Text.{ascii, allDigits, isNumber, valueFrom, numberOf, untilFeed, lineEnd, hasCarriage, lineChars, nextLine, laterLine, startsWith, lineStarts}
-use Rattle.molfile.specs.Molfile.{bondOfLine, hydrogenIn, symbolAt, oneH, hydrogenAt, inTurn, lineReply, numbersReply, bondReply, endLineReply, linesReply, passingBelow, isDropped, keptBytes, keptAtoms, bytesOf}
+use Rattle.molfile.specs.Molfile.{bondOfLine, hydrogenIn, symbolAt, oneH, hydrogenAt, inTurn, lineReply, numbersReply, bondReply, endLineReply, linesReply, passingBelow, isDropped, keptBytes, keptAtoms, bytesOf, fileReply}
 use Rattle.molfile.specs.Examples.{methane, file, carbon, hydrogen}
 use Rattle.wholefile.specs.Whole.{moleculeReply, wholeFileReply}
 
@@ -21,7 +21,7 @@ says d (read u) = yes (keptAtoms d) (bytesOf d)
 
 -- into room for so many numbers
 unfoldable pub told : List ℕ → ℕ → Told
-unfolding says joins anyJoins degree bondsOf bondFault bondsReply allDigits isNumber valueFrom numberOf untilFeed lineEnd hasCarriage lineChars nextLine laterLine startsWith lineStarts bondOfLine hydrogenIn symbolAt oneH hydrogenAt inTurn lineReply numbersReply bondReply endLineReply linesReply passingBelow isDropped keptBytes moleculeReply wholeFileReply
+unfolding says joins anyJoins degree bondsOf bondFault bondsReply allDigits isNumber valueFrom numberOf untilFeed lineEnd hasCarriage lineChars nextLine laterLine startsWith lineStarts bondOfLine hydrogenIn symbolAt oneH hydrogenAt inTurn lineReply numbersReply bondReply endLineReply linesReply passingBelow isDropped keptBytes moleculeReply fileReply
 told d room = says d (wholeFileReply d room)
 
 -- so many carbons

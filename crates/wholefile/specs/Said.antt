@@ -1,16 +1,14 @@
 -- Definitions. What is lent after reading, and what bonds say of two atoms.
 use Prim.Native.Nat.{ℕ}
 use mathlib.Core.List.{List}
-use lib.ListN.{length}
 use Rattle.graph.specs.Graph.{Bond, anyJoins, degree}
-use Rattle.molfile.specs.Molfile.{bytesOf}
-use Rattle.molfile.specs.Said.{filledBonds}
-use Rattle.wholefile.specs.Whole.{wholeFileReply}
+use Rattle.molfile.specs.Said.{fileNumbers}
+use Rattle.wholefile.specs.Whole.{moleculeReply}
 use Rattle.wholefile.specs.declared.Seen.{Seen}
 
 -- the lent numbers afterwards: those of the kept bonds, and later ones as they were; a refusal changes none
 abbrev pub wholeNumbers : List ℕ → List ℕ → List ℕ
-wholeNumbers d out = filledBonds (wholeFileReply d (length out)) (bytesOf d) out
+wholeNumbers = fileNumbers moleculeReply
 
 -- what bonds say of two atoms
 abbrev pub seenBy : List Bond → ℕ → ℕ → Seen

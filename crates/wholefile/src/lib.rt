@@ -11,6 +11,7 @@ ghost use Rattle.reply.specs.Read.{saidReply};
 ghost use Rattle.block.specs.Block.{bondsOf, bondFault, bondsReply};
 ghost use Rattle.block.specs.Numbered.{bondAt};
 ghost use Rattle.block.proofs.Reading.{before};
+ghost use Rattle.molfile.specs.Molfile.{fittingReply};
 ghost use Rattle.molfile.specs.Said.{saidAnswer, saidMolfile, filledBonds};
 ghost use Rattle.wholefile.specs.Whole.{moleculeReply, wholeFileReply};
 ghost use Rattle.wholefile.specs.Said.{wholeNumbers, seenBy};
@@ -22,6 +23,7 @@ use reply::CountsReply;
 use reply::Refusal;
 use reply::Reply;
 use reply::is_outside;
+use reply::refused;
 use reply::wide_two;
 
 // What the bonds before say of two atoms: whether one of them joins these, and how many ends each has.
@@ -137,20 +139,24 @@ fn put(out: &mut [u16], xs: &[u16])
     }
 }
 
-// The answer for n atoms and the bonds between them: 1 for no atom, 3 to 6, 9 for a lent output too short, or the numbers of the bonds.
-fn answer(n: usize, xs: &[u16], out: &mut [u16]) -> CountsReply
-    ensures reply { λ r. ⌜ r ≡ saidAnswer n (now (xs .entry)) (moleculeReply n (now (xs .entry)) (length (now (out .entry)))) ⌝ }
-    ensures numbers { λ _. ⌜
-        now (out .exit) ≡ filledBonds (moleculeReply n (now (xs .entry)) (length (now (out .entry)))) (now (xs .entry)) (now (out .entry))
-        ⌝ }
+// The refusals of n atoms and the bonds between them: 1 for no atom, then 3 to 6.
+fn molecule(n: usize, xs: &[u16]) -> Reply
+    ensures { λ r. ⌜ r ≡ saidReply (moleculeReply n (now (xs .entry))) ⌝ }
 {
     if n == 0 {
-        return CountsReply::Refused(Refusal {
-            number: 1,
-            place: 0,
-        });
+        return refused(1);
     }
-    let reply = bonds(n, xs);
+    bonds(n, xs)
+}
+
+// The answer for n atoms and the bonds between them: their refusals, 9 for a lent output too short, or the numbers of the bonds.
+fn answer(n: usize, xs: &[u16], out: &mut [u16]) -> CountsReply
+    ensures reply { λ r. ⌜ r ≡ saidAnswer n (now (xs .entry)) (fittingReply moleculeReply n (now (xs .entry)) (length (now (out .entry)))) ⌝ }
+    ensures numbers { λ _. ⌜
+        now (out .exit) ≡ filledBonds (fittingReply moleculeReply n (now (xs .entry)) (length (now (out .entry)))) (now (xs .entry)) (now (out .entry))
+        ⌝ }
+{
+    let reply = molecule(n, xs);
     match reply {
         Reply::Refused(r) => CountsReply::Refused(r),
         Reply::Fine => {

@@ -1,17 +1,18 @@
 -- `blockfile::narrow` meets its contract. The loop's invariant: the last bytes of the first i numbers are put.
 use Prim.Native.Nat.{_-_, _≤_}
+use mathlib.Core.List.{map}
 use mathlib.Core.Path.{_≡_, refl, _∙_}
 use lib.ListN.{length, take, length-set}
 use lib.Seq.{sets}
 use native.Mathlib.Omega.{arith}
 use borrow.Author.Needs.{needs}
-use Rattle.molfile.specs.Work.{lows}
-use Rattle.molfile.proofs.Lows.{narrow-more, narrow-all}
+use Rattle.blockfile.specs.Bytes.{low}
+use Rattle.blockfile.proofs.Lows.{narrow-more, narrow-all}
 use Rattle.blockfile.proofs.narrow.Statement.{statement}
 use Rattle.blockfile.proofs.narrow.Tie as tie
 
 abbrev Inv-loop : tie.InvT-loop
-Inv-loop xs out₀ i₀ out i = (i ≤ length xs) × (length out ≡ length out₀) × (out ≡ sets out₀ 0 (take i (lows xs)))
+Inv-loop xs out₀ i₀ out i = (i ≤ length xs) × (length out ≡ length out₀) × (out ≡ sets out₀ 0 (take i (map low xs)))
 
 abbrev μ-loop : tie.MeasureT-loop
 μ-loop xs out₀ i₀ out i = length xs - i

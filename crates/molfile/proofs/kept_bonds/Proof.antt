@@ -1,11 +1,10 @@
 -- `molfile::kept_bonds` meets its contract: the counts, then the rest.
-use mathlib.Core.Path.{sym, ap, _∙_}
-use lib.ListN.{length}
-use Rattle.molfile.specs.Molfile.{countsPlace, bytesOf}
-use Rattle.molfile.specs.Said.{saidKept}
+use mathlib.Core.Path.{sym, _∙_}
+use Rattle.molfile.specs.Molfile.{countsPlace}
 use Rattle.molfile.specs.Work.{countsReply}
 use Rattle.molfile.proofs.Turns.{numbers-refused, numbers-read}
-use Rattle.molfile.proofs.Chains.{lines-no-counts, kept-no-line, stays}
+use Rattle.molfile.proofs.Chains.{lines-no-counts}
+use Rattle.molfile.proofs.Replies.{refused-kept}
 use borrow.Author.Needs.{needs}
 use Rattle.molfile.proofs.kept_bonds.Statement.{statement}
 use Rattle.molfile.proofs.kept_bonds.Tie as tie
@@ -26,8 +25,7 @@ returns c =
     let a = start b .args in
     let d = a .text .now in
     let g = c .before .seen .given in
-    let e = kept-no-line d (length (a .out .now)) (g .0 .0) (lines-no-counts d (g .0 .0) (numbers-refused d (countsPlace d) (countsReply d) (sym (b .counts-line .ensures) ∙ g .1))) in
-    (sym (ap (saidKept d) e), sym (stays (bytesOf d) (a .out .now) e))
+    refused-kept d (a .out .now) (lines-no-counts d (g .0 .0) (numbers-refused d (countsPlace d) (countsReply d) (sym (b .counts-line .ensures) ∙ g .1)))
 
 pub kept-bonds-spec : {M : Type 1} → statement M
 kept-bonds-spec =

@@ -38,6 +38,9 @@ mul-keys c = omega (arith, p-places (c .before .before .before .before .before .
 array-read-keys : tie.Need-array-read-keys Inv-loop μ-loop
 array-read-keys c = omega (arith, p-places (c .before .before .before .before .before .before .before .before .before .before .before .before .before .before .before .pre) (c .before .before .before .before .before .before .before .before .before .before .before .before .loop .inv) (c .before .before .before .before .before .before .before .before .before .before .if1 .taken))
 
+cast-keys : tie.Need-cast-keys Inv-loop μ-loop
+cast-keys c = omega (arith, in-places (c .before .before .before .before .before .before .before .before .before .before .before .before .before .before .before .pre) (c .before .before .before .before .before .before .before .before .before .before .before .before .loop .inv))
+
 add-keys : tie.Need-add-keys Inv-loop μ-loop
 add-keys c = omega (arith, in-places (c .before .before .before .before .before .before .before .before .before .before .before .before .before .before .before .pre) (c .before .before .before .before .before .before .before .before .before .before .before .before .loop .inv))
 
@@ -77,30 +80,30 @@ loop-again-2 c = running-next (c .before .before .before .before .before .pre) (
 mul-t15 : tie.Need-mul-t15 Inv-loop μ-loop
 mul-t15 c = omega (arith, root-places (c .before .before .before .before .pre) (c .before .loop .inv))
 
-array-read-t43 : tie.Need-array-read-t43 Inv-loop μ-loop
-array-read-t43 c = omega (arith, root-places (c .before .before .before .before .pre) (c .before .loop .inv))
+array-read-t44 : tie.Need-array-read-t44 Inv-loop μ-loop
+array-read-t44 c = omega (arith, root-places (c .before .before .before .before .pre) (c .before .loop .inv))
 
-mul-t44 : tie.Need-mul-t44 Inv-loop μ-loop
-mul-t44 c = omega (arith, root-places (c .before .before .before .before .pre) (c .before .loop .inv))
+mul-t45 : tie.Need-mul-t45 Inv-loop μ-loop
+mul-t45 c = omega (arith, root-places (c .before .before .before .before .pre) (c .before .loop .inv))
 
-array-read-t47 : tie.Need-array-read-t47 Inv-loop μ-loop
-array-read-t47 c = omega (arith, root-places (c .before .before .before .before .pre) (c .before .loop .inv))
+array-read-t48 : tie.Need-array-read-t48 Inv-loop μ-loop
+array-read-t48 c = omega (arith, root-places (c .before .before .before .before .pre) (c .before .loop .inv))
 
-mul-t48 : tie.Need-mul-t48 Inv-loop μ-loop
-mul-t48 c = omega (arith, root-places (c .before .before .before .before .pre) (c .before .loop .inv))
+mul-t49 : tie.Need-mul-t49 Inv-loop μ-loop
+mul-t49 c = omega (arith, root-places (c .before .before .before .before .pre) (c .before .loop .inv))
 
-array-read-t51 : tie.Need-array-read-t51 Inv-loop μ-loop
-array-read-t51 c = omega (arith, root-places (c .before .before .before .before .pre) (c .before .loop .inv))
+array-read-t52 : tie.Need-array-read-t52 Inv-loop μ-loop
+array-read-t52 c = omega (arith, root-places (c .before .before .before .before .pre) (c .before .loop .inv))
 
-add-t52 : tie.Need-add-t52 Inv-loop μ-loop
-add-t52 c = omega (arith, atoms-fit (c .before .before .before .before .pre) (c .before .loop .inv) (c .loop-test .left))
+add-t53 : tie.Need-add-t53 Inv-loop μ-loop
+add-t53 c = omega (arith, atoms-fit (c .before .before .before .before .pre) (c .before .loop .inv) (c .loop-test .left))
 
 returns : tie.Need-returns Inv-loop μ-loop
 returns c = answered (c .before .before .before .before .pre) (c .before .loop .inv) (c .loop-test .left)
 
 pub recursion-spec : {M : Type 1} → statement M
 recursion-spec =
-    tie.close (tie.spec Inv-loop μ-loop keyed-requires loop-holds mul-key array-read-key (λ c. search needs) (λ c. search needs) merge-requires
-    (λ c. search needs) (λ c. search needs) merge-requires-2 mul-keys array-read-keys add-keys sub-keys mul-keys-2 array-write-keys mul-keys-3
-    array-write-keys-2 sub-left loop-less loop-again add-i loop-less-2 loop-again-2 mul-t15 array-read-t43 mul-t44 array-read-t47 mul-t48 array-read-t51 add-t52
-    returns)
+    tie.close (tie.spec Inv-loop μ-loop keyed-requires loop-holds mul-key array-read-key (λ c. search needs) (λ c. search needs) (λ c. search needs)
+    merge-requires (λ c. search needs) (λ c. search needs) merge-requires-2 mul-keys array-read-keys cast-keys add-keys sub-keys mul-keys-2 array-write-keys
+    mul-keys-3 array-write-keys-2 sub-left loop-less loop-again add-i loop-less-2 loop-again-2 mul-t15 array-read-t44 mul-t45 array-read-t48 mul-t49
+    array-read-t52 add-t53 returns)

@@ -4,6 +4,7 @@ use native.Mathlib.Omega.{arith}
 use denote.Ref.{now}
 use lib.ListN.{length}
 use borrow.Author.Needs.{needs}
+use Rattle.block.specs.Block.{blockReply}
 use Rattle.molfile.specs.Molfile.{bytesOf, molfileReply}
 use Rattle.calls.proofs.Laws.{counts-short, counts-beside}
 use Rattle.text_calls.proofs.MolfileReplies.{any-room, bonds-filled}
@@ -16,7 +17,7 @@ returns c =
     let s = m .before .before .before .before .before .before in
     let d = now (s .args .text) in
     let out = now (s .args .bonds) in
-    counts-short (molfileReply d (length out)) _ _ out (now (s .args .counts)) _ (c .before .before .give-counts .ensures) (molfileReply d 1) (omega (arith, m .before .before .if1 .taken)) (any-room d 1 (length out)) (m .read .ensures .0)
+    counts-short (molfileReply d (length out)) _ _ out (now (s .args .counts)) _ (c .before .before .give-counts .ensures) (molfileReply d 1) (omega (arith, m .before .before .if1 .taken)) (any-room blockReply d 1 (length out)) (m .read .ensures .0)
 
 returns-2 : tie.Need-returns-2
 returns-2 c =

@@ -5,9 +5,9 @@ use denote.Ref.{now}
 use lib.ListN.{length}
 use borrow.Author.Needs.{needs}
 use Rattle.molfile.specs.Molfile.{bytesOf}
-use Rattle.wholefile.specs.Whole.{wholeFileReply}
+use Rattle.wholefile.specs.Whole.{moleculeReply, wholeFileReply}
 use Rattle.calls.proofs.Laws.{counts-short, counts-beside}
-use Rattle.text_calls.proofs.MolfileReplies.{any-room-whole, bonds-filled}
+use Rattle.text_calls.proofs.MolfileReplies.{any-room, bonds-filled}
 use Rattle.text_calls.proofs.read_whole.Statement.{statement}
 use Rattle.text_calls.proofs.read_whole.Tie as tie
 
@@ -17,7 +17,7 @@ returns c =
     let s = m .before .before .before .before .before .before in
     let d = now (s .args .text) in
     let out = now (s .args .bonds) in
-    counts-short (wholeFileReply d (length out)) _ _ out (now (s .args .counts)) _ (c .before .before .give-counts .ensures) (wholeFileReply d 1) (omega (arith, m .before .before .if1 .taken)) (any-room-whole d 1 (length out)) (m .read-whole .ensures .0)
+    counts-short (wholeFileReply d (length out)) _ _ out (now (s .args .counts)) _ (c .before .before .give-counts .ensures) (wholeFileReply d 1) (omega (arith, m .before .before .if1 .taken)) (any-room moleculeReply d 1 (length out)) (m .read-whole .ensures .0)
 
 returns-2 : tie.Need-returns-2
 returns-2 c =

@@ -1,11 +1,11 @@
 -- `wholefile::put` meets its contract. The loop's invariant: the first i numbers are put.
 use Prim.Native.Nat.{_-_, _≤_}
-use mathlib.Core.Path.{_≡_, refl, _∙_}
+use mathlib.Core.Path.{_≡_, refl, ap, _∙_}
 use lib.ListN.{length, getD, take, length-set}
-use lib.Seq.{sets}
+use lib.Seq.{sets, take-all}
 use native.Mathlib.Omega.{arith}
 use borrow.Author.Needs.{needs}
-use Rattle.wholefile.proofs.Looking.{put-more, put-all}
+use Rattle.text.proofs.Putting.{one-more}
 use Rattle.wholefile.proofs.put.Statement.{statement}
 use Rattle.wholefile.proofs.put.Tie as tie
 
@@ -24,14 +24,14 @@ loop-again c =
     let a = c .before .before .before .args in (
       omega arith,
       length-set (l .out) (l .i) (getD (a .xs .now) (l .i) 0) ∙ l .inv .1,
-      put-more (a .xs .now) (a .out .now) (l .out) (l .i) (omega arith) (l .inv .2),
+      one-more (a .out .now) 0 (a .xs .now) (l .out) (l .i) (l .i) (omega arith) (omega arith) (l .inv .2),
     )
 
 returns : tie.Need-returns Inv-loop μ-loop
 returns c =
     let l = c .before .loop in
     let a = c .before .before .args in
-    put-all (a .xs .now) (a .out .now) (l .out) (l .i) (omega arith) (l .inv .2)
+    l .inv .2 ∙ ap (sets (a .out .now) 0) (take-all (l .i) (a .xs .now) (omega arith))
 
 pub put-spec : {M : Type 1} → statement M
 put-spec =
