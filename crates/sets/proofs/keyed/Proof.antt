@@ -12,12 +12,6 @@ Inv-loop bonds root keys₀ m k₀ keys k = (k ≤ m) × Keying bonds root k key
 abbrev μ-loop : tie.MeasureT-loop
 μ-loop bonds root keys₀ m k₀ keys k = m - k
 
-mul-keys-2 : tie.Need-mul-keys-2 Inv-loop μ-loop
-mul-keys-2 c = omega (arith, c .before .pre .start)
-
-array-write-keys : tie.Need-array-write-keys Inv-loop μ-loop
-array-write-keys c = omega (arith, c .before .pre .start)
-
 loop-holds : tie.Need-loop-holds Inv-loop μ-loop
 loop-holds c = (omega arith, keying-start _ _ (c .before .pre .start))
 
@@ -44,6 +38,6 @@ returns c = keying-end (c .before .loop .inv .1) (c .loop-test .left)
 
 pub keyed-spec : {M : Type 1} → statement M
 keyed-spec =
-    tie.close (tie.spec Inv-loop μ-loop (λ c. omega arith) mul-keys-2 array-write-keys loop-holds (λ c. omega arith) (λ c. omega arith) (λ c κs. search needs)
-    (λ c. omega arith) (λ c. omega arith) (λ c. omega arith) (λ c κs. search needs) (λ c. search needs) add-requires (λ c. search needs) add-requires-2
-    (λ c. omega arith) (λ c. omega arith) loop-again returns)
+    tie.close (tie.spec Inv-loop μ-loop (λ c. omega arith) (λ c. omega arith) (λ c. search needs) loop-holds (λ c. omega arith) (λ c. omega arith)
+    (λ c κs. search needs) (λ c. omega arith) (λ c. omega arith) (λ c. omega arith) (λ c κs. search needs) (λ c. search needs) add-requires (λ c. search needs)
+    add-requires-2 (λ c. omega arith) (λ c. omega arith) loop-again returns)

@@ -3,7 +3,7 @@
 use Prim.Native.Nat.{_+_, _-_}
 use native.Mathlib.Omega.{arith}
 use borrow.Author.Needs.{needs}
-use Rattle.sets.proofs.Trees.{few, listed}
+use Rattle.sets.proofs.Trees.{listed}
 use Rattle.sets.proofs.Running.{Running, running-start, in-places, p-places, store-bonds, store-atoms, key-enough, some-left, running-merged, more-atoms, running-next, root-places, atoms-fit, answered}
 use Rattle.sets.proofs.recursion.Statement.{statement}
 use Rattle.sets.proofs.recursion.Tie as tie
@@ -20,9 +20,6 @@ keyed-requires c κs = listed (c .before .pre)
 loop-holds : tie.Need-loop-holds Inv-loop μ-loop
 loop-holds c = running-start (c .before .before .pre) (c .keyed .ensures)
 
-mul-key : tie.Need-mul-key Inv-loop μ-loop
-mul-key c = omega (arith, in-places (c .before .before .before .before .pre) (c .before .loop .inv))
-
 array-read-key : tie.Need-array-read-key Inv-loop μ-loop
 array-read-key c = omega (arith, in-places (c .before .before .before .before .pre) (c .before .loop .inv))
 
@@ -31,9 +28,6 @@ merge-requires c κs = store-bonds (c .before .before .before .before .before .b
 
 merge-requires-2 : tie.Need-merge-requires-2 Inv-loop μ-loop
 merge-requires-2 c κs = store-atoms (c .before .before .before .before .before .before .before .before .before .before .before .before .pre) (c .before .before .before .before .before .before .before .before .before .loop .inv) (c .before .before .before .before .before .before .before .if1 .taken)
-
-mul-keys : tie.Need-mul-keys Inv-loop μ-loop
-mul-keys c = omega (arith, p-places (c .before .before .before .before .before .before .before .before .before .before .before .before .before .before .before .pre) (c .before .before .before .before .before .before .before .before .before .before .before .before .loop .inv) (c .before .before .before .before .before .before .before .before .before .before .if1 .taken))
 
 array-read-keys : tie.Need-array-read-keys Inv-loop μ-loop
 array-read-keys c = omega (arith, p-places (c .before .before .before .before .before .before .before .before .before .before .before .before .before .before .before .pre) (c .before .before .before .before .before .before .before .before .before .before .before .before .loop .inv) (c .before .before .before .before .before .before .before .before .before .before .if1 .taken))
@@ -47,14 +41,8 @@ add-keys c = omega (arith, in-places (c .before .before .before .before .before 
 sub-keys : tie.Need-sub-keys Inv-loop μ-loop
 sub-keys c = key-enough (c .before .before .before .before .before .before .before .before .before .before .before .before .before .before .before .pre) (c .before .before .before .before .before .before .before .before .before .before .before .before .loop .inv) (c .before .before .before .before .before .before .before .before .before .before .if1 .taken)
 
-mul-keys-2 : tie.Need-mul-keys-2 Inv-loop μ-loop
-mul-keys-2 c = omega (arith, p-places (c .before .before .before .before .before .before .before .before .before .before .before .before .before .before .before .pre) (c .before .before .before .before .before .before .before .before .before .before .before .before .loop .inv) (c .before .before .before .before .before .before .before .before .before .before .if1 .taken))
-
 array-write-keys : tie.Need-array-write-keys Inv-loop μ-loop
 array-write-keys c = omega (arith, p-places (c .before .before .before .before .before .before .before .before .before .before .before .before .before .before .before .pre) (c .before .before .before .before .before .before .before .before .before .before .before .before .loop .inv) (c .before .before .before .before .before .before .before .before .before .before .if1 .taken))
-
-mul-keys-3 : tie.Need-mul-keys-3 Inv-loop μ-loop
-mul-keys-3 c = omega (arith, in-places (c .before .before .before .before .before .before .before .before .before .before .before .before .before .before .before .pre) (c .before .before .before .before .before .before .before .before .before .before .before .before .loop .inv))
 
 array-write-keys-2 : tie.Need-array-write-keys-2 Inv-loop μ-loop
 array-write-keys-2 c = omega (arith, in-places (c .before .before .before .before .before .before .before .before .before .before .before .before .before .before .before .pre) (c .before .before .before .before .before .before .before .before .before .before .before .before .loop .inv))
@@ -62,14 +50,8 @@ array-write-keys-2 c = omega (arith, in-places (c .before .before .before .befor
 sub-left : tie.Need-sub-left Inv-loop μ-loop
 sub-left c = some-left (c .before .before .before .before .before .before .before .before .before .before .before .before .before .before .before .pre) (c .before .before .before .before .before .before .before .before .before .before .before .before .loop .inv) (c .before .before .before .before .before .before .before .before .before .before .if1 .taken)
 
-loop-less : tie.Need-loop-less Inv-loop μ-loop
-loop-less c = omega (arith, some-left (c .before .before .before .before .before .before .before .before .before .before .before .before .before .before .before .pre) (c .before .before .before .before .before .before .before .before .before .before .before .before .loop .inv) (c .before .before .before .before .before .before .before .before .before .before .if1 .taken))
-
 loop-again : tie.Need-loop-again Inv-loop μ-loop
 loop-again c = running-merged (c .before .before .before .before .before .before .before .before .before .before .before .before .before .before .before .pre) (c .before .before .before .before .before .before .before .before .before .before .before .before .loop .inv) (c .before .before .before .before .before .before .before .before .before .before .if1 .taken) (c .before .before .before .before .before .before .before .merge .ensures) (c .before .before .merge2 .ensures)
-
-add-i : tie.Need-add-i Inv-loop μ-loop
-add-i c = omega (arith, c .before .before .loop .inv .seen, few (c .before .before .before .before .before .pre))
 
 loop-less-2 : tie.Need-loop-less-2 Inv-loop μ-loop
 loop-less-2 c = omega (arith, more-atoms (c .before .before .before .before .before .pre) (c .before .before .loop .inv) (c .if1 .left) (c .before .loop-test .taken))
@@ -103,7 +85,7 @@ returns c = answered (c .before .before .before .before .pre) (c .before .loop .
 
 pub recursion-spec : {M : Type 1} → statement M
 recursion-spec =
-    tie.close (tie.spec Inv-loop μ-loop keyed-requires loop-holds mul-key array-read-key (λ c. search needs) (λ c. search needs) (λ c. search needs)
-    merge-requires (λ c. search needs) (λ c. search needs) merge-requires-2 mul-keys array-read-keys cast-keys add-keys sub-keys mul-keys-2 array-write-keys
-    mul-keys-3 array-write-keys-2 sub-left loop-less loop-again add-i loop-less-2 loop-again-2 mul-t15 array-read-t44 mul-t45 array-read-t48 mul-t49
-    array-read-t52 add-t53 returns)
+    tie.close (tie.spec Inv-loop μ-loop keyed-requires loop-holds (λ c. omega arith) array-read-key (λ c. search needs) (λ c. search needs) (λ c. search needs)
+    merge-requires (λ c. search needs) (λ c. search needs) merge-requires-2 (λ c. omega arith) array-read-keys cast-keys add-keys sub-keys (λ c. omega arith)
+    array-write-keys (λ c. omega arith) array-write-keys-2 sub-left (λ c. omega arith) loop-again (λ c. omega arith) loop-less-2 loop-again-2 mul-t15
+    array-read-t44 mul-t45 array-read-t48 mul-t49 array-read-t52 add-t53 returns)
