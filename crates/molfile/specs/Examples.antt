@@ -1,5 +1,5 @@
 -- Laws. Methane, and a file for each refusal with its place, by computing.
-use Prim.Native.Nat.{ℕ, _+_}
+use Prim.Native.Nat.{ℕ}
 use mathlib.Core.Path.{_≡_, refl}
 use mathlib.Core.List.{List, [], _∷_, _++_}
 use Rattle.graph.specs.Graph.{joins, anyJoins, bonded, anyAtom, reaches, firstFrom, distance, allAtoms, connected, degree}

@@ -59,9 +59,6 @@ pub made-read : {A B : Type 0} (x : Read A) (f : A → B) {b : B} → (x then λ
 made-read (refused q) f e = absurd (not-read e)
 made-read (read a) f e = (a, refl, cc)
 
-pub counted-refused : {A : Type 0} (x : Read A) (f : A → Counts) {r : Refusal} → saidCounts (x then λ a. read (f a)) ≡ counts.Refused r → x ≡ refused r
-counted-refused x f e = made-refused x f (sym (counts-told _ _ (sym e)))
-
 pub counted-read : {A : Type 0} (x : Read A) (f : A → Counts) {c : Counts} → saidCounts (x then λ a. read (f a)) ≡ counts.Of c → (a : A) × (x ≡ read a) × (f a ≡ c)
 counted-read x f e = made-read x f (sym (counts-told _ _ (sym e)))
 
