@@ -35,7 +35,7 @@ struct Weight {
 const PLACES: usize = ATOMS + 1;
 
 // What a bond adds to the key of an atom, beside the number of its other end. So a key below twice that, and not below it, tells of one bond, and to which atom.
-const UNIT: u16 = 256;
+const UNIT: u32 = 256;
 
 // A child with the weight (u, v) is merged into an atom with the weight (x, y).
 fn combine(kind: bool, x: u64, y: u64, u: u64, v: u64) -> Weight
@@ -68,19 +68,19 @@ fn merge(kind: bool, xs: &mut [u64], ys: &mut [u64], u: usize, v: usize)
 }
 
 // A bond to atom b is added to the key of atom a.
-fn add(keys: &mut [u16], a: usize, b: usize)
+fn add(keys: &mut [u32], a: usize, b: usize)
     requires { ⌜ Adds (now keys) a b ⌝ }
     ensures { λ _. ⌜ now (keys .exit) ≡ added (now (keys .entry)) a b ⌝ }
 {
-    keys[a] = keys[a] + (UNIT + b as u16);
+    keys[a] = keys[a] + (UNIT + b as u32);
 }
 
 // The key of each atom. The root's is that of an atom with two bonds more, so that it never tells of one.
-fn keyed(bonds: &[u8], root: usize) -> [u16; PLACES]
+fn keyed(bonds: &[u8], root: usize) -> [u32; PLACES]
     requires { ⌜ BondsListed (now bonds) root ⌝ }
     ensures { λ r. ⌜ Keyed (now (bonds .entry)) root r ⌝ }
 {
-    let mut keys = [0u16; PLACES];
+    let mut keys = [0u32; PLACES];
     keys[root] = 2 * UNIT;
     let m = bonds.len() / 2;
     let mut k = 0;
@@ -114,7 +114,7 @@ fn recursion(n: usize, bonds: &[u8], root: usize) -> Sets
             let p = (key % UNIT) as usize;
             merge(true, &mut all, &mut free, a, p);
             merge(false, &mut omitted, &mut chosen, a, p);
-            keys[p] = keys[p] - (UNIT + a as u16);
+            keys[p] = keys[p] - (UNIT + a as u32);
             keys[a] = 0;
             left -= 1;
             a = p;

@@ -23,6 +23,9 @@ loop-holds c = running-start (c .before .before .pre) (c .keyed .ensures)
 array-read-key : tie.Need-array-read-key Inv-loop μ-loop
 array-read-key c = omega (arith, in-places (c .before .before .before .before .pre) (c .before .loop .inv))
 
+mul-key : tie.Need-mul-key Inv-loop μ-loop
+mul-key c = omega (arith, array-read-key c)
+
 merge-requires : tie.Need-merge-requires Inv-loop μ-loop
 merge-requires c κs = store-bonds (c .before .before .before .before .before .before .before .pre) (c .before .before .before .before .loop .inv) (c .before .before .if1 .taken)
 
@@ -31,6 +34,9 @@ merge-requires-2 c κs = store-atoms (c .before .before .before .before .before 
 
 array-read-keys : tie.Need-array-read-keys Inv-loop μ-loop
 array-read-keys c = omega (arith, p-places (c .before .before .before .before .before .before .before .before .before .before .before .before .before .before .before .pre) (c .before .before .before .before .before .before .before .before .before .before .before .before .loop .inv) (c .before .before .before .before .before .before .before .before .before .before .if1 .taken))
+
+mul-keys : tie.Need-mul-keys Inv-loop μ-loop
+mul-keys c = omega (arith, array-read-keys c)
 
 cast-keys : tie.Need-cast-keys Inv-loop μ-loop
 cast-keys c = omega (arith, in-places (c .before .before .before .before .before .before .before .before .before .before .before .before .before .before .before .pre) (c .before .before .before .before .before .before .before .before .before .before .before .before .loop .inv))
@@ -44,8 +50,14 @@ sub-keys c = key-enough (c .before .before .before .before .before .before .befo
 array-write-keys : tie.Need-array-write-keys Inv-loop μ-loop
 array-write-keys c = omega (arith, p-places (c .before .before .before .before .before .before .before .before .before .before .before .before .before .before .before .pre) (c .before .before .before .before .before .before .before .before .before .before .before .before .loop .inv) (c .before .before .before .before .before .before .before .before .before .before .if1 .taken))
 
+mul-keys-2 : tie.Need-mul-keys-2 Inv-loop μ-loop
+mul-keys-2 c = omega (arith, array-write-keys c)
+
 array-write-keys-2 : tie.Need-array-write-keys-2 Inv-loop μ-loop
 array-write-keys-2 c = omega (arith, in-places (c .before .before .before .before .before .before .before .before .before .before .before .before .before .before .before .pre) (c .before .before .before .before .before .before .before .before .before .before .before .before .loop .inv))
+
+mul-keys-3 : tie.Need-mul-keys-3 Inv-loop μ-loop
+mul-keys-3 c = omega (arith, array-write-keys-2 c)
 
 sub-left : tie.Need-sub-left Inv-loop μ-loop
 sub-left c = some-left (c .before .before .before .before .before .before .before .before .before .before .before .before .before .before .before .pre) (c .before .before .before .before .before .before .before .before .before .before .before .before .loop .inv) (c .before .before .before .before .before .before .before .before .before .before .if1 .taken)
@@ -85,7 +97,7 @@ returns c = answered (c .before .before .before .before .pre) (c .before .loop .
 
 pub recursion-spec : {M : Type 1} → statement M
 recursion-spec =
-    tie.close (tie.spec Inv-loop μ-loop keyed-requires loop-holds (λ c. omega arith) array-read-key (λ c. search needs) (λ c. search needs) (λ c. search needs)
-    merge-requires (λ c. search needs) (λ c. search needs) merge-requires-2 (λ c. omega arith) array-read-keys cast-keys add-keys sub-keys (λ c. omega arith)
-    array-write-keys (λ c. omega arith) array-write-keys-2 sub-left (λ c. omega arith) loop-again (λ c. omega arith) loop-less-2 loop-again-2 mul-t15
-    array-read-t44 mul-t45 array-read-t48 mul-t49 array-read-t52 add-t53 returns)
+    tie.close (tie.spec Inv-loop μ-loop keyed-requires loop-holds mul-key array-read-key (λ c. search needs) (λ c. search needs) (λ c. search needs)
+    merge-requires (λ c. search needs) (λ c. search needs) merge-requires-2 mul-keys array-read-keys cast-keys add-keys sub-keys mul-keys-2 array-write-keys
+    mul-keys-3 array-write-keys-2 sub-left (λ c. omega arith) loop-again (λ c. omega arith) loop-less-2 loop-again-2 mul-t15 array-read-t44 mul-t45
+    array-read-t48 mul-t49 array-read-t52 add-t53 returns)
