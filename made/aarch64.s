@@ -1351,7 +1351,7 @@
 	stp	x29, x30, [sp, #-48]!           // 16-byte Folded Spill
 	stp	x22, x21, [sp, #16]             // 16-byte Folded Spill
 	stp	x20, x19, [sp, #32]             // 16-byte Folded Spill
-	sub	sp, sp, #2256
+	sub	sp, sp, #2384
 	str	xzr, [sp]
 	movi	v0.2d, #0000000000000000
 	mov	x19, x0
@@ -1413,7 +1413,7 @@
 // %bb.4:                               // %join.10.i
 	movi	v0.2d, #0000000000000000
 	mov	w9, #512                        // =0x200
-	strh	wzr, [sp, #2240]
+	str	wzr, [sp, #2368]
 	str	q0, [sp, #2112]
 	str	q0, [sp, #2128]
 	str	q0, [sp, #2144]
@@ -1422,7 +1422,15 @@
 	str	q0, [sp, #2192]
 	str	q0, [sp, #2208]
 	str	q0, [sp, #2224]
-	strh	w9, [sp, #2114]
+	str	q0, [sp, #2240]
+	str	q0, [sp, #2256]
+	str	q0, [sp, #2272]
+	str	q0, [sp, #2288]
+	str	q0, [sp, #2304]
+	str	q0, [sp, #2320]
+	str	q0, [sp, #2336]
+	str	q0, [sp, #2352]
+	str	w9, [sp, #2116]
 	cbz	x8, .LBB6_7
 // %bb.5:                               // %join.7.i.i.i.preheader
 	add	x9, x21, #1
@@ -1433,14 +1441,14 @@
 	ldurb	w12, [x9, #-1]
 	ldrb	w13, [x9], #2
 	subs	x11, x11, #1
-	ldrh	w14, [x10, w12, uxtw #1]
+	ldr	w14, [x10, w12, uxtw #2]
 	add	w14, w14, w13
 	add	w14, w14, #256
-	strh	w14, [x10, w12, uxtw #1]
-	ldrh	w14, [x10, w13, uxtw #1]
+	str	w14, [x10, w12, uxtw #2]
+	ldr	w14, [x10, w13, uxtw #2]
 	add	w12, w14, w12
 	add	w12, w12, #256
-	strh	w12, [x10, w13, uxtw #1]
+	str	w12, [x10, w13, uxtw #2]
 	b.ne	.LBB6_6
 .LBB6_7:                                // %"sets::keyed.exit.i.i"
 	mov	w9, #1                          // =0x1
@@ -1563,8 +1571,8 @@
 	cbz	x8, .LBB6_12
 .LBB6_10:                               // %join.13.i.i
                                         // =>This Inner Loop Header: Depth=1
-	ldrh	w17, [x10, x16, lsl #1]
-	and	w18, w17, #0xff00
+	ldr	w17, [x10, x16, lsl #2]
+	and	w18, w17, #0xffffff00
 	cmp	w18, #256
 	b.ne	.LBB6_9
 // %bb.11:                              // %then.14.i.i
@@ -1587,17 +1595,17 @@
 	mul	x4, x2, x3
 	ldr	x2, [x12, x16, lsl #3]
 	str	x18, [x14, x17, lsl #3]
-	ldrh	w18, [x10, x17, lsl #1]
+	ldr	w18, [x10, x17, lsl #2]
 	str	xzr, [x14, x16, lsl #3]
 	madd	x0, x2, x3, x1
 	sub	w18, w18, w16
 	str	x4, [x12, x17, lsl #3]
 	sub	w18, w18, #256
 	str	xzr, [x12, x16, lsl #3]
-	strh	w18, [x10, x17, lsl #1]
+	str	w18, [x10, x17, lsl #2]
 	str	x0, [x11, x17, lsl #3]
 	str	x9, [x11, x16, lsl #3]
-	strh	wzr, [x10, x16, lsl #1]
+	str	wzr, [x10, x16, lsl #2]
 	mov	x16, x17
 	cbnz	x8, .LBB6_10
 .LBB6_12:                               // %"sets::recursion.exit.i"
@@ -1619,7 +1627,7 @@
 .LBB6_15:                               // %"sets::count_from.exit"
 	strb	w9, [x19]
 	stp	x10, x8, [x19, #8]
-	add	sp, sp, #2256
+	add	sp, sp, #2384
 	ldp	x20, x19, [sp, #32]             // 16-byte Folded Reload
 	ldp	x22, x21, [sp, #16]             // 16-byte Folded Reload
 	ldp	x29, x30, [sp], #48             // 16-byte Folded Reload

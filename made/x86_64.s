@@ -1468,29 +1468,29 @@
 	pushq	%r13
 	pushq	%r12
 	pushq	%rbx
-	subq	$2216, %rsp                     # imm = 0x8A8
+	subq	$2344, %rsp                     # imm = 0x928
 	movq	%rsi, %r14
 	movq	%rdi, %rbx
 	movq	(%rdx), %r13
 	movq	8(%rdx), %r12
-	movq	%r13, 136(%rsp)
-	movq	%r12, 144(%rsp)
-	leaq	1176(%rsp), %r15
+	movq	%r13, (%rsp)
+	movq	%r12, 8(%rsp)
+	leaq	1040(%rsp), %r15
 	xorl	%ebp, %ebp
 	movl	$512, %edx                      # imm = 0x200
 	movq	%r15, %rdi
 	xorl	%esi, %esi
 	callq	memset@PLT
-	leaq	656(%rsp), %rdi
-	leaq	136(%rsp), %rdx
+	leaq	520(%rsp), %rdi
+	movq	%rsp, %rdx
 	movq	%r14, %rsi
 	movq	%r15, %rcx
 	callq	"block::admit"
-	cmpb	$1, 656(%rsp)
+	cmpb	$1, 520(%rsp)
 	jne	.LBB6_2
 # %bb.1:
-	movq	664(%rsp), %rax
-	movq	672(%rsp), %rcx
+	movq	528(%rsp), %rax
+	movq	536(%rsp), %rcx
 	jmp	.LBB6_17
 .LBB6_2:                                # %join.4.i
 	testq	%r14, %r14
@@ -1501,17 +1501,11 @@
 	cmpq	%r14, %rax
 	jne	.LBB6_6
 # %bb.7:                                # %join.10.i
-	xorps	%xmm0, %xmm0
-	movaps	%xmm0, (%rsp)
-	movaps	%xmm0, 16(%rsp)
-	movaps	%xmm0, 32(%rsp)
-	movaps	%xmm0, 48(%rsp)
-	movaps	%xmm0, 64(%rsp)
-	movaps	%xmm0, 80(%rsp)
-	movaps	%xmm0, 96(%rsp)
-	movaps	%xmm0, 112(%rsp)
-	movw	$0, 128(%rsp)
-	movw	$512, 2(%rsp)                   # imm = 0x200
+	leaq	2084(%rsp), %rdi
+	movl	$260, %edx                      # imm = 0x104
+	xorl	%esi, %esi
+	callq	memset@PLT
+	movl	$512, 2088(%rsp)                # imm = 0x200
 	testq	%r12, %r12
 	je	.LBB6_10
 # %bb.8:                                # %join.7.i.i.i.preheader
@@ -1521,76 +1515,19 @@
                                         # =>This Inner Loop Header: Depth=1
 	movzbl	(%r13,%rax,2), %ecx
 	movzbl	1(%r13,%rax,2), %edx
-	movzwl	%cx, %ecx
-	movzwl	(%rsp,%rcx,2), %esi
-	addw	%dx, %si
+	movl	2084(%rsp,%rcx,4), %esi
+	addl	%edx, %esi
 	addl	$256, %esi                      # imm = 0x100
-	movw	%si, (%rsp,%rcx,2)
-	addw	(%rsp,%rdx,2), %cx
+	movl	%esi, 2084(%rsp,%rcx,4)
+	movl	2084(%rsp,%rdx,4), %esi
+	addl	%esi, %ecx
 	addl	$256, %ecx                      # imm = 0x100
-	movw	%cx, (%rsp,%rdx,2)
+	movl	%ecx, 2084(%rsp,%rdx,4)
 	incq	%rax
 	cmpq	%rax, %r12
 	jne	.LBB6_9
 .LBB6_10:                               # %"sets::keyed.exit.i.i"
 	movaps	.LCPI6_0(%rip), %xmm0           # xmm0 = [1,1]
-	movups	%xmm0, 1192(%rsp)
-	movups	%xmm0, 1176(%rsp)
-	movups	%xmm0, 1224(%rsp)
-	movups	%xmm0, 1208(%rsp)
-	movups	%xmm0, 1256(%rsp)
-	movups	%xmm0, 1240(%rsp)
-	movups	%xmm0, 1288(%rsp)
-	movups	%xmm0, 1272(%rsp)
-	movups	%xmm0, 1320(%rsp)
-	movups	%xmm0, 1304(%rsp)
-	movups	%xmm0, 1352(%rsp)
-	movups	%xmm0, 1336(%rsp)
-	movups	%xmm0, 1384(%rsp)
-	movups	%xmm0, 1368(%rsp)
-	movups	%xmm0, 1416(%rsp)
-	movups	%xmm0, 1400(%rsp)
-	movups	%xmm0, 1448(%rsp)
-	movups	%xmm0, 1432(%rsp)
-	movups	%xmm0, 1480(%rsp)
-	movups	%xmm0, 1464(%rsp)
-	movups	%xmm0, 1512(%rsp)
-	movups	%xmm0, 1496(%rsp)
-	movups	%xmm0, 1544(%rsp)
-	movups	%xmm0, 1528(%rsp)
-	movups	%xmm0, 1576(%rsp)
-	movups	%xmm0, 1560(%rsp)
-	movups	%xmm0, 1608(%rsp)
-	movups	%xmm0, 1592(%rsp)
-	movups	%xmm0, 1640(%rsp)
-	movups	%xmm0, 1624(%rsp)
-	movups	%xmm0, 1672(%rsp)
-	movups	%xmm0, 1656(%rsp)
-	movq	$1, 1688(%rsp)
-	movups	%xmm0, 672(%rsp)
-	movups	%xmm0, 656(%rsp)
-	movups	%xmm0, 704(%rsp)
-	movups	%xmm0, 688(%rsp)
-	movups	%xmm0, 736(%rsp)
-	movups	%xmm0, 720(%rsp)
-	movups	%xmm0, 768(%rsp)
-	movups	%xmm0, 752(%rsp)
-	movups	%xmm0, 800(%rsp)
-	movups	%xmm0, 784(%rsp)
-	movups	%xmm0, 832(%rsp)
-	movups	%xmm0, 816(%rsp)
-	movups	%xmm0, 864(%rsp)
-	movups	%xmm0, 848(%rsp)
-	movups	%xmm0, 896(%rsp)
-	movups	%xmm0, 880(%rsp)
-	movups	%xmm0, 928(%rsp)
-	movups	%xmm0, 912(%rsp)
-	movups	%xmm0, 960(%rsp)
-	movups	%xmm0, 944(%rsp)
-	movups	%xmm0, 992(%rsp)
-	movups	%xmm0, 976(%rsp)
-	movups	%xmm0, 1024(%rsp)
-	movups	%xmm0, 1008(%rsp)
 	movups	%xmm0, 1056(%rsp)
 	movups	%xmm0, 1040(%rsp)
 	movups	%xmm0, 1088(%rsp)
@@ -1599,31 +1536,31 @@
 	movups	%xmm0, 1104(%rsp)
 	movups	%xmm0, 1152(%rsp)
 	movups	%xmm0, 1136(%rsp)
-	movq	$1, 1168(%rsp)
-	movups	%xmm0, 152(%rsp)
-	movups	%xmm0, 136(%rsp)
-	movups	%xmm0, 184(%rsp)
-	movups	%xmm0, 168(%rsp)
-	movups	%xmm0, 216(%rsp)
-	movups	%xmm0, 200(%rsp)
-	movups	%xmm0, 248(%rsp)
-	movups	%xmm0, 232(%rsp)
-	movups	%xmm0, 280(%rsp)
-	movups	%xmm0, 264(%rsp)
-	movups	%xmm0, 312(%rsp)
-	movups	%xmm0, 296(%rsp)
-	movups	%xmm0, 344(%rsp)
-	movups	%xmm0, 328(%rsp)
-	movups	%xmm0, 376(%rsp)
-	movups	%xmm0, 360(%rsp)
-	movups	%xmm0, 408(%rsp)
-	movups	%xmm0, 392(%rsp)
-	movups	%xmm0, 440(%rsp)
-	movups	%xmm0, 424(%rsp)
-	movups	%xmm0, 472(%rsp)
-	movups	%xmm0, 456(%rsp)
-	movups	%xmm0, 504(%rsp)
-	movups	%xmm0, 488(%rsp)
+	movups	%xmm0, 1184(%rsp)
+	movups	%xmm0, 1168(%rsp)
+	movups	%xmm0, 1216(%rsp)
+	movups	%xmm0, 1200(%rsp)
+	movups	%xmm0, 1248(%rsp)
+	movups	%xmm0, 1232(%rsp)
+	movups	%xmm0, 1280(%rsp)
+	movups	%xmm0, 1264(%rsp)
+	movups	%xmm0, 1312(%rsp)
+	movups	%xmm0, 1296(%rsp)
+	movups	%xmm0, 1344(%rsp)
+	movups	%xmm0, 1328(%rsp)
+	movups	%xmm0, 1376(%rsp)
+	movups	%xmm0, 1360(%rsp)
+	movups	%xmm0, 1408(%rsp)
+	movups	%xmm0, 1392(%rsp)
+	movups	%xmm0, 1440(%rsp)
+	movups	%xmm0, 1424(%rsp)
+	movups	%xmm0, 1472(%rsp)
+	movups	%xmm0, 1456(%rsp)
+	movups	%xmm0, 1504(%rsp)
+	movups	%xmm0, 1488(%rsp)
+	movups	%xmm0, 1536(%rsp)
+	movups	%xmm0, 1520(%rsp)
+	movq	$1, 1552(%rsp)
 	movups	%xmm0, 536(%rsp)
 	movups	%xmm0, 520(%rsp)
 	movups	%xmm0, 568(%rsp)
@@ -1632,40 +1569,97 @@
 	movups	%xmm0, 584(%rsp)
 	movups	%xmm0, 632(%rsp)
 	movups	%xmm0, 616(%rsp)
-	movq	$1, 648(%rsp)
-	movups	%xmm0, 1712(%rsp)
-	movups	%xmm0, 1696(%rsp)
-	movups	%xmm0, 1744(%rsp)
-	movups	%xmm0, 1728(%rsp)
-	movups	%xmm0, 1776(%rsp)
-	movups	%xmm0, 1760(%rsp)
-	movups	%xmm0, 1808(%rsp)
-	movups	%xmm0, 1792(%rsp)
-	movups	%xmm0, 1840(%rsp)
-	movups	%xmm0, 1824(%rsp)
-	movups	%xmm0, 1872(%rsp)
-	movups	%xmm0, 1856(%rsp)
-	movups	%xmm0, 1904(%rsp)
-	movups	%xmm0, 1888(%rsp)
-	movups	%xmm0, 1936(%rsp)
-	movups	%xmm0, 1920(%rsp)
-	movups	%xmm0, 1968(%rsp)
-	movups	%xmm0, 1952(%rsp)
-	movups	%xmm0, 2000(%rsp)
-	movups	%xmm0, 1984(%rsp)
-	movups	%xmm0, 2032(%rsp)
-	movups	%xmm0, 2016(%rsp)
-	movups	%xmm0, 2064(%rsp)
-	movups	%xmm0, 2048(%rsp)
-	movups	%xmm0, 2096(%rsp)
-	movups	%xmm0, 2080(%rsp)
-	movups	%xmm0, 2128(%rsp)
-	movups	%xmm0, 2112(%rsp)
-	movups	%xmm0, 2160(%rsp)
-	movups	%xmm0, 2144(%rsp)
-	movups	%xmm0, 2192(%rsp)
-	movups	%xmm0, 2176(%rsp)
-	movq	$1, 2208(%rsp)
+	movups	%xmm0, 664(%rsp)
+	movups	%xmm0, 648(%rsp)
+	movups	%xmm0, 696(%rsp)
+	movups	%xmm0, 680(%rsp)
+	movups	%xmm0, 728(%rsp)
+	movups	%xmm0, 712(%rsp)
+	movups	%xmm0, 760(%rsp)
+	movups	%xmm0, 744(%rsp)
+	movups	%xmm0, 792(%rsp)
+	movups	%xmm0, 776(%rsp)
+	movups	%xmm0, 824(%rsp)
+	movups	%xmm0, 808(%rsp)
+	movups	%xmm0, 856(%rsp)
+	movups	%xmm0, 840(%rsp)
+	movups	%xmm0, 888(%rsp)
+	movups	%xmm0, 872(%rsp)
+	movups	%xmm0, 920(%rsp)
+	movups	%xmm0, 904(%rsp)
+	movups	%xmm0, 952(%rsp)
+	movups	%xmm0, 936(%rsp)
+	movups	%xmm0, 984(%rsp)
+	movups	%xmm0, 968(%rsp)
+	movups	%xmm0, 1016(%rsp)
+	movups	%xmm0, 1000(%rsp)
+	movq	$1, 1032(%rsp)
+	movups	%xmm0, 16(%rsp)
+	movups	%xmm0, (%rsp)
+	movups	%xmm0, 48(%rsp)
+	movups	%xmm0, 32(%rsp)
+	movups	%xmm0, 80(%rsp)
+	movups	%xmm0, 64(%rsp)
+	movups	%xmm0, 112(%rsp)
+	movups	%xmm0, 96(%rsp)
+	movups	%xmm0, 144(%rsp)
+	movups	%xmm0, 128(%rsp)
+	movups	%xmm0, 176(%rsp)
+	movups	%xmm0, 160(%rsp)
+	movups	%xmm0, 208(%rsp)
+	movups	%xmm0, 192(%rsp)
+	movups	%xmm0, 240(%rsp)
+	movups	%xmm0, 224(%rsp)
+	movups	%xmm0, 272(%rsp)
+	movups	%xmm0, 256(%rsp)
+	movups	%xmm0, 304(%rsp)
+	movups	%xmm0, 288(%rsp)
+	movups	%xmm0, 336(%rsp)
+	movups	%xmm0, 320(%rsp)
+	movups	%xmm0, 368(%rsp)
+	movups	%xmm0, 352(%rsp)
+	movups	%xmm0, 400(%rsp)
+	movups	%xmm0, 384(%rsp)
+	movups	%xmm0, 432(%rsp)
+	movups	%xmm0, 416(%rsp)
+	movups	%xmm0, 464(%rsp)
+	movups	%xmm0, 448(%rsp)
+	movups	%xmm0, 496(%rsp)
+	movups	%xmm0, 480(%rsp)
+	movq	$1, 512(%rsp)
+	movups	%xmm0, 1576(%rsp)
+	movups	%xmm0, 1560(%rsp)
+	movups	%xmm0, 1608(%rsp)
+	movups	%xmm0, 1592(%rsp)
+	movups	%xmm0, 1640(%rsp)
+	movups	%xmm0, 1624(%rsp)
+	movups	%xmm0, 1672(%rsp)
+	movups	%xmm0, 1656(%rsp)
+	movups	%xmm0, 1704(%rsp)
+	movups	%xmm0, 1688(%rsp)
+	movups	%xmm0, 1736(%rsp)
+	movups	%xmm0, 1720(%rsp)
+	movups	%xmm0, 1768(%rsp)
+	movups	%xmm0, 1752(%rsp)
+	movups	%xmm0, 1800(%rsp)
+	movups	%xmm0, 1784(%rsp)
+	movups	%xmm0, 1832(%rsp)
+	movups	%xmm0, 1816(%rsp)
+	movups	%xmm0, 1864(%rsp)
+	movups	%xmm0, 1848(%rsp)
+	movups	%xmm0, 1896(%rsp)
+	movups	%xmm0, 1880(%rsp)
+	movups	%xmm0, 1928(%rsp)
+	movups	%xmm0, 1912(%rsp)
+	movups	%xmm0, 1960(%rsp)
+	movups	%xmm0, 1944(%rsp)
+	movups	%xmm0, 1992(%rsp)
+	movups	%xmm0, 1976(%rsp)
+	movups	%xmm0, 2024(%rsp)
+	movups	%xmm0, 2008(%rsp)
+	movups	%xmm0, 2056(%rsp)
+	movups	%xmm0, 2040(%rsp)
+	movq	$1, 2072(%rsp)
 	testq	%r12, %r12
 	je	.LBB6_16
 # %bb.11:                               # %join.13.i.i.preheader
@@ -1681,49 +1675,49 @@
 	je	.LBB6_16
 .LBB6_12:                               # %join.13.i.i
                                         # =>This Inner Loop Header: Depth=1
-	movzwl	(%rsp,%rcx,2), %edx
+	movl	2084(%rsp,%rcx,4), %edx
 	movl	%edx, %esi
-	andl	$65280, %esi                    # imm = 0xFF00
+	andl	$-256, %esi
 	cmpl	$256, %esi                      # imm = 0x100
 	jne	.LBB6_14
 # %bb.13:                               # %then.14.i.i
                                         #   in Loop: Header=BB6_12 Depth=1
 	movzbl	%dl, %edx
 	leal	(,%rdx,8), %esi
-	movq	656(%rsp,%rsi), %rdi
-	movq	1176(%rsp,%rcx,8), %r8
-	movq	1176(%rsp,%rsi), %r9
+	movq	520(%rsp,%rsi), %rdi
+	movq	1040(%rsp,%rcx,8), %r8
+	movq	1040(%rsp,%rsi), %r9
 	imulq	%r8, %r9
 	imulq	%rdi, %r8
-	imulq	656(%rsp,%rcx,8), %rdi
+	imulq	520(%rsp,%rcx,8), %rdi
 	addq	%r9, %rdi
-	movq	%rdi, 1176(%rsp,%rsi)
-	movq	%r8, 656(%rsp,%rsi)
-	movq	$1, 1176(%rsp,%rcx,8)
-	movq	$0, 656(%rsp,%rcx,8)
-	movq	136(%rsp,%rcx,8), %rdi
-	movq	1696(%rsp,%rcx,8), %r8
+	movq	%rdi, 1040(%rsp,%rsi)
+	movq	%r8, 520(%rsp,%rsi)
+	movq	$1, 1040(%rsp,%rcx,8)
+	movq	$0, 520(%rsp,%rcx,8)
+	movq	(%rsp,%rcx,8), %rdi
+	movq	1560(%rsp,%rcx,8), %r8
 	addq	%rdi, %r8
-	imulq	136(%rsp,%rsi), %r8
-	imulq	1696(%rsp,%rsi), %rdi
-	movq	%r8, 136(%rsp,%rsi)
-	movq	%rdi, 1696(%rsp,%rsi)
-	movq	$1, 136(%rsp,%rcx,8)
-	movq	$0, 1696(%rsp,%rcx,8)
+	imulq	(%rsp,%rsi), %r8
+	imulq	1560(%rsp,%rsi), %rdi
+	movq	%r8, (%rsp,%rsi)
+	movq	%rdi, 1560(%rsp,%rsi)
+	movq	$1, (%rsp,%rcx,8)
+	movq	$0, 1560(%rsp,%rcx,8)
 	movl	%edx, %esi
-	movzwl	(%rsp,%rsi,2), %edi
+	movl	2084(%rsp,%rsi,4), %edi
 	subl	%ecx, %edi
 	addl	$-256, %edi
-	movw	%di, (%rsp,%rsi,2)
-	movw	$0, (%rsp,%rcx,2)
+	movl	%edi, 2084(%rsp,%rsi,4)
+	movl	$0, 2084(%rsp,%rcx,4)
 	decq	%r12
 	movq	%rdx, %rcx
 	testq	%r12, %r12
 	jne	.LBB6_12
 .LBB6_16:                               # %"sets::recursion.exit.i"
-	movq	1184(%rsp), %rax
-	movq	1704(%rsp), %rcx
-	addq	144(%rsp), %rcx
+	movq	1048(%rsp), %rax
+	movq	1568(%rsp), %rcx
+	addq	8(%rsp), %rcx
 	movb	$1, %bpl
 	jmp	.LBB6_17
 .LBB6_3:
@@ -1738,7 +1732,7 @@
 	movb	%bpl, (%rbx)
 	movq	%rax, 8(%rbx)
 	movq	%rcx, 16(%rbx)
-	addq	$2216, %rsp                     # imm = 0x8A8
+	addq	$2344, %rsp                     # imm = 0x928
 	popq	%rbx
 	popq	%r12
 	popq	%r13
