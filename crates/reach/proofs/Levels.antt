@@ -1,11 +1,13 @@
 -- One bond farther after the other: what holds before each turn, and what is found in the end. Assumes nothing.
-use Prim.Native.Nat.{ℕ, suc, _+_, _-_, _*_, _/_, _≤_, _<_}
+use Prim.Native.Nat.{ℕ, suc, _+_, _-_, _*_, _/_, _%_, _≤_, _<_}
 use mathlib.Core.Bool.{true}
 use mathlib.Core.List.{List}
 use mathlib.Core.Path.{_≡_, refl, sym, ap, ap₂, subst, _∙_}
 use native.Mathlib.Nat.{mul-le-mul, le-refl}
+use native.Mathlib.Decide.{ℕ-discrete}
 use native.Mathlib.Numerals.{add-one}
 use native.Mathlib.Omega.{arith}
+use borrow.Author.Tests.{eq-eqb, ne-eqb}
 use lib.ListN.{length, getD}
 use Rattle.graph.specs.Graph.{Graph, Within, Sound, Molecule, connected, distance, total, itself, each, evenOf, oddOf, isAt}
 use Rattle.graph.specs.Farthest.{largest}
@@ -21,27 +23,28 @@ use Rattle.block.specs.Opened.{neighboursOf}
 use Rattle.block.specs.Told.{block-drawn, drawn-atoms, drawn-sound}
 use Rattle.block.specs.declared.Indices.{Indices}
 use Rattle.block.specs.declared.IndicesReply.the-variants.{Of, Refused}
-use Rattle.reach.specs.Reach.{Joined, Reach, AllNext, LowSums, Room, Added, Reached, LevelsUpTo, firstLevel, upTo, fartherOf, halved}
+use Rattle.reach.specs.Reach.{Joined, Reach, Inner, Widened, ofLevel, AllNext, LowSums, Room, Added, Reached, LevelsUpTo, firstLevel, upTo, fartherOf, halved}
 use Rattle.reach.specs.declared.Both.{Both}
 use Rattle.reach.proofs.Beginning.{first-below, first-deep, reach-first, up-first, first-wanting}
 use Rattle.reach.proofs.Meeting.{next-all}
-use Rattle.reach.proofs.Summing.{up-next, up-most, up-more, up-all, all-met, met-all, deeper, apart, room, all-connected, last-is, one-farther}
+use Rattle.reach.proofs.Spreading.{reach-inner}
+use Rattle.reach.proofs.Summing.{up-next, up-most, up-more, up-all, all-met, met-all, deeper, apart, room, all-connected, last-is, one-farther, count-reach}
 
 pub record Level (n : ℕ) (xs : List ℕ) (k : ℕ) (near sets reached : List ℕ) (s : Both) (met d : ℕ) : Type 0 where
-  pub near-size : length near ≡ mostAtoms
-  pub sets-size : length sets ≡ mostAtoms
   pub reach : Reach (graphOf n xs) d near
-  pub wide : Reach (graphOf n xs) d sets
+  pub inner : Inner (graphOf n xs) d sets
   pub upto : LevelsUpTo (graphOf n xs) d met s
   pub counts : Reached (graphOf n xs) (firstLevel xs) k d reached
 
--- what a turn finds: the sets one bond farther, and how many atoms they have
-pub record Turned (n : ℕ) (xs : List ℕ) (d : ℕ) (near sets : List ℕ) (met : ℕ) : Type 0 where
-  pub near-size : length near ≡ mostAtoms
-  pub sets-size : length sets ≡ mostAtoms
-  pub reach : Reach (graphOf n xs) (suc d) near
-  pub wide : Reach (graphOf n xs) (suc d) sets
-  pub met-is : met ≡ upTo (graphOf n xs) each (suc d)
+-- what holds of both tables holds of that of a level; and at the next level they change roles
+of-either : (P : List ℕ → Type 0) (d : ℕ) {odd even : List ℕ} → P odd → P even → P (ofLevel d odd even)
+of-either P d x y = elim (ℕ-discrete (d % 2) 0) [ yes e ↦ rw (eq-eqb (d % 2) 0 e) y | no e ↦ rw (ne-eqb (d % 2) 0 e) x ]
+
+pub of-next : (d : ℕ) (odd even : List ℕ) → ofLevel (d + 1) odd even ≡ ofLevel d even odd
+of-next d odd even = elim (ℕ-discrete (d % 2) 0) [
+  | yes e ↦ rw (eq-eqb (d % 2) 0 e, ne-eqb ((d + 1) % 2) 0 (omega arith))
+  | no e ↦ rw (ne-eqb (d % 2) 0 e, eq-eqb ((d + 1) % 2) 0 (omega arith))
+]
 
 cube : {n c : ℕ} → n ≤ mostAtoms → c ≤ mostAtoms → n * (n * c) ≤ mostAtoms * (mostAtoms * mostAtoms)
 cube l h = mul-le-mul l (mul-le-mul l h)
@@ -60,14 +63,12 @@ module _ (n : ℕ) (xs : List ℕ) (drawn : drawnReply n xs ≡ read tt) where
   sound : Sound g
   sound = drawn-sound n xs drawn
 
-  pub level-start : (k : ℕ) (near sets reached : List ℕ) → near ≡ neighboursOf g → k ≤ n → Joined n near sets → ((p : ℕ) → getD reached p 0 ≡ 0)
-      → Level n xs k sets sets reached (record { all = length xs; odd = length xs; threes = 0 }) (n + length xs) (firstLevel xs)
+  pub level-start : (k : ℕ) {near odd even : List ℕ} (reached : List ℕ) → near ≡ neighboursOf g → k ≤ n → Joined n near odd × Joined n near even → ((p : ℕ) → getD reached p 0 ≡ 0)
+      → Level n xs k (ofLevel (firstLevel xs) odd even) (ofLevel (firstLevel xs) even odd) reached (record { all = length xs; odd = length xs; threes = 0 }) (n + length xs) (firstLevel xs)
   unfolding oddOf isAt
-  level-start k near sets reached e h J none = record {
-    near-size = J .size;
-    sets-size = J .size;
-    reach = R;
-    wide = R;
+  level-start k {near} {odd} {even} reached e h (J, K) none = record {
+    reach = reach-first n xs drawn near (ofLevel (firstLevel xs) odd even) e (of-either (Joined n near) (firstLevel xs) J K);
+    inner = reach-inner sound (le-refl (firstLevel xs)) (reach-first n xs drawn near (ofLevel (firstLevel xs) even odd) e (of-either (Joined n near) (firstLevel xs) K J));
     upto = record {
       all-is = omega (arith, up-first n xs drawn itself);
       odd-is = omega (arith, up-first n xs drawn oddOf);
@@ -78,9 +79,6 @@ module _ (n : ℕ) (xs : List ℕ) (drawn : drawnReply n xs ≡ read tt) where
     };
     counts = record { wanting = λ v w. omega (arith, none (v - 1), first-wanting n xs drawn v (omega arith)); behind = λ p l. none p };
   }
-    where
-      R : Reach g (firstLevel xs) sets
-      R = reach-first n xs drawn near sets e J
 
   module _ {k : ℕ} {near sets reached : List ℕ} {s : Both} {met d : ℕ} (L : Level n xs k near sets reached s met d) where
     module _ (more : met < n * n) where
@@ -136,16 +134,21 @@ module _ (n : ℕ) (xs : List ℕ) (drawn : drawnReply n xs ≡ read tt) where
       pub all-here : (sets₀ : List ℕ) → sets₀ ≡ neighboursOf g → AllNext n near sets₀ → n * n ≡ upTo g each (suc d)
       all-here sets₀ e A = sym (all-met g (suc d) (next-all g sound (few .high) d near sets₀ (L .reach) e A))
 
-      pub level-next : {near′ sets′ : List ℕ} {met′ : ℕ} (T : Turned n xs d near′ sets′ met′) → k ≤ n → (met′ ≡ met → ⊥) → (reached′ : List ℕ) → Added k near reached reached′
-          → Level n xs k near′ sets′ reached′ (fartherOf s (d + 1) (met′ - met)) met′ (d + 1)
-      level-next T h ne reached′ A = rw (add-one d) (record {
-        near-size = T .near-size;
-        sets-size = T .sets-size;
-        reach = T .reach;
-        wide = T .wide;
-        upto = upto-next (T .met-is) ne;
-        counts = counts-next h reached′ A;
-      })
+      -- what a turn finds: the sets one bond farther, and how many atoms they have
+      module _ {sets′ : List ℕ} {met′ : ℕ} (W : Widened n xs near sets sets′ met′) where
+        wider : Reach g (suc d) sets′
+        wider = W .wider d shallow (L .reach) (L .inner)
+
+        pub met-next : met′ ≡ upTo g each (suc d)
+        met-next = W .met-is ∙ count-reach g (suc d) sets′ wider
+
+        pub level-next : k ≤ n → (met′ ≡ met → ⊥) → (reached′ : List ℕ) → Added k near reached reached′ → Level n xs k sets′ near reached′ (fartherOf s (d + 1) (met′ - met)) met′ (d + 1)
+        level-next h ne reached′ A = rw (add-one d) (record {
+          reach = wider;
+          inner = reach-inner sound (omega arith) (L .reach);
+          upto = upto-next met-next ne;
+          counts = counts-next h reached′ A;
+        })
 
   -- no pair is left
   module _ {s : Both} {met d : ℕ} (U : LevelsUpTo (graphOf n xs) d met s) (over : n * n ≤ met) where

@@ -1,5 +1,4 @@
 -- Laws of sets within reach and of the sums over them.
-pub mod Settling
 pub mod Spreading
 pub mod Meeting
 pub mod Summing

@@ -23,7 +23,7 @@ use Rattle.block.specs.Block.{mostAtoms, bondsOf, graphOf, drawnReply}
 use Rattle.block.specs.Near.{around}
 use Rattle.block.specs.Numbered.{bondAt, bonds-length, bonds-at, bond-listed}
 use Rattle.block.specs.Told.{drawn-atoms, drawn-sound}
-use Rattle.reach.specs.Reach.{Reach, taking, exchanged}
+use Rattle.reach.specs.Reach.{Reach, Inner, taking, exchanged}
 
 -- w is in the set of v; no set has more than the atoms
 abbrev pub In : List ℕ → ℕ → ℕ → Type 0
@@ -123,8 +123,8 @@ module _ (n : ℕ) (xs : List ℕ) where
         let one = took-more T (took-bond near sets (omega (arith, T .size)) k (omega arith)) in
         rw (add-one k) (took-more one (took-bond near (exchanged near (bondAt xs k .one) (bondAt xs k .two) sets) (omega (arith, one .size)) (k + half) (omega arith)))
 
-    -- ONE BOND FARTHER: an atom is at most d + 1 bonds away exactly where it is at most d bonds away from here or from a neighbour
-    pub took-all : {near old sets : List ℕ} (k : ℕ) → length xs / 2 - half ≤ k → Took g near old sets (Gone k) → (d : ℕ) → suc d < n → Reach g d near → Reach g d old → Reach g (suc d) sets
+    -- ONE BOND FARTHER: an atom is at most d + 1 bonds away exactly where it is here or at most d bonds away from a neighbour
+    pub took-all : {near old sets : List ℕ} (k : ℕ) → length xs / 2 - half ≤ k → Took g near old sets (Gone k) → (d : ℕ) → suc d < n → Reach g d near → Inner g d old → Reach g (suc d) sets
     unfolding bonded
     took-all {near} {old} {sets} m over T d shallow N O = record {
       fits = T .fits (N .fits) (O .fits);
@@ -136,7 +136,7 @@ module _ (n : ℕ) (xs : List ℕ) where
 
         up : (v w : ℕ) → Within n v → Within n w → In sets v w → distance g v w ≤ suc d
         up v w a b e =
-            ⊎-elim (λ h. omega (arith, leb-true (distance g v w) d (sym (O .holds v w a b) ∙ h)))
+            ⊎-elim (λ h. omega (arith, O .near v w a b h))
             (λ (u, j, y).
             let hu = far-end s v u j in
             omega (
@@ -159,23 +159,19 @@ module _ (n : ℕ) (xs : List ℕ) where
             ]
 
         down : (v w : ℕ) → Within n v → Within n w → leb (distance g v w) (suc d) ≡ true → In sets v w
-        down v w a b e = elim (decLt d (distance g v w)) [
-          | yes h ↦
+        down v w a b e = elim (ℕ-discrete w v) [
+          | yes h ↦ subst⁻¹ (In sets v) h (T .keeps v v a (O .own v a))
+          | no h ↦
               let l = leb-true (distance g v w) (suc d) e in
-              let (u, j, q) = sound-parent s b v (λ (x : w ≡ v). omega (arith, h, distance-self s b, ap (λ (y : ℕ). distance g y w) x)) (omega (arith, sound-sym s b a)) in
+              let (u, j, q) = sound-parent s b v h (omega (arith, sound-sym s b a)) in
               let hu = s .ends u v j in
               T .takes v u w a (all-gone v u (bonded-sym g u v j)) (N .holds u w hu b ∙ le-leb (distance g u w) d (omega (arith, q, sound-sym s b hu, sound-sym s b a)))
-          | no h ↦ T .keeps v w a (O .holds v w a b ∙ le-leb (distance g v w) d (omega arith))
         ]
 
--- sets taken in by those that reach one bond less
-pub reach-joined : (g : Graph) (d : ℕ) (old sets near : List ℕ) → ((v : ℕ) → Within (g .atoms) v → around near v ≡ bitOr (around old v) (around sets v))
-    → Reach g d old → Reach g (suc d) sets → Reach g (suc d) near
-reach-joined g d old sets near e O R = record {
-  fits = λ v a. rw (e v a) (or-lt (g .atoms) (around old v) (around sets v) (O .fits v a) (R .fits v a));
-  holds = λ v w a b. rw (e v a) (has-or (around old v) (around sets v) w ∙ rw (O .holds v w a b, R .holds v w a b) (less (distance g v w) (leb (distance g v w) d) refl));
+-- the sets of a level are inner ones
+pub reach-inner : {g : Graph} → Sound g → {d e : ℕ} → d ≤ e → {sets : List ℕ} → Reach g d sets → Inner g e sets
+reach-inner {g} s {d} {e} l R = record {
+  fits = R .fits;
+  own = λ v a. R .holds v v a a ∙ le-leb (distance g v v) d (omega (arith, distance-self s a));
+  near = λ v w a b h. omega (arith, leb-true (distance g v w) d (sym (R .holds v w a b) ∙ h));
 }
-  where
-    less : (x : ℕ) (t : Bool) → leb x d ≡ t → (t || leb x (suc d)) ≡ leb x (suc d)
-    less x true h = sym (le-leb x (suc d) (omega (arith, leb-true x d h)))
-    less x false h = refl

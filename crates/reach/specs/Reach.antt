@@ -1,16 +1,16 @@
 -- Work. The atoms within reach of each atom, as sets, and sums over the ordered pairs within reach.
-use Prim.Native.Nat.{ℕ, _+_, _-_, _*_, _/_, _^_, _≤_, _<_, min}
+use Prim.Native.Nat.{ℕ, _+_, _-_, _*_, _/_, _%_, _^_, suc, _≤_, _<_, min}
 use mathlib.Core.Bool.{true, cond}
 use mathlib.Core.List.{List}
 use mathlib.Core.Logic.{_≢_}
 use mathlib.Core.Path.{_≡_}
 use lib.Bits.{bitAnd, bitOr, bitXor}
 use lib.Count.{ones}
-use lib.Dec.{leb}
+use lib.Dec.{leb, eqb}
 use lib.ListN.{length, getD, set}
 use Rattle.graph.specs.Graph.{Graph, Within, distance, sum, itself, each, oddOf, isAt}
 use Rattle.graph.specs.Sets.{has, alone, firsts}
-use Rattle.block.specs.Block.{mostAtoms}
+use Rattle.block.specs.Block.{mostAtoms, graphOf}
 use Rattle.block.specs.Lent.{EntriesFilled}
 use Rattle.block.specs.Near.{around}
 use Rattle.block.specs.declared.Indices.{Indices}
@@ -18,7 +18,6 @@ use Rattle.reach.specs.declared.Both.{Both}
 
 -- the set of each of n atoms has that atom and its neighbours
 pub record Joined (n : ℕ) (near sets : List ℕ) : Type 0 where
-  pub size : length sets ≡ mostAtoms
   pub joined : (v : ℕ) → Within n v → around sets v ≡ bitOr (around near v) (alone v)
 
 -- how many bonds away its atoms are at most: one, where there is a bond
@@ -29,6 +28,21 @@ firstLevel xs = min 1 (length xs)
 pub record Reach (g : Graph) (d : ℕ) (sets : List ℕ) : Type 0 where
   pub fits : (v : ℕ) → Within (g .atoms) v → around sets v < 2 ^ g .atoms
   pub holds : (v w : ℕ) → Within (g .atoms) v → Within (g .atoms) w → has (around sets v) w ≡ leb (distance g v w) d
+
+-- the set of each atom has that atom and none more than d bonds away
+pub record Inner (g : Graph) (d : ℕ) (sets : List ℕ) : Type 0 where
+  pub fits : (v : ℕ) → Within (g .atoms) v → around sets v < 2 ^ g .atoms
+  pub own : (v : ℕ) → Within (g .atoms) v → has (around sets v) v ≡ true
+  pub near : (v w : ℕ) → Within (g .atoms) v → Within (g .atoms) w → has (around sets v) w ≡ true → distance g v w ≤ d
+
+-- of two tables of sets, for odd and for even levels, that of level d
+abbrev pub ofLevel : ℕ → List ℕ → List ℕ → List ℕ
+ofLevel d odd even = cond (eqb (d % 2) 0) even odd
+
+-- sets of an inner level then reach one bond farther than those of a level, and have met atoms together
+pub record Widened (n : ℕ) (xs near old sets : List ℕ) (met : ℕ) : Type 0 where
+  pub met-is : met ≡ sum n (λ v. ones (around sets v))
+  pub wider : (d : ℕ) → suc d < n → Reach (graphOf n xs) d near → Inner (graphOf n xs) d old → Reach (graphOf n xs) (suc d) sets
 
 -- each atom of a set has one of some others within its own reach
 abbrev pub AllMeet : List ℕ → ℕ → ℕ → Type 0

@@ -19,7 +19,7 @@ ghost use Rattle.block.specs.Near.{around};
 ghost use Rattle.block.specs.Opened.{neighboursOf, drawnNear};
 ghost use Rattle.block.specs.Rows.{lentRow};
 ghost use Rattle.reach.specs.Sums.{sumsReply};
-ghost use Rattle.reach.specs.Reach.{Joined, Reach, AllMeet, AllNext, exchanged, LowSums, firstLevel, fartherOf, halved, Room, Added, Left, Reached};
+ghost use Rattle.reach.specs.Reach.{Joined, Reach, Inner, Widened, ofLevel, AllMeet, AllNext, exchanged, LowSums, firstLevel, fartherOf, halved, Room, Added, Left, Reached};
 use block::ATOMS;
 use block::Indices;
 use block::IndicesReply;
@@ -38,18 +38,18 @@ struct Both {
     pub threes: u64,
 }
 
-// Each of n atoms with its neighbours.
-fn joined(near: &Neighbours, n: usize) -> Sets
-    requires { ⌜ n ≤ mostAtoms ⌝ }
-    ensures { λ r. ⌜ Joined n (now (near .entry)) r ⌝ }
+// Each of n atoms with its neighbours, in both tables.
+fn joined(near: &Neighbours, n: usize, odd: &mut [u64], even: &mut [u64])
+    requires { ⌜ (n ≤ mostAtoms) × (n ≤ length (now odd)) × (n ≤ length (now even)) ⌝ }
+    ensures { λ _. ⌜ Joined n (now (near .entry)) (now (odd .exit)) × Joined n (now (near .entry)) (now (even .exit)) ⌝ }
 {
-    let mut sets = [0u64; ATOMS];
     let mut i = 0;
     while i < n {
-        sets[i] = near[i] | 1u64 << i;
+        let set = near[i] | 1u64 << i;
+        odd[i] = set;
+        even[i] = set;
         i += 1;
     }
-    sets
 }
 
 // How far they reach: one bond, where there is a bond.
@@ -60,8 +60,8 @@ fn first(bonds: &[u8]) -> u64
 }
 
 // The ends of a bond take in what the other end reached.
-fn exchange(near: &Sets, one: u8, two: u8, sets: &mut [u64])
-    requires { ⌜ Within mostAtoms one × Within mostAtoms two × (length (now sets) ≡ mostAtoms) ⌝ }
+fn exchange(near: &[u64], one: u8, two: u8, sets: &mut [u64])
+    requires { ⌜ Within mostAtoms one × Within mostAtoms two × (length (now near) ≡ mostAtoms) × (length (now sets) ≡ mostAtoms) ⌝ }
     ensures { λ _. ⌜ now (sets .exit) ≡ exchanged (now (near .entry)) one two (now (sets .entry)) ⌝ }
 {
     let u = one as usize - 1;
@@ -72,10 +72,10 @@ fn exchange(near: &Sets, one: u8, two: u8, sets: &mut [u64])
 
 // One bond farther: to the set of each atom come those of its neighbours. Two bonds a turn, one of each half, wait less for each other; of an odd
 // number the middle one comes twice, which adds nothing.
-fn spread(near: &Sets, n: usize, bonds: &[u8], sets: &mut [u64])
-    requires { ⌜ (drawnReply n (now bonds) ≡ read tt) × (length (now sets) ≡ mostAtoms) ⌝ }
+fn spread(near: &[u64], n: usize, bonds: &[u8], sets: &mut [u64])
+    requires { ⌜ (drawnReply n (now bonds) ≡ read tt) × (length (now near) ≡ mostAtoms) × (length (now sets) ≡ mostAtoms) ⌝ }
     ensures { λ _. ⌜ ((d : ℕ) → suc d < n → Reach (graphOf n (now (bonds .entry))) d (now (near .entry))
-        → Reach (graphOf n (now (bonds .entry))) d (now (sets .entry))
+        → Inner (graphOf n (now (bonds .entry))) d (now (sets .entry))
         → Reach (graphOf n (now (bonds .entry))) (suc d) (now (sets .exit))) ⌝ }
 {
     let m = bonds.len() / 2;
@@ -96,23 +96,48 @@ pub fn size(set: u64) -> u64
     u64::count_ones(set) as u64
 }
 
-// The sets of the first n atoms are taken in: how many atoms they have then together. What is taken in was there before, so this copies; as a copy it
-// would be a call for each level.
-fn settled(sets: &Sets, n: usize, near: &mut [u64]) -> u64
-    requires { ⌜ (n ≤ mostAtoms) × (length (now near) ≡ mostAtoms) ⌝ }
-    ensures met { λ r. ⌜ r ≡ sum n (λ v. ones (around (now (near .exit)) v)) ⌝ }
-    ensures joined { λ _. ⌜ ((v : ℕ) → Within n v → around (now (near .exit)) v ≡ bitOr (around (now (near .entry)) v) (around (now (sets .entry)) v)) ⌝ }
+// How many atoms the sets of the first n atoms have together.
+fn together(sets: &[u64], n: usize) -> u64
+    requires { ⌜ (n ≤ mostAtoms) × (n ≤ length (now sets)) ⌝ }
+    ensures { λ r. ⌜ r ≡ sum n (λ v. ones (around (now (sets .entry)) v)) ⌝ }
 {
     let mut met: u64 = 0;
     let mut i = 0;
     while i < n {
-        let set = near[i] | sets[i];
-        let atoms = size(set);
-        near[i] = set;
+        let atoms = size(sets[i]);
         met += atoms;
         i += 1;
     }
     met
+}
+
+// The sets of a level go one bond farther: how many atoms they have then together.
+fn widened(near: &[u64], n: usize, bonds: &[u8], sets: &mut [u64]) -> u64
+    requires { ⌜ (drawnReply n (now bonds) ≡ read tt) × (length (now near) ≡ mostAtoms) × (length (now sets) ≡ mostAtoms) ⌝ }
+    ensures { λ r. ⌜ Widened n (now (bonds .entry)) (now (near .entry)) (now (sets .entry)) (now (sets .exit)) r ⌝ }
+{
+    spread(near, n, bonds, sets);
+    together(sets, n)
+}
+
+// From the table of a level, which stays, to that of the next one, which holds the level before. So nothing is copied.
+fn next_level(d: u64, n: usize, bonds: &[u8], odd: &mut [u64], even: &mut [u64]) -> u64
+    requires { ⌜ (drawnReply n (now bonds) ≡ read tt) × (length (now odd) ≡ mostAtoms) × (length (now even) ≡ mostAtoms) ⌝ }
+    ensures kept { λ _. ⌜ ofLevel d (now (odd .exit)) (now (even .exit)) ≡ ofLevel d (now (odd .entry)) (now (even .entry)) ⌝ }
+    ensures next { λ r. ⌜ Widened n (now (bonds .entry)) (ofLevel d (now (odd .entry)) (now (even .entry)))
+        (ofLevel d (now (even .entry)) (now (odd .entry))) (ofLevel d (now (even .exit)) (now (odd .exit))) r ⌝ }
+{
+    if d % 2 == 0 {
+        return widened(even, n, bonds, odd);
+    }
+    widened(odd, n, bonds, even)
+}
+
+// The table of a level: there are two, one for the odd and one for the even levels.
+fn of_level<'a>(d: u64, odd: &'a Sets, even: &'a Sets) -> &'a Sets
+    ensures { λ r. ⌜ now r ≡ ofLevel d (now (odd .entry)) (now (even .entry)) ⌝ }
+{
+    if d % 2 == 0 { even } else { odd }
 }
 
 // How many atoms the set of each of the first k atoms has is added to what it reached.
@@ -208,8 +233,9 @@ fn summed(n: usize, bonds: &[u8], drawn: &Neighbours, k: usize, reached: &mut [u
 {
     let pairs = n as u64 * n as u64;
     let ends = bonds.len() as u64;
-    let mut near = joined(drawn, n);
-    let mut sets = near;
+    let mut odd = [0u64; ATOMS];
+    let mut even = [0u64; ATOMS];
+    joined(drawn, n, &mut odd, &mut even);
     let mut s = Both {
         all: ends,
         odd: ends,
@@ -218,12 +244,12 @@ fn summed(n: usize, bonds: &[u8], drawn: &Neighbours, k: usize, reached: &mut [u
     let mut met = n as u64 + ends;
     let mut d = first(bonds);
     while met < pairs {
-        count(&near, k, reached);
-        if pairs - met <= n as u64 && all_next(&near, drawn, n) {
+        let near = of_level(d, &odd, &even);
+        count(near, k, reached);
+        if pairs - met <= n as u64 && all_next(near, drawn, n) {
             return finished(n, farther(s, d + 1, pairs - met), d + 1);
         }
-        spread(&near, n, bonds, &mut sets);
-        let more = settled(&sets, n, &mut near);
+        let more = next_level(d, n, bonds, &mut odd, &mut even);
         if more == met {
             return IndicesReply::Refused(Refusal {
                 number: 7,

@@ -29,32 +29,32 @@ exchange-requires : tie.Need-exchange-requires Inv-loop μ-loop
 exchange-requires c κs =
     let t = c .before .before .before in
     let l = t .before .loop in
-    let p = t .before .before .before .before .pre in
+    let p = t .before .before .before .before .before .pre in
     let (a, b) = ends _ _ (p .0) (l .k) (omega (arith, t .loop-test .taken)) in
-    (a, b, l .inv .size ∙ p .1)
+    (a, b, p .1, l .inv .size ∙ p .2)
 
 exchange-requires-2 : tie.Need-exchange-requires-2 Inv-loop μ-loop
 exchange-requires-2 c κs =
     let x = c .before .before .before .before in
     let t = x .before .before .before .before .before in
     let l = t .before .loop in
-    let a = t .before .before .before .before in
+    let a = t .before .before .before .before .before in
     let (p, q) = ends _ _ (a .pre .0) (l .k + length (a .args .bonds .now) / 2 / 2) (omega (arith, t .loop-test .taken)) in
-    (p, q, x .sets .given ∙ l .inv .size ∙ a .pre .1)
+    (p, q, a .pre .1, x .sets .given ∙ l .inv .size ∙ a .pre .2)
 
 loop-again : tie.Need-loop-again Inv-loop μ-loop
 loop-again c =
     let x = c .before .before .before .before .before .before .before .before in
     let t = x .before .before .before .before in
     let l = t .before .loop in
-    let p = t .before .before .before .before .pre in
-    rw (c .before .before .exchange2 .ensures, x .exchange .ensures) (took-next _ _ (p .0) (p .1) (l .k) (omega (arith, t .loop-test .taken)) (l .inv))
+    let p = t .before .before .before .before .before .pre in
+    rw (c .before .before .exchange2 .ensures, x .exchange .ensures) (took-next _ _ (p .0) (p .2) (l .k) (omega (arith, t .loop-test .taken)) (l .inv))
 
 same-length : tie.Need-same-length Inv-loop μ-loop
 same-length c = c .before .loop .inv .size
 
 returns : tie.Need-returns Inv-loop μ-loop
-returns c d s N O = let l = c .before .loop in took-all _ _ (c .before .before .before .before .pre .0) (l .k) (omega (arith, c .loop-test .left)) (l .inv) d s N O
+returns c d s N O = let l = c .before .loop in took-all _ _ (c .before .before .before .before .before .pre .0) (l .k) (omega (arith, c .loop-test .left)) (l .inv) d s N O
 
 pub spread-spec : {M : Type 1} → statement M
 spread-spec =
