@@ -39,10 +39,13 @@ pub record Inner (g : Graph) (d : ℕ) (sets : List ℕ) : Type 0 where
 abbrev pub ofLevel : ℕ → List ℕ → List ℕ → List ℕ
 ofLevel d odd even = cond (eqb (d % 2) 0) even odd
 
--- sets of an inner level then reach one bond farther than those of a level, and have met atoms together
+-- sets that took in those of a level, which had no more than them, reach one bond farther; and they have met atoms together
+abbrev pub Wider : ℕ → List ℕ → List ℕ → List ℕ → List ℕ → Type 0
+Wider n xs near old sets = (d : ℕ) → suc d < n → Reach (graphOf n xs) d near → Inner (graphOf n xs) d old → Reach (graphOf n xs) (suc d) sets
+
 pub record Widened (n : ℕ) (xs near old sets : List ℕ) (met : ℕ) : Type 0 where
+  pub wider : Wider n xs near old sets
   pub met-is : met ≡ sum n (λ v. ones (around sets v))
-  pub wider : (d : ℕ) → suc d < n → Reach (graphOf n xs) d near → Inner (graphOf n xs) d old → Reach (graphOf n xs) (suc d) sets
 
 -- each atom of a set has one of some others within its own reach
 abbrev pub AllMeet : List ℕ → ℕ → ℕ → Type 0

@@ -6,8 +6,7 @@
 // together, are its vertex sum. The loops go by the number of bonds and of atoms and by no distance: that is why this is faster than a search from
 // each atom.
 ghost use mathlib.Core.Path.{_≡_};
-ghost use Prim.Native.Nat.{ℕ, suc, _+_, _*_, _/_, _≤_, _<_};
-ghost use lib.Bits.{bitOr};
+ghost use Prim.Native.Nat.{ℕ, _+_, _*_, _/_, _≤_};
 ghost use lib.Count.{ones};
 ghost use lib.ListN.{length, getD};
 ghost use mathlib.Core.Bool.{true};
@@ -19,7 +18,7 @@ ghost use Rattle.block.specs.Near.{around};
 ghost use Rattle.block.specs.Opened.{neighboursOf, drawnNear};
 ghost use Rattle.block.specs.Rows.{lentRow};
 ghost use Rattle.reach.specs.Sums.{sumsReply};
-ghost use Rattle.reach.specs.Reach.{Joined, Reach, Inner, Widened, ofLevel, AllMeet, AllNext, exchanged, LowSums, firstLevel, fartherOf, halved, Room, Added, Left, Reached};
+ghost use Rattle.reach.specs.Reach.{Joined, Wider, Widened, ofLevel, AllMeet, AllNext, exchanged, LowSums, firstLevel, fartherOf, halved, Room, Added, Left, Reached};
 use block::ATOMS;
 use block::Indices;
 use block::IndicesReply;
@@ -74,9 +73,7 @@ fn exchange(near: &[u64], one: u8, two: u8, sets: &mut [u64])
 // number the middle one comes twice, which adds nothing.
 fn spread(near: &[u64], n: usize, bonds: &[u8], sets: &mut [u64])
     requires { ⌜ (drawnReply n (now bonds) ≡ read tt) × (length (now near) ≡ mostAtoms) × (length (now sets) ≡ mostAtoms) ⌝ }
-    ensures { λ _. ⌜ ((d : ℕ) → suc d < n → Reach (graphOf n (now (bonds .entry))) d (now (near .entry))
-        → Inner (graphOf n (now (bonds .entry))) d (now (sets .entry))
-        → Reach (graphOf n (now (bonds .entry))) (suc d) (now (sets .exit))) ⌝ }
+    ensures { λ _. ⌜ Wider n (now (bonds .entry)) (now (near .entry)) (now (sets .entry)) (now (sets .exit)) ⌝ }
 {
     let m = bonds.len() / 2;
     let half = m - m / 2;
@@ -111,7 +108,7 @@ fn together(sets: &[u64], n: usize) -> u64
     met
 }
 
-// The sets of a level go one bond farther: how many atoms they have then together.
+// The sets of a level, one bond farther: how many atoms they have then together.
 fn widened(near: &[u64], n: usize, bonds: &[u8], sets: &mut [u64]) -> u64
     requires { ⌜ (drawnReply n (now bonds) ≡ read tt) × (length (now near) ≡ mostAtoms) × (length (now sets) ≡ mostAtoms) ⌝ }
     ensures { λ r. ⌜ Widened n (now (bonds .entry)) (now (near .entry)) (now (sets .entry)) (now (sets .exit)) r ⌝ }
@@ -120,7 +117,7 @@ fn widened(near: &[u64], n: usize, bonds: &[u8], sets: &mut [u64]) -> u64
     together(sets, n)
 }
 
-// From the table of a level, which stays, to that of the next one, which holds the level before. So nothing is copied.
+// From the table of level d, which stays, to the other one, which holds the level before: the two change roles at each level, and nothing is copied.
 fn next_level(d: u64, n: usize, bonds: &[u8], odd: &mut [u64], even: &mut [u64]) -> u64
     requires { ⌜ (drawnReply n (now bonds) ≡ read tt) × (length (now odd) ≡ mostAtoms) × (length (now even) ≡ mostAtoms) ⌝ }
     ensures kept { λ _. ⌜ ofLevel d (now (odd .exit)) (now (even .exit)) ≡ ofLevel d (now (odd .entry)) (now (even .entry)) ⌝ }
@@ -133,7 +130,7 @@ fn next_level(d: u64, n: usize, bonds: &[u8], odd: &mut [u64], even: &mut [u64])
     widened(odd, n, bonds, even)
 }
 
-// The table of a level: there are two, one for the odd and one for the even levels.
+// The table of level d: the odd levels have one and the even levels the other.
 fn of_level<'a>(d: u64, odd: &'a Sets, even: &'a Sets) -> &'a Sets
     ensures { λ r. ⌜ now r ≡ ofLevel d (now (odd .entry)) (now (even .entry)) ⌝ }
 {
