@@ -23,7 +23,7 @@ use Rattle.block.specs.Opened.{neighboursOf}
 use Rattle.block.specs.Told.{block-drawn, drawn-atoms, drawn-sound}
 use Rattle.block.specs.declared.Indices.{Indices}
 use Rattle.block.specs.declared.IndicesReply.the-variants.{Of, Refused}
-use Rattle.reach.specs.Reach.{Joined, Reach, Inner, Widened, ofLevel, AllNext, LowSums, Room, Added, Reached, LevelsUpTo, firstLevel, upTo, fartherOf, halved}
+use Rattle.reach.specs.Reach.{Joined, Reach, Inner, Spread, ofLevel, AllNext, LowSums, Room, Added, Reached, LevelsUpTo, firstLevel, upTo, fartherOf, halved}
 use Rattle.reach.specs.declared.Both.{Both}
 use Rattle.reach.proofs.Beginning.{first-below, first-deep, reach-first, up-first, first-wanting}
 use Rattle.reach.proofs.Meeting.{next-all}
@@ -135,7 +135,7 @@ module _ (n : ℕ) (xs : List ℕ) (drawn : drawnReply n xs ≡ read tt) where
       all-here sets₀ e A = sym (all-met g (suc d) (next-all g sound (few .high) d near sets₀ (L .reach) e A))
 
       -- what a turn finds: the sets one bond farther, and how many atoms they have
-      module _ {sets′ : List ℕ} {met′ : ℕ} (W : Widened n xs near sets sets′ met′) where
+      module _ {sets′ : List ℕ} {met′ : ℕ} (W : Spread n xs near sets sets′ met′) where
         wider : Reach g (suc d) sets′
         wider = W .wider d shallow (L .reach) (L .inner)
 

@@ -39,12 +39,9 @@ pub record Inner (g : Graph) (d : ℕ) (sets : List ℕ) : Type 0 where
 abbrev pub ofLevel : ℕ → List ℕ → List ℕ → List ℕ
 ofLevel d odd even = cond (eqb (d % 2) 0) even odd
 
--- sets that took in those of a level, which had no more than them, reach one bond farther; and they have met atoms together
-abbrev pub Wider : ℕ → List ℕ → List ℕ → List ℕ → List ℕ → Type 0
-Wider n xs near old sets = (d : ℕ) → suc d < n → Reach (graphOf n xs) d near → Inner (graphOf n xs) d old → Reach (graphOf n xs) (suc d) sets
-
-pub record Widened (n : ℕ) (xs near old sets : List ℕ) (met : ℕ) : Type 0 where
-  pub wider : Wider n xs near old sets
+-- sets that had no more than those of a level, near, reach one bond farther, and have met atoms together
+pub record Spread (n : ℕ) (xs near old sets : List ℕ) (met : ℕ) : Type 0 where
+  pub wider : (d : ℕ) → suc d < n → Reach (graphOf n xs) d near → Inner (graphOf n xs) d old → Reach (graphOf n xs) (suc d) sets
   pub met-is : met ≡ sum n (λ v. ones (around sets v))
 
 -- each atom of a set has one of some others within its own reach

@@ -18,7 +18,7 @@ ghost use Rattle.block.specs.Near.{around};
 ghost use Rattle.block.specs.Opened.{neighboursOf, drawnNear};
 ghost use Rattle.block.specs.Rows.{lentRow};
 ghost use Rattle.reach.specs.Sums.{sumsReply};
-ghost use Rattle.reach.specs.Reach.{Joined, Wider, Widened, ofLevel, AllMeet, AllNext, exchanged, LowSums, firstLevel, fartherOf, halved, Room, Added, Left, Reached};
+ghost use Rattle.reach.specs.Reach.{Joined, Spread, ofLevel, AllMeet, AllNext, exchanged, LowSums, firstLevel, fartherOf, halved, Room, Added, Left, Reached};
 use block::ATOMS;
 use block::Indices;
 use block::IndicesReply;
@@ -69,23 +69,6 @@ fn exchange(near: &[u64], one: u8, two: u8, sets: &mut [u64])
     sets[v] = sets[v] | near[u];
 }
 
-// One bond farther: to the set of each atom come those of its neighbours. Two bonds a turn, one of each half, wait less for each other; of an odd
-// number the middle one comes twice, which adds nothing.
-fn spread(near: &[u64], n: usize, bonds: &[u8], sets: &mut [u64])
-    requires { ⌜ (drawnReply n (now bonds) ≡ read tt) × (length (now near) ≡ mostAtoms) × (length (now sets) ≡ mostAtoms) ⌝ }
-    ensures { λ _. ⌜ Wider n (now (bonds .entry)) (now (near .entry)) (now (sets .entry)) (now (sets .exit)) ⌝ }
-{
-    let m = bonds.len() / 2;
-    let half = m - m / 2;
-    let mut k = 0;
-    while k < half {
-        let j = k + m / 2;
-        exchange(near, bonds[2 * k], bonds[2 * k + 1], sets);
-        exchange(near, bonds[2 * j], bonds[2 * j + 1], sets);
-        k += 1;
-    }
-}
-
 // How many atoms a set has.
 pub fn size(set: u64) -> u64
     ensures { λ r. ⌜ (r ≡ ones set) × (r ≤ mostAtoms) ⌝ }
@@ -108,12 +91,21 @@ fn together(sets: &[u64], n: usize) -> u64
     met
 }
 
-// The sets of a level, one bond farther: how many atoms they have then together.
-fn widened(near: &[u64], n: usize, bonds: &[u8], sets: &mut [u64]) -> u64
+// One bond farther: to the set of each atom come those of its neighbours. Two bonds a turn, one of each half, wait less for each other; of an odd
+// number the middle one comes twice, which adds nothing. And how many atoms the sets have then together.
+fn spread(near: &[u64], n: usize, bonds: &[u8], sets: &mut [u64]) -> u64
     requires { ⌜ (drawnReply n (now bonds) ≡ read tt) × (length (now near) ≡ mostAtoms) × (length (now sets) ≡ mostAtoms) ⌝ }
-    ensures { λ r. ⌜ Widened n (now (bonds .entry)) (now (near .entry)) (now (sets .entry)) (now (sets .exit)) r ⌝ }
+    ensures { λ r. ⌜ Spread n (now (bonds .entry)) (now (near .entry)) (now (sets .entry)) (now (sets .exit)) r ⌝ }
 {
-    spread(near, n, bonds, sets);
+    let m = bonds.len() / 2;
+    let half = m - m / 2;
+    let mut k = 0;
+    while k < half {
+        let j = k + m / 2;
+        exchange(near, bonds[2 * k], bonds[2 * k + 1], sets);
+        exchange(near, bonds[2 * j], bonds[2 * j + 1], sets);
+        k += 1;
+    }
     together(sets, n)
 }
 
@@ -121,13 +113,13 @@ fn widened(near: &[u64], n: usize, bonds: &[u8], sets: &mut [u64]) -> u64
 fn next_level(d: u64, n: usize, bonds: &[u8], odd: &mut [u64], even: &mut [u64]) -> u64
     requires { ⌜ (drawnReply n (now bonds) ≡ read tt) × (length (now odd) ≡ mostAtoms) × (length (now even) ≡ mostAtoms) ⌝ }
     ensures kept { λ _. ⌜ ofLevel d (now (odd .exit)) (now (even .exit)) ≡ ofLevel d (now (odd .entry)) (now (even .entry)) ⌝ }
-    ensures next { λ r. ⌜ Widened n (now (bonds .entry)) (ofLevel d (now (odd .entry)) (now (even .entry)))
+    ensures next { λ r. ⌜ Spread n (now (bonds .entry)) (ofLevel d (now (odd .entry)) (now (even .entry)))
         (ofLevel d (now (even .entry)) (now (odd .entry))) (ofLevel d (now (even .exit)) (now (odd .exit))) r ⌝ }
 {
     if d % 2 == 0 {
-        return widened(even, n, bonds, odd);
+        return spread(even, n, bonds, odd);
     }
-    widened(odd, n, bonds, even)
+    spread(odd, n, bonds, even)
 }
 
 // The table of level d: the odd levels have one and the even levels the other.

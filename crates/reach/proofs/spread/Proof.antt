@@ -50,14 +50,25 @@ loop-again c =
     let p = t .before .before .before .before .before .pre in
     rw (c .before .before .exchange2 .ensures, x .exchange .ensures) (took-next _ _ (p .0) (p .2) (l .k) (omega (arith, t .loop-test .taken)) (l .inv))
 
+together-requires : tie.Need-together-requires Inv-loop μ-loop
+together-requires c κs =
+    let p = c .before .before .before .before .before .before .pre in
+    let few = drawn-atoms _ _ (p .0) .high in
+    (few, omega (arith, p .2, c .before .before .loop .inv .size))
+
 same-length : tie.Need-same-length Inv-loop μ-loop
-same-length c = c .before .loop .inv .size
+same-length c = c .before .before .before .loop .inv .size
 
 returns : tie.Need-returns Inv-loop μ-loop
-returns c d s N O = let l = c .before .loop in took-all _ _ (c .before .before .before .before .before .pre .0) (l .k) (omega (arith, c .loop-test .left)) (l .inv) d s N O
+returns c =
+    let t = c .before .before in
+    record {
+      wider = took-all _ _ (t .before .before .before .before .before .pre .0) (t .before .loop .k) (omega (arith, t .loop-test .left)) (t .before .loop .inv);
+      met-is = c .together .ensures;
+    }
 
 pub spread-spec : {M : Type 1} → statement M
 spread-spec =
     tie.close (tie.spec Inv-loop μ-loop (λ c. omega arith) loop-holds (λ c. omega arith) (λ c. omega arith) (λ c. omega arith) (λ c. omega arith)
     (λ c. omega arith) (λ c. omega arith) exchange-requires (λ c. omega arith) (λ c. omega arith) (λ c. omega arith) (λ c. omega arith) (λ c. omega arith)
-    exchange-requires-2 (λ c. omega arith) (λ c. omega arith) loop-again same-length returns)
+    exchange-requires-2 (λ c. omega arith) (λ c. omega arith) loop-again together-requires same-length returns)
