@@ -39,7 +39,7 @@ pub record Inner (g : Graph) (d : ℕ) (sets : List ℕ) : Type 0 where
 abbrev pub ofLevel : ℕ → List ℕ → List ℕ → List ℕ
 ofLevel d odd even = cond (eqb (d % 2) 0) even odd
 
--- sets that had no more than those of a level, near, reach one bond farther, and have met atoms together
+-- inner sets, old, that were spread from the sets of a level, near: they reach one bond farther, and have met atoms together
 pub record Spread (n : ℕ) (xs near old sets : List ℕ) (met : ℕ) : Type 0 where
   pub wider : (d : ℕ) → suc d < n → Reach (graphOf n xs) d near → Inner (graphOf n xs) d old → Reach (graphOf n xs) (suc d) sets
   pub met-is : met ≡ sum n (λ v. ones (around sets v))

@@ -7,10 +7,14 @@ use Rattle.reach.proofs.next_level.Statement.{statement}
 use Rattle.reach.proofs.next_level.Tie as tie
 
 returns : tie.Need-returns
-returns c = let p = c .before .before .before .before .before in rw (eq-eqb (p .before .before .before .before .args .d % 2) 0 (omega (arith, p .if1 .taken))) (refl, c .before .before .spread .ensures)
+returns c =
+    let p = c .before .before .before .before .before in
+    rw (eq-eqb (p .before .before .before .before .args .d % 2) 0 (omega (arith, p .if1 .taken))) (refl, c .before .before .spread .ensures)
 
 returns-2 : tie.Need-returns-2
-returns-2 c = let p = c .before .before .before .before .before in rw (ne-eqb (p .before .before .before .before .args .d % 2) 0 (omega (arith, p .if1 .left))) (refl, c .before .before .spread2 .ensures)
+returns-2 c =
+    let p = c .before .before .before .before .before in
+    rw (ne-eqb (p .before .before .before .before .args .d % 2) 0 (omega (arith, p .if1 .left))) (refl, c .before .before .spread2 .ensures)
 
 pub next-level-spec : {M : Type 1} → statement M
 next-level-spec =
