@@ -16,7 +16,7 @@ use Rattle.sighted.specs.Sighted.{stepsIn}
 use Rattle.sighted.specs.declared.Seen.{Seen}
 use Rattle.summary.specs.Layout.{seenAt}
 use Rattle.shelf.specs.Shelf.{summaryAt, placeOf}
-use Rattle.summaries.specs.Ready.{endOf, joinsIn, seenFrom, siteSeen, ReadyShelf, sightFrom, countRow, sightOfRow, coreAt, StepsKnown, Counted}
+use Rattle.summaries.specs.Ready.{endOf, joinsIn, seenFrom, siteSeen, ReadyShelf, between, sightFrom, countRow, sightOfRow, coreAt, StepsKnown, Counted, Kept}
 use Rattle.summaries.specs.Ends.{homeOf, IsEnd, Stepped, Right, Known, Put, Unmarked}
 use Rattle.summaries.proofs.Ports.{earlier}
 
@@ -195,3 +195,10 @@ module _ (b ls : List ℕ) where
 
       before : (m : ℕ) → 1 ≤ m → m < count → m < k → coreAt (set vs (2 * k + 1) row) (2 * m + 1) ≡ sightFrom b ls m m
       before m p q l = ap sightOfRow (getD-set-other vs (2 * k + 1) (2 * m + 1) row [] (omega arith)) ∙ C .made m p q l
+
+  -- one distance more is kept
+  pub kept-more : {row : List ℕ} (k m d : ℕ) → m < length row → d ≡ between b ls m k → Kept b ls row k m → Kept b ls (set row m d) k (m + 1)
+  kept-more {row} k m d w e K = record { known = λ j l h. ⊎-elim (λ q. now j q) (λ q. getD-set-other row m j d 0 (omega arith) ∙ K .known j l q) (eq-or-lt-of-le {n = j} {m = m} (omega arith)) }
+    where
+      now : (j : ℕ) → j ≡ m → getD (set row m d) j 0 ≡ between b ls j k
+      now j q = rw q (getD-set-same row m d 0 w ∙ e)
