@@ -7,6 +7,7 @@ use assembly::PLACEMENTS;
 use block::Indices;
 use block::IndicesReply;
 use ends::CountRow;
+use ends::MORE;
 use ends::StepRow;
 use ends::see_ends;
 use joins::composed;
@@ -24,10 +25,8 @@ ghost use Rattle.summaries.specs.Composing.{composedReply};
 ghost use Rattle.summaries.specs.Ready.{keptIn, joinsIn, ReadyShelf};
 ghost use Rattle.summaries.specs.Ends.{Unmarked};
 
-// The placements of a small assembly and of one of middle size, for which fewer rows are cleared.
+// The placements of a small assembly: for it, and for one of middle size, fewer rows are cleared.
 const FEW: usize = 2;
-
-const MORE: usize = 10;
 
 // By lent rows for both ends of each join, and one for distances.
 fn by_rows(
