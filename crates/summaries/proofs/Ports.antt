@@ -1,8 +1,8 @@
 -- The joins of placed summaries: where their atoms are, how far those are apart, what is counted from them, and how small all of it is. Assumes nothing.
 use Prim.Native.Nat.{ℕ, _+_, _*_, _-_, _^_, _≤_, _<_}
-use mathlib.Core.List.{List}
+use mathlib.Core.List.{List, []}
 use native.Mathlib.Decide.{decLt}
-use lib.ListN.{take, drop, length-take, List·getD-eq-default}
+use lib.ListN.{getD, take, drop, length-take, List·getD-eq-default}
 use lib.Seq.{getD-take, getD-drop}
 use mathlib.Core.Path.{_≡_, sym}
 use native.Mathlib.Omega.{arith}
@@ -19,7 +19,7 @@ use Rattle.joining.specs.Bounds.{SmallSight, SixHeld, SixBytes, SmallPart, far-
 use Rattle.joining.specs.Small.{SmallCounts, SmallFields}
 use Rattle.summary.specs.Layout.{summaryBytes, storedAtoms, storedFields, vertexAt, farAt, keptOf}
 use Rattle.shelf.specs.Shelf.{summaryAt}
-use Rattle.summaries.specs.Ready.{placeIn, keptIn, joinsIn, LentBytes, ReadyShelf, between, sightFrom}
+use Rattle.summaries.specs.Ready.{placeIn, keptIn, joinsIn, LentBytes, ReadyShelf, StepsKnown, between, sightFrom}
 use Rattle.summaries.proofs.Small.{vertex-bytes, far-few}
 
 -- a part of bytes is of bytes
@@ -112,6 +112,11 @@ module _ {b ls : List ℕ} {count : ℕ} (r : ReadyShelf b ls count) where
     between-second h =
         let u = above v (omega (arith, earlier w)) in
         far-earlier (keptIn b ls) (joinsIn ls) 31 (joinsIn ls x .parent - 1) (joinsIn ls x .site) (joinsIn ls y .parent - 1) (joinsIn ls y .site) (omega (arith, parent-small v)) (omega (arith, earlier w)) (earlier u)
+
+  -- the row of a parent that is joined itself says the steps from its own atom to the one that is joined to it
+  pub step-own : {rs : List (List ℕ)} {x : ℕ} → StepsKnown b ls rs count → Within (count - 1) x → Within (count - 1) (joinsIn ls x .parent - 1)
+      → getD (getD rs (joinsIn ls x .parent - 1) []) x 0 ≡ farAt (summaryAt b (placeIn b ls (joinsIn ls x .parent - 1))) (joinsIn ls (joinsIn ls x .parent - 1) .own) (joinsIn ls x .site)
+  step-own {rs} {x} s v w = s .own (joinsIn ls x .parent - 1) x (w .low) (omega (arith, w)) (v .low) (omega (arith, v)) (omega (arith, w))
 
   module _ {k : ℕ} (w : Within (count - 1) k) where
     -- as far as the parent: the first placement, or one that is joined itself

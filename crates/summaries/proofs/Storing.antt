@@ -16,8 +16,8 @@ use Rattle.sighted.specs.Sighted.{stepsIn}
 use Rattle.sighted.specs.declared.Seen.{Seen}
 use Rattle.summary.specs.Layout.{seenAt}
 use Rattle.shelf.specs.Shelf.{summaryAt, placeOf}
-use Rattle.summaries.specs.Ready.{endOf, joinsIn, seenFrom, siteSeen, ReadyShelf, sightFrom, countRow, sightOfRow, coreAt, StepsKnown, Counted}
-use Rattle.summaries.specs.Ends.{homeOf, IsEnd, Stepped, Right, Known, Put, Unmarked}
+use Rattle.summaries.specs.Ready.{endOf, joinsIn, seenFrom, siteSeen, ReadyShelf, between, sightFrom, countRow, sightOfRow, coreAt, StepsKnown, Counted, Kept}
+use Rattle.summaries.specs.Ends.{homeOf, IsEnd, Stepped, Right, Known, Put, Nowhere, Unmarked}
 use Rattle.summaries.proofs.Ports.{earlier}
 
 -- which placement has an end
@@ -61,6 +61,10 @@ unmarked n = record { none = λ g. at g (decLt g n) }
     at g (yes h) = rw (getD-replicate n g (replicate {A = ℕ} 8 0) [] h)
     at g (no h) = rw (List·getD-eq-default (replicate n (replicate {A = ℕ} 8 0)) [] {n = g} (omega (arith, length-replicate n (replicate {A = ℕ} 8 0))))
 
+-- one end more that is another
+pub nowhere-more : {ls : List ℕ} {x e : ℕ} (f : ℕ) → (endOf ls f ≡ x → ⊥) → Nowhere ls x e f → Nowhere ls x e (f + 1)
+nowhere-more {ls} f n s = record { other = λ g l h q. ⊎-elim (λ m. n (ap (endOf ls) (sym m) ∙ q)) (λ m. s .other g l m q) (eq-or-lt-of-le {n = g} {m = f} (omega arith)) }
+
 module _ {b ls : List ℕ} {count : ℕ} where
   -- nothing is put for an end that is another
   pub put-none : {x e : ℕ} {rs vs : List (List ℕ)} → Put b ls count x e e rs vs rs vs
@@ -87,17 +91,18 @@ module _ {b ls : List ℕ} {count : ℕ} where
     marked = k .marked;
   }
 
-  -- and of one that was put for all that are the same
-  pub known-more : {rs vs rt vt : List (List ℕ)} (x e : ℕ) → x ≡ endOf ls e → Known b ls count rs vs e → Put b ls count x e (2 * count) rs vs rt vt → Known b ls count rt vt (e + 1)
-  known-more {rs} {vs} {rt} {vt} x e h k p = record {
-    before = λ g w l. ⊎-elim (λ q. p .puts g w (omega arith) (w .high) (ap (endOf ls) q ∙ sym h)) (λ q. p .keeps g w (k .before g w q)) (eq-or-lt-of-le {n = g} {m = e} (omega arith));
-    marked = λ g w n. at g w n (ℕ-discrete (endOf ls g) x) (decLt g e);
+  -- and of one that was put for all that are the same, none of which stands from f on
+  pub known-more : {rs vs rt vt : List (List ℕ)} (x e f : ℕ) → x ≡ endOf ls e → e < f → Nowhere ls (endOf ls e) f (2 * count) → Known b ls count rs vs e → Put b ls count x e f rs vs rt vt → Known b ls count rt vt (e + 1)
+  known-more {rs} {vs} {rt} {vt} x e f h o s k p = record {
+    before = λ g w l. ⊎-elim (λ q. p .puts g w (omega arith) (omega arith) (ap (endOf ls) q ∙ sym h)) (λ q. p .keeps g w (k .before g w q)) (eq-or-lt-of-le {n = g} {m = e} (omega arith));
+    marked = λ g w n. at g w n (ℕ-discrete (endOf ls g) x) (decLt g e) (decLt g f);
   }
     where
-      at : (g : ℕ) → IsEnd count g → (getD (getD vt g []) 3 0 ≡ 0 → ⊥) → Dec (endOf ls g ≡ x) → Dec (g < e) → Right b ls count rt vt g
-      at g w n d (yes l) = p .keeps g w (k .before g w l)
-      at g w n (yes q) (no l) = p .puts g w (omega arith) (w .high) q
-      at g w n (no q) (no l) = p .keeps g w (k .marked g w (λ z. n (ap (λ (r : List ℕ). getD r 3 0) (p .others g q) ∙ z)))
+      at : (g : ℕ) → IsEnd count g → (getD (getD vt g []) 3 0 ≡ 0 → ⊥) → Dec (endOf ls g ≡ x) → Dec (g < e) → Dec (g < f) → Right b ls count rt vt g
+      at g w n d (yes l) m = p .keeps g w (k .before g w l)
+      at g w n (yes q) (no l) (yes m) = p .puts g w (omega arith) m q
+      at g w n (yes q) (no l) (no m) = absurd (s .other g (omega arith) (w .high) (q ∙ h))
+      at g w n (no q) (no l) m = p .keeps g w (k .marked g w (λ z. n (ap (λ (r : List ℕ). getD r 3 0) (p .others g q) ∙ z)))
 
   module _ (r : ReadyShelf b ls count) where
     -- the two ends of a join are in different placements
@@ -195,3 +200,10 @@ module _ (b ls : List ℕ) where
 
       before : (m : ℕ) → 1 ≤ m → m < count → m < k → coreAt (set vs (2 * k + 1) row) (2 * m + 1) ≡ sightFrom b ls m m
       before m p q l = ap sightOfRow (getD-set-other vs (2 * k + 1) (2 * m + 1) row [] (omega arith)) ∙ C .made m p q l
+
+  -- one distance more is kept
+  pub kept-more : {row : List ℕ} (k m d : ℕ) → m < length row → d ≡ between b ls m k → Kept b ls row k m → Kept b ls (set row m d) k (m + 1)
+  kept-more {row} k m d w e K = record { known = λ j l h. ⊎-elim (λ q. now j q) (λ q. getD-set-other row m j d 0 (omega arith) ∙ K .known j l q) (eq-or-lt-of-le {n = j} {m = m} (omega arith)) }
+    where
+      now : (j : ℕ) → j ≡ m → getD (set row m d) j 0 ≡ between b ls j k
+      now j q = rw q (getD-set-same row m d 0 w ∙ e)

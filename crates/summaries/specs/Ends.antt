@@ -39,6 +39,10 @@ module _ (b ls : List ℕ) (count : ℕ) where
     pub puts : (g : ℕ) → IsEnd count g → e ≤ g → g < f → endOf ls g ≡ x → Right rt vt g
     pub others : (g : ℕ) → (endOf ls g ≡ x → ⊥) → getD vt g [] ≡ getD vs g []
 
+-- none of the ends from e to f is x
+pub record Nowhere (ls : List ℕ) (x e f : ℕ) : Type 0 where
+  pub other : (g : ℕ) → e ≤ g → g < f → endOf ls g ≡ x → ⊥
+
 -- no end counts an atom
 pub record Unmarked (vs : List (List ℕ)) : Type 0 where
   pub none : (g : ℕ) → getD (getD vs g []) 3 0 ≡ 0

@@ -95,3 +95,7 @@ pub record Counted (b ls : List ℕ) (vs : List (List ℕ)) (count k : ℕ) : Ty
   pub own : (m : ℕ) → 1 ≤ m → m < count → coreAt vs (2 * m) ≡ ownSeen b ls m .counts
   pub made : (m : ℕ) → 1 ≤ m → m < count → m < k → coreAt vs (2 * m + 1) ≡ sightFrom b ls m m
   pub waits : (m : ℕ) → 1 ≤ m → m < count → k ≤ m → coreAt vs (2 * m + 1) ≡ siteSeen b ls m .counts
+
+-- a row with how far the atoms are apart that the placements at j and k are joined to, for each j before m since k's parent
+pub record Kept (b ls row : List ℕ) (k m : ℕ) : Type 0 where
+  pub known : (j : ℕ) → joinsIn ls k .parent ≤ j → j < m → getD row j 0 ≡ between b ls j k

@@ -20,8 +20,8 @@ ghost use Rattle.assembly.specs.Placements.{mostPlacements};
 ghost use Rattle.joining.specs.Small.{SmallCounts};
 ghost use Rattle.summary.specs.Layout.{storedFields};
 ghost use Rattle.shelf.specs.Shelf.{summaryAt, placeOf};
-ghost use Rattle.summaries.specs.Ready.{countRow, sightOfRow, coreAt, seenFrom, ReadyShelf, StepsKnown, Counted};
-ghost use Rattle.summaries.specs.Ends.{homeOf, IsEnd, Stepped, Known, Put, Unmarked};
+ghost use Rattle.summaries.specs.Ready.{endOf, countRow, sightOfRow, coreAt, seenFrom, ReadyShelf, StepsKnown, Counted};
+ghost use Rattle.summaries.specs.Ends.{homeOf, IsEnd, Stepped, Known, Put, Nowhere, Unmarked};
 
 // The numbers of steps to the atoms that placements are joined to; what is counted from an atom, in the order of the fields, since an array of structs is not lent.
 pub(crate) type StepRow = [u8; PLACEMENTS];
@@ -29,6 +29,9 @@ pub(crate) type StepRow = [u8; PLACEMENTS];
 pub(crate) type CountRow = [u32; 8];
 
 const EVENS: usize = 3;
+
+// The placements of an assembly of middle size: equal ends of a larger one are counted before they are looked for.
+pub(crate) const MORE: usize = 10;
 
 pub(crate) fn row_of(v: Vertex) -> CountRow
     requires { ⌜ SmallCounts v ⌝ }
@@ -149,7 +152,7 @@ fn put_end(
     counts[f] = sight;
 }
 
-// And as every end from e on that it is.
+// And as every end from e to `to` that it is.
 fn put_ends(
     book: &[u8],
     links: &Links,
@@ -160,16 +163,48 @@ fn put_ends(
     rows: &mut [StepRow],
     counts: &mut [CountRow],
     e: usize,
+    to: usize,
 )
-    requires { ⌜ ReadyShelf (now book) (now links) count × IsEnd count e × (count ≤ length (now rows)) × (2 * count ≤ length (now counts))
+    requires { ⌜ ReadyShelf (now book) (now links) count × (2 ≤ e) × (e ≤ to) × (to ≤ 2 * count) × (count ≤ length (now rows)) × (2 * count ≤ length (now counts))
         × (now from ≡ seenFrom (now book) x .row) × (sight ≡ countRow (seenFrom (now book) x .counts)) ⌝ }
-    ensures { λ _. ⌜ Put (now (book .entry)) (now (links .entry)) count x e (2 * count) (now (rows .entry)) (now (counts .entry)) (now (rows .exit)) (now (counts .exit)) ⌝ }
+    ensures { λ _. ⌜ Put (now (book .entry)) (now (links .entry)) count x e to (now (rows .entry)) (now (counts .entry)) (now (rows .exit)) (now (counts .exit)) ⌝ }
 {
     let mut f = e;
-    while f < 2 * count {
+    while f < to {
         put_end(book, links, count, x, from, sight, rows, counts, f);
         f += 1;
     }
+}
+
+fn one_if_same(a: u32, b: u32) -> u32
+    ensures { λ r. ⌜ (r ≤ 1) × (r ≡ 0 → a ≡ b → ⊥) ⌝ }
+{
+    if a == b { 1 } else { 0 }
+}
+
+// How many of the ends from e to f are x, counted without a branch.
+fn again(links: &Links, x: u32, e: usize, f: usize) -> u32
+    requires { ⌜ f ≤ 2 * mostPlacements ⌝ }
+    ensures { λ r. ⌜ (r ≡ 0 → Nowhere (now (links .entry)) x e f) ⌝ }
+{
+    let mut total: u32 = 0;
+    let mut g = e;
+    while g < f {
+        total += one_if_same(links[g], x);
+        g += 1;
+    }
+    total
+}
+
+// From where on no end is the same as end e: behind it in a large assembly that has no other.
+fn none_from(links: &Links, count: usize, e: usize) -> usize
+    requires { ⌜ (count ≤ mostPlacements) × IsEnd count e ⌝ }
+    ensures { λ r. ⌜ (e < r) × (r ≤ 2 * count) × Nowhere (now (links .entry)) (endOf (now (links .entry)) e) r (2 * count) ⌝ }
+{
+    if count > MORE && again(links, links[e], e + 1, 2 * count) == 0 {
+        return e + 1;
+    }
+    2 * count
 }
 
 // Stores what is seen from end e, for the later ends at the same atom too, unless that is done: an end that is stored counts its own atom.
@@ -190,6 +225,7 @@ fn see_end(
         return;
     }
     let x = end_at(links, e);
+    let to = none_from(links, count, e);
     let s = seen_from(book, x);
     let from = s.row;
     put_ends(
@@ -202,6 +238,7 @@ fn see_end(
         rows,
         counts,
         e,
+        to,
     );
 }
 

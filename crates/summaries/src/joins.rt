@@ -12,11 +12,12 @@ use block::Indices;
 use block::Vertex;
 use joining::grown;
 ghost use mathlib.Core.Path.{_≡_};
-ghost use Prim.Native.Nat.{_-_};
+ghost use Prim.Native.Nat.{_-_, _≤_};
+ghost use lib.ListN.{length};
 ghost use Rattle.graph.specs.Graph.{Within};
 ghost use Rattle.joining.specs.Parts.{sixIn};
 ghost use Rattle.joining.specs.Joining.{joinedOf};
-ghost use Rattle.summaries.specs.Ready.{keptIn, joinsIn, between, sightFrom, ReadyShelf, StepsKnown, Counted};
+ghost use Rattle.summaries.specs.Ready.{keptIn, joinsIn, between, sightFrom, ReadyShelf, StepsKnown, Counted, Kept};
 
 // How far the atoms are apart that the placements at the indices x and y are joined to: it climbs from the later of their parents.
 fn apart(book: &[u8], links: &Links, count: usize, rows: &[StepRow], x: usize, y: usize) -> u64
@@ -44,6 +45,28 @@ fn apart(book: &[u8], links: &Links, count: usize, rows: &[StepRow], x: usize, y
     }
 }
 
+// The same for the placements at m and k, where `far` keeps it for those before m since the parent p of k: a parent of m that is later than p is one of them.
+fn apart_kept(
+    book: &[u8],
+    links: &Links,
+    count: usize,
+    rows: &[StepRow],
+    m: usize,
+    k: usize,
+    p: usize,
+    far: &[u64],
+) -> u64
+    requires { ⌜ ReadyShelf (now book) (now links) count × Within (count - 1) m × Within (count - 1) k × StepsKnown (now book) (now links) (now rows) count
+        × (p ≡ joinsIn (now links) k .parent) × (m ≤ length (now far)) × Kept (now book) (now links) (now far) k m ⌝ }
+    ensures { λ r. ⌜ r ≡ between (now (book .entry)) (now (links .entry)) m k ⌝ }
+{
+    let q = parent_of(links, m);
+    if p < q {
+        return far[q - 1] + 1 + step_at(rows, q - 1, m);
+    }
+    apart(book, links, count, rows, m, k)
+}
+
 // What is counted from the parent's atom of the placement at index k, as far as the parent.
 fn begun(
     book: &[u8],
@@ -65,7 +88,7 @@ fn begun(
     grown(v, step_at(rows, above, k), core_at(counts, 2 * above + 1))
 }
 
-// And as far as the placement before: each placement since the parent adds what is counted from its own atom.
+// And as far as the placement before: each placement since the parent adds what is counted from its own atom. What `far` holds before is of no matter.
 fn core_of(
     book: &[u8],
     links: &Links,
@@ -73,19 +96,19 @@ fn core_of(
     rows: &[StepRow],
     counts: &[CountRow],
     k: usize,
+    far: &mut [u64],
 ) -> Vertex
-    requires { ⌜ ReadyShelf (now book) (now links) count × Within (count - 1) k
-        × StepsKnown (now book) (now links) (now rows) count × Counted (now book) (now links) (now counts) count k ⌝ }
+    requires { ⌜ ReadyShelf (now book) (now links) count × Within (count - 1) k × StepsKnown (now book) (now links) (now rows) count
+        × Counted (now book) (now links) (now counts) count k × (count ≤ length (now far)) ⌝ }
     ensures { λ r. ⌜ r ≡ sightFrom (now (book .entry)) (now (links .entry)) k k ⌝ }
 {
     let mut v = begun(book, links, count, rows, counts, k);
-    let mut m = parent_of(links, k);
+    let p = parent_of(links, k);
+    let mut m = p;
     while m < k {
-        v = grown(
-            v,
-            apart(book, links, count, rows, m, k),
-            core_at(counts, 2 * m),
-        );
+        let d = apart_kept(book, links, count, rows, m, k, p, far);
+        far[m] = d;
+        v = grown(v, d, core_at(counts, 2 * m));
         m += 1;
     }
     v
@@ -114,9 +137,10 @@ pub(crate) fn composed(
     count: usize,
     rows: &[StepRow],
     counts: &mut [CountRow],
+    far: &mut [u64],
 ) -> Indices
     requires { ⌜ ReadyShelf (now book) (now links) count × StepsKnown (now book) (now links) (now rows) count
-        × Counted (now book) (now links) (now counts) count 1 ⌝ }
+        × Counted (now book) (now links) (now counts) count 1 × (count ≤ length (now far)) ⌝ }
     ensures { λ r. ⌜ r ≡ sixIn (keptIn (now (book .entry)) (now (links .entry))) (joinsIn (now (links .entry))) (count - 1) ⌝ }
 {
     let mut s = Summary {
@@ -124,7 +148,7 @@ pub(crate) fn composed(
     };
     let mut k: usize = 1;
     while k < count {
-        let core = core_of(book, links, count, rows, counts, k);
+        let core = core_of(book, links, count, rows, counts, k, far);
         let own = core_at(counts, 2 * k);
         s = s.joined(fields_at(book, end_at(links, 2 * k)), core, own);
         counts[2 * k + 1] = row_of(core);

@@ -1,5 +1,5 @@
 -- `summaries::ends::put_ends` meets its contract. The loop's invariant: what is seen from x is put for the ends from e to f. Assumes nothing.
-use Prim.Native.Nat.{ℕ, _*_, _-_, _≤_}
+use Prim.Native.Nat.{ℕ, _-_, _≤_}
 use mathlib.Core.Path.{_≡_, refl, _∙_, subst}
 use native.Mathlib.Omega.{arith}
 use lib.ListN.{length}
@@ -9,27 +9,24 @@ use Rattle.summaries.proofs.ends.put_ends.Statement.{statement}
 use Rattle.summaries.proofs.ends.put_ends.Tie as tie
 
 abbrev Inv-loop : tie.InvT-loop
-Inv-loop book links count x from sight rows₀ counts₀ e f₀ rows counts f =
-    (e ≤ f) × (f ≤ 2 * count) × (length rows ≡ length rows₀) × (length counts ≡ length counts₀) × Put book links count x e f rows₀ counts₀ rows counts
+Inv-loop book links count x from sight rows₀ counts₀ e to f₀ rows counts f =
+    (e ≤ f) × (f ≤ to) × (length rows ≡ length rows₀) × (length counts ≡ length counts₀) × Put book links count x e f rows₀ counts₀ rows counts
 
 abbrev μ-loop : tie.MeasureT-loop
-μ-loop book links count x from sight rows₀ counts₀ e f₀ rows counts f = 2 * count - f
+μ-loop book links count x from sight rows₀ counts₀ e to f₀ rows counts f = to - f
 
 loop-holds : tie.Need-loop-holds Inv-loop μ-loop
-loop-holds c = (omega arith, omega (arith, c .before .pre .1 .high), refl, refl, put-none)
-
-mul-loop : tie.Need-mul-loop Inv-loop μ-loop
-mul-loop c = omega (arith, c .before .before .pre .0 .few)
+loop-holds c = (omega arith, omega (arith, c .before .pre .2), refl, refl, put-none)
 
 put-end-requires : tie.Need-put-end-requires Inv-loop μ-loop
 put-end-requires c κs =
     let t = c .before .before in
     let p = t .before .before .before .pre in
     let i = t .before .loop .inv in
-    (p .0, record { low = omega (arith, p .1 .low, i .0); high = omega (arith, t .loop-test .taken) }, omega (arith, p .2, i .2), omega (arith, p .3, i .3), p .4, p .5)
+    (p .0, record { low = omega (arith, p .1, i .0); high = omega (arith, p .3, t .loop-test .taken) }, omega (arith, p .4, i .2), omega (arith, p .5, i .3), p .6, p .7)
 
 add-f : tie.Need-add-f Inv-loop μ-loop
-add-f c = let t = c .before .before .before .before .before in omega (arith, t .loop-test .taken, t .before .before .before .pre .0 .few)
+add-f c = let t = c .before .before .before .before .before in let p = t .before .before .before .pre in omega (arith, t .loop-test .taken, p .3, p .0 .few)
 
 loop-less : tie.Need-loop-less Inv-loop μ-loop
 loop-less c = omega (arith, c .before .before .before .before .before .loop-test .taken)
@@ -50,8 +47,8 @@ returns : tie.Need-returns Inv-loop μ-loop
 returns c =
     let a = c .before .before .before .args in
     let i = c .before .loop .inv in
-    let e : c .before .loop .f ≡ 2 * a .count = omega (arith, i .1, c .loop-test .left) in
+    let e : c .before .loop .f ≡ a .to = omega (arith, i .1, c .loop-test .left) in
     subst (λ (f : ℕ). Put (a .book .now) (a .links .now) (a .count) (a .x) (a .e) f (a .rows .now) (a .counts .now) (c .before .loop .rows) (c .before .loop .counts)) e (i .4)
 
 pub put-ends-spec : {M : Type 1} → statement M
-put-ends-spec = tie.close (tie.spec Inv-loop μ-loop loop-holds mul-loop put-end-requires add-f loop-less loop-again same-length same-length-2 returns)
+put-ends-spec = tie.close (tie.spec Inv-loop μ-loop loop-holds put-end-requires add-f loop-less loop-again same-length same-length-2 returns)

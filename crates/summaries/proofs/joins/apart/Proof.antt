@@ -6,10 +6,8 @@ use mathlib.Core.Path.{_≡_, sym, _∙_, ap}
 use native.Mathlib.Omega.{arith}
 use lib.ListN.{length, getD}
 use Rattle.graph.specs.Graph.{Within}
-use Rattle.summary.specs.Layout.{farAt}
-use Rattle.shelf.specs.Shelf.{summaryAt}
-use Rattle.summaries.specs.Ready.{placeIn, joinsIn, between}
-use Rattle.summaries.proofs.Ports.{small, earlier, above, between-small, between-same, between-first, between-second}
+use Rattle.summaries.specs.Ready.{joinsIn, between}
+use Rattle.summaries.proofs.Ports.{small, earlier, above, between-small, between-same, between-first, between-second, step-own}
 use Rattle.summaries.proofs.joins.apart.Statement.{statement}
 use Rattle.summaries.proofs.joins.apart.Tie as tie
 
@@ -69,11 +67,6 @@ module _ (c : tie.At-loop Inv-loop μ-loop) where
   up : {x y : ℕ} → Within (c .before .before .args .count - 1) x → Within (c .before .before .args .count - 1) y → joinsIn links y .parent < joinsIn links x .parent → Within (c .before .before .args .count - 1) (joinsIn links x .parent - 1)
   up w v h = let r = c .before .before .pre .0 in above r w (omega (arith, h, earlier r v))
 
-  -- and says how far it is from the own atom to that of the one that is joined
-  way : {x : ℕ} → Within (c .before .before .args .count - 1) x → (w : Within (c .before .before .args .count - 1) (joinsIn links x .parent - 1))
-      → getD (getD (c .before .before .args .rows .now) (joinsIn links x .parent - 1) []) x 0 ≡ farAt (summaryAt (c .before .before .args .book .now) (placeIn (c .before .before .args .book .now) links (joinsIn links x .parent - 1))) (joinsIn links (joinsIn links x .parent - 1) .own) (joinsIn links x .site)
-  way {x} v w = c .before .before .pre .3 .own (joinsIn links x .parent - 1) x (w .low) (omega (arith, w)) (v .low) (omega (arith, v)) (omega (arith, w))
-
 -- the second one's parent is the later one
 second-later : (c : tie.Then2 Inv-loop μ-loop) → let s = c .before .before .before .before in joinsIn (links s) (s .loop .u) .parent < joinsIn (links s) (s .loop .v) .parent
 second-later c = omega (arith, c .if2 .taken, first-is (c .before .before .before), second-is (c .before .before))
@@ -94,8 +87,9 @@ second-far : (c : tie.After-step-at2 Inv-loop μ-loop) → let s = c .before .be
     between (a .book .now) (a .links .now) (s .loop .u) (s .loop .v) ≡ between (a .book .now) (a .links .now) (joinsIn (a .links .now) (s .loop .v) .parent - 1) (s .loop .u) + 1 + c .step-at2 .result
 second-far c =
     let s = c .before .before .before .before .before in
-    let e = c .step-at2 .ensures ∙ ap (λ (x : ℕ). getD (getD (s .before .before .args .rows .now) (x - 1) []) (s .loop .v) 0) (second-is (c .before .before .before)) ∙ way s (s .loop .inv .1) (second-joined (c .before)) in
-    omega (arith, between-second (s .before .before .pre .0) (s .loop .inv .0) (s .loop .inv .1) (second-later (c .before)), e)
+    let p = s .before .before .pre in
+    let e = c .step-at2 .ensures ∙ ap (λ (x : ℕ). getD (getD (s .before .before .args .rows .now) (x - 1) []) (s .loop .v) 0) (second-is (c .before .before .before)) ∙ step-own (p .0) (p .3) (s .loop .inv .1) (second-joined (c .before)) in
+    omega (arith, between-second (p .0) (s .loop .inv .0) (s .loop .inv .1) (second-later (c .before)), e)
 
 add-d-2 : tie.Need-add-d-2 Inv-loop μ-loop
 add-d-2 c = omega (arith, left (c .before .before .before .before .before), second-far c)
@@ -137,8 +131,9 @@ first-far : (c : tie.After-step-at3 Inv-loop μ-loop) → let s = c .before .bef
     between (a .book .now) (a .links .now) (s .loop .u) (s .loop .v) ≡ c .step-at3 .result + 1 + between (a .book .now) (a .links .now) (joinsIn (a .links .now) (s .loop .u) .parent - 1) (s .loop .v)
 first-far c =
     let s = c .before .before .before .before .before in
-    let e = c .step-at3 .ensures ∙ ap (λ (x : ℕ). getD (getD (s .before .before .args .rows .now) (x - 1) []) (s .loop .u) 0) (first-is (c .before .before .before .before)) ∙ way s (s .loop .inv .0) (first-joined (c .before)) in
-    omega (arith, between-first (s .before .before .pre .0) (s .loop .inv .0) (s .loop .inv .1) (first-later (c .before)), e)
+    let p = s .before .before .pre in
+    let e = c .step-at3 .ensures ∙ ap (λ (x : ℕ). getD (getD (s .before .before .args .rows .now) (x - 1) []) (s .loop .u) 0) (first-is (c .before .before .before .before)) ∙ step-own (p .0) (p .3) (s .loop .inv .0) (first-joined (c .before)) in
+    omega (arith, between-first (p .0) (s .loop .inv .0) (s .loop .inv .1) (first-later (c .before)), e)
 
 add-d-4 : tie.Need-add-d-4 Inv-loop μ-loop
 add-d-4 c = omega (arith, left (c .before .before .before .before .before), first-far c)

@@ -8,7 +8,7 @@ use Rattle.graph.specs.Graph.{Within}
 use Rattle.joining.specs.Small.{grown-small}
 use lib.ListN.{getD}
 use Rattle.summaries.specs.Ready.{placeIn, joinsIn, coreAt, siteSeen}
-use Rattle.summaries.proofs.Ports.{small, earlier, above, own-small, from-small, far-small, begun-first, begun-later}
+use Rattle.summaries.proofs.Ports.{small, earlier, above, own-small, from-small, far-small, step-own, begun-first, begun-later}
 use borrow.Author.Needs.{needs}
 use Rattle.summaries.proofs.joins.begun.Statement.{statement}
 use Rattle.summaries.proofs.joins.begun.Tie as tie
@@ -65,7 +65,7 @@ returns-2 c =
     let u = up (c .before .before .before) in
     let n = is-up (c .before .before .before) in
     let e = c .before .core-at2 .ensures ∙ ap (λ (x : ℕ). coreAt (s .args .counts .now) (2 * x + 1)) n ∙ p .3 .made a (u .low) (omega (arith, u)) (omega (arith, earlier (p .0) (p .1))) in
-    let d = c .before .before .step-at .ensures ∙ ap (λ (x : ℕ). getD (getD (s .args .rows .now) x []) k 0) n ∙ p .2 .own a k (u .low) (omega (arith, u)) (p .1 .low) (omega (arith, p .1)) (omega (arith, u)) in
+    let d = c .before .before .step-at .ensures ∙ ap (λ (x : ℕ). getD (getD (s .args .rows .now) x []) k 0) n ∙ step-own (p .0) (p .2) (p .1) u in
     c .grown .ensures
     ∙ rw (waits (c .before .before .before .before), d, e)
     (grown-small (own-small (p .0) (placeIn (s .args .book .now) l a) (joinsIn l k .site)) (omega (arith, far-small (p .0) (placeIn (s .args .book .now) l a) (joinsIn l a .own) (joinsIn l k .site))) (from-small (p .0) a a (omega (arith, small (p .0) u)))
