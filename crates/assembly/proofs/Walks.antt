@@ -6,7 +6,7 @@ use mathlib.Core.Path.{_≡_, refl}
 use native.Mathlib.Decide.{decLt}
 use native.Mathlib.Numerals.{add-one, add-two}
 use native.Mathlib.Omega.{arith}
-use borrow.Author.Tests.{eq-eqb, ne-eqb, eqb-true, eqb-false, lt-ltb, le-ltb}
+use borrow.Author.Tests.{ne-eqb, eqb-true, eqb-false, lt-ltb, le-ltb}
 use lib.Dec.{eqb}
 use lib.ListN.{length, take, drop, getD, List·getD-eq-default, drop-of-length-le, length-take, length-drop}
 use lib.Seq.{drop-cons, getD-take}
@@ -34,13 +34,13 @@ module _ (t : List BlockAt) (count x i : ℕ) where
         let k : i < count = omega (arith, length-take count t) in
         rw (drop-cons (take count t) i noBlock h, getD-take count t i noBlock k, add-one)
 
-    pub find-here : getD t i noBlock .number ≡ x → find left x ≡ getD t i noBlock
+    pub find-here : eqb (getD t i noBlock .number) x ≡ true → find left x ≡ getD t i noBlock
     unfolding find
-    find-here e = rw (next, eq-eqb (getD t i noBlock .number) x e)
+    find-here e = rw (next, e)
 
-    pub find-next : (getD t i noBlock .number ≡ x → ⊥) → find left x ≡ find (drop (i + 1) (take count t)) x
+    pub find-next : eqb (getD t i noBlock .number) x ≡ false → find left x ≡ find (drop (i + 1) (take count t)) x
     unfolding find
-    find-next e = rw (next, ne-eqb (getD t i noBlock .number) x e)
+    find-next e = rw (next, e)
 
 -- the bonds from byte i on: two bytes are one bond, fewer are none
 module _ (l : List ℕ) (i a : ℕ) where

@@ -65,6 +65,16 @@ pub struct JoinSite {
     pub ends: usize,
 }
 
+// Whether a block's number is the one looked for, compared in its 16 bits.
+fn same_number(x: u16, number: usize) -> bool
+    ensures { λ r. ⌜ r ≡ eqb x number ⌝ }
+{
+    if 65535 < number {
+        return false;
+    }
+    x == (number as u16)
+}
+
 // Which of the first `count` blocks has a number; one of no atoms where none has.
 pub fn find_block(blocks: BlockTable, count: usize, number: usize) -> BlockAt
     ensures { λ r. ⌜ r ≡ find (take count blocks) number ⌝ }
@@ -75,7 +85,7 @@ pub fn find_block(blocks: BlockTable, count: usize, number: usize) -> BlockAt
             return NO_BLOCK;
         }
         let b = blocks[i];
-        if (b.number as usize) == number {
+        if same_number(b.number, number) {
             return b;
         }
         i += 1;
