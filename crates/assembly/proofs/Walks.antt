@@ -1,21 +1,22 @@
 -- Steps of the loops over blocks, bonds and joins: what is left to do gives the answer. Assumes nothing.
-use Prim.Native.Nat.{ℕ, zero, suc, _+_, _-_, _<_, _≤_, min}
-use mathlib.Core.Bool.{Bool, true, false, cond}
-use mathlib.Core.Logic.{⊎-elim}
+use Prim.Native.Nat.{ℕ, zero, suc, _+_, _*_, _-_, _<_, _≤_}
+use mathlib.Core.Bool.{Bool, true, false, _&&_, cond}
 use mathlib.Core.List.{List, [], _∷_}
 use mathlib.Core.Path.{_≡_, refl}
-use native.Mathlib.Nat.{le-suc-iff}
+use native.Mathlib.Decide.{decLt}
 use native.Mathlib.Numerals.{add-one, add-two}
 use native.Mathlib.Omega.{arith}
-use borrow.Author.Tests.{eq-eqb, ne-eqb, le-leb, lt-leb, leb-true, leb-false}
-use lib.Dec.{eqb, leb}
-use lib.ListN.{length, take, drop, getD, drop-of-length-le, length-take, length-drop}
+use borrow.Author.Tests.{ne-eqb, eqb-true, eqb-false, lt-ltb, le-ltb}
+use lib.Dec.{eqb}
+use lib.ListN.{length, take, drop, getD, List·getD-eq-default, drop-of-length-le, length-take, length-drop}
 use lib.Seq.{drop-cons, getD-take}
-use Rattle.graph.specs.Graph.{degree, sum}
+use Rattle.graph.specs.Graph.{degree}
 use Rattle.graph.specs.Assembly.{Join}
+use Rattle.reply.specs.Read.{isOutside}
 use Rattle.block.specs.Block.{bondsOf}
 use Rattle.assembly.specs.Book.{noBlock, find}
-use Rattle.assembly.specs.Placements.{joinEnds, joinsOn}
+use Rattle.assembly.specs.Placements.{placementAt, joinEnds, joinsOn, ownOn}
+use Rattle.assembly.specs.Degrees.{joins-suc}
 use Rattle.assembly.specs.declared.BlockAt.{BlockAt}
 
 -- the blocks from i on of the first `count` of a table
@@ -33,13 +34,13 @@ module _ (t : List BlockAt) (count x i : ℕ) where
         let k : i < count = omega (arith, length-take count t) in
         rw (drop-cons (take count t) i noBlock h, getD-take count t i noBlock k, add-one)
 
-    pub find-here : getD t i noBlock .number ≡ x → find left x ≡ getD t i noBlock
+    pub find-here : eqb (getD t i noBlock .number) x ≡ true → find left x ≡ getD t i noBlock
     unfolding find
-    find-here e = rw (next, eq-eqb (getD t i noBlock .number) x e)
+    find-here e = rw (next, e)
 
-    pub find-next : (getD t i noBlock .number ≡ x → ⊥) → find left x ≡ find (drop (i + 1) (take count t)) x
+    pub find-next : eqb (getD t i noBlock .number) x ≡ false → find left x ≡ find (drop (i + 1) (take count t)) x
     unfolding find
-    find-next e = rw (next, ne-eqb (getD t i noBlock .number) x e)
+    find-next e = rw (next, e)
 
 -- the bonds from byte i on: two bytes are one bond, fewer are none
 module _ (l : List ℕ) (i a : ℕ) where
@@ -60,24 +61,44 @@ module _ (l : List ℕ) (i a : ℕ) where
       none (x ∷ []) h = refl
       none (x ∷ (y ∷ xs)) h = absurd (omega arith)
 
-pub joins-none : (joins : ℕ → Join) (p a : ℕ) → joinsOn joins 0 p a ≡ 0
-unfolding joinsOn sum
-joins-none joins p a = refl
+-- no number is among none, and one is among one more only where it is the last
+all-outside : (v : ℕ) → isOutside 0 v ≡ true
+all-outside zero = refl
+all-outside (suc v) = rw (ne-eqb (suc v) 0 (omega arith), lt-ltb 0 (suc v) (omega arith))
 
-pub joins-next : (joins : ℕ → Join) (k p a : ℕ) → joinsOn joins (k + 1) p a ≡ joinsOn joins k p a + joinEnds (joins (k + 1)) (k + 1 + 1) p a
-unfolding joinsOn sum
-joins-next joins k p a = rw (add-one k, add-one (suc k))
-
--- joins more are no fewer ends
-pub joins-most : (joins : ℕ → Join) (p a n m : ℕ) → n ≤ m → joinsOn joins n p a ≤ joinsOn joins m p a
-unfolding joinsOn sum
-joins-most joins p a n zero h = let e : n ≡ 0 = omega arith in rw e (omega arith)
-joins-most joins p a n (suc m) h = ⊎-elim (λ q. omega (arith, joins-most joins p a n m q)) (λ q. rw q (omega arith)) (le-suc-iff .0 h)
-
--- as far as the limit they can be counted
-pub full-min : (limit ends x : ℕ) → leb limit (ends + min x limit) ≡ leb limit (ends + x)
-full-min limit ends x = go (leb limit (ends + x)) refl
+still-outside : (k v : ℕ) → (v ≡ suc k → ⊥) → isOutside (suc k) v ≡ isOutside k v
+still-outside k v h = go (decLt k v)
   where
-    go : (t : Bool) → leb limit (ends + x) ≡ t → leb limit (ends + min x limit) ≡ t
-    go true e = le-leb limit (ends + min x limit) (omega (arith, leb-true limit (ends + x) e))
-    go false e = lt-leb limit (ends + min x limit) (omega (arith, leb-false limit (ends + x) e))
+    go : Dec (k < v) → isOutside (suc k) v ≡ isOutside k v
+    go (yes l) = rw (lt-ltb k v l, lt-ltb (suc k) v (omega arith))
+    go (no l) = rw (le-ltb k v (omega arith), le-ltb (suc k) v (omega arith))
+
+module _ (joins : ℕ → Join) (p a : ℕ) where
+  pub own-none : ownOn joins 0 p a ≡ 0
+  unfolding ownOn
+  own-none = rw (all-outside (p - 1))
+
+  own-next : (k : ℕ) → ownOn joins (suc k) p a ≡ ownOn joins k p a + cond (eqb (suc (suc k)) p && eqb (joins (suc k) .own) a) 1 0
+  unfolding ownOn
+  own-next k = go (eqb (suc (suc k)) p) refl
+    where
+      go : (t : Bool) → eqb (suc (suc k)) p ≡ t → ownOn joins (suc k) p a ≡ ownOn joins k p a + cond (t && eqb (joins (suc k) .own) a) 1 0
+      go true t =
+          let e : p - 1 ≡ suc k = omega (arith, eqb-true (suc (suc k)) p t) in
+          rw (e, ne-eqb (suc k) 0 (omega arith), le-ltb (suc k) (suc k) (omega arith), lt-ltb k (suc k) (omega arith)) (omega arith)
+      go false t = rw (still-outside k (p - 1) (λ e. eqb-false (suc (suc k)) p t (omega arith))) (omega arith)
+
+  -- the ends of one join more: that of its parent's side, and those of the own side
+  pub joins-next : (k : ℕ) → let j = joins (k + 1) in
+      joinsOn joins (k + 1) p a + ownOn joins k p a ≡ joinsOn joins k p a + ownOn joins (k + 1) p a + cond (eqb (j .parent) p && eqb (j .site) a) 1 0
+  unfolding joinEnds
+  joins-next k = rw (add-one k) (omega (arith, own-next k, joins-suc joins k p a))
+
+-- a placement whose parent's atom is not 0 stands within the bytes
+pub stands : (xs : List ℕ) (k : ℕ) → (placementAt xs k .site ≡ 0 → ⊥) → 7 + 6 * k ≤ length xs
+unfolding placementAt
+stands xs k h = go (decLt (6 + 6 * k) (length xs))
+  where
+    go : Dec (6 + 6 * k < length xs) → 7 + 6 * k ≤ length xs
+    go (yes l) = omega arith
+    go (no l) = absurd (h (List·getD-eq-default xs 0 {n = 2 + 6 * k + 4} (omega arith)))

@@ -1,14 +1,15 @@
 // An assembly: its blocks and placements, and what is wrong with a placement, 17 to 19, 23 and 24. Crate shelf tests all of them over a book.
 ghost use mathlib.Core.Path.{_≡_};
 ghost use mathlib.Core.Bool.{_&&_, cond};
-ghost use Prim.Native.Nat.{_+_, _*_, _-_, _^_, _<_, _≤_, min};
+ghost use Prim.Native.Nat.{_+_, _*_, _^_, _<_, _≤_};
+ghost use lib.Dec.{eqb};
 ghost use lib.ListN.{length, take};
 ghost use Rattle.graph.specs.Graph.{degree};
-ghost use Rattle.block.specs.Block.{limit, bondsOf};
-ghost use Rattle.records.specs.Bytes.{PartOf, le16};
+ghost use Rattle.block.specs.Block.{bondsOf};
+ghost use Rattle.records.specs.Bytes.{PartOf, byteAt, le16};
 ghost use Rattle.records.specs.Records.{blockKind};
 ghost use Rattle.assembly.specs.Book.{find, isNumbered};
-ghost use Rattle.assembly.specs.Placements.{placementAt, joinsOn, joinOn, isFull, firstFault, parentFault, joinFault};
+ghost use Rattle.assembly.specs.Placements.{placementAt, ownOn, joinsOn, joinOn, isFull, firstFault, parentFault, joinFault};
 use block::LIMIT;
 use records::ASSEMBLY;
 use records::BLOCK;
@@ -64,6 +65,16 @@ pub struct JoinSite {
     pub ends: usize,
 }
 
+// Whether a block's number is the one looked for, compared in its 16 bits.
+fn same_number(x: u16, number: usize) -> bool
+    ensures { λ r. ⌜ r ≡ eqb x number ⌝ }
+{
+    if 65535 < number {
+        return false;
+    }
+    x == (number as u16)
+}
+
 // Which of the first `count` blocks has a number; one of no atoms where none has.
 pub fn find_block(blocks: BlockTable, count: usize, number: usize) -> BlockAt
     ensures { λ r. ⌜ r ≡ find (take count blocks) number ⌝ }
@@ -74,7 +85,7 @@ pub fn find_block(blocks: BlockTable, count: usize, number: usize) -> BlockAt
             return NO_BLOCK;
         }
         let b = blocks[i];
-        if (b.number as usize) == number {
+        if same_number(b.number, number) {
             return b;
         }
         i += 1;
@@ -175,27 +186,52 @@ pub fn degree_of(bonds: &[u8], a: u8) -> usize
     total
 }
 
-// How many ends the joins at the indices 1 to `last` have at atom a of placement number p, counted up to the limit.
-fn joins_on(xs: &[u8], last: usize, p: usize, a: u8) -> usize
-    requires { ⌜ last < 2 ^ 64 - 1 ⌝ }
-    ensures { λ r. ⌜ r ≡ min (joinsOn (joinOn (placementAt (now (xs .entry)))) last p a) limit ⌝ }
+// Whether the join of a placement that is all there, from a byte on, is on atom a of placement number p by its parent's side.
+fn is_on(xs: &[u8], at: usize, p: u16, a: u8) -> bool
+    requires { ⌜ at + 6 ≤ length (now xs) ⌝ }
+    ensures { λ r. ⌜ r ≡ (eqb (le16 (now (xs .entry)) (at + 2)) p && eqb (byteAt (now (xs .entry)) (at + 4)) a) ⌝ }
 {
-    let mut total = 0;
+    if two_at(xs, at + 2) != p {
+        return false;
+    }
+    xs[at + 4] == a
+}
+
+// How many of the joins at the indices 1 to `last` are on atom a of placement number p by their own side: p's own join, if it is one of them.
+fn own_on(xs: &[u8], last: usize, p: u16, a: u8) -> usize
+    ensures { λ r. ⌜ (r ≡ ownOn (joinOn (placementAt (now (xs .entry)))) last p a) × (r ≤ 1) ⌝ }
+{
+    if p == 0 {
+        return 0;
+    }
+    let k = (p as usize) - 1;
+    if is_outside(last, k) {
+        return 0;
+    }
+    one_if(true, placement_at(xs, k).own == a)
+}
+
+// How many ends these joins, which are within the bytes, have at atom a of placement number p.
+fn joins_on(xs: &[u8], last: usize, p: u16, a: u8) -> usize
+    requires { ⌜ 8 + 6 * last ≤ length (now xs) ⌝ }
+    ensures { λ r. ⌜ (r ≡ joinsOn (joinOn (placementAt (now (xs .entry)))) last p a) × (r ≤ last + 1) ⌝ }
+{
+    let mut total = own_on(xs, last, p, a);
+    let mut at = ASSEMBLY_HEAD;
     let mut k = 0;
     while k < last {
         k += 1;
-        let q = placement_at(xs, k);
-        total = total
-            + (one_if((q.parent as usize) == p, q.site == a) + one_if(k + 1 == p, q.own == a));
-        if LIMIT <= total {
-            return LIMIT;
+        at += PLACEMENT_BYTES;
+        if is_on(xs, at, p, a) {
+            total += 1;
         }
     }
     total
 }
 
 // Whether atom a of placement number p, which has some bonds in its block, has as many as it may, before the placement at index k is joined.
-fn is_full(ends: usize, xs: &[u8], k: usize, p: usize, a: u8) -> bool
+fn is_full(ends: usize, xs: &[u8], k: usize, p: u16, a: u8) -> bool
+    requires { ⌜ 2 + 6 * k ≤ length (now xs) ⌝ }
     ensures { λ r. ⌜ r ≡ isFull ends (joinOn (placementAt (now (xs .entry)))) k p a ⌝ }
 {
     if LIMIT <= ends {
@@ -244,7 +280,7 @@ pub fn join_fault(there: JoinSite, here: JoinSite, xs: &[u8], k: usize) -> usize
     if is_outside(here.atoms, q.own as usize) {
         return 18;
     }
-    if is_full(there.ends, xs, k, q.parent as usize, q.site) {
+    if is_full(there.ends, xs, k, q.parent, q.site) {
         return 19;
     }
     if LIMIT <= here.ends {

@@ -32,12 +32,12 @@ returns c = let l = c .before .before in
 returns-2 : tie.Need-returns-2 Inv-loop μ-loop
 returns-2 c = let l = c .before .before .before .before .before in
     let a = l .before .args in
-    sym (l .loop .inv .1 ∙ find-here (a .t1) (a .count) (a .number) (l .loop .i) (more (c .before .before .before)) (c .if2 .taken))
+    sym (l .loop .inv .1 ∙ find-here (a .t1) (a .count) (a .number) (l .loop .i) (more (c .before .before .before)) (sym (c .before .same-number .ensures) ∙ c .if2 .taken))
 
 loop-again : tie.Need-loop-again Inv-loop μ-loop
 loop-again c = let l = c .before .before .before .before .before in
     let a = l .before .args in
-    (omega arith, l .loop .inv .1 ∙ find-next (a .t1) (a .count) (a .number) (l .loop .i) (more (c .before .before .before)) (c .if2 .left))
+    (omega arith, l .loop .inv .1 ∙ find-next (a .t1) (a .count) (a .number) (l .loop .i) (more (c .before .before .before)) (sym (c .before .same-number .ensures) ∙ c .if2 .left))
 
 returns-3 : tie.Need-returns-3 Inv-loop μ-loop
 returns-3 c = let l = c .before in
@@ -46,5 +46,5 @@ returns-3 c = let l = c .before in
 
 pub find-block-spec : {M : Type 1} → statement M
 find-block-spec =
-    tie.close (tie.spec Inv-loop μ-loop loop-holds returns (λ c. search needs) (λ c. search needs) (λ c. search needs) returns-2 (λ c. search needs)
+    tie.close (tie.spec Inv-loop μ-loop loop-holds returns (λ c. search needs) (λ c. search needs) (λ c κs. search needs) returns-2 (λ c. search needs)
     (λ c. search needs) loop-again returns-3)
