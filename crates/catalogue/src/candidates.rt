@@ -78,11 +78,18 @@ fn is_sparse(d: &[u8], b: BlockAt, a: u8) -> bool
 fn is_full(d: &[u8], b: BlockAt, a: u8) -> bool
     ensures { λ r. ⌜ r ≡ isFullIn (blockGraph (now (d .entry)) b) a ⌝ }
 {
-    if is_sparse(d, b, a) {
-        return false;
-    }
     let bonds = bonds_part(d, b);
     LIMIT <= ends_at(bonds, a)
+}
+
+// The same of a candidate's own atom, by a window where that shows it: there are many candidates.
+fn is_own_full(d: &[u8], b: BlockAt, own: u8) -> bool
+    ensures { λ r. ⌜ r ≡ isFullIn (blockGraph (now (d .entry)) b) own ⌝ }
+{
+    if is_sparse(d, b, own) {
+        return false;
+    }
+    is_full(d, b, own)
 }
 
 // What is wrong with the candidate at a place, for a site at an atom of the core that is full or not: 13, 16, 18, 19, or 0.
@@ -115,7 +122,7 @@ fn candidate_fault(
     if full {
         return 19;
     }
-    if is_full(d, b, own) {
+    if is_own_full(d, b, own) {
         return 19;
     }
     0
