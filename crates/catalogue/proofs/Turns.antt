@@ -6,12 +6,12 @@ use mathlib.Core.Path.{_≡_, refl}
 use native.Mathlib.Nat.{le-trans, mul-le-mul, pow-suc, pow-le-pow-right}
 use native.Mathlib.Numerals.{add-one}
 use native.Mathlib.Omega.{arith}
-use borrow.Author.Tests.{eq-eqb, ne-eqb, lt-ltb, le-ltb}
-use lib.Dec.{eqb, lit<}
-use lib.ListN.{length, getD, drop, drop-of-length-le}
-use lib.Seq.{drop-cons}
+use borrow.Author.Tests.{eq-eqb, ne-eqb, lt-ltb, le-ltb, lt-leb}
+use lib.Dec.{eqb, leb, lit<}
+use lib.ListN.{length, getD, take, drop, drop-of-length-le}
+use lib.Seq.{drop-cons, take-take}
 use Rattle.graph.specs.Graph.{Graph, degree}
-use Rattle.block.specs.Block.{bondsOf}
+use Rattle.block.specs.Block.{limit, bondsOf}
 use Rattle.reply.specs.Read.{refused, read, refusal, refuseFor, isOutside}
 use Rattle.assembly.specs.Book.{Book, find, isNumbered, blockGraph, bookOf}
 use Rattle.assembly.specs.declared.BlockAt.{BlockAt}
@@ -53,6 +53,19 @@ unfolding endsIn bondsOf degree
 ends-degree [] a k h = refl
 ends-degree (x ∷ []) a k h = absurd (omega (arith, h))
 ends-degree (x ∷ (y ∷ xs)) a k h = omega (arith, ends-degree xs a (k - 1) (omega (arith, h)))
+
+-- the first bytes have no more ends than all
+pub ends-first : (n : ℕ) (xs : List ℕ) (a : ℕ) → degree (bondsOf (take n xs)) a ≤ degree (bondsOf xs) a
+unfolding bondsOf degree
+ends-first zero xs a = omega arith
+ends-first (suc n) [] a = omega arith
+ends-first (suc zero) (x ∷ xs) a = omega arith
+ends-first (suc (suc n)) (x ∷ []) a = omega arith
+ends-first (suc (suc n)) (x ∷ (y ∷ xs)) a = omega (arith, ends-first n xs a)
+
+-- so an atom that is not full by some bytes is not by the first of them
+pub not-full : (m n r : ℕ) (xs : List ℕ) (a : ℕ) → r ≡ degree (bondsOf (take n xs)) a → m ≤ n → r < limit → leb limit (degree (bondsOf (take m xs)) a) ≡ false
+not-full m n r xs a e h l = lt-leb limit (degree (bondsOf (take m xs)) a) (omega (arith, rw (take-take m n xs h) at (ends-first m (take n xs) a)))
 
 module _ (book : Book) (core : Graph) (xs : List ℕ) (atom p : ℕ) where
   abbrev block : Graph

@@ -1,4 +1,6 @@
 // The candidates of a site, and what is wrong with them.
+use assembly::BLOCK_HEAD;
+use assembly::BOND_BYTES;
 use assembly::BlockAt;
 use assembly::BlockTable;
 use assembly::bonds_part;
@@ -10,7 +12,7 @@ use records::byte_at;
 use records::le16_at;
 use reply::is_outside;
 ghost use mathlib.Core.Path.{_≡_};
-ghost use mathlib.Core.Bool.{cond};
+ghost use mathlib.Core.Bool.{true, false, cond};
 ghost use Prim.Native.Nat.{ℕ, _%_, _≤_};
 ghost use lib.ListN.{length, take};
 ghost use Rattle.graph.specs.Graph.{Graph, degree};
@@ -20,6 +22,9 @@ ghost use Rattle.catalogue.specs.Library.{isFullIn, candidateFault, cand
 
 // The bytes of a candidate: block number (2), joining atom (1).
 pub const CANDIDATE: usize = 3;
+
+// The bytes of bonds that are held against an atom at once: of a fixed number of them the compiler makes no loop.
+const WINDOW: usize = 32;
 
 fn one_if(x: bool) -> u8
     ensures { λ r. ⌜ (r ≡ cond x 1 0) × (r ≤ 1) ⌝ }
@@ -54,12 +59,37 @@ fn ends_at(bonds: &[u8], a: u8) -> usize
     degree_of(bonds, a)
 }
 
+// Whether a window shows that an atom is not full: the block's bonds are its first bytes, so it has no fewer ends. One that cannot hold them shows nothing.
+fn is_sparse(d: &[u8], b: BlockAt, a: u8) -> bool
+    ensures { λ r. ⌜ (r ≡ true → isFullIn (blockGraph (now (d .entry)) b) a ≡ false) ⌝ }
+{
+    let from = b.start as usize + BLOCK_HEAD;
+    let to = from + WINDOW;
+    if WINDOW < BOND_BYTES * (b.bonds as usize) {
+        return false;
+    }
+    if d.len() < to {
+        return false;
+    }
+    (ends_in(&d[from..to], a) as usize) < LIMIT
+}
+
 // Whether an atom of a block has as many bonds as it may.
 fn is_full(d: &[u8], b: BlockAt, a: u8) -> bool
     ensures { λ r. ⌜ r ≡ isFullIn (blockGraph (now (d .entry)) b) a ⌝ }
 {
     let bonds = bonds_part(d, b);
     LIMIT <= ends_at(bonds, a)
+}
+
+// The same of a candidate's own atom, by a window where that shows it: there are many candidates.
+fn is_own_full(d: &[u8], b: BlockAt, own: u8) -> bool
+    ensures { λ r. ⌜ r ≡ isFullIn (blockGraph (now (d .entry)) b) own ⌝ }
+{
+    if is_sparse(d, b, own) {
+        return false;
+    }
+    is_full(d, b, own)
 }
 
 // What is wrong with the candidate at a place, for a site at an atom of the core that is full or not: 13, 16, 18, 19, or 0.
@@ -92,7 +122,7 @@ fn candidate_fault(
     if full {
         return 19;
     }
-    if is_full(d, b, own) {
+    if is_own_full(d, b, own) {
         return 19;
     }
     0

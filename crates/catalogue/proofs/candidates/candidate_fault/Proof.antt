@@ -36,9 +36,9 @@ inside : (c : tie.Else3) → let s = c .before .before .before .before .before .
     isOutside (book s .graph n .atoms) (candidateAtom (s .args .xs .now) (s .args .p)) ≡ false
 inside c = sym (outside (c .before)) ∙ c .if3 .left
 
-own-full : (c : tie.After-is-full) → let s = c .before .before .before .before .before .before .before .before .before .before .before .before .before in let n = candidateNumber (s .args .xs .now) (s .args .p) in
-    c .is-full .result ≡ isFullIn (book s .graph n) (candidateAtom (s .args .xs .now) (s .args .p))
-own-full c = c .is-full .ensures ∙ ap₂ isFullIn (block (c .before .before .before .before .before .before .before .before)) (c .before .before .before .before .before .byte-at .ensures)
+own-full : (c : tie.After-is-own-full) → let s = c .before .before .before .before .before .before .before .before .before .before .before .before .before in let n = candidateNumber (s .args .xs .now) (s .args .p) in
+    c .is-own-full .result ≡ isFullIn (book s .graph n) (candidateAtom (s .args .xs .now) (s .args .p))
+own-full c = c .is-own-full .ensures ∙ ap₂ isFullIn (block (c .before .before .before .before .before .before .before .before)) (c .before .before .before .before .before .byte-at .ensures)
 
 returns : tie.Need-returns
 returns c = let s = c .before .before .before in let a = s .args in λ core atom e. sym (candidate-cut (book s) core (a .xs .now) atom (a .p) (c .if1 .taken))
