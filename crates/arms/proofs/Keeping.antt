@@ -1,4 +1,4 @@
--- A row that is filled place by place, and one arm more. Assumes nothing.
+-- A row that is filled place by place, the place of an opened block, and one arm more. Assumes nothing.
 use Prim.Native.Nat.{ℕ, _+_, _≤_, _<_}
 use mathlib.Core.Bool.{Bool, true, false}
 use mathlib.Core.List.{List}
@@ -7,16 +7,20 @@ use native.Mathlib.Numerals.{add-one}
 use native.Mathlib.Omega.{arith}
 use borrow.Author.Tests.{eqb-true, eqb-false}
 use lib.Dec.{eqb}
-use lib.ListN.{length, getD, set, length-set}
-use lib.Seq.{ext-getD, getD-set-same, getD-set-other}
+use lib.ListN.{length, getD, set, length-set, replicate, length-replicate}
+use lib.Seq.{ext-getD, getD-set-same, getD-set-other, length-sets}
+use Rattle.reply.specs.Read.{Read, refused, read}
+use Rattle.block.specs.Block.{graphOf}
 use Rattle.block.specs.Rows.{table}
 use Rattle.block.specs.Tables.{length-table, getD-table}
 use Rattle.block.specs.declared.Indices.{Indices}
 use Rattle.block.specs.declared.Vertex.{Vertex}
 use Rattle.sighted.specs.declared.Seen.{Seen}
-use Rattle.summary.specs.Layout.{storedFields, seenAt}
+use Rattle.summary.specs.Layout.{summaryBytes, storedFields, seenAt}
+use Rattle.summary.specs.Summary.{summaryOf}
+use Rattle.filling.specs.Reply.{fillReply, filledSummary}
 use Rattle.joining.specs.Joining.{grownOf, joinedOf}
-use Rattle.arms.specs.Arms.{mostArms, noPort, noArm, armIn, portsNear, portIn, coreIn, sightFrom, sightOf, sixOf, stemOf}
+use Rattle.arms.specs.Arms.{mostArms, noPort, noArm, opened, armIn, portsNear, portIn, coreIn, sightFrom, sightOf, sixOf, stemOf}
 use Rattle.arms.specs.declared.Arm.{Arm}
 use Rattle.arms.specs.declared.Core.{Core}
 use Rattle.arms.specs.declared.Port.{Port}
@@ -44,6 +48,14 @@ module _ {A : Type 0} {none : A} {f : ℕ → A} {n : ℕ} {l : List A} where
 
   pub filled-all : {k : ℕ} → FilledTo none f n l k → n ≤ k → l ≡ table n f
   filled-all p h = ext-getD none l (table n f) (p .size ∙ sym (length-table n f)) (λ j i. p .says j (omega (arith, p .size)) ∙ sym (getD-table n f j none (omega (arith, p .size))))
+
+pub opened-long : (n : ℕ) (bonds : List ℕ) → length (opened n bonds) ≡ summaryBytes
+unfolding opened filledSummary
+opened-long n bonds = go (fillReply n bonds (length (replicate {A = ℕ} summaryBytes 0)))
+  where
+    go : (r : Read (Unit {0})) → length (filledSummary r 0 (graphOf n bonds) (replicate summaryBytes 0)) ≡ summaryBytes
+    go (refused r) = length-replicate {A = ℕ} summaryBytes 0
+    go (read u) = length-sets (replicate summaryBytes 0) 0 (summaryOf 0 (graphOf n bonds)) ∙ length-replicate {A = ℕ} summaryBytes 0
 
 pub arm-kept : (s : List ℕ) (a : ℕ) (x : Indices) (y : Seen) → x ≡ storedFields s → y ≡ seenAt s a → record { six = x; end = y .counts } ≡ armIn s a
 arm-kept s a x y e q = rw (e, q)

@@ -4,10 +4,16 @@ use mathlib.Core.List.{List}
 use mathlib.Core.Path.{_≡_}
 use Rattle.reply.specs.Chain.{unique}
 use Rattle.block.specs.declared.Indices.{Indices}
-use Rattle.arms.specs.Arms.{mostArms, armRow, rowArm, armOf, coreOf, stemOf, joinedTo}
+use Rattle.arms.specs.Arms.{mostArms, armRow, rowArm, opened, armIn, armOf, coreOf, stemOf, joinedTo}
 use Rattle.arms.specs.declared.Arm.{Arm}
 use Rattle.arms.specs.declared.Core.{Core}
 use Rattle.arms.specs.declared.Stem.{Stem}
+
+pub unique-open-in : (n : ℕ) (bonds r s : List ℕ) → r ≡ opened n bonds → s ≡ opened n bonds → r ≡ s
+unique-open-in n bonds r s = unique
+
+pub unique-arm-in : (place : List ℕ) (a : ℕ) (r s : Arm) → r ≡ armIn place a → s ≡ armIn place a → r ≡ s
+unique-arm-in place a r s = unique
 
 pub unique-arm : (n : ℕ) (bonds : List ℕ) (a : ℕ) (r s : Arm) → r ≡ armOf n bonds a → s ≡ armOf n bonds a → r ≡ s
 unique-arm n bonds a r s = unique

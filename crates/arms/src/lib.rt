@@ -7,13 +7,12 @@ use joining::grown;
 use reply::wide;
 use sighted::NO_VERTEX;
 use sighted::steps;
-use summary::SUMMARY;
+pub use summary::SUMMARY;
 use summary::fields;
 use summary::seen;
 ghost use mathlib.Core.Path.{_≡_};
 ghost use Prim.Native.Nat.{_-_, _<_, min};
-ghost use Rattle.filling.specs.Reply.{fillBytes};
-ghost use Rattle.arms.specs.Arms.{mostArms, armRow, rowArm, armIn, armOf, portsNear, portIn, coreIn, coreOf, sightAt, stemOf, joinedTo};
+ghost use Rattle.arms.specs.Arms.{mostArms, armRow, rowArm, opened, armIn, armOf, portsNear, portIn, coreIn, coreOf, sightAt, stemOf, joinedTo};
 
 // The most arms of a core.
 pub const ARMS: usize = 4;
@@ -120,7 +119,16 @@ impl Stem {
     }
 }
 
-fn arm_in(s: &[u8], a: usize) -> Arm
+// A block opened in a place, whatever the place had: empty where the block is refused.
+pub fn open_in(n: usize, bonds: &[u8], place: &mut [u8; SUMMARY])
+    ensures { λ _. ⌜ now (place .exit) ≡ opened n (now (bonds .entry)) ⌝ }
+{
+    *place = [0u8; SUMMARY];
+    fill(0, n, bonds, place);
+}
+
+// What is kept of the block that is opened in a place, and joins at atom a.
+pub fn arm_in(s: &[u8], a: usize) -> Arm
     ensures { λ r. ⌜ r ≡ armIn (now (s .entry)) a ⌝ }
 {
     let six = fields(s);
@@ -129,18 +137,13 @@ fn arm_in(s: &[u8], a: usize) -> Arm
     Arm { six, end }
 }
 
-fn opened_arm(n: usize, bonds: &[u8], a: usize, place: &mut [u8]) -> Arm
-    ensures { λ r. ⌜ r ≡ armIn (fillBytes 0 n (now (bonds .entry)) (now (place .entry))) a ⌝ }
-{
-    fill(0, n, bonds, place);
-    arm_in(place, a)
-}
-
 // What is kept of a block that joins at atom a: 0 in all where the block is refused.
 pub fn arm_of(n: usize, bonds: &[u8], a: usize) -> Arm
     ensures { λ r. ⌜ r ≡ armOf n (now (bonds .entry)) a ⌝ }
 {
-    opened_arm(n, bonds, a, &mut [0u8; SUMMARY])
+    let mut place = [0u8; SUMMARY];
+    open_in(n, bonds, &mut place);
+    arm_in(&place, a)
 }
 
 // The numbers of steps to the atoms where arms join that a row says.
@@ -180,18 +183,13 @@ fn core_in(s: &[u8], atoms: [u8; ARMS]) -> Core
     Core { six, ends }
 }
 
-fn opened_core(n: usize, bonds: &[u8], atoms: [u8; ARMS], place: &mut [u8]) -> Core
-    ensures { λ r. ⌜ r ≡ coreIn (fillBytes 0 n (now (bonds .entry)) (now (place .entry))) atoms ⌝ }
-{
-    fill(0, n, bonds, place);
-    core_in(place, atoms)
-}
-
 // What is kept of a block to whose atoms arms join: one search from each; 0 in all where the block is refused.
 pub fn core_of(n: usize, bonds: &[u8], atoms: [u8; ARMS]) -> Core
     ensures { λ r. ⌜ r ≡ coreOf n (now (bonds .entry)) atoms ⌝ }
 {
-    opened_core(n, bonds, atoms, &mut [0u8; SUMMARY])
+    let mut place = [0u8; SUMMARY];
+    open_in(n, bonds, &mut place);
+    core_in(&place, atoms)
 }
 
 // What is counted from the atom of arm k once the arms before it are joined.

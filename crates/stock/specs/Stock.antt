@@ -1,29 +1,37 @@
 -- Definitions. What is kept of a library's core and candidates, whatever the blocks are.
-use Prim.Native.Nat.{ℕ, _+_, _*_, _/_, _%_}
+use Prim.Native.Nat.{ℕ, _+_, _*_, _/_, _%_, _<_}
 use mathlib.Core.Bool.{_||_, cond}
 use mathlib.Core.List.{List, []}
+use mathlib.Core.Path.{_≡_}
 use lib.Dec.{leb, ltb}
 use lib.ListN.{length, getD}
 use Rattle.block.specs.Rows.{table}
 use Rattle.assembly.specs.Book.{find, bondBytes}
 use Rattle.assembly.specs.declared.BlockAt.{BlockAt}
-use Rattle.arms.specs.Arms.{noArm, armRow, rowArm, armOf, coreOf}
+use Rattle.arms.specs.Arms.{noArm, armRow, rowArm, opened, armIn, coreIn}
 use Rattle.arms.specs.declared.Arm.{Arm}
 use Rattle.arms.specs.declared.Core.{Core}
 use Rattle.catalogue.specs.Library.{mostSites, mostCandidates, coreNumber, candidateNumber, candidateAtom, candidateAt}
 use Rattle.catalogue.specs.declared.Site.{Site}
 use Rattle.catalogue.specs.Said.{noSite}
 
+-- the block of a number, opened; and a place that holds the block of a number, or none: no block's number has more than 16 bits
+abbrev pub openedOf : List ℕ → List BlockAt → ℕ → List ℕ
+openedOf d bs x = let b = find bs x in opened (b .atoms) (bondBytes d b)
+
+abbrev pub Holds : List ℕ → List BlockAt → ℕ → List ℕ → Type 0
+Holds d bs x place = x < 65536 → place ≡ openedOf d bs x
+
 -- of the core, with the sites' atoms
 unfoldable pub atomsOf : List Site → List ℕ
 atomsOf sites = table mostSites (λ k. getD sites k noSite .atom)
 
 unfoldable pub coreAt : List ℕ → List BlockAt → List ℕ → List Site → Core
-coreAt d bs xs sites = let b = find bs (coreNumber xs) in coreOf (b .atoms) (bondBytes d b) (atomsOf sites)
+coreAt d bs xs sites = coreIn (openedOf d bs (coreNumber xs)) (atomsOf sites)
 
 -- of the candidate at a place of the payload, and of a site's candidate of an index: none where the site stands past the payload or has no such candidate
 unfoldable pub candidateArm : List ℕ → List BlockAt → List ℕ → ℕ → Arm
-candidateArm d bs xs p = let b = find bs (candidateNumber xs p) in armOf (b .atoms) (bondBytes d b) (candidateAtom xs p)
+candidateArm d bs xs p = armIn (openedOf d bs (candidateNumber xs p)) (candidateAtom xs p)
 
 unfoldable pub armAt : List ℕ → List BlockAt → List ℕ → Site → ℕ → Arm
 armAt d bs xs s j = cond (ltb (length xs) (s .first) || leb (s .many) j) noArm (candidateArm d bs xs (candidateAt s j))

@@ -1,11 +1,15 @@
-// What is kept of a library: its core, and the arms of its candidates. Each block is opened once for each time that it is named.
+// What is kept of a library: its core, and the arms of its candidates. Each block is opened once for each time that it is named; of a choice, not again
+// where the next site names it again.
 use arms::Arm;
 use arms::ArmRow;
 use arms::Core;
 use arms::NO_ARM;
+use arms::SUMMARY;
+use arms::arm_in;
 use arms::arm_of;
 use arms::arm_row;
 use arms::core_of;
+use arms::open_in;
 use arms::row_arm;
 use assembly::BlockTable;
 use assembly::bonds_part;
@@ -20,12 +24,15 @@ ghost use mathlib.Core.Path.{_≡_};
 ghost use Prim.Native.Nat.{_<_};
 ghost use lib.ListN.{take};
 ghost use Rattle.catalogue.specs.Library.{mostSites};
-ghost use Rattle.stock.specs.Stock.{armAt, atomsOf, coreAt, armsAt, allArms, armAmong, armsAmong};
+ghost use Rattle.stock.specs.Stock.{openedOf, Holds, armAt, atomsOf, coreAt, armsAt, allArms, armAmong, armsAmong};
 
 // The rows of all arms: those of each site one after the other, a place for each candidate that a site may have.
 pub const PLACES: usize = SITES * CANDIDATES;
 
 pub type ArmRows = [ArmRow; PLACES];
+
+// No block has this number: they are of 16 bits.
+const NO_NUMBER: usize = 65536;
 
 // Of a site's candidate of an index; none where the site has no such candidate, or stands past the payload.
 fn arm_at(d: &[u8], blocks: BlockTable, count: usize, xs: &[u8], s: Site, j: usize) -> Arm
@@ -72,6 +79,57 @@ pub fn core_at(d: &[u8], blocks: BlockTable, count: usize, xs: &[u8], sites: [Si
     core_of(n, bonds, atoms)
 }
 
+// The block of a number opened in a place, unless the place holds it.
+fn hold(
+    d: &[u8],
+    blocks: BlockTable,
+    count: usize,
+    number: u16,
+    held: &mut usize,
+    place: &mut [u8; SUMMARY],
+)
+    requires { ⌜ Holds (now d) (take count blocks) (now held) (now place) ⌝ }
+    ensures held { λ _. ⌜ now (held .exit) ≡ number ⌝ }
+    ensures place { λ _. ⌜ now (place .exit) ≡ openedOf (now (d .entry)) (take count blocks) number ⌝ }
+{
+    let x = number as usize;
+    if *held == x {
+        return;
+    }
+    *held = x;
+    let b = find_block(blocks, count, x);
+    let n = b.atoms as usize;
+    let bonds = bonds_part(d, b);
+    open_in(n, bonds, place);
+}
+
+// As `arm_at`, by a place that then holds the candidate's block.
+fn held_arm(
+    d: &[u8],
+    blocks: BlockTable,
+    count: usize,
+    xs: &[u8],
+    s: Site,
+    j: usize,
+    held: &mut usize,
+    place: &mut [u8; SUMMARY],
+) -> Arm
+    requires { ⌜ Holds (now d) (take count blocks) (now held) (now place) ⌝ }
+    ensures arm { λ r. ⌜ r ≡ armAt (now (d .entry)) (take count blocks) (now (xs .entry)) s j ⌝ }
+    ensures place { λ _. ⌜ Holds (now (d .entry)) (take count blocks) (now (held .exit)) (now (place .exit)) ⌝ }
+{
+    if xs.len() < s.first {
+        return NO_ARM;
+    }
+    if (s.many as usize) <= j {
+        return NO_ARM;
+    }
+    let p = s.first + CANDIDATE * j;
+    let number = le16_at(xs, p);
+    hold(d, blocks, count, number, held, place);
+    arm_in(place, byte_at(xs, p + 2) as usize)
+}
+
 // The arms of a choice, one for each site.
 pub fn arms_at(
     d: &[u8],
@@ -84,10 +142,12 @@ pub fn arms_at(
     ensures { λ r. ⌜ r ≡ armsAt (now (d .entry)) (take count blocks) (now (xs .entry)) sites digits ⌝ }
 {
     let mut arms = [NO_ARM; SITES];
+    let mut place = [0u8; SUMMARY];
+    let mut held: usize = NO_NUMBER;
     let mut k: usize = 0;
     while k < SITES {
         let s = sites[k];
-        let arm = arm_at(d, blocks, count, xs, s, digits[k]);
+        let arm = held_arm(d, blocks, count, xs, s, digits[k], &mut held, &mut place);
         arms[k] = arm;
         k += 1;
     }

@@ -2,7 +2,7 @@
 use native.Mathlib.Omega.{arith}
 use lib.ListN.{take}
 use borrow.Author.Needs.{needs}
-use Rattle.stock.proofs.Making.{site-past, index-past, arm-said}
+use Rattle.stock.proofs.Making.{opened-said, site-past, index-past, arm-said}
 use Rattle.stock.proofs.arm_at.Statement.{statement}
 use Rattle.stock.proofs.arm_at.Tie as tie
 
@@ -16,8 +16,10 @@ returns-3 : tie.Need-returns-3
 returns-3 c =
     let p = c .before .before .before .before .before .before .before in
     let a = p .before .before .before .before .before .before .args in
-    arm-said (a .d .now) (take (a .count) (a .blocks)) (a .xs .now) (a .s) (a .j) (omega (arith, p .before .before .if1 .left)) (omega (arith, p .if2 .left)) _ _ _ _ _ (c .before .before .before .before .before .le16-at .ensures) (c .before .before .before .before .byte-at .ensures)
-    (c .before .before .before .find-block .ensures) (c .before .bonds-part .ensures .bytes) (c .arm-of .ensures)
+    let d = a .d .now in
+    let bs = take (a .count) (a .blocks) in
+    arm-said d bs (a .xs .now) (a .s) (a .j) (omega (arith, p .before .before .if1 .left)) (omega (arith, p .if2 .left)) _ _ _ _ (c .before .before .before .before .before .le16-at .ensures) (c .before .before .before .before .byte-at .ensures)
+    (opened-said d bs _ _ _ (c .before .before .before .find-block .ensures) (c .before .bonds-part .ensures .bytes)) (c .arm-of .ensures)
 
 pub arm-at-spec : {M : Type 1} → statement M
 arm-at-spec =
