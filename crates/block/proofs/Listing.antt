@@ -68,7 +68,7 @@ module _ (n : ℕ) (R S : ℕ → ℕ → Bool) (near : List ℕ) (D : Draws n R
   }
 
 -- a bond joins the neighbours at both of its ends
-module _ (n : ℕ) (bs : List Bond) (near count : List ℕ) (H : HoldsBonds n bs near count) (a b : ℕ) (F : Faultless n bs a b) where
+module _ (n : ℕ) (bs : List Bond) (near : List ℕ) (D : Draws n (anyJoins bs) near) (a b : ℕ) (wa : Within n a) (wb : Within n b) where
   half : ℕ → ℕ → Bool
   half u w = anyJoins bs u w || (eqb u a && eqb w b)
 
@@ -93,12 +93,17 @@ module _ (n : ℕ) (bs : List Bond) (near count : List ℕ) (H : HoldsBonds n bs
 
   once-draws : Draws n half (putting near a b)
   unfolding half
-  once-draws = put-draws n (anyJoins bs) half near (H .draws) a b (F .one) (F .two) (λ u w. refl)
+  once-draws = put-draws n (anyJoins bs) half near D a b wa wb (λ u w. refl)
 
+  pub put-both : Draws n (anyJoins (bond a b ∷ bs)) (putting (putting near a b) b a)
+  put-both = put-draws n half (anyJoins (bond a b ∷ bs)) (putting near a b) once-draws b a wb wa both-ways
+
+-- and each of them has one more
+module _ (n : ℕ) (bs : List Bond) (near count : List ℕ) (H : HoldsBonds n bs near count) (a b : ℕ) (F : Faultless n bs a b) where
   pub put-holds : HoldsBonds n (bond a b ∷ bs) (putting (putting near a b) b a) (counting (counting count a) b)
   unfolding degree
   put-holds = record {
-    draws = put-draws n half (anyJoins (bond a b ∷ bs)) (putting near a b) once-draws b a (F .two) (F .one) both-ways;
+    draws = put-both n bs near (H .draws) a b (F .one) (F .two);
     places = length-set (counting count a) (b - 1) _ ∙ length-set count (a - 1) _ ∙ H .places;
     degrees = λ u w.
         omega (

@@ -1,20 +1,20 @@
--- The bonds are read one by one: what holds after k of them. Assumes nothing.
+-- The bonds are tested one by one: what holds after k of them. Assumes nothing.
 use Prim.Native.Nat.{ℕ, zero, suc, _+_, _-_, _*_, _≤_, _<_}
-use mathlib.Core.Bool.{Bool, true}
+use mathlib.Core.Bool.{Bool, true, false, _||_, or-false}
 use mathlib.Core.List.{List, [], _∷_}
-use mathlib.Core.Logic.{_⊎_, inl, inr, ⊎-elim, _≢_}
-use mathlib.Core.Path.{_≡_, refl, ap, subst, fun-ext, _∙_}
+use mathlib.Core.Logic.{_≢_}
+use mathlib.Core.Path.{_≡_, refl, sym, ap, _∙_}
 use native.Mathlib.Omega.{arith}
 use native.Mathlib.Numerals.{add-one}
 use lib.ListN.{length, getD, replicate}
 use lib.Pow.{pow-pos}
-use Rattle.graph.specs.Graph.{Bond, Within, anyJoins, bonded, degree}
+use Rattle.graph.specs.Graph.{Bond, Within, joins, anyJoins, bonded, degree}
 use Rattle.graph.specs.Sets.{has}
 use Rattle.graph.specs.SetLaws.{has-none}
-use Rattle.graph.specs.Bonds.{same-test, any-out, any-head, any-tail, any-none}
+use Rattle.graph.specs.Bonds.{any-none}
 use Rattle.reply.specs.Read.{refused, read, _then_, refuseFor, refusal}
 use Rattle.block.specs.Block.{limit, mostAtoms, bondsOf, graphOf, bondFault, bondsReply}
-use Rattle.block.specs.Near.{counted, putting, counting, Draws, HoldsBonds, ShowsGraph}
+use Rattle.block.specs.Near.{counted, putting, counting, Draws, HoldsBonds}
 use Rattle.block.specs.Faults.{Faultless, faultless}
 use Rattle.block.specs.Numbered.{bondAt, rest, rest-cons, rest-none}
 use Rattle.block.specs.Lent.{zeros}
@@ -30,36 +30,49 @@ unfolding before
 length-before xs zero = refl
 length-before xs (suc k) = ap suc (length-before xs k)
 
--- what holds after k bonds that have no fault
-pub record Reads (n : ℕ) (xs : List ℕ) (k : ℕ) (near count : List ℕ) : Type 0 where
-  pub holds : HoldsBonds n (before xs k) near count
-  pub answer : bondsReply n [] (bondsOf xs) ≡ bondsReply n (before xs k) (rest xs k)
-  pub parts : (u v : ℕ) → anyJoins (bondsOf xs) u v ≡ true → (anyJoins (before xs k) u v ≡ true) ⊎ (anyJoins (rest xs k) u v ≡ true)
-  pub passed : (u v : ℕ) → anyJoins (before xs k) u v ≡ true → anyJoins (bondsOf xs) u v ≡ true
-  pub coming : (u v : ℕ) → anyJoins (rest xs k) u v ≡ true → anyJoins (bondsOf xs) u v ≡ true
+-- before k, or from k on
+joined-before : (xs : List ℕ) (k : ℕ) → 2 * k ≤ length xs → (u v : ℕ) → (anyJoins (before xs k) u v || anyJoins (rest xs k) u v) ≡ anyJoins (bondsOf xs) u v
+unfolding before anyJoins
+joined-before xs zero l u v = refl
+joined-before xs (suc k) l u v =
+    turn (joins (bondAt xs k) u v) (anyJoins (before xs k) u v) (anyJoins (rest xs (suc k)) u v)
+    ∙ rw (rest-cons xs k (omega arith)) at (joined-before xs k (omega arith) u v)
+  where
+    turn : (p q r : Bool) → ((p || q) || r) ≡ (q || (p || r))
+    turn true true r = refl
+    turn true false r = refl
+    turn false q r = refl
+
+-- after the last
+pub all-before : (n : ℕ) (xs : List ℕ) (k : ℕ) → 2 * k ≤ length xs → length xs < 2 * k + 2 → (u v : ℕ) → anyJoins (before xs k) u v ≡ bonded (graphOf n xs) u v
+unfolding bonded anyJoins
+all-before n xs k l last u v =
+    sym (or-false (anyJoins (before xs k) u v)) ∙ rw (rest-none xs k last, anyJoins) at (joined-before xs k l u v)
 
 abbrev pub blank : List ℕ
 blank = replicate mostAtoms 0
 
+pub blank-draws : (n : ℕ) → n ≤ mostAtoms → Draws n (anyJoins []) blank
+unfolding anyJoins
+blank-draws n s = record {
+  small = s;
+  size = refl;
+  ends = λ u w e. absurd (any-none u w e);
+  drawn = λ u w a b. ap (λ (x : ℕ). has x w) (zeros mostAtoms (u - 1)) ∙ has-none w;
+  fits = λ p. omega (arith, zeros mostAtoms p, pow-pos n);
+  behind = λ p l. zeros mostAtoms p;
+}
+
+-- what holds after k bonds that have no fault
+pub record Reads (n : ℕ) (xs : List ℕ) (k : ℕ) (near count : List ℕ) : Type 0 where
+  pub holds : HoldsBonds n (before xs k) near count
+  pub answer : bondsReply n [] (bondsOf xs) ≡ bondsReply n (before xs k) (rest xs k)
+
 pub reads-start : (n : ℕ) (xs : List ℕ) → n ≤ mostAtoms → Reads n xs 0 blank blank
-unfolding before degree anyJoins
+unfolding before degree
 reads-start n xs s = record {
-  holds = record {
-    draws = record {
-      small = s;
-      size = refl;
-      ends = λ u w e. absurd (any-none u w e);
-      drawn = λ u w a b. ap (λ (x : ℕ). has x w) (zeros mostAtoms (u - 1)) ∙ has-none w;
-      fits = λ p. omega (arith, zeros mostAtoms p, pow-pos n);
-      behind = λ p l. zeros mostAtoms p;
-    };
-    places = refl;
-    degrees = λ u w. zeros mostAtoms (u - 1);
-  };
+  holds = record { draws = blank-draws n s; places = refl; degrees = λ u w. zeros mostAtoms (u - 1) };
   answer = refl;
-  parts = λ u v e. inr e;
-  passed = λ u v e. absurd (any-none u v e);
-  coming = λ u v e. e;
 }
 
 module _ (n : ℕ) (xs : List ℕ) (k : ℕ) (near count : List ℕ) (A : Reads n xs k near count) (more : 2 * k + 1 < length xs) where
@@ -92,29 +105,9 @@ module _ (n : ℕ) (xs : List ℕ) (k : ℕ) (near count : List ℕ) (A : Reads 
 
     pub reads-next : Reads n xs (suc k) (putting (putting near a b) b a) (counting (counting count a) b)
     unfolding before
-    reads-next = record {
-      holds = put-holds n bs near count (A .holds) a b free;
-      answer = step ∙ rw e;
-      parts = λ u v j.
-          ⊎-elim (λ x. inl (any-tail (bondAt xs k) bs u v x))
-          (λ x. ⊎-elim (λ y. inl (any-head (bondAt xs k) bs u v y)) inr (any-out (bondAt xs k) (rest xs (suc k)) u v (rw (rest-cons xs k more) at x)))
-          (A .parts u v j);
-      passed = λ u v j.
-          ⊎-elim (λ y. A .coming u v (rw (rest-cons xs k more) (any-head (bondAt xs k) (rest xs (suc k)) u v y))) (A .passed u v)
-          (any-out (bondAt xs k) bs u v j);
-      coming = λ u v j. A .coming u v (rw (rest-cons xs k more) (any-tail (bondAt xs k) (rest xs (suc k)) u v j));
-    }
+    reads-next = record { holds = put-holds n bs near count (A .holds) a b free; answer = step ∙ rw e }
 
--- after the last bond
-module _ (n : ℕ) (xs : List ℕ) (k : ℕ) (near count : List ℕ) (A : Reads n xs k near count) (last : length xs < 2 * k + 2) where
-  pub reads-fine : bondsReply n [] (bondsOf xs) ≡ read tt
-  unfolding bondsReply
-  reads-fine = A .answer ∙ rw (rest-none xs k last) refl
-
-  whole : (u v : ℕ) → anyJoins (before xs k) u v ≡ anyJoins (bondsOf xs) u v
-  whole u v = same-test (anyJoins (before xs k) u v) (anyJoins (bondsOf xs) u v) (A .passed u v)
-      (λ j. ⊎-elim (λ x. x) (λ x. absurd (any-none u v (rw (rest-none xs k last) at x))) (A .parts u v j))
-
-  pub reads-drawn : ShowsGraph (graphOf n xs) near
-  unfolding bonded
-  reads-drawn = subst (λ (R : ℕ → ℕ → Bool). Draws n R near) (fun-ext (λ u. fun-ext (λ v. whole u v))) (A .holds .draws)
+-- after the last
+pub reads-fine : (n : ℕ) (xs : List ℕ) (k : ℕ) (near count : List ℕ) → Reads n xs k near count → length xs < 2 * k + 2 → bondsReply n [] (bondsOf xs) ≡ read tt
+unfolding bondsReply
+reads-fine n xs k near count A last = A .answer ∙ rw (rest-none xs k last) refl

@@ -1,19 +1,20 @@
 -- A block's reply, test by test. Assumes nothing.
 use Prim.Native.Nat.{ℕ, _%_}
-use mathlib.Core.Bool.{true, false}
+use mathlib.Core.Bool.{true, false, not, true≢false}
 use mathlib.Core.List.{List, []}
-use mathlib.Core.Path.{_≡_, sym, _∙_}
+use mathlib.Core.Logic.{_⊎_, ⊎-elim}
+use mathlib.Core.Path.{_≡_, refl, sym, ap, _∙_}
 use lib.Dec.{eqb, ltb}
 use lib.ListN.{length}
 use native.Mathlib.Omega.{arith}
 use Rattle.graph.specs.Graph.{Graph, connected}
-use Rattle.reply.specs.Read.{Read, refused, refusal, isOutside, saidReply}
-use Rattle.reply.specs.Chain.{fine-read, refused-read}
+use Rattle.reply.specs.Read.{Read, refused, read, refusal, isOutside, saidReply}
+use Rattle.reply.specs.Chain.{neither, fine-read, refused-read}
 use Rattle.block.specs.Block.{mostAtoms, mostBytes, bondsOf, graphOf, bondsReply, drawnReply, blockReply}
 use Rattle.block.specs.Near.{ReadyBlock, Drawing}
 use Rattle.block.specs.Opened.{openedNear}
 use Rattle.block.specs.Drawn.{drawn-is, opened-near}
-use Rattle.block.specs.Told.{block-drawn, drawn-refused}
+use Rattle.block.specs.Told.{tested, block-drawn, drawn-refused}
 use Rattle.reply.specs.declared.Refusal.{Refusal}
 use Rattle.reply.specs.declared.Reply.{Reply}
 use Rattle.reply.specs.declared.Reply.the-variants.{Fine, Refused}
@@ -43,19 +44,30 @@ module _ (n : ℕ) (xs : List ℕ) where
       unfolding drawnReply
       reply-bonds l r e = rw (p, q, l) e
 
+  pub reply-none : (isOutside mostAtoms n ≡ true) ⊎ ((not (eqb (length xs % 2) 0) ≡ true) ⊎ (ltb mostBytes (length xs) ≡ true)) → drawnReply n xs ≡ read tt → ⊥
+  reply-none h e =
+      let t = tested n xs e in
+      let (p, q) = neither (not (eqb (length xs % 2) 0)) (ltb mostBytes (length xs)) (t .bytes) in
+      ⊎-elim (λ x. true≢false (sym x ∙ t .size)) (⊎-elim (λ x. true≢false (sym x ∙ p)) (λ x. true≢false (sym x ∙ q))) h
+
   -- then 7
-  pub reply-fault : (f : Refusal) → replies (Refused f) → Refused f ≡ saidReply (blockReply n xs)
-  reply-fault f e = rw (drawn-refused n xs f (refused-read (drawnReply n xs) f (sym e)))
+  pub reply-fine : drawnReply n xs ≡ read tt → connected (graphOf n xs) ≡ true → Fine ≡ saidReply (blockReply n xs)
+  reply-fine e c = rw (block-drawn n xs, e, c)
 
-  pub reply-fine : replies Fine → connected (graphOf n xs) ≡ true → Fine ≡ saidReply (blockReply n xs)
-  reply-fine e c = rw (block-drawn n xs, fine-read (drawnReply n xs) (sym e), c)
-
-  pub reply-apart : replies Fine → connected (graphOf n xs) ≡ false → Refused (refusal 7 0) ≡ saidReply (blockReply n xs)
-  reply-apart e c = rw (block-drawn n xs, fine-read (drawnReply n xs) (sym e), c)
+  pub reply-apart : drawnReply n xs ≡ read tt → connected (graphOf n xs) ≡ false → Refused (refusal 7 0) ≡ saidReply (blockReply n xs)
+  reply-apart e c = rw (block-drawn n xs, e, c)
 
 -- a refused block has no neighbours to give, and the others are ready
 pub drawing-refused : {m : Read (Unit {0})} {g : Graph} {near : List ℕ} (reply : Reply) (f : Refusal) → reply ≡ Refused f → Refused f ≡ saidReply m → Drawing m g reply near
 drawing-refused reply f e r = record { replied = e ∙ r; drawn = λ q. absurd (not-fine (sym e ∙ q)) }
+
+pub reply-undrawn : (n : ℕ) (xs : List ℕ) (reply : Reply) {near : List ℕ} → reply ≡ saidReply (drawnReply n xs) → (drawnReply n xs ≡ read tt → ⊥)
+    → Drawing (blockReply n xs) (graphOf n xs) reply near
+reply-undrawn n xs reply {near} r h = go (drawnReply n xs) refl
+  where
+    go : (m : Read (Unit {0})) → drawnReply n xs ≡ m → Drawing (blockReply n xs) (graphOf n xs) reply near
+    go (refused f) e = drawing-refused reply f (r ∙ ap saidReply e) (sym (ap saidReply (drawn-refused n xs f e)))
+    go (read tt) e = absurd (h e)
 
 module _ (n : ℕ) (xs : List ℕ) {near : List ℕ} {reply : Reply} (D : Drawing (blockReply n xs) (graphOf n xs) reply near) where
   pub admit-refused : {f : Refusal} → reply ≡ Refused f → blockReply n xs ≡ refused f

@@ -1,18 +1,21 @@
 // One block: its refusals 1 to 7, its distances, indices and vertex sums.
+ghost use mathlib.Core.Bool.{true};
 ghost use mathlib.Core.Path.{_≡_};
 ghost use Prim.Native.Nat.{min};
-ghost use Rattle.reply.specs.Read.{saidReply, saidNumber};
+ghost use Rattle.reply.specs.Read.{read, saidReply, saidNumber};
 ghost use Rattle.block.specs.Block.{mostAtoms, graphOf, drawnReply, blockReply};
 ghost use Rattle.block.specs.Rows.{noRow, halfAfter, farAfter, rowReply, saidRow};
 ghost use Rattle.block.specs.Index.{vertexReply, saidVertex, distanceReply, pairsReply, saidPairs};
 ghost use Rattle.block.specs.Sums.{entry, vertexBy};
 ghost use Rattle.block.specs.Opened.{drawnNear, openedNear};
 ghost use Rattle.block.specs.Near.{Drawing};
+ghost use Rattle.block.specs.Sketched.{Sketched};
 
 mod bonding;
 mod search;
 mod totals;
 
+use bonding::Sketch;
 use half::Half;
 use half::PAIRS;
 use half::get;
@@ -96,10 +99,9 @@ struct Tally {
     pub twos: u64,
 }
 
-// Refusals 1 to 6 of a block and, where there is none, in what is lent, empty before, the neighbours.
-fn draw(n: usize, bonds: &[u8], near: &mut [u64]) -> Reply
-    requires { ⌜ now near ≡ noRow ⌝ }
-    ensures { λ r. ⌜ Drawing (drawnReply n (now (bonds .entry))) (graphOf n (now (bonds .entry))) r (now (near .exit)) ⌝ }
+// Refusals 1 to 6 of a block, bond by bond.
+fn tested(n: usize, bonds: &[u8]) -> Reply
+    ensures { λ r. ⌜ r ≡ saidReply (drawnReply n (now (bonds .entry))) ⌝ }
 {
     if is_outside(ATOMS, n) {
         return refused(1);
@@ -110,7 +112,27 @@ fn draw(n: usize, bonds: &[u8], near: &mut [u64]) -> Reply
     if bonds.len() > BYTES {
         return refused(2);
     }
-    bonding::build(n, bonds, near)
+    bonding::tested(n, bonds)
+}
+
+// The bonds of a block, drawn in what is lent, empty before; fine where 1 to 6 do not refuse it, and then these are its neighbours.
+fn draw(n: usize, bonds: &[u8], near: &mut [u64]) -> Sketch
+    requires { ⌜ now near ≡ noRow ⌝ }
+    ensures { λ r. ⌜ Sketched n (now (bonds .entry)) (r .fine) (r .reached) (now (near .exit))
+        × (r .fine ≡ true → drawnReply n (now (bonds .entry)) ≡ read tt) ⌝ }
+{
+    if is_outside(ATOMS, n) || bonds.len() % 2 != 0 || bonds.len() > BYTES {
+        return Sketch {
+            fine: false,
+            reached: 0,
+        };
+    }
+    let s = bonding::sketched(n, bonds, near);
+    let plain = bonding::is_plain(n, bonds.len() as u64, near);
+    Sketch {
+        fine: s.fine && plain,
+        reached: s.reached,
+    }
 }
 
 // Refusals 1 to 6 of a block, and in what is lent its neighbours; all sets are empty where it is refused.
@@ -119,12 +141,12 @@ pub fn drawn(n: usize, bonds: &[u8], near: &mut Neighbours) -> Reply
     ensures near { λ _. ⌜ now (near .exit) ≡ drawnNear n (now (bonds .entry)) ⌝ }
 {
     *near = [0u64; ATOMS];
-    let reply = draw(n, bonds, near);
-    let Reply::Fine = reply else {
+    let s = draw(n, bonds, near);
+    if !s.fine {
         *near = [0u64; ATOMS];
-        return reply;
-    };
-    reply
+        return tested(n, bonds);
+    }
+    Reply::Fine
 }
 
 // The reply to a block and, where it is fine, in what is lent, empty before, the neighbours.
@@ -132,12 +154,15 @@ fn admit(n: usize, bonds: &[u8], near: &mut [u64]) -> Reply
     requires { ⌜ now near ≡ noRow ⌝ }
     ensures { λ r. ⌜ Drawing (blockReply n (now (bonds .entry))) (graphOf n (now (bonds .entry))) r (now (near .exit)) ⌝ }
 {
-    let reply = draw(n, bonds, near);
-    let Reply::Fine = reply else {
-        return reply;
-    };
+    let s = draw(n, bonds, near);
+    if !s.fine {
+        return tested(n, bonds);
+    }
+    if s.reached == first_atoms(n) {
+        return Reply::Fine;
+    }
     if search::connected(near, n) {
-        reply
+        Reply::Fine
     } else {
         refused(7)
     }
