@@ -36,6 +36,7 @@ joined-ends old ends l m ne =
     let (p, q) = both (has old w) (has ends w) (sym (has-and old ends w) ∙ met) in
     record { from = λ v h. ⊎-elim inl (λ e. inr (w, omega arith, p, q, e)) (one-of (has old v) (has ends v) (sym (has-or old ends v) ∙ h)) }
 
+-- what holds after k bonds whose ends are atoms
 pub record Sketching (n : ℕ) (xs : List ℕ) (k reached : ℕ) (near : List ℕ) : Type 0 where
   pub draws : Draws n (anyJoins (before xs k)) near
   pub walked : (v : ℕ) → Within n v → has reached v ≡ true → (j : ℕ) × Walk (graphOf n xs) 1 v j
@@ -47,6 +48,7 @@ sketching-start n xs l = record {
   walked = λ v w h. (0, subst (λ (u : ℕ). Walk (graphOf n xs) 1 u 0) (sym (eqb-true v 1 (sym (has-alone 1 v (omega arith) (w .low)) ∙ h))) stay);
 }
 
+-- the next bond a-b: a walk to one of its ends goes on to the other
 module _ (n : ℕ) (xs : List ℕ) (k reached : ℕ) (near : List ℕ) (S : Sketching n xs k reached near) (more : k < length xs / 2) where
   abbrev a : ℕ
   a = getD xs (2 * k) 0
@@ -83,7 +85,7 @@ sketching-shows n xs k reached near S l last = subst (λ (R : ℕ → ℕ → Bo
 
 -- where the bonds are not all drawn, the block is refused
 pub undrawn : {n : ℕ} {xs : List ℕ} {reached : ℕ} {near : List ℕ} → (drawnReply n xs ≡ read tt → ⊥) → Sketched n xs false reached near
-undrawn h = record { shown = λ e. absurd (false≢true e); walked = λ e. absurd (false≢true e); outside = λ e. h }
+undrawn h = record { shown = λ e. absurd (false≢true e); walked = λ e. absurd (false≢true e); refuses = λ e. h }
 
 pub end-outside : {n : ℕ} {xs : List ℕ} {reached : ℕ} {near : List ℕ} (k : ℕ) → k < length xs / 2
     → (isOutside n (bondAt xs k .one) ≡ true) ⊎ (isOutside n (bondAt xs k .two) ≡ true) → Sketched n xs false reached near
@@ -131,7 +133,7 @@ module _ (n ends : ℕ) {near : List ℕ} {total high : ℕ} (S : Sizing near n 
 -- WHERE BOTH SAY FINE: the block is not refused by 1 to 6, and where all atoms are reached it is connected
 module _ (n : ℕ) (xs : List ℕ) {fine : Bool} {reached : ℕ} {near : List ℕ} (S : Sketched n xs fine reached near) where
   pub sketch-sized : {plain : Bool} → fine ≡ true → Sized n (length xs) near plain → Sketched n xs plain reached near
-  sketch-sized f Z = record { shown = λ e. S .shown f; walked = λ e. S .walked f; outside = λ e d. Z .many e (fine-few n xs near (S .shown f) d) }
+  sketch-sized f Z = record { shown = λ e. S .shown f; walked = λ e. S .walked f; refuses = λ e d. Z .many e (fine-few n xs near (S .shown f) d) }
 
   pub sketch-whole : fine ≡ true → drawnReply n xs ≡ read tt → reached ≡ 2 ^ min n mostAtoms - 1 → connected (graphOf n xs) ≡ true
   sketch-whole f d e =

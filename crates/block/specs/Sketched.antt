@@ -19,7 +19,7 @@ pub record Joined (old ends new : ℕ) : Type 0 where
 pub record Sketched (n : ℕ) (xs : List ℕ) (fine : Bool) (reached : ℕ) (near : List ℕ) : Type 0 where
   pub shown : fine ≡ true → ShowsGraph (graphOf n xs) near
   pub walked : fine ≡ true → (v : ℕ) → Within n v → has reached v ≡ true → (k : ℕ) × Walk (graphOf n xs) 1 v k
-  pub outside : fine ≡ false → drawnReply n xs ≡ read tt → ⊥
+  pub refuses : fine ≡ false → drawnReply n xs ≡ read tt → ⊥
 
 -- the sets have so many atoms together as there are ends of bonds, and none more than the limit
 pub record Few (n ends : ℕ) (near : List ℕ) : Type 0 where

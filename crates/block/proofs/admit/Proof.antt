@@ -16,7 +16,7 @@ draw-requires : tie.Need-draw-requires
 draw-requires c κs = c .before .before .before .pre
 
 returns : tie.Need-returns
-returns c = reply-undrawn _ _ _ (c .tested .ensures) (c .before .before .before .before .before .draw .ensures .0 .outside (not-true _ (c .before .if1 .taken)))
+returns c = reply-undrawn _ _ _ (c .tested .ensures) (c .before .before .before .before .before .draw .ensures .0 .refuses (not-true _ (c .before .if1 .taken)))
 
 -- 1 to 6 do not refuse, and the neighbours are drawn
 fine : (c : tie.Else1) → c .before .before .before .before .draw .result .fine ≡ true

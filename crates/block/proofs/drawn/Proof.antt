@@ -7,7 +7,7 @@ use Rattle.block.proofs.drawn.Statement.{statement}
 use Rattle.block.proofs.drawn.Tie as tie
 
 returns : tie.Need-returns
-returns c = (c .tested .ensures, sym (none-drawn _ _ (c .before .before .before .before .draw .ensures .0 .outside (not-true _ (c .before .before .if1 .taken)))))
+returns c = (c .tested .ensures, sym (none-drawn _ _ (c .before .before .before .before .draw .ensures .0 .refuses (not-true _ (c .before .before .if1 .taken)))))
 
 returns-2 : tie.Need-returns-2
 returns-2 c =

@@ -109,7 +109,7 @@ same-length-3 c = omega (arith, c .before .loop .inv .1 .draws .size, ap length 
 returns-3 : tie.Need-returns-3 Inv-loop μ-loop
 returns-3 c =
     let S = c .before .loop .inv .1 in
-    record { shown = λ e. sketching-shows _ _ _ _ _ S (omega arith) (omega arith); walked = λ e. S .walked; outside = λ e. absurd (true≢false e) }
+    record { shown = λ e. sketching-shows _ _ _ _ _ S (omega arith) (omega arith); walked = λ e. S .walked; refuses = λ e. absurd (true≢false e) }
 
 pub sketched-spec : {M : Type 1} → statement M
 sketched-spec =
