@@ -7,9 +7,10 @@ use mathlib.Core.Path.{_≡_}
 use lib.Count.{ones}
 use Rattle.graph.specs.Graph.{Walk, Within, sum}
 use Rattle.graph.specs.Sets.{has}
-use Rattle.reply.specs.Read.{read}
+use Rattle.reply.specs.Read.{Read, refused, read, refusal}
 use Rattle.block.specs.Block.{limit, graphOf, drawnReply}
 use Rattle.block.specs.Near.{around, ShowsGraph}
+use Rattle.reply.specs.declared.Refusal.{Refusal}
 
 -- an atom of the new set is one of the old, or an end beside one that was
 pub record Joined (old ends new : ℕ) : Type 0 where
@@ -29,3 +30,8 @@ pub record Few (n ends : ℕ) (near : List ℕ) : Type 0 where
 pub record Sized (n ends : ℕ) (near : List ℕ) (fine : Bool) : Type 0 where
   pub few : fine ≡ true → Few n ends near
   pub many : fine ≡ false → Few n ends near → ⊥
+
+-- the refusal of a block that is refused, by what 1 to 6 say
+abbrev pub orSeven : Read (Unit {0}) → Refusal
+orSeven (refused r) = r
+orSeven (read u) = refusal 7 0

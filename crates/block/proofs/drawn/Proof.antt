@@ -3,11 +3,14 @@ use borrow.Author.Needs.{needs}
 use borrow.Author.Tests.{not-true, not-false}
 use Rattle.reply.specs.Read.{saidReply}
 use Rattle.block.specs.Drawn.{drawn-is, none-drawn, drawn-near}
+use Rattle.block.proofs.Replies.{refused-drawn}
 use Rattle.block.proofs.drawn.Statement.{statement}
 use Rattle.block.proofs.drawn.Tie as tie
 
 returns : tie.Need-returns
-returns c = (c .tested .ensures, sym (none-drawn _ _ (c .before .before .before .before .draw .ensures .0 .refuses (not-true _ (c .before .before .if1 .taken)))))
+returns c =
+    let h = c .before .before .before .before .draw .ensures .0 .refuses (not-true _ (c .before .before .if1 .taken)) in
+    (sym (ap saidReply (refused-drawn _ _ (c .refusal .ensures) h)), sym (none-drawn _ _ h))
 
 returns-2 : tie.Need-returns-2
 returns-2 c =
