@@ -45,5 +45,5 @@ returns-3 c =
 
 pub row-spec : {M : Type 1} → statement M
 row-spec =
-    tie.close (tie.spec (λ c. search needs) admit-requires (λ c κs. search needs) returns (λ c κs. search needs) returns-2 (λ c. search needs) (λ c. search needs)
-    from-atom-requires returns-3)
+    tie.close (tie.spec (λ c. search needs) admit-requires (λ c κs. search needs) returns (λ c κs. search needs) returns-2 (λ c. search needs)
+    (λ c. search needs) from-atom-requires returns-3)
