@@ -1,6 +1,6 @@
 -- The bonds are tested one by one: what holds after k of them. Assumes nothing.
 use Prim.Native.Nat.{ℕ, zero, suc, _+_, _-_, _*_, _≤_, _<_}
-use mathlib.Core.Bool.{Bool, true, false, _&&_, _||_, cond, or-false}
+use mathlib.Core.Bool.{Bool, true, false, _&&_, _||_, not, cond, or-false}
 use mathlib.Core.List.{List, [], _∷_}
 use mathlib.Core.Logic.{_≢_}
 use mathlib.Core.Path.{_≡_, refl, sym, ap, _∙_}
@@ -146,21 +146,14 @@ module _ (xs : List ℕ) (i a : ℕ) where
     unfolding anyJoins
     listed-over h = rw (bonds-over xs i h)
 
-    module _ (h : i + 2 ≤ length xs) {s t : ℕ} (p : s ≡ cond (eqb (getD xs i 0) a && eqb (getD xs (i + 1) 0) b) 1 0) (q : t ≡ cond (eqb (getD xs i 0) b && eqb (getD xs (i + 1) 0) a) 1 0) where
-      pub listed-here : s + t ≢ 0 → anyJoins (bondsOf (drop i xs)) a b ≡ true
-      unfolding anyJoins joins
-      listed-here ne = rw (bonds-next xs i h) (go (eqb (getD xs i 0) a && eqb (getD xs (i + 1) 0) b) (eqb (getD xs i 0) b && eqb (getD xs (i + 1) 0) a) (anyJoins (bondsOf (drop (i + 2) xs)) a b) p q)
-        where
-          go : (x y z : Bool) → s ≡ cond x 1 0 → t ≡ cond y 1 0 → ((x || y) || z) ≡ true
-          go true y z e f = refl
-          go false true z e f = refl
-          go false false z e f = absurd (ne (omega arith))
-
-      pub listed-on : s + t ≡ 0 → anyJoins (bondsOf (drop i xs)) a b ≡ anyJoins (bondsOf (drop (i + 2) xs)) a b
-      unfolding anyJoins joins
-      listed-on e = rw (bonds-next xs i h) (go (eqb (getD xs i 0) a && eqb (getD xs (i + 1) 0) b) (eqb (getD xs i 0) b && eqb (getD xs (i + 1) 0) a) (anyJoins (bondsOf (drop (i + 2) xs)) a b) p q)
-        where
-          go : (x y z : Bool) → s ≡ cond x 1 0 → t ≡ cond y 1 0 → ((x || y) || z) ≡ z
-          go true y z f g = absurd (omega arith)
-          go false true z f g = absurd (omega arith)
-          go false false z f g = refl
+    pub listed-next : i + 2 ≤ length xs → {s t : ℕ} → s ≡ cond (eqb (getD xs i 0) a && eqb (getD xs (i + 1) 0) b) 1 0 → t ≡ cond (eqb (getD xs i 0) b && eqb (getD xs (i + 1) 0) a) 1 0
+        → anyJoins (bondsOf (drop i xs)) a b ≡ (not (eqb (s + t) 0) || anyJoins (bondsOf (drop (i + 2) xs)) a b)
+    unfolding anyJoins joins
+    listed-next h {s} {t} p q =
+        rw (bonds-next xs i h, p, q) (go (eqb (getD xs i 0) a && eqb (getD xs (i + 1) 0) b) (eqb (getD xs i 0) b && eqb (getD xs (i + 1) 0) a) (anyJoins (bondsOf (drop (i + 2) xs)) a b))
+      where
+        go : (x y z : Bool) → ((x || y) || z) ≡ (not (eqb (cond x 1 0 + cond y 1 0) 0) || z)
+        go true true z = refl
+        go true false z = refl
+        go false true z = refl
+        go false false z = refl

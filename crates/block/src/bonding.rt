@@ -131,13 +131,7 @@ pub(crate) fn sketched(n: usize, bonds: &[u8], near: &mut [u64]) -> Sketch
     while k < m {
         let a = bonds[2 * k] as usize;
         let b = bonds[2 * k + 1] as usize;
-        if is_outside(n, a) {
-            return Sketch {
-                fine: false,
-                reached: 0,
-            };
-        }
-        if is_outside(n, b) {
+        if is_outside(n, a) || is_outside(n, b) {
             return Sketch {
                 fine: false,
                 reached: 0,

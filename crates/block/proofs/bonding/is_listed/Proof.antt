@@ -1,13 +1,15 @@
 -- The loop's invariant: what is left of the bonds gives what all of them give.
 use Prim.Native.Nat.{_+_, _-_, _≤_}
-use mathlib.Core.Bool.{_&&_, cond}
+use mathlib.Core.Bool.{_||_, not}
 use mathlib.Core.Path.{_≡_, refl, sym, _∙_}
 use native.Mathlib.Omega.{arith}
+use lib.Dec.{eqb}
 use lib.ListN.{length, drop}
 use borrow.Author.Needs.{needs}
+use borrow.Author.Tests.{eq-eqb, ne-eqb}
 use Rattle.graph.specs.Graph.{anyJoins}
 use Rattle.block.specs.Block.{bondsOf}
-use Rattle.block.proofs.Reading.{listed-here, listed-on, listed-over}
+use Rattle.block.proofs.Reading.{listed-next, listed-over}
 use Rattle.block.proofs.bonding.is_listed.Statement.{statement}
 use Rattle.block.proofs.bonding.is_listed.Tie as tie
 
@@ -23,21 +25,19 @@ loop-holds c = (omega arith, refl)
 add-if1 : tie.Need-add-if1 Inv-loop μ-loop
 add-if1 c = omega (arith, c .before .one-if .ensures .1, c .one-if2 .ensures .1)
 
-returns : tie.Need-returns Inv-loop μ-loop
-returns c =
-    let l = c .before .before .before .before .before .before in
+-- what the bond at byte i says, and the others
+more : (c : tie.After-one-if2 Inv-loop μ-loop) → let l = c .before .before .before .before .before in let s = l .before .before .args in
+    anyJoins (bondsOf (s .bonds .now)) (s .a) (s .b) ≡ (not (eqb (c .before .one-if .result + c .one-if2 .result) 0) || anyJoins (bondsOf (drop (l .loop .i + 2) (s .bonds .now))) (s .a) (s .b))
+more c =
+    let l = c .before .before .before .before .before in
     let s = l .before .before .args in
-    sym (listed-here (s .bonds .now) (l .loop .i) (s .a) (s .b) (omega arith) (c .before .before .one-if .ensures .0) (c .before .one-if2 .ensures .0) (omega (arith, c .if1 .taken)))
-    ∙ l .loop .inv .1
+    sym (l .loop .inv .1) ∙ listed-next (s .bonds .now) (l .loop .i) (s .a) (s .b) (omega arith) (c .before .one-if .ensures .0) (c .one-if2 .ensures .0)
+
+returns : tie.Need-returns Inv-loop μ-loop
+returns c = sym (rw (ne-eqb _ _ (c .if1 .taken)) at (more (c .before)))
 
 loop-again : tie.Need-loop-again Inv-loop μ-loop
-loop-again c =
-    let l = c .before .before .before .before .before .before in
-    let s = l .before .before .args in (
-      omega arith,
-      sym (listed-on (s .bonds .now) (l .loop .i) (s .a) (s .b) (omega arith) (c .before .before .one-if .ensures .0) (c .before .one-if2 .ensures .0) (omega (arith, c .if1 .left)))
-          ∙ l .loop .inv .1,
-    )
+loop-again c = (omega arith, sym (rw (eq-eqb _ _ (c .if1 .left)) at (more (c .before))))
 
 returns-2 : tie.Need-returns-2 Inv-loop μ-loop
 returns-2 c =

@@ -1,6 +1,6 @@
 use Prim.Native.Nat.{_-_, _*_, _+_, _≤_}
 use mathlib.Core.Bool.{true≢false}
-use mathlib.Core.Logic.{inl, inr}
+use mathlib.Core.Logic.{inl, inr, ⊎-elim}
 use mathlib.Core.Path.{_≡_, sym, ap, _∙_}
 use native.Mathlib.Numerals.{add-one}
 use native.Mathlib.Omega.{arith}
@@ -36,16 +36,10 @@ same-length : tie.Need-same-length Inv-loop μ-loop
 same-length c = omega (arith, c .before .before .before .before .before .loop .inv .1 .draws .size, ap length (c .before .before .before .before .before .before .before .before .pre .1))
 
 returns : tie.Need-returns Inv-loop μ-loop
-returns c = end-outside (c .before .before .before .before .before .loop .k) (omega arith) (inl (sym (c .before .is-outside .ensures) ∙ c .if1 .taken))
+returns c = end-outside (c .before .before .before .before .before .loop .k) (omega arith) (⊎-elim (λ t. inl (sym (c .before .is-outside .ensures) ∙ t .taken)) (λ t. inr (sym (t .1 .ensures) ∙ t .2 .taken)) (c .if1 .came))
 
 is-outside-requires-2 : tie.Need-is-outside-requires-2 Inv-loop μ-loop
 is-outside-requires-2 c κs = tt
-
-same-length-2 : tie.Need-same-length-2 Inv-loop μ-loop
-same-length-2 c = omega (arith, c .before .before .before .before .before .before .before .loop .inv .1 .draws .size, ap length (c .before .before .before .before .before .before .before .before .before .before .pre .1))
-
-returns-2 : tie.Need-returns-2 Inv-loop μ-loop
-returns-2 c = end-outside (c .before .before .before .before .before .before .before .loop .k) (omega arith) (inr (sym (c .before .is-outside2 .ensures) ∙ c .if2 .taken))
 
 -- both ends are atoms, and there is a set for each
 first : (c : tie.Else2 Inv-loop μ-loop) → let s = c .before .before .before .before .before .before .before .before .before .before .args in Within (s .n) (bondAt (s .bonds .now) (c .before .before .before .before .before .before .before .loop .k) .one)
@@ -103,17 +97,17 @@ loop-again c =
     let J = rw (shifted-one mostAtoms _ (shl-one d), shifted-one mostAtoms _ (shl-two d)) at (c .reached-by .ensures) in
     (omega arith, rw (add-one (l .k), shifted-one mostAtoms _ (shl-two d), shifted-one mostAtoms _ (shl-one d)) (sketching-next _ _ _ _ _ (l .inv .1) (omega arith) (first d) (second d) _ J))
 
-same-length-3 : tie.Need-same-length-3 Inv-loop μ-loop
-same-length-3 c = omega (arith, c .before .loop .inv .1 .draws .size, ap length (c .before .before .before .before .pre .1))
+same-length-2 : tie.Need-same-length-2 Inv-loop μ-loop
+same-length-2 c = omega (arith, c .before .loop .inv .1 .draws .size, ap length (c .before .before .before .before .pre .1))
 
-returns-3 : tie.Need-returns-3 Inv-loop μ-loop
-returns-3 c =
+returns-2 : tie.Need-returns-2 Inv-loop μ-loop
+returns-2 c =
     let S = c .before .loop .inv .1 in
     record { shown = λ e. sketching-shows _ _ _ _ _ S (omega arith) (omega arith); walked = λ e. S .walked; refuses = λ e. absurd (true≢false e) }
 
 pub sketched-spec : {M : Type 1} → statement M
 sketched-spec =
     tie.close (tie.spec Inv-loop μ-loop loop-holds (λ c. omega arith) (λ c. omega arith) cast-a (λ c. omega arith) (λ c. omega arith) (λ c. omega arith) cast-b
-    is-outside-requires same-length returns is-outside-requires-2 same-length-2 returns-2 sub-u sub-v shl-one shl-two mul-near slice-read-near mul-near-2
+    is-outside-requires is-outside-requires-2 same-length returns sub-u sub-v shl-one shl-two mul-near slice-read-near mul-near-2
     slice-write-near mul-near-3 slice-read-near-2 mul-near-4 slice-write-near-2 reached-by-requires (λ c. omega arith) (λ c. omega arith) loop-again
-    same-length-3 returns-3)
+    same-length-2 returns-2)
