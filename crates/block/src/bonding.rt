@@ -60,10 +60,7 @@ fn is_listed(bonds: &[u8], a: u8, b: u8) -> bool
 fn fault(n: usize, before: &[u8], a: u8, b: u8) -> usize
     ensures { λ r. ⌜ r ≡ bondFault n (bondsOf (now (before .entry))) (bond a b) ⌝ }
 {
-    if is_outside(n, a as usize) {
-        return 3;
-    }
-    if is_outside(n, b as usize) {
+    if is_outside(n, a as usize) || is_outside(n, b as usize) {
         return 3;
     }
     if a == b {
@@ -72,10 +69,7 @@ fn fault(n: usize, before: &[u8], a: u8, b: u8) -> usize
     if is_listed(before, a, b) {
         return 5;
     }
-    if degree_of(before, a) >= LIMIT {
-        return 6;
-    }
-    if degree_of(before, b) >= LIMIT {
+    if degree_of(before, a) >= LIMIT || degree_of(before, b) >= LIMIT {
         return 6;
     }
     0

@@ -108,6 +108,5 @@ returns-2 c =
 pub sketched-spec : {M : Type 1} → statement M
 sketched-spec =
     tie.close (tie.spec Inv-loop μ-loop loop-holds (λ c. omega arith) (λ c. omega arith) cast-a (λ c. omega arith) (λ c. omega arith) (λ c. omega arith) cast-b
-    is-outside-requires is-outside-requires-2 same-length returns sub-u sub-v shl-one shl-two mul-near slice-read-near mul-near-2
-    slice-write-near mul-near-3 slice-read-near-2 mul-near-4 slice-write-near-2 reached-by-requires (λ c. omega arith) (λ c. omega arith) loop-again
-    same-length-2 returns-2)
+    is-outside-requires is-outside-requires-2 same-length returns sub-u sub-v shl-one shl-two mul-near slice-read-near mul-near-2 slice-write-near mul-near-3
+    slice-read-near-2 mul-near-4 slice-write-near-2 reached-by-requires (λ c. omega arith) (λ c. omega arith) loop-again same-length-2 returns-2)
