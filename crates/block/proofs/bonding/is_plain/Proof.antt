@@ -2,6 +2,7 @@ use Prim.Native.Nat.{_-_, _≤_}
 use mathlib.Core.Path.{_≡_}
 use native.Mathlib.Numerals.{add-one}
 use native.Mathlib.Omega.{arith}
+use borrow.Author.Needs.{needs}
 use Rattle.block.proofs.Sketching.{Sizing, sizing-start, sizing-next, sizing-other, sizing-same}
 use Rattle.block.proofs.bonding.is_plain.Statement.{statement}
 use Rattle.block.proofs.bonding.is_plain.Tie as tie
@@ -14,9 +15,6 @@ abbrev μ-loop : tie.MeasureT-loop
 
 loop-holds : tie.Need-loop-holds Inv-loop μ-loop
 loop-holds c = (omega arith, sizing-start _)
-
-size-requires : tie.Need-size-requires Inv-loop μ-loop
-size-requires c κs = tt
 
 add-sum : tie.Need-add-sum Inv-loop μ-loop
 add-sum c = omega (arith, c .size .ensures .1, c .before .before .before .loop .inv .1 .low)
@@ -41,5 +39,5 @@ returns-2 c = sizing-same _ _ (done (c .before)) (omega (arith, c .if1 .left)) _
 
 pub is-plain-spec : {M : Type 1} → statement M
 is-plain-spec =
-    tie.close (tie.spec Inv-loop μ-loop loop-holds (λ c. omega arith) (λ c. omega arith) size-requires add-sum add-high (λ c. omega arith) (λ c. omega arith)
-    loop-again returns (λ c. omega arith) returns-2)
+    tie.close (tie.spec Inv-loop μ-loop loop-holds (λ c. omega arith) (λ c. omega arith) (λ c κs. search needs) add-sum add-high (λ c. omega arith)
+    (λ c. omega arith) loop-again returns (λ c. omega arith) returns-2)

@@ -4,6 +4,7 @@ use mathlib.Core.Logic.{inl, inr, ⊎-elim}
 use mathlib.Core.Path.{_≡_, sym, ap, _∙_}
 use native.Mathlib.Numerals.{add-one}
 use native.Mathlib.Omega.{arith}
+use borrow.Author.Needs.{needs}
 use lib.ListN.{length, length-set}
 use Rattle.graph.specs.Graph.{Within}
 use Rattle.graph.specs.SetLaws.{shifted-one}
@@ -29,17 +30,11 @@ cast-a c = omega (arith, c .shared-slice-known2 .given (2 * c .before .before .l
 cast-b : tie.Need-cast-b Inv-loop μ-loop
 cast-b c = omega (arith, c .shared-slice-known3 .given (2 * c .before .before .before .loop .k + 1))
 
-is-outside-requires : tie.Need-is-outside-requires Inv-loop μ-loop
-is-outside-requires c κs = tt
-
 same-length : tie.Need-same-length Inv-loop μ-loop
 same-length c = omega (arith, c .before .before .before .before .before .loop .inv .1 .draws .size, ap length (c .before .before .before .before .before .before .before .before .pre .1))
 
 returns : tie.Need-returns Inv-loop μ-loop
 returns c = end-outside (c .before .before .before .before .before .loop .k) (omega arith) (⊎-elim (λ t. inl (sym (c .before .is-outside .ensures) ∙ t .taken)) (λ t. inr (sym (t .1 .ensures) ∙ t .2 .taken)) (c .if1 .came))
-
-is-outside-requires-2 : tie.Need-is-outside-requires-2 Inv-loop μ-loop
-is-outside-requires-2 c κs = tt
 
 -- both ends are atoms, and there is a set for each
 first : (c : tie.Else2 Inv-loop μ-loop) → let s = c .before .before .before .before .before .before .before .before .before .before .args in Within (s .n) (bondAt (s .bonds .now) (c .before .before .before .before .before .before .before .loop .k) .one)
@@ -87,9 +82,6 @@ mul-near-4 c = omega (arith, second (c .before .before), room (c .before .before
 slice-write-near-2 : tie.Need-slice-write-near-2 Inv-loop μ-loop
 slice-write-near-2 c = rw length-set (omega (arith, second (c .before .before), room (c .before .before)))
 
-reached-by-requires : tie.Need-reached-by-requires Inv-loop μ-loop
-reached-by-requires c κs = tt
-
 loop-again : tie.Need-loop-again Inv-loop μ-loop
 loop-again c =
     let l = c .before .before .before .before .before .before .before .before .before .before .loop in
@@ -108,5 +100,5 @@ returns-2 c =
 pub sketched-spec : {M : Type 1} → statement M
 sketched-spec =
     tie.close (tie.spec Inv-loop μ-loop loop-holds (λ c. omega arith) (λ c. omega arith) cast-a (λ c. omega arith) (λ c. omega arith) (λ c. omega arith) cast-b
-    is-outside-requires is-outside-requires-2 same-length returns sub-u sub-v shl-one shl-two mul-near slice-read-near mul-near-2 slice-write-near mul-near-3
-    slice-read-near-2 mul-near-4 slice-write-near-2 reached-by-requires (λ c. omega arith) (λ c. omega arith) loop-again same-length-2 returns-2)
+    (λ c κs. search needs) (λ c κs. search needs) same-length returns sub-u sub-v shl-one shl-two mul-near slice-read-near mul-near-2 slice-write-near
+    mul-near-3 slice-read-near-2 mul-near-4 slice-write-near-2 (λ c κs. search needs) (λ c. omega arith) (λ c. omega arith) loop-again same-length-2 returns-2)
