@@ -3,6 +3,7 @@ use Prim.Native.Nat.{ℕ, min}
 use mathlib.Core.Bool.{Bool, true, false}
 use mathlib.Core.List.{List}
 use mathlib.Core.Path.{_≡_, refl, sym, ap, _∙_}
+use native.Mathlib.Omega.{arith}
 use Rattle.graph.specs.Farthest.{farthest}
 use Rattle.reply.specs.Read.{Read, refused, read, _then_, refuseIf, refusal, isOutside, saidNumber}
 use lib.ListN.{replicate}
@@ -22,7 +23,9 @@ use Rattle.block.specs.declared.Vertex.{Vertex}
 use Rattle.block.specs.declared.VertexReply.the-variants as around
 use Rattle.block.specs.declared.Pairs.{Pairs}
 use Rattle.block.specs.declared.OneRow.{OneRow}
-use Rattle.block.proofs.Replies.{not-fine}
+
+not-fine : {r : Refusal} → reply.Refused r ≡ reply.Fine → ⊥
+not-fine e = let z : _≡_ {A = ℕ} 0 1 = cc in omega arith
 
 said-out : (m : Read (List ℕ × ℕ)) (r : Refusal) → reply.Refused r ≡ saidRow m .reply → m ≡ refused r
 said-out (refused s) r e = cc

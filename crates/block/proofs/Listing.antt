@@ -1,39 +1,22 @@
 -- What the neighbours say of a relation, and what stays true as a bond joins them. Assumes nothing.
-use Prim.Native.Nat.{ℕ, _+_, _-_, _^_, _≤_, _<_}
-use mathlib.Core.Bool.{Bool, true, false, _&&_, _||_, cond, or-false}
+use Prim.Native.Nat.{ℕ, _-_, _^_, _<_}
+use mathlib.Core.Bool.{Bool, true, _&&_, _||_, or-false}
 use mathlib.Core.List.{List, _∷_}
 use mathlib.Core.Logic.{inl, inr, ⊎-elim}
 use mathlib.Core.Path.{_≡_, refl, sym, ap, subst⁻¹, subst₂, _∙_}
 use native.Mathlib.Decide.{ℕ-discrete}
 use native.Mathlib.Omega.{arith}
-use borrow.Author.Tests.{le-leb, lt-leb, eq-eqb, ne-eqb, eqb-true}
-use lib.Dec.{eqb, leb}
+use borrow.Author.Tests.{eq-eqb, ne-eqb, eqb-true}
+use lib.Dec.{eqb}
 use lib.Bits.{bitOr, or-lt}
-use lib.ListN.{length, getD, length-set}
+use lib.ListN.{getD, length-set}
 use lib.Pow.{pow-lt}
 use lib.Seq.{getD-set-same, getD-set-other}
-use Rattle.graph.specs.Graph.{Bond, bond, Within, anyJoins, degree}
+use Rattle.graph.specs.Graph.{Bond, bond, Within, anyJoins}
 use Rattle.graph.specs.Bonds.{both, both-true, one-of, first-of, second-of, same-test, any-out, any-head, any-tail}
 use Rattle.graph.specs.Sets.{has, alone}
 use Rattle.graph.specs.SetLaws.{has-or, has-alone}
-use Rattle.block.specs.Block.{limit}
-use Rattle.block.specs.Near.{around, counted, putting, counting, Draws, HoldsBonds}
-use Rattle.block.specs.Faults.{Faultless}
-
--- how many bonds an atom has
-module _ {n : ℕ} {bs : List Bond} {near count : List ℕ} (H : HoldsBonds n bs near count) (u : ℕ) (w : Within n u) where
-  pub full : limit ≤ counted count u → leb limit (degree bs u) ≡ true
-  full l = le-leb limit (degree bs u) (omega (arith, H .degrees u w))
-
-  pub room : counted count u < limit → leb limit (degree bs u) ≡ false
-  room l = lt-leb limit (degree bs u) (omega (arith, H .degrees u w))
-
--- as many more as u is a
-pub counted-put : (n : ℕ) (count : List ℕ) (a u : ℕ) → n ≤ length count → Within n a → Within n u → counted (counting count a) u ≡ cond (eqb a u) 1 0 + counted count u
-counted-put n count a u l wa wu = elim (ℕ-discrete u a) [
-  | yes e ↦ rw (eq-eqb a u (sym e)) (omega (arith, subst⁻¹ (λ (x : ℕ). counted (counting count a) x ≡ counted count x + 1) e (getD-set-same count (a - 1) _ 0 (omega arith))))
-  | no ne ↦ rw (ne-eqb a u (λ e. ne (sym e))) (omega (arith, getD-set-other count (a - 1) (u - 1) (counted count a + 1) 0 (omega arith)))
-]
+use Rattle.block.specs.Near.{around, putting, Draws}
 
 -- b joins the neighbours of a: they are then those of a relation that has one step more
 module _ (n : ℕ) (R S : ℕ → ℕ → Bool) (near : List ℕ) (D : Draws n R near) (a b : ℕ) (wa : Within n a) (wb : Within n b)
@@ -68,7 +51,7 @@ module _ (n : ℕ) (R S : ℕ → ℕ → Bool) (near : List ℕ) (D : Draws n R
   }
 
 -- a bond joins the neighbours at both of its ends
-module _ (n : ℕ) (bs : List Bond) (near count : List ℕ) (H : HoldsBonds n bs near count) (a b : ℕ) (F : Faultless n bs a b) where
+module _ (n : ℕ) (bs : List Bond) (near : List ℕ) (D : Draws n (anyJoins bs) near) (a b : ℕ) (wa : Within n a) (wb : Within n b) where
   half : ℕ → ℕ → Bool
   half u w = anyJoins bs u w || (eqb u a && eqb w b)
 
@@ -93,24 +76,7 @@ module _ (n : ℕ) (bs : List Bond) (near count : List ℕ) (H : HoldsBonds n bs
 
   once-draws : Draws n half (putting near a b)
   unfolding half
-  once-draws = put-draws n (anyJoins bs) half near (H .draws) a b (F .one) (F .two) (λ u w. refl)
+  once-draws = put-draws n (anyJoins bs) half near D a b wa wb (λ u w. refl)
 
-  pub put-holds : HoldsBonds n (bond a b ∷ bs) (putting (putting near a b) b a) (counting (counting count a) b)
-  unfolding degree
-  put-holds = record {
-    draws = put-draws n half (anyJoins (bond a b ∷ bs)) (putting near a b) once-draws b a (F .two) (F .one) both-ways;
-    places = length-set (counting count a) (b - 1) _ ∙ length-set count (a - 1) _ ∙ H .places;
-    degrees = λ u w.
-        omega (
-          arith,
-          counted-put n (counting count a) b u (rw length-set (omega (arith, H .draws .small, H .places))) (F .two) w,
-          counted-put n count a u (omega (arith, H .draws .small, H .places)) (F .one) w,
-          H .degrees u w,
-        );
-  }
-
-  pub room-one : counted count a < limit
-  room-one = omega (arith, H .degrees a (F .one), F .room-one)
-
-  pub room-two : counted (counting count a) b < limit
-  room-two = omega (arith, getD-set-other count (a - 1) (b - 1) (counted count a + 1) 0 (omega (arith, F .differ, F .one, F .two)), H .degrees b (F .two), F .room-two)
+  pub put-both : Draws n (anyJoins (bond a b ∷ bs)) (putting (putting near a b) b a)
+  put-both = put-draws n half (anyJoins (bond a b ∷ bs)) (putting near a b) once-draws b a wb wa both-ways

@@ -1,68 +1,70 @@
 -- A block's reply, test by test. Assumes nothing.
 use Prim.Native.Nat.{ℕ, _%_}
-use mathlib.Core.Bool.{true, false}
+use mathlib.Core.Bool.{Bool, true, false, _||_, not, true≢false}
 use mathlib.Core.List.{List, []}
-use mathlib.Core.Path.{_≡_, sym, _∙_}
+use mathlib.Core.Logic.{_⊎_, inl, inr, ⊎-elim, _≢_}
+use mathlib.Core.Path.{_≡_, refl, sym, _∙_}
+use borrow.Author.Tests.{eq-eqb, ne-eqb}
 use lib.Dec.{eqb, ltb}
 use lib.ListN.{length}
-use native.Mathlib.Omega.{arith}
-use Rattle.graph.specs.Graph.{Graph, connected}
-use Rattle.reply.specs.Read.{Read, refused, refusal, isOutside, saidReply}
-use Rattle.reply.specs.Chain.{fine-read, refused-read}
+use Rattle.graph.specs.Graph.{connected}
+use Rattle.graph.specs.Bonds.{second-of}
+use Rattle.reply.specs.Read.{Read, refused, read, _then_, refuseIf, refusal, isOutside}
+use Rattle.reply.specs.Chain.{neither}
 use Rattle.block.specs.Block.{mostAtoms, mostBytes, bondsOf, graphOf, bondsReply, drawnReply, blockReply}
-use Rattle.block.specs.Near.{ReadyBlock, Drawing}
+use Rattle.block.specs.Near.{ReadyBlock}
+use Rattle.block.specs.Sketched.{orSeven}
 use Rattle.block.specs.Opened.{openedNear}
 use Rattle.block.specs.Drawn.{drawn-is, opened-near}
-use Rattle.block.specs.Told.{block-drawn, drawn-refused}
+use Rattle.block.specs.Told.{tested, block-drawn}
 use Rattle.reply.specs.declared.Refusal.{Refusal}
-use Rattle.reply.specs.declared.Reply.{Reply}
-use Rattle.reply.specs.declared.Reply.the-variants.{Fine, Refused}
-
-pub not-fine : {r : Refusal} → Refused r ≡ Fine → ⊥
-not-fine e = let z : _≡_ {A = ℕ} 0 1 = cc in omega arith
 
 module _ (n : ℕ) (xs : List ℕ) where
-  abbrev replies : Reply → Type 0
-  replies r = r ≡ saidReply (drawnReply n xs)
+  abbrev refuses : Refusal → Type 0
+  refuses r = r ≡ orSeven (drawnReply n xs)
 
-  pub reply-one : isOutside mostAtoms n ≡ true → replies (Refused (refusal 1 0))
+  pub refuses-one : isOutside mostAtoms n ≡ true → refuses (refusal 1 0)
   unfolding drawnReply
-  reply-one e = rw e
+  refuses-one e = rw e
 
   module _ (p : isOutside mostAtoms n ≡ false) where
-    pub reply-odd : eqb (length xs % 2) 0 ≡ false → replies (Refused (refusal 2 0))
+    pub refuses-two : (length xs % 2 ≢ 0) ⊎ (ltb mostBytes (length xs) ≡ true) → refuses (refusal 2 0)
     unfolding drawnReply
-    reply-odd e = rw (p, e)
+    refuses-two h = rw (p, test h)
+      where
+        test : (length xs % 2 ≢ 0) ⊎ (ltb mostBytes (length xs) ≡ true) → (not (eqb (length xs % 2) 0) || ltb mostBytes (length xs)) ≡ true
+        test (inl e) = rw (ne-eqb (length xs % 2) 0 e)
+        test (inr l) = second-of (not (eqb (length xs % 2) 0)) (ltb mostBytes (length xs)) l
 
-    module _ (q : eqb (length xs % 2) 0 ≡ true) where
-      pub reply-long : ltb mostBytes (length xs) ≡ true → replies (Refused (refusal 2 0))
-      unfolding drawnReply
-      reply-long e = rw (p, q, e)
+    pub refuses-bond : length xs % 2 ≡ 0 → ltb mostBytes (length xs) ≡ false → (r : Refusal) → r ≡ orSeven (bondsReply n [] (bondsOf xs)) → refuses r
+    unfolding drawnReply
+    refuses-bond e l r h = rw (p, eq-eqb (length xs % 2) 0 e, l) h
 
-      pub reply-bonds : ltb mostBytes (length xs) ≡ false → (r : Reply) → r ≡ saidReply (bondsReply n [] (bondsOf xs)) → replies r
-      unfolding drawnReply
-      reply-bonds l r e = rw (p, q, l) e
+  module _ {r : Refusal} (R : refuses r) where
+    pub refused-drawn : (drawnReply n xs ≡ read tt → ⊥) → drawnReply n xs ≡ refused r
+    refused-drawn h = rw R (go (drawnReply n xs) h)
+      where
+        go : (m : Read (Unit {0})) → (m ≡ read tt → ⊥) → m ≡ refused (orSeven m)
+        go (refused q) ne = refl
+        go (read tt) ne = absurd (ne refl)
+
+    pub refused-block : (blockReply n xs ≡ read tt → ⊥) → blockReply n xs ≡ refused r
+    refused-block h = block-drawn n xs ∙ rw R (go (drawnReply n xs) (not (connected (graphOf n xs))) (λ e. h (block-drawn n xs ∙ e)))
+      where
+        go : (m : Read (Unit {0})) (t : Bool) → ((m then λ _. refuseIf t 7 0) ≡ read tt → ⊥) → (m then λ _. refuseIf t 7 0) ≡ refused (orSeven m)
+        go (refused q) t ne = refl
+        go (read tt) true ne = refl
+        go (read tt) false ne = absurd (ne refl)
+
+  pub reply-none : (isOutside mostAtoms n ≡ true) ⊎ ((not (eqb (length xs % 2) 0) ≡ true) ⊎ (ltb mostBytes (length xs) ≡ true)) → drawnReply n xs ≡ read tt → ⊥
+  reply-none h e =
+      let t = tested n xs e in
+      let (p, q) = neither (not (eqb (length xs % 2) 0)) (ltb mostBytes (length xs)) (t .bytes) in
+      ⊎-elim (λ x. true≢false (sym x ∙ t .size)) (⊎-elim (λ x. true≢false (sym x ∙ p)) (λ x. true≢false (sym x ∙ q))) h
 
   -- then 7
-  pub reply-fault : (f : Refusal) → replies (Refused f) → Refused f ≡ saidReply (blockReply n xs)
-  reply-fault f e = rw (drawn-refused n xs f (refused-read (drawnReply n xs) f (sym e)))
+  pub reply-fine : drawnReply n xs ≡ read tt → connected (graphOf n xs) ≡ true → blockReply n xs ≡ read tt
+  reply-fine e c = rw (block-drawn n xs, e, c)
 
-  pub reply-fine : replies Fine → connected (graphOf n xs) ≡ true → Fine ≡ saidReply (blockReply n xs)
-  reply-fine e c = rw (block-drawn n xs, fine-read (drawnReply n xs) (sym e), c)
-
-  pub reply-apart : replies Fine → connected (graphOf n xs) ≡ false → Refused (refusal 7 0) ≡ saidReply (blockReply n xs)
-  reply-apart e c = rw (block-drawn n xs, fine-read (drawnReply n xs) (sym e), c)
-
--- a refused block has no neighbours to give, and the others are ready
-pub drawing-refused : {m : Read (Unit {0})} {g : Graph} {near : List ℕ} (reply : Reply) (f : Refusal) → reply ≡ Refused f → Refused f ≡ saidReply m → Drawing m g reply near
-drawing-refused reply f e r = record { replied = e ∙ r; drawn = λ q. absurd (not-fine (sym e ∙ q)) }
-
-module _ (n : ℕ) (xs : List ℕ) {near : List ℕ} {reply : Reply} (D : Drawing (blockReply n xs) (graphOf n xs) reply near) where
-  pub admit-refused : {f : Refusal} → reply ≡ Refused f → blockReply n xs ≡ refused f
-  admit-refused e = refused-read (blockReply n xs) _ (sym (D .replied) ∙ e)
-
-  pub admit-ready : reply ≡ Fine → ReadyBlock n xs near
-  admit-ready e = record { fine = fine-read (blockReply n xs) (sym (D .replied) ∙ e); shown = D .drawn e }
-
-  pub near-opened : reply ≡ Fine → near ≡ openedNear n xs
-  near-opened e = drawn-is (graphOf n xs) near (D .drawn e) ∙ sym (opened-near n xs (admit-ready e .fine))
+  pub near-opened : {near : List ℕ} → ReadyBlock n xs near → near ≡ openedNear n xs
+  near-opened R = drawn-is (graphOf n xs) _ (R .shown) ∙ sym (opened-near n xs (R .fine))

@@ -17,9 +17,9 @@ use Rattle.graph.specs.Sums.{wider, last, sum-cong, sum-none}
 use Rattle.graph.specs.Distance.{not-true}
 use Rattle.graph.specs.Sets.{has, alone}
 use Rattle.graph.specs.SetLaws.{has-or, has-xor, has-alone, none-above, taken-one}
-use Rattle.reply.specs.Read.{refused, read}
+use Rattle.reply.specs.Read.{Read, refused, read, _then_}
 use Rattle.block.specs.Block.{mostAtoms, graphOf, drawnReply, blockReply}
-use Rattle.block.specs.Rows.{table, noRow}
+use Rattle.block.specs.Rows.{table, noRow, lentRow}
 use Rattle.block.specs.Tables.{length-table, getD-table}
 use Rattle.block.specs.Near.{around, ShowsGraph}
 use Rattle.block.specs.Opened.{setOf, neighboursOf, drawnNear, openedNear}
@@ -134,9 +134,13 @@ has-neighbour g u v w x =
 
 -- what is lent after a block was read, refused or not
 module _ (n : ℕ) (xs : List ℕ) where
-  pub none-drawn : {r : Refusal} → drawnReply n xs ≡ refused r → drawnNear n xs ≡ noRow
+  pub none-drawn : (drawnReply n xs ≡ read tt → ⊥) → drawnNear n xs ≡ noRow
   unfolding drawnNear
-  none-drawn e = rw (e, drawnNear)
+  none-drawn h = go (drawnReply n xs) h
+    where
+      go : (m : Read (Unit {0})) → (m ≡ read tt → ⊥) → lentRow (m then λ _. read (neighboursOf (graphOf n xs))) ≡ noRow
+      go (refused r) ne = refl
+      go (read tt) ne = absurd (ne refl)
 
   pub drawn-near : drawnReply n xs ≡ read tt → drawnNear n xs ≡ neighboursOf (graphOf n xs)
   unfolding drawnNear

@@ -145,20 +145,6 @@ module _ (n : ℕ) (xs : List ℕ) where
       half : ℕ → ℕ
       half j = halfAt (halfTable n xs) i (suc j)
 
-  pub table-rows : table mostAtoms (λ i. halfRow (halfTable n xs) (suc i)) ≡ rowsOf n xs
-  unfolding rowsOf
-  table-rows =
-      ext-getD [] (table mostAtoms half) (table mostAtoms said) (length-table mostAtoms half ∙ sym (length-table mostAtoms said))
-      (λ i l.
-      let m : i < mostAtoms = omega (arith, length-table mostAtoms half) in
-      getD-table mostAtoms half i [] m ∙ row-said {i = suc i} (omega arith) ∙ sym (getD-table mostAtoms said i [] m))
-    where
-      half : ℕ → List ℕ
-      half i = halfRow (halfTable n xs) (suc i)
-
-      said : ℕ → List ℕ
-      said i = saidRow (rowReply n xs (suc i)) .row
-
   -- a refused block has none
   pub table-refused : (r : Refusal) → blockReply n xs ≡ refused r → replicate allPairs 0 ≡ halfTable n xs
   unfolding halfTable

@@ -14,12 +14,14 @@ pub mod Opened
 pub mod Index
 pub mod Sums
 pub mod Near
+pub mod Sketched
 pub mod Found
 pub mod Tally
 pub mod Numbered
 pub mod Lent
 pub mod Faults
 pub mod Tables
+pub mod Digits
 pub mod Told
 pub mod Said
 pub mod Drawn

@@ -156,6 +156,10 @@ module _ (n : ℕ) (xs : List ℕ) (drawn : drawnReply n xs ≡ read tt) where
   pub drawn-plain : Plain n (bondsOf xs)
   drawn-plain = bonds-plain n [] (bondsOf xs) (tested .bonds)
 
+  pub drawn-degrees : (v : ℕ) → degree (bondsOf xs) v ≤ limit
+  unfolding degree
+  drawn-degrees v = omega (arith, bonds-degrees n [] (bondsOf xs) (tested .bonds) v (omega arith))
+
 module _ (n : ℕ) (xs : List ℕ) (fine : blockReply n xs ≡ read tt) where
   told : (u : Unit {0}) × (drawnReply n xs ≡ read u) × (refuseIf (not (connected (graphOf n xs))) 7 0 ≡ read tt)
   told = then-read (drawnReply n xs) _ (sym (block-drawn n xs) ∙ fine)
@@ -185,8 +189,7 @@ module _ (n : ℕ) (xs : List ℕ) (fine : blockReply n xs ≡ read tt) where
   molecule = connected-molecule sound (passed .whole)
 
   pub few-bonds : (v : ℕ) → degree (bondsOf xs) v ≤ limit
-  unfolding degree
-  few-bonds v = omega (arith, bonds-degrees n [] (bondsOf xs) (passed .bonds) v (omega arith))
+  few-bonds = drawn-degrees n xs fine-drawn
 
   -- induction over its bonds
   pub each-bond : (P : List Bond → Type 0) → P [] → ((b : Bond) (bs : List Bond) → NewBond n b bs → P bs → P (b ∷ bs)) → P (bondsOf xs)

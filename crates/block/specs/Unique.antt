@@ -1,10 +1,12 @@
 -- Laws. Each promise determines the reply: two replies that satisfy it are equal. Assumes nothing.
-use Prim.Native.Nat.{ℕ, _-_, _^_, min}
+use Prim.Native.Nat.{ℕ, _-_, _^_, min, _≤_}
 use mathlib.Core.List.{List}
 use mathlib.Core.Path.{_≡_}
+use lib.ListN.{length}
+use Rattle.graph.specs.Graph.{degree}
 use Rattle.reply.specs.Read.{saidReply, saidNumber}
 use Rattle.reply.specs.Chain.{unique}
-use Rattle.block.specs.Block.{mostAtoms, drawnReply, blockReply}
+use Rattle.block.specs.Block.{mostAtoms, bondsOf, drawnReply, blockReply}
 use Rattle.block.specs.Rows.{halfAfter, farAfter, rowReply, saidRow}
 use Rattle.block.specs.Opened.{drawnNear, openedNear}
 use Rattle.block.specs.Index.{vertexReply, saidVertex, distanceReply, pairsReply, saidPairs}
@@ -47,3 +49,6 @@ module _ (n : ℕ) (xs : List ℕ) where
 
 pub unique-first-atoms : (n r s : ℕ) → r ≡ 2 ^ min n mostAtoms - 1 → s ≡ 2 ^ min n mostAtoms - 1 → r ≡ s
 unique-first-atoms n r s = unique
+
+pub unique-degree-of : (bonds : List ℕ) (a r s : ℕ) → (r ≡ degree (bondsOf bonds) a) × (r ≤ length bonds) → (s ≡ degree (bondsOf bonds) a) × (s ≤ length bonds) → r ≡ s
+unique-degree-of bonds a r s p q = unique (p .0) (q .0)

@@ -1,18 +1,22 @@
 // One block: its refusals 1 to 7, its distances, indices and vertex sums.
+ghost use mathlib.Core.Bool.{true};
 ghost use mathlib.Core.Path.{_≡_};
 ghost use Prim.Native.Nat.{min};
-ghost use Rattle.reply.specs.Read.{saidReply, saidNumber};
+ghost use Rattle.reply.specs.Read.{read, saidReply, saidNumber};
 ghost use Rattle.block.specs.Block.{mostAtoms, graphOf, drawnReply, blockReply};
 ghost use Rattle.block.specs.Rows.{noRow, halfAfter, farAfter, rowReply, saidRow};
 ghost use Rattle.block.specs.Index.{vertexReply, saidVertex, distanceReply, pairsReply, saidPairs};
 ghost use Rattle.block.specs.Sums.{entry, vertexBy};
 ghost use Rattle.block.specs.Opened.{drawnNear, openedNear};
-ghost use Rattle.block.specs.Near.{Drawing};
+ghost use Rattle.block.specs.Near.{Admitted};
+ghost use Rattle.block.specs.Sketched.{Sketched, orSeven};
 
 mod bonding;
 mod search;
 mod totals;
 
+use bonding::Sketch;
+pub use bonding::degree_of;
 use half::Half;
 use half::PAIRS;
 use half::get;
@@ -96,21 +100,43 @@ struct Tally {
     pub twos: u64,
 }
 
-// Refusals 1 to 6 of a block and, where there is none, in what is lent, empty before, the neighbours.
-fn draw(n: usize, bonds: &[u8], near: &mut [u64]) -> Reply
-    requires { ⌜ now near ≡ noRow ⌝ }
-    ensures { λ r. ⌜ Drawing (drawnReply n (now (bonds .entry))) (graphOf n (now (bonds .entry))) r (now (near .exit)) ⌝ }
+// The first refusal of a block, 1 to 6, or 7.
+fn refusal(n: usize, bonds: &[u8]) -> Refusal
+    ensures { λ r. ⌜ r ≡ orSeven (drawnReply n (now (bonds .entry))) ⌝ }
 {
     if is_outside(ATOMS, n) {
-        return refused(1);
+        return Refusal {
+            number: 1,
+            place: 0,
+        };
     }
-    if bonds.len() % 2 != 0 {
-        return refused(2);
+    if bonds.len() % 2 != 0 || bonds.len() > BYTES {
+        return Refusal {
+            number: 2,
+            place: 0,
+        };
     }
-    if bonds.len() > BYTES {
-        return refused(2);
+    bonding::refusal(n, bonds)
+}
+
+// The bonds of a block, drawn in what is lent, empty before; fine where 1 to 6 do not refuse it, and then these are its neighbours.
+fn draw(n: usize, bonds: &[u8], near: &mut [u64]) -> Sketch
+    requires { ⌜ now near ≡ noRow ⌝ }
+    ensures { λ r. ⌜ Sketched n (now (bonds .entry)) (r .fine) (r .reached) (now (near .exit))
+        × (r .fine ≡ true → drawnReply n (now (bonds .entry)) ≡ read tt) ⌝ }
+{
+    if is_outside(ATOMS, n) || bonds.len() % 2 != 0 || bonds.len() > BYTES {
+        return Sketch {
+            fine: false,
+            reached: 0,
+        };
     }
-    bonding::build(n, bonds, near)
+    let s = bonding::sketched(n, bonds, near);
+    let plain = bonding::is_plain(n, bonds.len() as u64, near);
+    Sketch {
+        fine: s.fine && plain,
+        reached: s.reached,
+    }
 }
 
 // Refusals 1 to 6 of a block, and in what is lent its neighbours; all sets are empty where it is refused.
@@ -119,28 +145,27 @@ pub fn drawn(n: usize, bonds: &[u8], near: &mut Neighbours) -> Reply
     ensures near { λ _. ⌜ now (near .exit) ≡ drawnNear n (now (bonds .entry)) ⌝ }
 {
     *near = [0u64; ATOMS];
-    let reply = draw(n, bonds, near);
-    let Reply::Fine = reply else {
+    let s = draw(n, bonds, near);
+    if !s.fine {
         *near = [0u64; ATOMS];
-        return reply;
-    };
-    reply
+        return Reply::Refused(refusal(n, bonds));
+    }
+    Reply::Fine
 }
 
-// The reply to a block and, where it is fine, in what is lent, empty before, the neighbours.
-fn admit(n: usize, bonds: &[u8], near: &mut [u64]) -> Reply
+// Whether a block is fine; then its neighbours are in what is lent, empty before.
+fn admit(n: usize, bonds: &[u8], near: &mut [u64]) -> bool
     requires { ⌜ now near ≡ noRow ⌝ }
-    ensures { λ r. ⌜ Drawing (blockReply n (now (bonds .entry))) (graphOf n (now (bonds .entry))) r (now (near .exit)) ⌝ }
+    ensures { λ r. ⌜ Admitted n (now (bonds .entry)) r (now (near .exit)) ⌝ }
 {
-    let reply = draw(n, bonds, near);
-    let Reply::Fine = reply else {
-        return reply;
-    };
-    if search::connected(near, n) {
-        reply
-    } else {
-        refused(7)
+    let s = draw(n, bonds, near);
+    if !s.fine {
+        return false;
     }
+    if s.reached == first_atoms(n) {
+        return true;
+    }
+    search::connected(near, n)
 }
 
 // The reply to a block, and in what is lent its neighbours; all sets are empty where it is refused.
@@ -149,12 +174,11 @@ pub fn neighbours(n: usize, bonds: &[u8], near: &mut Neighbours) -> Reply
     ensures near { λ _. ⌜ now (near .exit) ≡ openedNear n (now (bonds .entry)) ⌝ }
 {
     *near = [0u64; ATOMS];
-    let reply = admit(n, bonds, near);
-    let Reply::Fine = reply else {
-        *near = [0u64; ATOMS];
-        return reply;
-    };
-    reply
+    if admit(n, bonds, near) {
+        return Reply::Fine;
+    }
+    *near = [0u64; ATOMS];
+    Reply::Refused(refusal(n, bonds))
 }
 
 // Whether a block is refused, with which number and where: the bond's number from 1, or 0.
@@ -162,7 +186,10 @@ pub fn check(n: usize, bonds: &[u8]) -> Reply
     ensures { λ r. ⌜ r ≡ saidReply (blockReply n (now (bonds .entry))) ⌝ }
 {
     let mut near = [0u64; ATOMS];
-    admit(n, bonds, &mut near)
+    if admit(n, bonds, &mut near) {
+        return Reply::Fine;
+    }
+    Reply::Refused(refusal(n, bonds))
 }
 
 // The reply to a block, and in what is lent its neighbours, half of its distances, and how far the farthest is from each atom, all 0 beyond the atoms.
@@ -180,14 +207,13 @@ pub fn table(
     ensures far { λ _. ⌜ now (far .exit) ≡ farAfter n (now (bonds .entry)) (now (far .entry)) ⌝ }
 {
     *near = [0u64; ATOMS];
-    let reply = admit(n, bonds, near);
-    let Reply::Fine = reply else {
+    if !admit(n, bonds, near) {
         *near = [0u64; ATOMS];
-        return reply;
-    };
+        return Reply::Refused(refusal(n, bonds));
+    }
     *half = [0u8; PAIRS];
     search::from_all(near, n, half, far);
-    reply
+    Reply::Fine
 }
 
 // The reply to a block, and in what is lent half of its distances, all 0 beyond the atoms. A refused block changes nothing that is lent.
@@ -196,8 +222,13 @@ pub fn halved(n: usize, bonds: &[u8], half: &mut Half) -> Reply
     ensures half { λ _. ⌜ now (half .exit) ≡ halfAfter n (now (bonds .entry)) (now (half .entry)) ⌝ }
 {
     let mut near = [0u64; ATOMS];
+    if !admit(n, bonds, &mut near) {
+        return Reply::Refused(refusal(n, bonds));
+    }
     let mut far = [0u8; ATOMS];
-    table(n, bonds, &mut near, half, &mut far)
+    *half = [0u8; PAIRS];
+    search::from_all(&near, n, half, &mut far);
+    Reply::Fine
 }
 
 // The distances from atom i of a block and the largest of them, or its refusal; 18 at place 0 where there is no such atom.
@@ -205,14 +236,13 @@ pub fn row(n: usize, bonds: &[u8], i: usize) -> OneRow
     ensures { λ r. ⌜ r ≡ saidRow (rowReply n (now (bonds .entry)) i) ⌝ }
 {
     let mut near = [0u64; ATOMS];
-    let reply = admit(n, bonds, &mut near);
-    let Reply::Fine = reply else {
+    if !admit(n, bonds, &mut near) {
         return OneRow {
-            reply,
+            reply: Reply::Refused(refusal(n, bonds)),
             row: [0u8; ATOMS],
             largest: 0,
         };
-    };
+    }
     if is_outside(n, i) {
         return OneRow {
             reply: Reply::Refused(Refusal {
@@ -226,7 +256,7 @@ pub fn row(n: usize, bonds: &[u8], i: usize) -> OneRow
     let mut row = [0u8; ATOMS];
     let ended = search::from_atom(&near, n, i, &mut row);
     OneRow {
-        reply,
+        reply: Reply::Fine,
         row,
         largest: ended.last,
     }
