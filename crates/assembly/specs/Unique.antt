@@ -26,9 +26,6 @@ unique-is-numbered b number r s = unique
 pub unique-bonds-part : (s : RefT (List ℕ)) (b : BlockAt) (q r : RefT (List ℕ)) → PartOf s (b .start + blockKind .fixed) (blockKind .item * b .bonds) q → PartOf s (b .start + blockKind .fixed) (blockKind .item * b .bonds) r → (now q ≡ now r) × (ptr q ≡ ptr r)
 unique-bonds-part s b q r = unique-part
 
-pub unique-degree-of : (bonds : List ℕ) (a r s : ℕ) → (r ≡ degree (bondsOf bonds) a) × (r ≤ length bonds) → (s ≡ degree (bondsOf bonds) a) × (s ≤ length bonds) → r ≡ s
-unique-degree-of bonds a r s p q = unique (p .0) (q .0)
-
 pub unique-placement-at : (xs : List ℕ) (k : ℕ) (r s : Placement) → r ≡ placementAt xs k → s ≡ placementAt xs k → r ≡ s
 unique-placement-at xs k r s = unique
 

@@ -171,21 +171,6 @@ fn one_if(x: bool, y: bool) -> usize
     0
 }
 
-// How many ends of bonds are at an atom.
-pub fn degree_of(bonds: &[u8], a: u8) -> usize
-    ensures { λ r. ⌜ (r ≡ degree (bondsOf (now (bonds .entry))) a) × (r ≤ length (now (bonds .entry))) ⌝ }
-{
-    let mut total = 0;
-    let mut i = 0;
-    while 2 <= bonds.len() - i {
-        let first = bonds[i];
-        let second = bonds[i + 1];
-        total = total + (one_if(true, first == a) + one_if(true, second == a));
-        i += 2;
-    }
-    total
-}
-
 // Whether the join of a placement that is all there, from a byte on, is on atom a of placement number p by its parent's side.
 fn is_on(xs: &[u8], at: usize, p: u16, a: u8) -> bool
     requires { ⌜ at + 6 ≤ length (now xs) ⌝ }

@@ -2,6 +2,7 @@
 use Prim.Native.Nat.{ℕ, _-_, _^_, min, _≤_}
 use mathlib.Core.List.{List}
 use mathlib.Core.Path.{_≡_}
+use lib.Count.{ones}
 use lib.ListN.{length}
 use Rattle.graph.specs.Graph.{degree}
 use Rattle.reply.specs.Read.{saidReply, saidNumber}
@@ -49,6 +50,9 @@ module _ (n : ℕ) (xs : List ℕ) where
 
 pub unique-first-atoms : (n r s : ℕ) → r ≡ 2 ^ min n mostAtoms - 1 → s ≡ 2 ^ min n mostAtoms - 1 → r ≡ s
 unique-first-atoms n r s = unique
+
+pub unique-size : (m r s : ℕ) → r ≡ ones m → s ≡ ones m → r ≡ s
+unique-size m r s = unique
 
 pub unique-degree-of : (bonds : List ℕ) (a r s : ℕ) → (r ≡ degree (bondsOf bonds) a) × (r ≤ length bonds) → (s ≡ degree (bondsOf bonds) a) × (s ≤ length bonds) → r ≡ s
 unique-degree-of bonds a r s p q = unique (p .0) (q .0)

@@ -147,7 +147,7 @@ pub(crate) fn sketched(n: usize, bonds: &[u8], near: &mut [u64]) -> Sketch
 }
 
 // How many atoms a set has.
-fn size(set: u64) -> u64
+pub fn size(set: u64) -> u64
     ensures { λ r. ⌜ (r ≡ ones set) × (r ≤ mostAtoms) ⌝ }
 {
     u64::count_ones(set) as u64

@@ -17,6 +17,7 @@ mod totals;
 
 use bonding::Sketch;
 pub use bonding::degree_of;
+pub use bonding::size;
 use half::Half;
 use half::PAIRS;
 use half::get;

@@ -2,7 +2,6 @@
 pub mod Spreading
 pub mod Meeting
 pub mod Summing
-pub mod Digits
 pub mod Beginning
 pub mod Levels
 pub mod Reply

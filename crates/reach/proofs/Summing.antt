@@ -18,7 +18,7 @@ use Rattle.graph.specs.Sums.{sum-cong, sum-add, sum-scale, sum-const, sum-le, s
 use Rattle.graph.specs.Walk.{concat, reverse}
 use Rattle.block.specs.Near.{around}
 use Rattle.reach.specs.Reach.{Reach, upTo}
-use Rattle.reach.proofs.Digits.{count-atoms}
+use Rattle.block.specs.Digits.{count-atoms}
 
 -- what is counted of a distance x up to d
 abbrev pub short : (ℕ → ℕ) → ℕ → ℕ → ℕ

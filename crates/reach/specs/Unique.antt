@@ -1,8 +1,7 @@
--- Laws. The promises of `size`, `measure`, `vertex_sums` and `opened` determine what is returned. Assumes nothing.
+-- Laws. The promises of `measure`, `vertex_sums` and `opened` determine what is returned. Assumes nothing.
 use Prim.Native.Nat.{ℕ}
 use mathlib.Core.List.{List}
 use mathlib.Core.Path.{_≡_}
-use lib.Count.{ones}
 use Rattle.reply.specs.Read.{saidReply}
 use Rattle.reply.specs.Chain.{unique}
 use Rattle.reply.specs.declared.Reply.{Reply}
@@ -12,9 +11,6 @@ use Rattle.block.specs.Opened.{drawnNear}
 use Rattle.block.specs.Rows.{lentRow}
 use Rattle.block.specs.declared.IndicesReply.{IndicesReply}
 use Rattle.reach.specs.Sums.{sumsReply}
-
-pub unique-size : (m r s : ℕ) → r ≡ ones m → s ≡ ones m → r ≡ s
-unique-size m r s = unique
 
 pub unique-measure : (n : ℕ) (xs : List ℕ) (r s : IndicesReply) → r ≡ saidIndices (indicesReply n xs) → s ≡ saidIndices (indicesReply n xs) → r ≡ s
 unique-measure n xs r s = unique

@@ -24,6 +24,7 @@ use block::Indices;
 use block::IndicesReply;
 use block::Neighbours;
 use block::first_atoms;
+use block::size;
 use reply::Refusal;
 use reply::Reply;
 
@@ -67,13 +68,6 @@ fn exchange(near: &[u64], one: u8, two: u8, sets: &mut [u64])
     let v = two as usize - 1;
     sets[u] = sets[u] | near[v];
     sets[v] = sets[v] | near[u];
-}
-
-// How many atoms a set has.
-pub fn size(set: u64) -> u64
-    ensures { λ r. ⌜ (r ≡ ones set) × (r ≤ mostAtoms) ⌝ }
-{
-    u64::count_ones(set) as u64
 }
 
 // How many atoms the sets of the first n atoms have together.

@@ -23,7 +23,7 @@ use Rattle.block.specs.Tables.{getD-table}
 use Rattle.block.specs.Told.{few-atoms, fine-drawn, drawn-plain, molecule, within-inside}
 use Rattle.block.specs.Index.{indicesOf, vertexOf}
 use Rattle.block.specs.declared.Indices.{Indices}
-use Rattle.reach.proofs.Digits.{count-atoms}
+use Rattle.block.specs.Digits.{count-atoms}
 use Rattle.records.specs.Bytes.{little, littleBytes}
 use Rattle.records.specs.Stored.{little-part}
 use Rattle.records.specs.Back.{length-little, first-byte, behind, little-back}

@@ -1,7 +1,7 @@
 // What the bytes of a summary say of a block, whatever the bytes are.
 use block::ATOMS;
 use block::Indices;
-use reach::size;
+use block::size;
 use records::byte_at;
 use records::little_at;
 use records::part;

@@ -1,2 +1,0 @@
--- How many atoms a set has.
-pub use Rattle.block.specs.Digits.{count-atoms}
