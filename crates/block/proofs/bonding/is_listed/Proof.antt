@@ -46,5 +46,5 @@ returns-2 c =
 
 pub is-listed-spec : {M : Type 1} → statement M
 is-listed-spec =
-    tie.close (tie.spec Inv-loop μ-loop loop-holds (λ c. search needs) (λ c. search needs) (λ c. search needs) (λ c. search needs) (λ c κs. search needs)
-    (λ c κs. search needs) add-if1 returns (λ c. search needs) (λ c. search needs) loop-again returns-2)
+    tie.close (tie.spec Inv-loop μ-loop loop-holds (λ c. omega arith) (λ c. omega arith) (λ c. omega arith) (λ c. omega arith) (λ c κs. search needs)
+    (λ c κs. search needs) add-if1 returns (λ c. omega arith) (λ c. omega arith) loop-again returns-2)
