@@ -1,19 +1,17 @@
 -- Steps of the loops over blocks, bonds and joins: what is left to do gives the answer. Assumes nothing.
 use Prim.Native.Nat.{ℕ, zero, suc, _+_, _*_, _-_, _<_, _≤_}
 use mathlib.Core.Bool.{Bool, true, false, _&&_, cond}
-use mathlib.Core.List.{List, [], _∷_}
+use mathlib.Core.List.{List, _∷_}
 use mathlib.Core.Path.{_≡_, refl}
 use native.Mathlib.Decide.{decLt}
-use native.Mathlib.Numerals.{add-one, add-two}
+use native.Mathlib.Numerals.{add-one}
 use native.Mathlib.Omega.{arith}
 use borrow.Author.Tests.{ne-eqb, eqb-true, eqb-false, lt-ltb, le-ltb}
 use lib.Dec.{eqb}
-use lib.ListN.{length, take, drop, getD, List·getD-eq-default, drop-of-length-le, length-take, length-drop}
+use lib.ListN.{length, take, drop, getD, List·getD-eq-default, drop-of-length-le, length-take}
 use lib.Seq.{drop-cons, getD-take}
-use Rattle.graph.specs.Graph.{degree}
 use Rattle.graph.specs.Assembly.{Join}
 use Rattle.reply.specs.Read.{isOutside}
-use Rattle.block.specs.Block.{bondsOf}
 use Rattle.assembly.specs.Book.{noBlock, find}
 use Rattle.assembly.specs.Placements.{placementAt, joinEnds, joinsOn, ownOn}
 use Rattle.assembly.specs.Degrees.{joins-suc}
@@ -41,25 +39,6 @@ module _ (t : List BlockAt) (count x i : ℕ) where
     pub find-next : eqb (getD t i noBlock .number) x ≡ false → find left x ≡ find (drop (i + 1) (take count t)) x
     unfolding find
     find-next e = rw (next, e)
-
--- the bonds from byte i on: two bytes are one bond, fewer are none
-module _ (l : List ℕ) (i a : ℕ) where
-  pub degree-next : i + 2 ≤ length l
-      → degree (bondsOf (drop i l)) a ≡ cond (eqb (getD l i 0) a) 1 0 + cond (eqb (getD l (i + 1) 0) a) 1 0 + degree (bondsOf (drop (i + 2) l)) a
-  unfolding bondsOf degree
-  degree-next h =
-      let k : suc i < length l = omega arith in
-      let e : i < length l = omega arith in
-      rw (drop-cons l i 0 e, drop-cons l (suc i) 0 k, add-one, add-two)
-
-  pub degree-over : length l - i < 2 → degree (bondsOf (drop i l)) a ≡ 0
-  unfolding bondsOf degree
-  degree-over h = none (drop i l) (omega (arith, length-drop i l))
-    where
-      none : (xs : List ℕ) → length xs < 2 → degree (bondsOf xs) a ≡ 0
-      none [] h = refl
-      none (x ∷ []) h = refl
-      none (x ∷ (y ∷ xs)) h = absurd (omega arith)
 
 -- no number is among none, and one is among one more only where it is the last
 all-outside : (v : ℕ) → isOutside 0 v ≡ true

@@ -1,13 +1,11 @@
 -- Laws. Each promise determines the reply: two replies that satisfy it are equal. Assumes nothing.
-use Prim.Native.Nat.{ℕ, _+_, _*_, _≤_}
+use Prim.Native.Nat.{ℕ, _+_, _*_}
 use mathlib.Core.Bool.{Bool}
 use mathlib.Core.List.{List}
 use mathlib.Core.Path.{_≡_}
-use lib.ListN.{length, take}
+use lib.ListN.{take}
 use denote.Ref.{RefT, ptr, now}
-use Rattle.graph.specs.Graph.{degree}
 use Rattle.reply.specs.Chain.{unique}
-use Rattle.block.specs.Block.{bondsOf}
 use Rattle.records.specs.Bytes.{PartOf}
 use Rattle.records.specs.Records.{blockKind}
 use Rattle.records.specs.Unique.{unique-part}

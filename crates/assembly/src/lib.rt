@@ -4,8 +4,6 @@ ghost use mathlib.Core.Bool.{_&&_, cond};
 ghost use Prim.Native.Nat.{_+_, _*_, _^_, _<_, _≤_};
 ghost use lib.Dec.{eqb};
 ghost use lib.ListN.{length, take};
-ghost use Rattle.graph.specs.Graph.{degree};
-ghost use Rattle.block.specs.Block.{bondsOf};
 ghost use Rattle.records.specs.Bytes.{PartOf, byteAt, le16};
 ghost use Rattle.records.specs.Records.{blockKind};
 ghost use Rattle.assembly.specs.Book.{find, isNumbered};

@@ -1,6 +1,6 @@
 -- What the neighbours say of a relation, and what stays true as a bond joins them. Assumes nothing.
 use Prim.Native.Nat.{ℕ, _-_, _^_, _<_}
-use mathlib.Core.Bool.{Bool, true, _&&_, _||_, or-false}
+use mathlib.Core.Bool.{Bool, _&&_, _||_, or-false}
 use mathlib.Core.List.{List, _∷_}
 use mathlib.Core.Logic.{inl, inr, ⊎-elim}
 use mathlib.Core.Path.{_≡_, refl, sym, ap, subst⁻¹, subst₂, _∙_}

@@ -15,7 +15,6 @@ use Rattle.graph.specs.Choices.{cond-and, cond-swap}
 use Rattle.graph.specs.Distance.{not-true}
 use Rattle.graph.specs.Ends.{plain-degree, plain-ends}
 use Rattle.graph.specs.Notions.{Plain}
-use Rattle.graph.specs.Sets.{has}
 use Rattle.graph.specs.Sums.{sum-cong, sum-add, sum-none, sum-pick, sum-below, sum-tight}
 use Rattle.graph.specs.Uses.{join-other}
 use Rattle.reply.specs.Read.{read, isOutside}

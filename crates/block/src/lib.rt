@@ -3,7 +3,7 @@ ghost use mathlib.Core.Bool.{true};
 ghost use mathlib.Core.Path.{_≡_};
 ghost use Prim.Native.Nat.{min};
 ghost use Rattle.reply.specs.Read.{read, saidReply, saidNumber};
-ghost use Rattle.block.specs.Block.{mostAtoms, graphOf, drawnReply, blockReply};
+ghost use Rattle.block.specs.Block.{mostAtoms, drawnReply, blockReply};
 ghost use Rattle.block.specs.Rows.{noRow, halfAfter, farAfter, rowReply, saidRow};
 ghost use Rattle.block.specs.Index.{vertexReply, saidVertex, distanceReply, pairsReply, saidPairs};
 ghost use Rattle.block.specs.Sums.{entry, vertexBy};
