@@ -2626,9 +2626,10 @@
 	.type	"summary::seen",@function
 "summary::seen":                        // @"summary::seen"
 // %bb.0:                               // %start
-	sub	sp, sp, #64
+	sub	sp, sp, #80
 	ldr	x9, [x1, #8]
 	mov	w8, #512                        // =0x200
+	stp	x20, x19, [sp, #64]             // 16-byte Folded Spill
 	subs	x10, x9, #16
 	cmp	x10, #512
 	csel	x10, x10, x8, lo
@@ -2674,149 +2675,147 @@
 .LBB11_4:                               // %join.5.us.i.i
                                         // =>This Loop Header: Depth=1
                                         //     Child Loop BB11_7 Depth 2
-	mov	x4, xzr
-	mov	w3, wzr
+	and	x4, x8, #0x1
+	mov	x3, xzr
+	mov	x6, xzr
+	mul	x5, x8, x4
 	b	.LBB11_7
 .LBB11_5:                               // %then.1.i.i.us.us.i.i
                                         //   in Loop: Header=BB11_7 Depth=2
-	ldr	x5, [x14, x5]
+	ldr	x7, [x14, x7]
 .LBB11_6:                               // %"sighted::set_at.exit.us.us.i.i"
                                         //   in Loop: Header=BB11_7 Depth=2
-	sub	x6, x16, #1
-	orr	x4, x5, x4
-	add	w3, w3, #1
-	and	x16, x6, x16
+	sub	x19, x16, #1
+	orr	x3, x7, x3
+	add	x6, x6, #1
+	and	x16, x19, x16
+	add	x9, x9, x4
+	add	x10, x10, x5
+	add	x12, x12, x8
 	cbz	x16, .LBB11_26
 .LBB11_7:                               // %join.5.i.us.us.i.i
                                         //   Parent Loop BB11_4 Depth=1
                                         // =>  This Inner Loop Header: Depth=2
-	rbit	x5, x16
+	rbit	x7, x16
 	cmp	x17, #8
-	clz	x6, x5
-	lsl	x5, x6, #3
-	strb	w8, [x1, x6]
+	clz	x19, x7
+	lsl	x7, x19, #3
+	strb	w8, [x1, x19]
 	b.lo	.LBB11_9
 // %bb.8:                               // %join.5.i.us.us.i.i
                                         //   in Loop: Header=BB11_7 Depth=2
-	cmp	x5, x18
+	cmp	x7, x18
 	b.ls	.LBB11_5
 .LBB11_9:                               // %join.6.i.i.us.us.i.i
                                         //   in Loop: Header=BB11_7 Depth=2
-	cmp	x17, x5
+	cmp	x17, x7
 	b.ls	.LBB11_12
 // %bb.10:                              // %join.8.i.i.preheader.i.us.us.i.i
                                         //   in Loop: Header=BB11_7 Depth=2
-	orr	x6, x5, #0x7
-	cmp	x6, x17
+	orr	x19, x7, #0x7
+	cmp	x19, x17
 	b.hs	.LBB11_13
 // %bb.11:                              // %then.1.i.i.i.i.us.us.i.i
                                         //   in Loop: Header=BB11_7 Depth=2
-	ldrb	w6, [x14, x6]
-	lsl	x6, x6, #8
-	orr	x7, x5, #0x6
-	cmp	x7, x17
+	ldrb	w19, [x14, x19]
+	lsl	x19, x19, #8
+	orr	x20, x7, #0x6
+	cmp	x20, x17
 	b.lo	.LBB11_14
 	b	.LBB11_15
 .LBB11_12:                              //   in Loop: Header=BB11_7 Depth=2
-	mov	x5, xzr
+	mov	x7, xzr
 	b	.LBB11_6
 .LBB11_13:                              //   in Loop: Header=BB11_7 Depth=2
-	mov	x6, xzr
-	orr	x7, x5, #0x6
-	cmp	x7, x17
+	mov	x19, xzr
+	orr	x20, x7, #0x6
+	cmp	x20, x17
 	b.hs	.LBB11_15
 .LBB11_14:                              // %then.1.i.i.i.1.i.us.us.i.i
                                         //   in Loop: Header=BB11_7 Depth=2
-	ldrb	w7, [x14, x7]
-	orr	x6, x6, x7
+	ldrb	w20, [x14, x20]
+	orr	x19, x19, x20
 .LBB11_15:                              // %"records::byte_at.exit.i.i.1.i.us.us.i.i"
                                         //   in Loop: Header=BB11_7 Depth=2
-	orr	x7, x5, x2
-	lsl	x6, x6, #8
-	cmp	x7, x17
+	orr	x20, x7, x2
+	lsl	x19, x19, #8
+	cmp	x20, x17
 	b.lo	.LBB11_22
 // %bb.16:                              // %"records::byte_at.exit.i.i.2.i.us.us.i.i"
                                         //   in Loop: Header=BB11_7 Depth=2
-	orr	x7, x5, #0x4
-	lsl	x6, x6, #8
-	cmp	x7, x17
+	orr	x20, x7, #0x4
+	lsl	x19, x19, #8
+	cmp	x20, x17
 	b.lo	.LBB11_23
 .LBB11_17:                              // %"records::byte_at.exit.i.i.3.i.us.us.i.i"
                                         //   in Loop: Header=BB11_7 Depth=2
-	orr	x7, x5, #0x3
-	lsl	x6, x6, #8
-	cmp	x7, x17
+	orr	x20, x7, #0x3
+	lsl	x19, x19, #8
+	cmp	x20, x17
 	b.lo	.LBB11_24
 .LBB11_18:                              // %"records::byte_at.exit.i.i.4.i.us.us.i.i"
                                         //   in Loop: Header=BB11_7 Depth=2
-	orr	x7, x5, #0x2
-	lsl	x6, x6, #8
-	cmp	x7, x17
+	orr	x20, x7, #0x2
+	lsl	x19, x19, #8
+	cmp	x20, x17
 	b.lo	.LBB11_25
 .LBB11_19:                              // %"records::byte_at.exit.i.i.5.i.us.us.i.i"
                                         //   in Loop: Header=BB11_7 Depth=2
-	orr	x7, x5, #0x1
-	lsl	x6, x6, #8
-	cmp	x7, x17
+	orr	x20, x7, #0x1
+	lsl	x19, x19, #8
+	cmp	x20, x17
 	b.hs	.LBB11_21
 .LBB11_20:                              // %then.1.i.i.i.6.i.us.us.i.i
                                         //   in Loop: Header=BB11_7 Depth=2
-	ldrb	w7, [x14, x7]
-	orr	x6, x6, x7
+	ldrb	w20, [x14, x20]
+	orr	x19, x19, x20
 .LBB11_21:                              // %"records::byte_at.exit.i.i.7.i.us.us.i.i"
                                         //   in Loop: Header=BB11_7 Depth=2
-	ldrb	w5, [x14, x5]
-	orr	x5, x5, x6, lsl #8
+	ldrb	w7, [x14, x7]
+	orr	x7, x7, x19, lsl #8
 	b	.LBB11_6
 .LBB11_22:                              // %then.1.i.i.i.2.i.us.us.i.i
                                         //   in Loop: Header=BB11_7 Depth=2
-	ldrb	w7, [x14, x7]
-	orr	x6, x6, x7
-	orr	x7, x5, #0x4
-	lsl	x6, x6, #8
-	cmp	x7, x17
+	ldrb	w20, [x14, x20]
+	orr	x19, x19, x20
+	orr	x20, x7, #0x4
+	lsl	x19, x19, #8
+	cmp	x20, x17
 	b.hs	.LBB11_17
 .LBB11_23:                              // %then.1.i.i.i.3.i.us.us.i.i
                                         //   in Loop: Header=BB11_7 Depth=2
-	ldrb	w7, [x14, x7]
-	orr	x6, x6, x7
-	orr	x7, x5, #0x3
-	lsl	x6, x6, #8
-	cmp	x7, x17
+	ldrb	w20, [x14, x20]
+	orr	x19, x19, x20
+	orr	x20, x7, #0x3
+	lsl	x19, x19, #8
+	cmp	x20, x17
 	b.hs	.LBB11_18
 .LBB11_24:                              // %then.1.i.i.i.4.i.us.us.i.i
                                         //   in Loop: Header=BB11_7 Depth=2
-	ldrb	w7, [x14, x7]
-	orr	x6, x6, x7
-	orr	x7, x5, #0x2
-	lsl	x6, x6, #8
-	cmp	x7, x17
+	ldrb	w20, [x14, x20]
+	orr	x19, x19, x20
+	orr	x20, x7, #0x2
+	lsl	x19, x19, #8
+	cmp	x20, x17
 	b.hs	.LBB11_19
 .LBB11_25:                              // %then.1.i.i.i.5.i.us.us.i.i
                                         //   in Loop: Header=BB11_7 Depth=2
-	ldrb	w7, [x14, x7]
-	orr	x6, x6, x7
-	orr	x7, x5, #0x1
-	lsl	x6, x6, #8
-	cmp	x7, x17
+	ldrb	w20, [x14, x20]
+	orr	x19, x19, x20
+	orr	x20, x7, #0x1
+	lsl	x19, x19, #8
+	cmp	x20, x17
 	b.lo	.LBB11_20
 	b	.LBB11_21
 .LBB11_26:                              // %"sighted::look.exit.split.us.us.i.i"
                                         //   in Loop: Header=BB11_4 Depth=1
 	dup	v2.2d, x8
-	dup	v3.2d, x3
-	mul	x16, x8, x3
-	sbfx	x5, x8, #0, #1
-	add	x11, x11, x3
+	dup	v3.2d, x6
+	ands	x16, x3, x15
+	add	x11, x11, x6
 	add	x8, x8, #1
 	cmeq	v2.2d, v2.2d, v1.2d
-	add	x12, x16, x12
-	and	x16, x5, x16
-	and	x5, x5, x3
 	and	v2.16b, v2.16b, v3.16b
-	add	x10, x16, x10
-	ands	x16, x4, x15
-	add	x9, x5, x9
 	add	v0.2d, v2.2d, v0.2d
 	b.eq	.LBB11_30
 // %bb.27:                              // %"sighted::look.exit.split.us.us.i.i"
@@ -2851,12 +2850,13 @@
 	cset	w10, ne
 	stp	q0, q1, [x0, #64]
 	ldp	q2, q0, [sp, #32]
+	ldp	x20, x19, [sp, #64]             // 16-byte Folded Reload
 	sub	x8, x8, x10
 	stp	x12, x13, [x0]
 	str	x9, [x0, #32]
 	str	x8, [x0, #56]
 	stp	q2, q0, [x0, #96]
-	add	sp, sp, #64
+	add	sp, sp, #80
 	ret
 .LBB11_31:                              // %join.5.i.i.preheader
 	adrp	x17, .LCPI11_0
@@ -2865,36 +2865,34 @@
 .LBB11_32:                              // %join.5.i.i
                                         // =>This Loop Header: Depth=1
                                         //     Child Loop BB11_33 Depth 2
-	mov	x1, xzr
-	mov	w18, wzr
+	and	x1, x8, #0x1
+	mov	x18, xzr
+	mov	x3, xzr
+	mul	x2, x8, x1
 .LBB11_33:                              // %join.5.i.i.i
                                         //   Parent Loop BB11_32 Depth=1
                                         // =>  This Inner Loop Header: Depth=2
-	rbit	x2, x16
-	sub	x3, x16, #1
-	add	w18, w18, #1
-	ands	x16, x3, x16
-	clz	x2, x2
-	ldr	x4, [x14, x2, lsl #3]
-	strb	w8, [x17, x2]
-	orr	x1, x4, x1
+	rbit	x4, x16
+	sub	x6, x16, #1
+	add	x3, x3, #1
+	ands	x16, x6, x16
+	add	x9, x9, x1
+	add	x10, x10, x2
+	clz	x4, x4
+	add	x12, x12, x8
+	ldr	x5, [x14, x4, lsl #3]
+	strb	w8, [x17, x4]
+	orr	x18, x5, x18
 	b.ne	.LBB11_33
 // %bb.34:                              // %"sighted::look.exit.split.i.i"
                                         //   in Loop: Header=BB11_32 Depth=1
 	dup	v2.2d, x8
-	dup	v3.2d, x18
-	mul	x16, x8, x18
-	sbfx	x2, x8, #0, #1
-	add	x11, x11, x18
+	dup	v3.2d, x3
+	ands	x16, x18, x15
+	add	x11, x11, x3
 	add	x8, x8, #1
 	cmeq	v2.2d, v2.2d, v1.2d
-	add	x12, x16, x12
-	and	x16, x2, x16
-	and	x2, x2, x18
 	and	v2.16b, v2.16b, v3.16b
-	add	x10, x16, x10
-	ands	x16, x1, x15
-	add	x9, x2, x9
 	add	v0.2d, v2.2d, v0.2d
 	b.eq	.LBB11_30
 // %bb.35:                              // %"sighted::look.exit.split.i.i"

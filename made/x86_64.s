@@ -2716,222 +2716,221 @@
 	pushq	%r13
 	pushq	%r12
 	pushq	%rbx
-	movq	8(%rsi), %rax
-	leaq	-16(%rax), %rcx
-	cmpq	$512, %rcx                      # imm = 0x200
-	movl	$512, %r9d                      # imm = 0x200
-	cmovbq	%rcx, %r9
-	xorl	%r12d, %r12d
-	cmpq	$16, %rax
-	movl	$16, %r8d
+	movq	8(%rsi), %rcx
+	leaq	-16(%rcx), %rax
+	cmpq	$512, %rax                      # imm = 0x200
+	movl	$512, %r8d                      # imm = 0x200
 	cmovbq	%rax, %r8
-	movq	%rdi, -96(%rsp)                 # 8-byte Spill
-	cmovaeq	%r9, %r12
-	cmpq	$2, %rax
+	xorl	%r12d, %r12d
+	cmpq	$16, %rcx
+	movl	$16, %eax
+	cmovbq	%rcx, %rax
+	cmovaeq	%r8, %r12
+	cmpq	$2, %rcx
 	jbe	.LBB11_1
 # %bb.2:                                # %"summary::atoms.exit"
-	movq	(%rsi), %rax
-	movzbl	2(%rax), %ecx
+	movq	(%rsi), %rsi
+	movzbl	2(%rsi), %ecx
 	cmpb	$64, %cl
-	movl	$64, %esi
-	cmovbl	%ecx, %esi
-	movzbl	%sil, %ebp
+	movl	$64, %r8d
+	cmovbl	%ecx, %r8d
+	movzbl	%r8b, %r8d
 	decq	%rdx
 	xorps	%xmm0, %xmm0
 	movaps	%xmm0, -24(%rsp)
 	movaps	%xmm0, -40(%rsp)
 	movaps	%xmm0, -56(%rsp)
 	movaps	%xmm0, -72(%rsp)
-	cmpq	%rbp, %rdx
+	cmpq	%r8, %rdx
 	jae	.LBB11_3
 # %bb.4:                                # %join.5.lr.ph.i.i
-	movl	%ebp, %ecx
+	movl	%r8d, %ecx
 	negb	%cl
 	movq	$-1, %r14
 	shrq	%cl, %r14
-	movl	$1, %esi
+	movl	$1, %r13d
 	movl	%edx, %ecx
-	shlq	%cl, %rsi
-	addq	%r8, %rax
+	shlq	%cl, %r13
+	addq	%rax, %rsi
 	btcq	%rdx, %r14
 	cmpq	$512, %r12                      # imm = 0x200
+	movq	%rdi, -112(%rsp)                # 8-byte Spill
+	movq	%r8, -96(%rsp)                  # 8-byte Spill
 	jae	.LBB11_5
-# %bb.10:                               # %join.5.us.i.i.preheader
-	leaq	-8(%r12), %r13
-	xorl	%ecx, %ecx
-	xorl	%edi, %edi
+# %bb.11:                               # %join.5.us.i.i.preheader
+	leaq	-8(%r12), %rdi
+	xorl	%eax, %eax
+	movq	$0, -104(%rsp)                  # 8-byte Folded Spill
 	xorl	%r9d, %r9d
 	xorl	%r10d, %r10d
+	xorl	%ecx, %ecx
 	xorl	%r11d, %r11d
-	xorl	%ebx, %ebx
-	xorl	%r8d, %r8d
-	movq	%rbp, -88(%rsp)                 # 8-byte Spill
-	.p2align	4
-.LBB11_11:                              # %join.5.us.i.i
-                                        # =>This Loop Header: Depth=1
-                                        #     Child Loop BB11_12 Depth 2
-	movq	%r9, -80(%rsp)                  # 8-byte Spill
-	movq	%rdi, -104(%rsp)                # 8-byte Spill
-	movq	%rsi, %r15
-	xorl	%esi, %esi
-	xorl	%ebp, %ebp
-	jmp	.LBB11_12
-	.p2align	4
-.LBB11_14:                              # %then.1.i.i.us.us.i.i
-                                        #   in Loop: Header=BB11_12 Depth=2
-	movq	(%rax,%r9), %rdx
-.LBB11_33:                              # %"sighted::set_at.exit.us.us.i.i"
-                                        #   in Loop: Header=BB11_12 Depth=2
-	orq	%rdx, %rsi
-	leaq	-1(%r15), %rdx
-	andq	%rdx, %r15
-	incl	%ebp
-	testq	%r15, %r15
-	je	.LBB11_34
-.LBB11_12:                              # %join.5.i.us.us.i.i
-                                        #   Parent Loop BB11_11 Depth=1
-                                        # =>  This Inner Loop Header: Depth=2
-	rep		bsfq	%r15, %rdx
-	leal	(,%rdx,8), %r9d
-	movb	%cl, -72(%rsp,%rdx)
-	cmpq	$8, %r12
-	jb	.LBB11_15
-# %bb.13:                               # %join.5.i.us.us.i.i
-                                        #   in Loop: Header=BB11_12 Depth=2
-	cmpq	%r13, %r9
-	jbe	.LBB11_14
-.LBB11_15:                              # %join.6.i.i.us.us.i.i
-                                        #   in Loop: Header=BB11_12 Depth=2
-	cmpq	%r9, %r12
-	jbe	.LBB11_16
-# %bb.17:                               # %join.8.i.i.preheader.i.us.us.i.i
-                                        #   in Loop: Header=BB11_12 Depth=2
-	movq	%r9, %rdi
-	orq	$7, %rdi
-	cmpq	%r12, %rdi
-	jae	.LBB11_18
-# %bb.19:                               # %then.1.i.i.i.i.us.us.i.i
-                                        #   in Loop: Header=BB11_12 Depth=2
-	movzbl	(%rax,%rdi), %edi
-	shll	$8, %edi
-	movq	%r9, %rdx
-	orq	$6, %rdx
-	cmpq	%r12, %rdx
-	jb	.LBB11_21
-	jmp	.LBB11_22
-	.p2align	4
-.LBB11_16:                              #   in Loop: Header=BB11_12 Depth=2
 	xorl	%edx, %edx
-	jmp	.LBB11_33
-.LBB11_18:                              #   in Loop: Header=BB11_12 Depth=2
-	xorl	%edi, %edi
-	movq	%r9, %rdx
-	orq	$6, %rdx
-	cmpq	%r12, %rdx
-	jae	.LBB11_22
-.LBB11_21:                              # %then.1.i.i.i.1.i.us.us.i.i
-                                        #   in Loop: Header=BB11_12 Depth=2
-	movzbl	(%rax,%rdx), %edx
-	orq	%rdx, %rdi
-.LBB11_22:                              # %"records::byte_at.exit.i.i.1.i.us.us.i.i"
-                                        #   in Loop: Header=BB11_12 Depth=2
-	shll	$8, %edi
-	movq	%r9, %rdx
-	orq	$5, %rdx
-	cmpq	%r12, %rdx
-	jae	.LBB11_24
-# %bb.23:                               # %then.1.i.i.i.2.i.us.us.i.i
-                                        #   in Loop: Header=BB11_12 Depth=2
-	movzbl	(%rax,%rdx), %edx
-	orq	%rdx, %rdi
-.LBB11_24:                              # %"records::byte_at.exit.i.i.2.i.us.us.i.i"
-                                        #   in Loop: Header=BB11_12 Depth=2
-	shll	$8, %edi
-	movq	%r9, %rdx
-	orq	$4, %rdx
-	cmpq	%r12, %rdx
-	jae	.LBB11_26
-# %bb.25:                               # %then.1.i.i.i.3.i.us.us.i.i
-                                        #   in Loop: Header=BB11_12 Depth=2
-	movzbl	(%rax,%rdx), %edx
-	orq	%rdx, %rdi
-.LBB11_26:                              # %"records::byte_at.exit.i.i.3.i.us.us.i.i"
-                                        #   in Loop: Header=BB11_12 Depth=2
-	shlq	$8, %rdi
-	movq	%r9, %rdx
-	orq	$3, %rdx
-	cmpq	%r12, %rdx
-	jae	.LBB11_28
-# %bb.27:                               # %then.1.i.i.i.4.i.us.us.i.i
-                                        #   in Loop: Header=BB11_12 Depth=2
-	movzbl	(%rax,%rdx), %edx
-	orq	%rdx, %rdi
-.LBB11_28:                              # %"records::byte_at.exit.i.i.4.i.us.us.i.i"
-                                        #   in Loop: Header=BB11_12 Depth=2
-	shlq	$8, %rdi
-	movq	%r9, %rdx
-	orq	$2, %rdx
-	cmpq	%r12, %rdx
-	jae	.LBB11_30
-# %bb.29:                               # %then.1.i.i.i.5.i.us.us.i.i
-                                        #   in Loop: Header=BB11_12 Depth=2
-	movzbl	(%rax,%rdx), %edx
-	orq	%rdx, %rdi
-.LBB11_30:                              # %"records::byte_at.exit.i.i.5.i.us.us.i.i"
-                                        #   in Loop: Header=BB11_12 Depth=2
-	shlq	$8, %rdi
-	movq	%r9, %rdx
-	orq	$1, %rdx
-	cmpq	%r12, %rdx
-	jae	.LBB11_32
-# %bb.31:                               # %then.1.i.i.i.6.i.us.us.i.i
-                                        #   in Loop: Header=BB11_12 Depth=2
-	movzbl	(%rax,%rdx), %edx
-	orq	%rdx, %rdi
-.LBB11_32:                              # %"records::byte_at.exit.i.i.7.i.us.us.i.i"
-                                        #   in Loop: Header=BB11_12 Depth=2
-	shlq	$8, %rdi
-	movzbl	(%rax,%r9), %edx
-	orq	%rdi, %rdx
-	jmp	.LBB11_33
 	.p2align	4
-.LBB11_34:                              # %"sighted::look.exit.split.us.us.i.i"
-                                        #   in Loop: Header=BB11_11 Depth=1
-	movl	%ebp, %edx
-	movq	%rcx, %rdi
-	imulq	%rdx, %rdi
-	addq	%rdi, %r8
-	movl	%ecx, %r9d
-	andl	$1, %r9d
-	movq	%r9, %r15
-	negq	%r15
-	andq	%rdi, %r15
-	addq	%r15, %rbx
-	addq	%rdx, %r11
-	negl	%r9d
-	andl	%ebp, %r9d
-	addq	%r9, %r10
-	cmpq	$1, %rcx
-	movl	$0, %edi
-	cmoveq	%rdx, %rdi
+.LBB11_12:                              # %join.5.us.i.i
+                                        # =>This Loop Header: Depth=1
+                                        #     Child Loop BB11_13 Depth 2
+	movq	%r14, -88(%rsp)                 # 8-byte Spill
+	movq	%r9, -80(%rsp)                  # 8-byte Spill
+	movq	%rcx, -120(%rsp)                # 8-byte Spill
+	movl	%eax, %r8d
+	andl	$1, %r8d
+	movq	%rax, %rbx
+	imulq	%r8, %rbx
+	movq	%r13, %r15
+	xorl	%r13d, %r13d
+	xorl	%ebp, %ebp
+	jmp	.LBB11_13
+	.p2align	4
+.LBB11_15:                              # %then.1.i.i.us.us.i.i
+                                        #   in Loop: Header=BB11_13 Depth=2
+	movq	(%rsi,%r14), %rcx
+.LBB11_34:                              # %"sighted::set_at.exit.us.us.i.i"
+                                        #   in Loop: Header=BB11_13 Depth=2
+	orq	%rcx, %r13
+	leaq	-1(%r15), %rcx
+	andq	%rcx, %r15
+	incq	%rbp
+	addq	%r8, %r10
+	addq	%rbx, %r11
+	addq	%rax, %rdx
+	testq	%r15, %r15
+	je	.LBB11_35
+.LBB11_13:                              # %join.5.i.us.us.i.i
+                                        #   Parent Loop BB11_12 Depth=1
+                                        # =>  This Inner Loop Header: Depth=2
+	rep		bsfq	%r15, %rcx
+	leal	(,%rcx,8), %r14d
+	movb	%al, -72(%rsp,%rcx)
+	cmpq	$8, %r12
+	jb	.LBB11_16
+# %bb.14:                               # %join.5.i.us.us.i.i
+                                        #   in Loop: Header=BB11_13 Depth=2
+	cmpq	%rdi, %r14
+	jbe	.LBB11_15
+.LBB11_16:                              # %join.6.i.i.us.us.i.i
+                                        #   in Loop: Header=BB11_13 Depth=2
+	cmpq	%r14, %r12
+	jbe	.LBB11_17
+# %bb.18:                               # %join.8.i.i.preheader.i.us.us.i.i
+                                        #   in Loop: Header=BB11_13 Depth=2
+	movq	%r14, %r9
+	orq	$7, %r9
+	cmpq	%r12, %r9
+	jae	.LBB11_19
+# %bb.20:                               # %then.1.i.i.i.i.us.us.i.i
+                                        #   in Loop: Header=BB11_13 Depth=2
+	movzbl	(%rsi,%r9), %r9d
+	shll	$8, %r9d
+	movq	%r14, %rcx
+	orq	$6, %rcx
+	cmpq	%r12, %rcx
+	jb	.LBB11_22
+	jmp	.LBB11_23
+	.p2align	4
+.LBB11_17:                              #   in Loop: Header=BB11_13 Depth=2
+	xorl	%ecx, %ecx
+	jmp	.LBB11_34
+.LBB11_19:                              #   in Loop: Header=BB11_13 Depth=2
+	xorl	%r9d, %r9d
+	movq	%r14, %rcx
+	orq	$6, %rcx
+	cmpq	%r12, %rcx
+	jae	.LBB11_23
+.LBB11_22:                              # %then.1.i.i.i.1.i.us.us.i.i
+                                        #   in Loop: Header=BB11_13 Depth=2
+	movzbl	(%rsi,%rcx), %ecx
+	orq	%rcx, %r9
+.LBB11_23:                              # %"records::byte_at.exit.i.i.1.i.us.us.i.i"
+                                        #   in Loop: Header=BB11_13 Depth=2
+	shll	$8, %r9d
+	movq	%r14, %rcx
+	orq	$5, %rcx
+	cmpq	%r12, %rcx
+	jae	.LBB11_25
+# %bb.24:                               # %then.1.i.i.i.2.i.us.us.i.i
+                                        #   in Loop: Header=BB11_13 Depth=2
+	movzbl	(%rsi,%rcx), %ecx
+	orq	%rcx, %r9
+.LBB11_25:                              # %"records::byte_at.exit.i.i.2.i.us.us.i.i"
+                                        #   in Loop: Header=BB11_13 Depth=2
+	shll	$8, %r9d
+	movq	%r14, %rcx
+	orq	$4, %rcx
+	cmpq	%r12, %rcx
+	jae	.LBB11_27
+# %bb.26:                               # %then.1.i.i.i.3.i.us.us.i.i
+                                        #   in Loop: Header=BB11_13 Depth=2
+	movzbl	(%rsi,%rcx), %ecx
+	orq	%rcx, %r9
+.LBB11_27:                              # %"records::byte_at.exit.i.i.3.i.us.us.i.i"
+                                        #   in Loop: Header=BB11_13 Depth=2
+	shlq	$8, %r9
+	movq	%r14, %rcx
+	orq	$3, %rcx
+	cmpq	%r12, %rcx
+	jae	.LBB11_29
+# %bb.28:                               # %then.1.i.i.i.4.i.us.us.i.i
+                                        #   in Loop: Header=BB11_13 Depth=2
+	movzbl	(%rsi,%rcx), %ecx
+	orq	%rcx, %r9
+.LBB11_29:                              # %"records::byte_at.exit.i.i.4.i.us.us.i.i"
+                                        #   in Loop: Header=BB11_13 Depth=2
+	shlq	$8, %r9
+	movq	%r14, %rcx
+	orq	$2, %rcx
+	cmpq	%r12, %rcx
+	jae	.LBB11_31
+# %bb.30:                               # %then.1.i.i.i.5.i.us.us.i.i
+                                        #   in Loop: Header=BB11_13 Depth=2
+	movzbl	(%rsi,%rcx), %ecx
+	orq	%rcx, %r9
+.LBB11_31:                              # %"records::byte_at.exit.i.i.5.i.us.us.i.i"
+                                        #   in Loop: Header=BB11_13 Depth=2
+	shlq	$8, %r9
+	movq	%r14, %rcx
+	orq	$1, %rcx
+	cmpq	%r12, %rcx
+	jae	.LBB11_33
+# %bb.32:                               # %then.1.i.i.i.6.i.us.us.i.i
+                                        #   in Loop: Header=BB11_13 Depth=2
+	movzbl	(%rsi,%rcx), %ecx
+	orq	%rcx, %r9
+.LBB11_33:                              # %"records::byte_at.exit.i.i.7.i.us.us.i.i"
+                                        #   in Loop: Header=BB11_13 Depth=2
+	shlq	$8, %r9
+	movzbl	(%rsi,%r14), %ecx
+	orq	%r9, %rcx
+	jmp	.LBB11_34
+	.p2align	4
+.LBB11_35:                              # %"sighted::look.exit.split.us.us.i.i"
+                                        #   in Loop: Header=BB11_12 Depth=1
+	cmpq	$1, %rax
+	movl	$0, %ecx
+	cmoveq	%rbp, %rcx
 	movq	-80(%rsp), %r9                  # 8-byte Reload
-	addq	%rdi, %r9
-	cmpq	$2, %rcx
-	movl	$0, %edi
-	cmovneq	%rdi, %rdx
-	movq	-104(%rsp), %rdi                # 8-byte Reload
-	addq	%rdx, %rdi
-	andq	%r14, %rsi
-	incq	%rcx
-	testq	%rsi, %rsi
-	je	.LBB11_36
-# %bb.35:                               # %"sighted::look.exit.split.us.us.i.i"
-                                        #   in Loop: Header=BB11_11 Depth=1
-	xorq	%rsi, %r14
-	movq	-88(%rsp), %rbp                 # 8-byte Reload
-	cmpq	%rbp, %rcx
-	jb	.LBB11_11
-	jmp	.LBB11_36
+	addq	%rcx, %r9
+	cmpq	$2, %rax
+	movl	$0, %ecx
+	cmoveq	%rbp, %rcx
+	addq	%rcx, -104(%rsp)                # 8-byte Folded Spill
+	movq	-88(%rsp), %r14                 # 8-byte Reload
+	andq	%r14, %r13
+	incq	%rax
+	testq	%r13, %r13
+	movq	-120(%rsp), %rbx                # 8-byte Reload
+	je	.LBB11_37
+# %bb.36:                               # %"sighted::look.exit.split.us.us.i.i"
+                                        #   in Loop: Header=BB11_12 Depth=1
+	leaq	(%rbx,%rbp), %rcx
+	xorq	%r13, %r14
+	cmpq	-96(%rsp), %rax                 # 8-byte Folded Reload
+	jb	.LBB11_12
+.LBB11_37:                              # %"sighted::see.exit.loopexit"
+	addq	%rbp, %rbx
+	movq	-112(%rsp), %rdi                # 8-byte Reload
+	movq	-104(%rsp), %r12                # 8-byte Reload
+	jmp	.LBB11_38
 .LBB11_1:                               # %"summary::atoms.exit.thread"
 	xorps	%xmm0, %xmm0
 	movaps	%xmm0, -24(%rsp)
@@ -2939,35 +2938,34 @@
 	movaps	%xmm0, -56(%rsp)
 	movaps	%xmm0, -72(%rsp)
 .LBB11_3:
-	xorl	%r8d, %r8d
-	xorl	%ebx, %ebx
+	xorl	%edx, %edx
 	xorl	%r11d, %r11d
+	xorl	%ebx, %ebx
 	xorl	%r10d, %r10d
 	xorl	%r9d, %r9d
-	xorl	%edi, %edi
-	xorl	%ecx, %ecx
-.LBB11_36:                              # %"sighted::see.exit"
-	cmpq	$1, %rcx
-	adcq	$-1, %rcx
-	subq	%r10, %r11
-	movq	-96(%rsp), %rax                 # 8-byte Reload
-	movq	%r8, (%rax)
-	subq	%rbx, %r8
-	movq	%r8, 8(%rax)
-	movq	%rbx, 16(%rax)
-	movq	%r11, 24(%rax)
-	movq	%r10, 32(%rax)
-	movq	%r9, 40(%rax)
-	movq	%rdi, 48(%rax)
-	movq	%rcx, 56(%rax)
+	xorl	%r12d, %r12d
+	xorl	%eax, %eax
+.LBB11_38:                              # %"sighted::see.exit"
+	cmpq	$1, %rax
+	adcq	$-1, %rax
+	subq	%r10, %rbx
+	movq	%rdx, (%rdi)
+	subq	%r11, %rdx
+	movq	%rdx, 8(%rdi)
+	movq	%r11, 16(%rdi)
+	movq	%rbx, 24(%rdi)
+	movq	%r10, 32(%rdi)
+	movq	%r9, 40(%rdi)
+	movq	%r12, 48(%rdi)
+	movq	%rax, 56(%rdi)
 	movaps	-72(%rsp), %xmm0
 	movaps	-56(%rsp), %xmm1
 	movaps	-40(%rsp), %xmm2
 	movaps	-24(%rsp), %xmm3
-	movups	%xmm0, 64(%rax)
-	movups	%xmm1, 80(%rax)
-	movups	%xmm2, 96(%rax)
-	movups	%xmm3, 112(%rax)
+	movups	%xmm0, 64(%rdi)
+	movups	%xmm1, 80(%rdi)
+	movups	%xmm2, 96(%rdi)
+	movups	%xmm3, 112(%rdi)
 	popq	%rbx
 	popq	%r12
 	popq	%r13
@@ -2976,70 +2974,69 @@
 	popq	%rbp
 	retq
 .LBB11_5:                               # %join.5.i.i.preheader
-	xorl	%ecx, %ecx
-	xorl	%edi, %edi
+	xorl	%eax, %eax
+	xorl	%r12d, %r12d
 	xorl	%r9d, %r9d
 	xorl	%r10d, %r10d
-	xorl	%r11d, %r11d
-	xorl	%ebx, %ebx
 	xorl	%r8d, %r8d
+	xorl	%r11d, %r11d
+	xorl	%edx, %edx
 	.p2align	4
 .LBB11_6:                               # %join.5.i.i
                                         # =>This Loop Header: Depth=1
                                         #     Child Loop BB11_7 Depth 2
-	movq	%rdi, -104(%rsp)                # 8-byte Spill
-	movq	%r9, %rdx
-	movq	%rsi, %r15
-	xorl	%esi, %esi
-	xorl	%edi, %edi
+	movq	%r14, %rdi
+	movq	%r9, %rbp
+	movq	%r8, -120(%rsp)                 # 8-byte Spill
+	movl	%eax, %r8d
+	andl	$1, %r8d
+	movq	%rax, %r9
+	imulq	%r8, %r9
+	movq	%r13, %rbx
+	xorl	%r13d, %r13d
+	xorl	%ecx, %ecx
 	.p2align	4
 .LBB11_7:                               # %join.5.i.i.i
                                         #   Parent Loop BB11_6 Depth=1
                                         # =>  This Inner Loop Header: Depth=2
-	movq	%r15, %r9
-	rep		bsfq	%r15, %r12
-	decq	%r15
-	movb	%cl, -72(%rsp,%r12)
-	orq	(%rax,%r12,8), %rsi
-	incl	%edi
-	andq	%r9, %r15
+	movq	%rbx, %r14
+	addq	%r9, %r11
+	rep		bsfq	%rbx, %r15
+	decq	%rbx
+	movb	%al, -72(%rsp,%r15)
+	orq	(%rsi,%r15,8), %r13
+	incq	%rcx
+	addq	%r8, %r10
+	addq	%rax, %rdx
+	andq	%r14, %rbx
 	jne	.LBB11_7
 # %bb.8:                                # %"sighted::look.exit.split.i.i"
                                         #   in Loop: Header=BB11_6 Depth=1
-	movl	%edi, %r15d
-	movq	%rcx, %r9
-	imulq	%r15, %r9
-	addq	%r9, %r8
-	movl	%ecx, %r12d
-	andl	$1, %r12d
-	movq	%r12, %r13
-	negq	%r13
-	andq	%r9, %r13
-	addq	%r13, %rbx
-	addq	%r15, %r11
-	negl	%r12d
-	andl	%edi, %r12d
-	addq	%r12, %r10
-	cmpq	$1, %rcx
-	movl	$0, %edi
-	cmoveq	%r15, %rdi
-	movq	%rdx, %r9
-	addq	%rdi, %r9
-	cmpq	$2, %rcx
-	movl	$0, %edx
-	cmovneq	%rdx, %r15
-	movq	-104(%rsp), %rdi                # 8-byte Reload
-	addq	%r15, %rdi
-	andq	%r14, %rsi
-	incq	%rcx
-	testq	%rsi, %rsi
-	je	.LBB11_36
+	cmpq	$1, %rax
+	movl	$0, %r8d
+	cmoveq	%rcx, %r8
+	movq	%rbp, %r9
+	addq	%r8, %r9
+	cmpq	$2, %rax
+	movl	$0, %r8d
+	cmoveq	%rcx, %r8
+	addq	%r8, %r12
+	andq	%rdi, %r13
+	incq	%rax
+	testq	%r13, %r13
+	movq	-120(%rsp), %rbx                # 8-byte Reload
+	je	.LBB11_10
 # %bb.9:                                # %"sighted::look.exit.split.i.i"
                                         #   in Loop: Header=BB11_6 Depth=1
-	xorq	%rsi, %r14
-	cmpq	%rbp, %rcx
+	movq	%rdi, %r14
+	leaq	(%rbx,%rcx), %r8
+	xorq	%r13, %r14
+	cmpq	-96(%rsp), %rax                 # 8-byte Folded Reload
 	jb	.LBB11_6
-	jmp	.LBB11_36
+.LBB11_10:                              # %"sighted::see.exit.loopexit15"
+	addq	%rcx, %rbx
+	movq	-112(%rsp), %rdi                # 8-byte Reload
+	jmp	.LBB11_38
 .Lfunc_end11:
 	.size	"summary::seen", .Lfunc_end11-"summary::seen"
                                         # -- End function
