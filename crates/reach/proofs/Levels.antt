@@ -140,7 +140,7 @@ module _ (n : ℕ) (xs : List ℕ) (drawn : drawnReply n xs ≡ read tt) where
         wider = W .wider d shallow (L .reach) (L .inner)
 
         pub met-next : met′ ≡ upTo g each (suc d)
-        met-next = W .met-is ∙ count-reach g (suc d) sets′ wider
+        met-next = W .met-is (wider .fits) ∙ count-reach g (suc d) sets′ wider
 
         pub level-next : k ≤ n → (met′ ≡ met → ⊥) → (reached′ : List ℕ) → Added k near reached reached′ → Level n xs k sets′ near reached′ (fartherOf s (d + 1) (met′ - met)) met′ (d + 1)
         level-next h ne reached′ A = rw (add-one d) (record {

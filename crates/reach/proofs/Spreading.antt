@@ -23,19 +23,16 @@ use Rattle.block.specs.Block.{mostAtoms, bondsOf, graphOf, drawnReply}
 use Rattle.block.specs.Near.{around}
 use Rattle.block.specs.Numbered.{bondAt, bonds-length, bonds-at, bond-listed}
 use Rattle.block.specs.Told.{drawn-atoms, drawn-sound}
-use Rattle.reach.specs.Reach.{Reach, Inner, taking, exchanged}
+use Rattle.reach.specs.Reach.{Fit, Reach, Inner, taking, exchanged}
 
--- w is in the set of v; no set has more than the atoms
+-- w is in the set of v
 abbrev pub In : List ℕ → ℕ → ℕ → Type 0
 In sets v w = has (around sets v) w ≡ true
-
-abbrev pub Fit : Graph → List ℕ → Type 0
-Fit g sets = (v : ℕ) → Within (g .atoms) v → around sets v < 2 ^ g .atoms
 
 -- the set of v took in what u reached, wherever P v u, and nothing but what neighbours reached
 pub record Took (g : Graph) (near old sets : List ℕ) (P : ℕ → ℕ → Type 0) : Type 0 where
   pub size : length sets ≡ length old
-  pub fits : Fit g near → Fit g old → Fit g sets
+  pub fits : Fit (g .atoms) near → Fit (g .atoms) old → Fit (g .atoms) sets
   pub keeps : (v w : ℕ) → Within (g .atoms) v → In old v w → In sets v w
   pub takes : (v u w : ℕ) → Within (g .atoms) v → P v u → In near u w → In sets v w
   pub only : (v w : ℕ) → Within (g .atoms) v → In sets v w → In old v w ⊎ ((u : ℕ) × (bonded g v u ≡ true) × In near u w)

@@ -24,14 +24,35 @@ pub record Joined (n : ℕ) (near sets : List ℕ) : Type 0 where
 abbrev pub firstLevel : List ℕ → ℕ
 firstLevel xs = min 1 (length xs)
 
+-- no set has more than the atoms
+abbrev pub Fit : ℕ → List ℕ → Type 0
+Fit n sets = (v : ℕ) → Within n v → around sets v < 2 ^ n
+
+-- how many atoms the sets of the first n atoms have together
+abbrev pub togetherIn : List ℕ → ℕ → ℕ
+togetherIn sets n = sum n (λ v. ones (around sets v))
+
+-- sets of so few atoms that four of them stand side by side in one number: those below `side`; and of any set, what it has among these atoms
+abbrev pub fewAtoms : ℕ
+fewAtoms = 16
+
+abbrev pub side : ℕ
+side = 65536
+
+abbrev pub low : ℕ → ℕ
+low set = set % side
+
+abbrev pub Low : ℕ → List ℕ → Type 0
+Low n sets = (p : ℕ) → p < n → getD sets p 0 < side
+
 -- the set of each atom has exactly the atoms at most d bonds away
 pub record Reach (g : Graph) (d : ℕ) (sets : List ℕ) : Type 0 where
-  pub fits : (v : ℕ) → Within (g .atoms) v → around sets v < 2 ^ g .atoms
+  pub fits : Fit (g .atoms) sets
   pub holds : (v w : ℕ) → Within (g .atoms) v → Within (g .atoms) w → has (around sets v) w ≡ leb (distance g v w) d
 
 -- the set of each atom has that atom and none more than d bonds away
 pub record Inner (g : Graph) (d : ℕ) (sets : List ℕ) : Type 0 where
-  pub fits : (v : ℕ) → Within (g .atoms) v → around sets v < 2 ^ g .atoms
+  pub fits : Fit (g .atoms) sets
   pub own : (v : ℕ) → Within (g .atoms) v → has (around sets v) v ≡ true
   pub near : (v w : ℕ) → Within (g .atoms) v → Within (g .atoms) w → has (around sets v) w ≡ true → distance g v w ≤ d
 
@@ -42,7 +63,7 @@ ofLevel d odd even = cond (eqb (d % 2) 0) even odd
 -- inner sets, old, that were spread from the sets of a level, near: they reach one bond farther, and have met atoms together
 pub record Spread (n : ℕ) (xs near old sets : List ℕ) (met : ℕ) : Type 0 where
   pub wider : (d : ℕ) → suc d < n → Reach (graphOf n xs) d near → Inner (graphOf n xs) d old → Reach (graphOf n xs) (suc d) sets
-  pub met-is : met ≡ sum n (λ v. ones (around sets v))
+  pub met-is : Fit n sets → met ≡ togetherIn sets n
 
 -- each atom of a set has one of some others within its own reach
 abbrev pub AllMeet : List ℕ → ℕ → ℕ → Type 0

@@ -6,7 +6,7 @@
 // together, are its vertex sum. The loops go by the number of bonds and of atoms and by no distance: that is why this is faster than a search from
 // each atom.
 ghost use mathlib.Core.Path.{_≡_};
-ghost use Prim.Native.Nat.{ℕ, _+_, _*_, _/_, _≤_};
+ghost use Prim.Native.Nat.{ℕ, _+_, _*_, _/_, _≤_, _<_};
 ghost use lib.Count.{ones};
 ghost use lib.ListN.{length, getD};
 ghost use mathlib.Core.Bool.{true};
@@ -18,7 +18,7 @@ ghost use Rattle.block.specs.Near.{around};
 ghost use Rattle.block.specs.Opened.{neighboursOf, drawnNear};
 ghost use Rattle.block.specs.Rows.{lentRow};
 ghost use Rattle.reach.specs.Sums.{sumsReply};
-ghost use Rattle.reach.specs.Reach.{Joined, Spread, ofLevel, AllMeet, AllNext, exchanged, LowSums, firstLevel, fartherOf, halved, Room, Added, Left, Reached};
+ghost use Rattle.reach.specs.Reach.{Joined, Spread, Fit, Low, togetherIn, fewAtoms, low, ofLevel, AllMeet, AllNext, exchanged, LowSums, firstLevel, fartherOf, halved, Room, Added, Left, Reached};
 use block::ATOMS;
 use block::Indices;
 use block::IndicesReply;
@@ -30,6 +30,11 @@ use reply::Reply;
 
 // A set of atoms for each atom: that of atom v at v - 1.
 type Sets = [u64; ATOMS];
+
+// Sets of so many atoms are counted four at a time: they are below SIDE, and four of them stand in one number.
+const FEW: usize = 16;
+
+const SIDE: u64 = 65536;
 
 // What the distances of all ordered pairs add up to: all of them and the odd ones; and how many are 3.
 struct Both {
@@ -70,19 +75,57 @@ fn exchange(near: &[u64], one: u8, two: u8, sets: &mut [u64])
     sets[v] = sets[v] | near[u];
 }
 
-// How many atoms the sets of the first n atoms have together.
-fn together(sets: &[u64], n: usize) -> u64
-    requires { ⌜ (n ≤ mostAtoms) × (n ≤ length (now sets)) ⌝ }
-    ensures { λ r. ⌜ r ≡ sum n (λ v. ones (around (now (sets .entry)) v)) ⌝ }
+// How many of the first FEW atoms four sets have together: the sets stand side by side in one number.
+fn size_of_four(a: u64, b: u64, c: u64, d: u64) -> u64
+    ensures { λ r. ⌜ (r ≡ ones (low d) + ones (low c) + ones (low b) + ones (low a)) × (r ≤ mostAtoms) ⌝ }
+{
+    size(((d % SIDE * SIDE + c % SIDE) * SIDE + b % SIDE) * SIDE + a % SIDE)
+}
+
+// How many atoms the sets of the first 4 q atoms have together, where they have only the first FEW.
+fn by_fours(sets: &[u64], q: usize) -> u64
+    requires { ⌜ (4 * q ≤ mostAtoms) × (4 * q ≤ length (now sets)) ⌝ }
+    ensures { λ r. ⌜ (Low (4 * q) (now (sets .entry)) → r ≡ togetherIn (now (sets .entry)) (4 * q)) × (r ≤ mostAtoms * mostAtoms) ⌝ }
 {
     let mut met: u64 = 0;
-    let mut i = 0;
+    let mut k = 0;
+    while k < q {
+        let i = 4 * k;
+        met += size_of_four(sets[i], sets[i + 1], sets[i + 2], sets[i + 3]);
+        k += 1;
+    }
+    met
+}
+
+// With those of the first `from` atoms how many those of the first n have together.
+fn one_by_one(sets: &[u64], from: usize, n: usize) -> u64
+    requires { ⌜ (from ≤ n) × (n ≤ mostAtoms) × (n ≤ length (now sets)) ⌝ }
+    ensures { λ r. ⌜ (togetherIn (now (sets .entry)) from + r ≡ togetherIn (now (sets .entry)) n) × (r ≤ mostAtoms * mostAtoms) ⌝ }
+{
+    let mut met: u64 = 0;
+    let mut i = from;
     while i < n {
         let atoms = size(sets[i]);
         met += atoms;
         i += 1;
     }
     met
+}
+
+// How often four of n sets can be counted as one.
+fn fours(n: usize) -> usize
+    ensures { λ r. ⌜ (4 * r ≤ n) × (0 < r → n ≤ fewAtoms) ⌝ }
+{
+    if n <= FEW { n / 4 } else { 0 }
+}
+
+// How many atoms the sets of the first n atoms have together, where they have only these: small ones four at a time.
+fn together(sets: &[u64], n: usize) -> u64
+    requires { ⌜ (n ≤ mostAtoms) × (n ≤ length (now sets)) ⌝ }
+    ensures { λ r. ⌜ (Fit n (now (sets .entry)) → r ≡ togetherIn (now (sets .entry)) n) ⌝ }
+{
+    let q = fours(n);
+    by_fours(sets, q) + one_by_one(sets, 4 * q, n)
 }
 
 // One bond farther: to the set of each atom come those of its neighbours. Two bonds a turn, one of each half, wait less for each other; of an odd

@@ -1,43 +1,28 @@
-use Prim.Native.Nat.{suc, _-_, _*_, _≤_}
-use mathlib.Core.Path.{_≡_, refl}
-use native.Mathlib.Numerals.{add-one}
 use native.Mathlib.Omega.{arith}
-use lib.Count.{ones}
-use Rattle.graph.specs.Graph.{sum}
-use Rattle.block.specs.Block.{mostAtoms}
-use Rattle.block.specs.Near.{around}
+use Rattle.reach.proofs.Counting.{fit-low}
 use Rattle.reach.proofs.together.Statement.{statement}
 use Rattle.reach.proofs.together.Tie as tie
 
-abbrev Inv-loop : tie.InvT-loop
-Inv-loop sets n met₀ i₀ met i = (i ≤ n) × (met ≡ sum i (λ v. ones (around sets v))) × (met ≤ mostAtoms * i)
+fours-requires : tie.Need-fours-requires
+fours-requires c κs = tt
 
-abbrev μ-loop : tie.MeasureT-loop
-μ-loop sets n met₀ i₀ met i = n - i
+by-fours-requires : tie.Need-by-fours-requires
+by-fours-requires c κs = let q = c .fours .ensures .0 in (omega (arith, q, c .before .before .pre), omega (arith, q, c .before .before .pre))
 
-loop-holds : tie.Need-loop-holds Inv-loop μ-loop
-unfolding sum
-loop-holds c = (omega arith, refl, omega arith)
+mul-one-by-one : tie.Need-mul-one-by-one
+mul-one-by-one c = omega (arith, c .before .fours .ensures .0)
 
-size-requires : tie.Need-size-requires Inv-loop μ-loop
-size-requires c κs = tt
+one-by-one-requires : tie.Need-one-by-one-requires
+one-by-one-requires c κs = let p = c .before .before .before .pre in (c .before .fours .ensures .0, p .0, p .1)
 
-add-met : tie.Need-add-met Inv-loop μ-loop
-add-met c = omega (arith, c .size .ensures .1, c .before .before .before .loop .inv .2)
+add-result : tie.Need-add-result
+add-result c = omega (arith, c .before .by-fours .ensures .1, c .one-by-one .ensures .1)
 
-loop-again : tie.Need-loop-again Inv-loop μ-loop
-unfolding sum
-loop-again c =
-    let l = c .before .before .before .loop in
-    let k : suc (l .i) - 1 ≡ l .i = omega arith in
-    (omega arith, rw (add-one (l .i), k, l .inv .1, c .size .ensures .0), omega (arith, c .size .ensures .1, l .inv .2))
-
-returns : tie.Need-returns Inv-loop μ-loop
+returns : tie.Need-returns
 returns c =
-    let e : c .before .loop .i ≡ c .before .before .before .args .n = omega arith in
-    rw e at (c .before .loop .inv .1)
+    let q = c .before .before .fours .ensures in
+    let a = c .before .before .before .before .args in
+    λ F. omega (arith, c .before .by-fours .ensures .0 (fit-low (a .sets .now) (a .n) _ (q .0) (q .1) F), c .one-by-one .ensures .0)
 
 pub together-spec : {M : Type 1} → statement M
-together-spec =
-    tie.close (tie.spec Inv-loop μ-loop loop-holds (λ c. omega arith) (λ c. omega arith) size-requires add-met (λ c. omega arith) (λ c. omega arith) loop-again
-    returns)
+together-spec = tie.close (tie.spec fours-requires by-fours-requires mul-one-by-one one-by-one-requires add-result returns)
