@@ -4,10 +4,8 @@ use mathlib.Core.List.{List, [], _∷_}
 use mathlib.Core.Path.{_≡_, refl, sym, _∙_, ap}
 use native.Mathlib.Omega.{arith}
 use borrow.Author.Tests.{eq-eqb, lt-ltb, le-ltb}
-use lib.Dec.{ltb}
 use lib.ListN.{length, drop, length-take, length-drop}
-use Rattle.reply.specs.Read.{Read, refused, read, _then_, refusal, refuseIf, saidNumber}
-use Rattle.reply.specs.Chain.{then-read}
+use Rattle.reply.specs.Read.{Read, refused, read, _then_, refusal, saidNumber}
 use Rattle.reply.specs.declared.Refusal.{Refusal}
 use Rattle.reply.specs.declared.Reply.the-variants as reply
 use Rattle.records.specs.Records.{headBytes, lengthAt, kindAt, payloadAt, kindReply}
@@ -15,8 +13,8 @@ use Rattle.records.specs.Taken.{taken, of-one, of-least}
 use Rattle.records.specs.declared.Kind.{Kind}
 use Rattle.assembly.specs.Book.{bookOf}
 use Rattle.assembly.specs.declared.BlockAt.{BlockAt}
-use Rattle.deck.specs.Deck.{longestDeck, Deck, openReply, endReply}
-use Rattle.deck.specs.Kept.{kept}
+use Rattle.deck.specs.Deck.{Deck, openReply, endReply}
+use Rattle.deck.specs.Kept.{kept, open-read}
 use Rattle.deck.specs.Said.{blockTable}
 use Rattle.catalogue.specs.Library.{mostSites, libraryKind, sitesReply, Library, afterBlocks, libraryReply}
 use Rattle.catalogue.specs.Products.{products, countReply}
@@ -82,11 +80,10 @@ module _ (d : List ℕ) where
 
   -- the payload holds its counts
   pub payload-long : (k : Deck) → openReply libraryKind d ≡ read k → libraryKind .fixed ≤ length (payloadAt d (k .assembly))
-  unfolding openReply kindReply
-  payload-long k o =
-      let (u, x, e) = then-read (refuseIf (ltb longestDeck (length d)) 20 0) _ o in
+  unfolding kindReply
+  payload-long k e =
       let at = k .assembly in
-      let a = kept libraryKind d e .after in
+      let a = kept libraryKind d (open-read libraryKind d e .1) .after in
       let t = taken d at (libraryKind ∷ []) a in
       let s : read libraryKind ≡ read (t .kind) = rw (eq-eqb (kindAt d at) (libraryKind .number) (of-one d at libraryKind a)) at (t .stands) in
       let same : libraryKind ≡ t .kind = cc in

@@ -20,6 +20,7 @@ pub mod Table
 -- Laws
 pub mod Choices
 pub mod Sound
+pub mod First
 pub mod Fine
 pub mod Written
 pub mod Unique

@@ -14,6 +14,7 @@ use Rattle.block.specs.Faults.{inside}
 use Rattle.records.specs.Records.{payloadAt}
 use Rattle.assembly.specs.Book.{Book, bookOf}
 use Rattle.deck.specs.Deck.{longestDeck, Deck, blocksReply, openReply, endReply}
+use Rattle.deck.specs.Kept.{open-read}
 use Rattle.catalogue.specs.Library.{mostSites, mostCandidates, libraryKind, coreNumber, siteCount, siteHead, siteAt, candidateBytes, candidateNumber, candidateAtom, candidateAt, siteEnd, isTaken, isFullIn, orElse, candidateFault, candidatesFault, siteFault, sitesFrom, sitesReply, Library, afterBlocks, libraryReply}
 use Rattle.catalogue.specs.declared.Site.{Site}
 
@@ -125,6 +126,7 @@ listed book xs at ss e =
 pub record WholeLibrary (d : List ℕ) (l : Library) : Type 0 where
   pub short : length d ≤ longestDeck
   pub deck : Deck
+  pub opened : openReply libraryKind d ≡ read deck
   pub blocks : blocksReply libraryKind d ≡ read deck
   pub same : l .blocks ≡ deck .blocks
   pub at : l .at ≡ deck .assembly
@@ -132,16 +134,17 @@ pub record WholeLibrary (d : List ℕ) (l : Library) : Type 0 where
   pub ends : endReply d (deck .sheet) ≡ read tt
 
 pub whole : (d : List ℕ) (l : Library) → libraryReply d ≡ read l → WholeLibrary d l
-unfolding libraryReply openReply afterBlocks
+unfolding libraryReply afterBlocks
 whole d l e =
     let (k, o, f) = then-read (openReply libraryKind d) (λ k. afterBlocks d (k .blocks) (k .assembly) (k .sheet)) e in
-    let (u, a, b) = then-read (refuseIf (ltb longestDeck (length d)) 20 0) _ o in
+    let (short, b) = open-read libraryKind d o in
     let (ss, c, h) = then-read (sitesReply (bookOf d (k .blocks)) (payloadAt d (k .assembly)) (k .assembly)) (λ sites. endReply d (k .sheet) then λ _. read (record { blocks = k .blocks; at = k .assembly; sites = sites })) f in
     let (v, n, i) = then-read (endReply d (k .sheet)) (λ _. read (record { blocks = k .blocks; at = k .assembly; sites = ss })) h in
     let same : record { blocks = k .blocks; at = k .assembly; sites = ss } ≡ l = cc i in
     rw (← same) (record {
-      short = ltb-false longestDeck (length d) (if-read _ 20 0 a);
+      short = short;
       deck = k;
+      opened = o;
       blocks = b;
       same = refl;
       at = refl;

@@ -4,14 +4,16 @@ use mathlib.Core.List.{List}
 use mathlib.Core.Path.{_≡_}
 use Rattle.reply.specs.Read.{saidNumber}
 use Rattle.reply.specs.Chain.{unique}
-use Rattle.catalogue.specs.Library.{libraryReply}
+use Rattle.deck.specs.Filled.{openBook}
+use Rattle.catalogue.specs.Library.{libraryKind, libraryReply}
 use Rattle.catalogue.specs.Products.{countReply}
 use Rattle.catalogue.specs.Said.{saidLibrary}
 use Rattle.catalogue.specs.declared.LibraryRead.{LibraryRead}
 use Rattle.reply.specs.declared.NumberReply.{NumberReply}
 
-pub unique-read-library : (d : List ℕ) (r s : LibraryRead) → r ≡ saidLibrary (libraryReply d) → s ≡ saidLibrary (libraryReply d) → r ≡ s
-unique-read-library d r s = unique
+pub unique-read-library : (d book : List ℕ) (r s : LibraryRead) (b c : List ℕ) → (r ≡ saidLibrary (libraryReply d)) × (b ≡ openBook libraryKind d book)
+    → (s ≡ saidLibrary (libraryReply d)) × (c ≡ openBook libraryKind d book) → (r ≡ s) × (b ≡ c)
+unique-read-library d book r s b c p q = (unique (p .0) (q .0), unique (p .1) (q .1))
 
 pub unique-count : (d : List ℕ) (r s : NumberReply) → r ≡ saidNumber (countReply d) → s ≡ saidNumber (countReply d) → r ≡ s
 unique-count d r s = unique

@@ -19,6 +19,7 @@ ghost use Prim.Native.Nat.{_≤_};
 ghost use lib.ListN.{length, take};
 ghost use Rattle.reply.specs.Read.{saidNumber};
 ghost use Rattle.records.specs.Records.{payloadAt};
+ghost use Rattle.deck.specs.Filled.{openBook};
 ghost use Rattle.catalogue.specs.Library.{libraryKind, afterBlocks, libraryReply};
 ghost use Rattle.catalogue.specs.Products.{countReply};
 ghost use Rattle.catalogue.specs.Said.{refusedLibrary, tabledLibrary, saidLibrary};
@@ -108,11 +109,12 @@ fn read_record(d: &[u8], blocks: BlockTable, count: usize, at: usize, end: usize
     }
 }
 
-// What a library deck says: its blocks, then its record, each taken or refused with its place.
-pub fn read_library(d: &[u8]) -> LibraryRead
-    ensures { λ r. ⌜ r ≡ saidLibrary (libraryReply (now (d .entry))) ⌝ }
+// What a library deck says: its blocks, then its record, each taken or refused with its place. The blocks are opened in a lent book, as far as it has places.
+pub fn read_library(d: &[u8], book: &mut [u8]) -> LibraryRead
+    ensures reply { λ r. ⌜ r ≡ saidLibrary (libraryReply (now (d .entry))) ⌝ }
+    ensures bytes { λ _. ⌜ now (book .exit) ≡ openBook libraryKind (now (d .entry)) (now (book .entry)) ⌝ }
 {
-    let k = open_deck(d, LIBRARY);
+    let k = open_deck(d, LIBRARY, book);
     let reply = k.reply;
     let Reply::Fine = reply else {
         return library_refused(reply);
@@ -126,7 +128,7 @@ pub fn read_library(d: &[u8]) -> LibraryRead
 pub fn count(d: &[u8]) -> NumberReply
     ensures { λ r. ⌜ r ≡ saidNumber (countReply (now (d .entry))) ⌝ }
 {
-    let l = read_library(d);
+    let l = read_library(d, &mut [0u8; 1]);
     let reply = l.reply;
     match reply {
         Reply::Refused(refusal) => NumberReply::Refused(refusal),

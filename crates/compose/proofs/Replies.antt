@@ -15,10 +15,10 @@ use Rattle.records.specs.Records.{payloadAt, assemblyKind}
 use Rattle.assembly.specs.Book.{Book, bookOf}
 use Rattle.assembly.specs.Placements.{placementCount, placementAt, graphOn, joinOn, assemblyReply}
 use Rattle.deck.specs.Deck.{Deck, placementPlace, openReply, assemblyReplyAt, sheetReply, deckReply}
-use Rattle.deck.specs.Kept.{kept}
+use Rattle.deck.specs.Kept.{kept, open-read}
 use Rattle.deck.specs.Molecule.{placedIn, graphAt, joinAt, moleculeOf}
 use Rattle.deck.specs.declared.Form.{Form}
-use Rattle.deck.proofs.Parts.{open-read, bad-assembly, bad-sheet, whole-deck}
+use Rattle.deck.proofs.Parts.{bad-assembly, bad-sheet, whole-deck}
 use Rattle.summaries.specs.Composing.{composedReply}
 use Rattle.summaries.specs.Written.{HonestBook, writtenReply, composed-written}
 use Rattle.compose.specs.Fields.{composeReply, behindReply, saidComposed}

@@ -10,6 +10,7 @@ use Rattle.records.specs.declared.Kind.{Kind}
 use Rattle.reply.specs.Read.{saidNumber}
 use Rattle.reply.specs.declared.NumberReply.{NumberReply}
 use Rattle.deck.specs.Deck.{openReply, deckReply, blockSpan}
+use Rattle.deck.specs.Filled.{openBook}
 use Rattle.deck.specs.Placed.{placedDistanceReply}
 use Rattle.deck.specs.Said.{saidDeck}
 use Rattle.deck.specs.declared.DeckRead.{DeckRead}
@@ -21,8 +22,9 @@ module _ (d : List ℕ) where
   pub unique-read-deck : (form : Form) (r s : DeckRead) → r ≡ saidDeck (deckReply form d) → s ≡ saidDeck (deckReply form d) → r ≡ s
   unique-read-deck form r s = unique
 
-  pub unique-open-deck : (last : Kind) (r s : DeckRead) → r ≡ saidDeck (openReply last d) → s ≡ saidDeck (openReply last d) → r ≡ s
-  unique-open-deck last r s = unique
+  pub unique-open-deck : (last : Kind) (book : List ℕ) (r s : DeckRead) (b c : List ℕ) → (r ≡ saidDeck (openReply last d)) × (b ≡ openBook last d book)
+      → (s ≡ saidDeck (openReply last d)) × (c ≡ openBook last d book) → (r ≡ s) × (b ≡ c)
+  unique-open-deck last book r s b c p q = (unique (p .0) (q .0), unique (p .1) (q .1))
 
 pub unique-fields : (form : Form) (d : List ℕ) (r s : ComposeReply) → r ≡ saidComposed (composeReply form d) → s ≡ saidComposed (composeReply form d) → r ≡ s
 unique-fields form d r s = unique

@@ -1,4 +1,4 @@
-// The blocks of a deck, record by record, and their summaries in a lent book. A refusal leaves there what was filled before: no function here is public.
+// The blocks of a deck, record by record, and their summaries in a lent book. A refusal leaves there what was filled before.
 ghost use mathlib.Core.Path.{_≡_};
 ghost use Prim.Native.Nat.{_≤_};
 ghost use lib.ListN.{length, take};
@@ -160,9 +160,9 @@ fn read_blocks(d: &[u8], last: Kind, book: &mut [u8]) -> DeckRead
     }
 }
 
-// What stands before a record of the kind `last`, whatever that says: refusal 20, the blocks', and 11 to 13 of that record. The summary of each
-// block that is taken is put into the book, at the place of its index, as far as there are places.
-pub(super) fn open_book(d: &[u8], last: Kind, book: &mut [u8]) -> DeckRead
+// What stands before a record of the kind `last`, whatever that says: refusal 20, the blocks', and 11 to 13 of that record. Each block that is taken is
+// opened in a lent book, at the place of its index, as far as it has places.
+pub fn open_deck(d: &[u8], last: Kind, book: &mut [u8]) -> DeckRead
     ensures reply { λ r. ⌜ r ≡ saidDeck (openReply last (now (d .entry))) ⌝ }
     ensures bytes { λ _. ⌜ now (book .exit) ≡ openBook last (now (d .entry)) (now (book .entry)) ⌝ }
 {

@@ -7,13 +7,12 @@ use assembly::BLOCKS;
 use assembly::PLACEMENT_BYTES;
 use block::Indices;
 use block::IndicesReply;
-use blocks::open_book;
+pub use blocks::open_deck;
 use deck::Form;
 use deck::heads;
 use deck::sheet_reply;
 pub use distance::placed_distance;
 pub use reading::block_part;
-pub use reading::open_deck;
 pub use reading::read_deck;
 use records::ASSEMBLY;
 use records::payload_at;
@@ -74,7 +73,7 @@ fn in_book(d: &[u8], form: Form, book: &mut [u8]) -> ComposeReply
     requires { ⌜ Unfilled (now d) (now book) ⌝ }
     ensures { λ r. ⌜ r ≡ saidComposed (composeReply form (now (d .entry))) ⌝ }
 {
-    let k = open_book(d, ASSEMBLY, book);
+    let k = open_deck(d, ASSEMBLY, book);
     let reply = k.reply;
     if let Reply::Refused(refusal) = reply {
         return ComposeReply::Refused(refusal);

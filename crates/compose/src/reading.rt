@@ -6,11 +6,11 @@ ghost use Rattle.records.specs.Records.{payloadAt, assemblyKind};
 ghost use Rattle.assembly.specs.Placements.{mostPlacements, shelfReply};
 ghost use Rattle.shelf.specs.Shelf.{shelfIn};
 ghost use Rattle.records.specs.Bytes.{PartOf};
-ghost use Rattle.deck.specs.Deck.{longestDeck, placementPlace, moved, openReply, deckReply, blockSpan};
+ghost use Rattle.deck.specs.Deck.{longestDeck, placementPlace, moved, deckReply, blockSpan};
 ghost use Rattle.deck.specs.Filled.{openBook};
 ghost use Rattle.deck.specs.Said.{saidDeck};
 ghost use Rattle.deck.specs.Unfilled.{Unfilled};
-use super::blocks::open_book;
+use super::blocks::open_deck;
 use assembly::BLOCKS;
 use assembly::PLACEMENT_BYTES;
 use deck::DeckRead;
@@ -19,7 +19,6 @@ use deck::deck_refused;
 use deck::payload_of;
 use deck::sheet_reply;
 use records::ASSEMBLY;
-use records::Kind;
 use records::part;
 use records::payload_at;
 use reply::Refusal;
@@ -55,7 +54,7 @@ pub(super) fn read_in(d: &[u8], form: Form, book: &mut [u8]) -> DeckRead
     ensures reply { λ r. ⌜ r ≡ saidDeck (deckReply form (now (d .entry))) ⌝ }
     ensures bytes { λ _. ⌜ now (book .exit) ≡ openBook assemblyKind (now (d .entry)) (now (book .entry)) ⌝ }
 {
-    let k = open_book(d, ASSEMBLY, book);
+    let k = open_deck(d, ASSEMBLY, book);
     let first = k.reply;
     let Reply::Fine = first else {
         return k;
@@ -77,13 +76,6 @@ pub fn read_deck(d: &[u8], form: Form) -> DeckRead
     ensures { λ r. ⌜ r ≡ saidDeck (deckReply form (now (d .entry))) ⌝ }
 {
     read_in(d, form, &mut [0u8; SUMMARY * BLOCKS])
-}
-
-// What stands before a record of the kind `last`, whatever that says: refusal 20, the blocks', and 11 to 13 of that record.
-pub fn open_deck(d: &[u8], last: Kind) -> DeckRead
-    ensures { λ r. ⌜ r ≡ saidDeck (openReply last (now (d .entry))) ⌝ }
-{
-    open_book(d, last, &mut [0u8; 1])
 }
 
 // The part of a deck that holds the payload of a block: empty exactly where the deck is refused in both forms or has no such block.

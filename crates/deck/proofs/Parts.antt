@@ -4,12 +4,11 @@ use mathlib.Core.Bool.{Bool, true, false}
 use mathlib.Core.List.{List}
 use mathlib.Core.Path.{_≡_, refl, sym, _∙_, ap, subst}
 use native.Mathlib.Omega.{arith}
-use borrow.Author.Tests.{lt-ltb, le-ltb, ltb-false}
+use borrow.Author.Tests.{lt-ltb, le-ltb}
 use lib.Dec.{ltb}
 use lib.ListN.{length, take}
 use lib.Seq.{take-append-seam}
 use Rattle.reply.specs.Read.{Read, refused, read, _then_, refuseIf, refusal}
-use Rattle.reply.specs.Chain.{then-read, if-read}
 use Rattle.reply.specs.declared.Refusal.{Refusal}
 use Rattle.reply.specs.declared.Reply.the-variants.{Fine, Refused}
 use denote.Ref.{RefT}
@@ -55,13 +54,6 @@ module _ (last : Kind) (d : List ℕ) where
   pub open-short : length d ≤ longestDeck → openReply last d ≡ blocksReply last d
   unfolding openReply
   open-short h = rw (le-ltb longestDeck (length d) h)
-
-  -- what is left behind the blocks
-  pub open-read : {k : Deck} → openReply last d ≡ read k → (length d ≤ longestDeck) × (blocksReply last d ≡ read k)
-  unfolding openReply
-  open-read e =
-      let (u, a, f) = then-read (refuseIf (ltb longestDeck (length d)) 20 0) _ e in
-      (ltb-false longestDeck (length d) (if-read _ 20 0 a), f)
 
 module _ (form : Form) (d : List ℕ) where
   abbrev behind : Deck → Read Deck

@@ -1,4 +1,4 @@
--- Work. A book of summaries that is filled while the blocks of a deck are read: each block that is taken, at the place of its index.
+-- Definitions. A book of summaries that is filled while the blocks of a deck are read: each block that is taken, at the place of its index.
 use Prim.Native.Nat.{ℕ, zero, suc, _+_, _*_}
 use mathlib.Core.Bool.{cond}
 use mathlib.Core.List.{List, [], _∷_, _++_}

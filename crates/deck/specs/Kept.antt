@@ -5,8 +5,8 @@ use mathlib.Core.List.{List, [], _∷_, _++_}
 use mathlib.Core.Logic.{_⊎_, inl, inr, ⊎-elim}
 use mathlib.Core.Path.{_≡_, refl, _∙_, ap}
 use native.Mathlib.Omega.{arith}
-use borrow.Author.Tests.{eqb-true, eqb-false, leb-false}
-use lib.Dec.{eqb, leb}
+use borrow.Author.Tests.{eqb-true, eqb-false, leb-false, ltb-false}
+use lib.Dec.{eqb, leb, ltb}
 use lib.ListN.{length, length-append}
 use Rattle.reply.specs.Read.{Read, refused, read, _then_, refuseIf, ifElse}
 use Rattle.reply.specs.Chain.{not-read, then-read, if-read, neither}
@@ -17,7 +17,7 @@ use Rattle.records.specs.Taken.{taken, of-first, of-other, of-one}
 use Rattle.records.specs.declared.Kind.{Kind}
 use Rattle.assembly.specs.Book.{used, bondBytes, mostBlocks}
 use Rattle.assembly.specs.declared.BlockAt.{BlockAt}
-use Rattle.deck.specs.Deck.{kindsAfter, blockAt, moved, blockPlace, blockReplyAt, Deck, deckAt, blocksFrom, blocksReply}
+use Rattle.deck.specs.Deck.{longestDeck, kindsAfter, blockAt, moved, blockPlace, blockReplyAt, Deck, deckAt, blocksFrom, blocksReply, openReply}
 
 -- each block of a list
 unfoldable pub Each : (BlockAt → Type 0) → List BlockAt → Type 0
@@ -128,6 +128,13 @@ module _ (last : Kind) (d : List ℕ) where
       (λ at done p r k f. (each-last (Standing d) done (blockAt d at) (p .0) (stands at done r k f), simp length-append (omega (arith, f .room))))
       (suc mostBlocks) 0 [] (tt, omega arith) e in
       rw (← (E .same)) (record { places = refl; blocks = E .holds .0; few = E .holds .1; after = after-blocks (E .at) (E .done) (E .next) (E .other) })
+
+  -- what is read before a record of the last kind: the blocks, of a deck that is not too long
+  pub open-read : {k : Deck} → openReply last d ≡ read k → (length d ≤ longestDeck) × (blocksReply last d ≡ read k)
+  unfolding openReply
+  open-read e =
+      let (u, a, f) = then-read (refuseIf (ltb longestDeck (length d)) 20 0) _ e in
+      (ltb-false longestDeck (length d) (if-read _ 20 0 a), f)
 
   -- each block uses up one place of sixteen, so the fuel lasts
   lasts : (fuel at : ℕ) (done : List BlockAt) → length done ≤ mostBlocks → mostBlocks < fuel + length done → blocksFrom (suc fuel) last d at done ≡ blocksFrom fuel last d at done

@@ -7,10 +7,10 @@ use Rattle.catalogue.proofs.count.Statement.{statement}
 use Rattle.catalogue.proofs.count.Tie as tie
 
 returns : tie.Need-returns
-returns c = let r = c .before .before .before .read-library in count-refused _ _ (library-stops _ (r .result) _ (r .ensures) (c .before .reply .given .1))
+returns c = let r = c .before .before .before .before .read-library in count-refused _ _ (library-stops _ (r .result) _ (r .ensures .0) (c .before .reply .given .1))
 
 returns-2 : tie.Need-returns-2
-returns-2 c = let r = c .before .before .read-library in let (l, e, f) = library-ends _ (r .result) (r .ensures) (c .enum-told .given .1) in count-fine _ l _ e (ap (λ (x : LibraryRead). x .products) f)
+returns-2 c = let r = c .before .before .before .read-library in let (l, e, f) = library-ends _ (r .result) (r .ensures .0) (c .enum-told .given .1) in count-fine _ l _ e (ap (λ (x : LibraryRead). x .products) f)
 
 pub count-spec : {M : Type 1} → statement M
-count-spec = tie.close (tie.spec (λ c κs. search needs) (λ c. search needs) (λ c. search needs) returns returns-2)
+count-spec = tie.close (tie.spec (λ c. search needs) (λ c κs. search needs) (λ c. search needs) (λ c. search needs) returns returns-2)

@@ -10,10 +10,10 @@ use Rattle.records.specs.Taken.{taken}
 use Rattle.assembly.specs.Book.{bookOf}
 use Rattle.assembly.proofs.Faults.{place-few}
 use Rattle.deck.specs.Deck.{Deck, placementPlace, openReply}
-use Rattle.deck.specs.Kept.{kept}
+use Rattle.deck.specs.Kept.{kept, open-read}
 use Rattle.deck.specs.Said.{saidDeck}
 use Rattle.deck.specs.declared.DeckRead.{DeckRead}
-use Rattle.deck.proofs.Parts.{deck-stopped, deck-ended, open-read, bad-blocks}
+use Rattle.deck.proofs.Parts.{deck-stopped, deck-ended, bad-blocks}
 use Rattle.deck.proofs.Filled.{book-short}
 use Rattle.deck.proofs.Honest.{honest-read}
 use Rattle.summaries.specs.Written.{HonestBook}
@@ -24,27 +24,27 @@ use Rattle.compose.proofs.in_book.Statement.{statement}
 use Rattle.compose.proofs.in_book.Tie as tie
 
 -- the blocks that are read
-blocks : (c : tie.After-enum-told) → let s = c .before .before .before .before .before .before .before .before in (k : Deck) × (openReply assemblyKind (s .args .d .now) ≡ read k) × (c .before .before .before .before .open-book .result ≡ saidDeck (read k))
-blocks c = let r = c .before .before .before .before .open-book in deck-ended (openReply assemblyKind (c .before .before .before .before .before .before .before .before .args .d .now)) (r .result) (r .ensures .0) (c .enum-told .given .1)
+blocks : (c : tie.After-enum-told) → let s = c .before .before .before .before .before .before .before .before in (k : Deck) × (openReply assemblyKind (s .args .d .now) ≡ read k) × (c .before .before .before .before .open-deck .result ≡ saidDeck (read k))
+blocks c = let r = c .before .before .before .before .open-deck in deck-ended (openReply assemblyKind (c .before .before .before .before .before .before .before .before .args .d .now)) (r .result) (r .ensures .0) (c .enum-told .given .1)
 
 -- the book that is filled
-book : (c : tie.After-enum-told) → let s = c .before .before .before .before .before .before .before .before in HonestBook (c .before .before .before .before .open-book .last .1 .1 .0) (bookOf (s .args .d .now) (blocks c .0 .blocks))
+book : (c : tie.After-enum-told) → let s = c .before .before .before .before .before .before .before .before in HonestBook (c .before .before .before .before .open-deck .last .1 .1 .0) (bookOf (s .args .d .now) (blocks c .0 .blocks))
 book c =
     let s = c .before .before .before .before .before .before .before .before in
     let d = s .args .d .now in
     let (k, e, r) = blocks c in
     let (short, f) = open-read assemblyKind d e in
-    honest-read assemblyKind d (λ i. omega (arith, c .before .before .before .before .before .before .before .shared-slice-known .given i)) (s .args .book .now) _ (omega (arith, few-heads assemblyKind d f, s .pre .room)) (s .pre .none) f (c .before .before .before .before .open-book .ensures .1 ∙ book-short assemblyKind d (s .args .book .now) short) (c .before .before .before .book .given)
+    honest-read assemblyKind d (λ i. omega (arith, c .before .before .before .before .before .before .before .shared-slice-known .given i)) (s .args .book .now) _ (omega (arith, few-heads assemblyKind d f, s .pre .room)) (s .pre .none) f (c .before .before .before .before .open-deck .ensures .1 ∙ book-short assemblyKind d (s .args .book .now) short) (c .before .before .before .book .given)
 
 returns : tie.Need-returns
 returns c =
     let s = c .before .before .before .before .before .before .before .before .before in
-    let o = c .before .before .before .before .before .open-book in
+    let o = c .before .before .before .before .before .open-deck in
     let r = c .before .reply .given in
     fields-refused (s .args .form) (s .args .d .now) (r .0 .0) (bad-blocks (s .args .form) (s .args .d .now) (r .0 .0) (deck-stopped _ (o .result) (r .0 .0) (o .ensures .0) (r .1)))
 
 -- where the assembly stands
-at-is : (c : tie.After-enum-told) → c .before .before .before .before .open-book .result .layout .assembly ≡ blocks c .0 .assembly
+at-is : (c : tie.After-enum-told) → c .before .before .before .before .open-deck .result .layout .assembly ≡ blocks c .0 .assembly
 at-is c = ap (λ (x : DeckRead). x .layout .assembly) (blocks c .2)
 
 payload-is : (c : tie.After-compose) → let t = c .before .before .before .before in c .before .payload-at .result .now ≡ payloadAt (t .before .before .before .before .before .before .before .before .args .d .now) (blocks t .0 .assembly)

@@ -15,9 +15,9 @@ use Rattle.summaries.specs.Written.{HonestBook}
 use Rattle.deck.specs.Deck.{Deck, moved, placementPlace, openReply, assemblyReplyAt, sheetReply}
 use Rattle.deck.specs.Filled.{openBook}
 use Rattle.deck.specs.Said.{refusedDeck, saidDeck}
-use Rattle.deck.specs.Kept.{kept}
+use Rattle.deck.specs.Kept.{kept, open-read}
 use Rattle.deck.specs.declared.DeckRead.{DeckRead}
-use Rattle.deck.proofs.Parts.{open-read, bad-blocks, bad-assembly, bad-sheet, whole-deck, deck-ended, deck-stopped}
+use Rattle.deck.proofs.Parts.{bad-blocks, bad-assembly, bad-sheet, whole-deck, deck-ended, deck-stopped}
 use Rattle.deck.proofs.Few.{few-heads}
 use Rattle.deck.proofs.Filled.{book-short}
 use Rattle.deck.proofs.Honest.{honest-read, same-refusals}
@@ -28,21 +28,21 @@ abbrev deck : tie.Start → List ℕ
 deck s = s .args .d .now
 
 -- the blocks, read
-blocks : (c : tie.After-enum-told) → let d = deck (c .before .before .before .before .before .before .before .before) in (k : Deck) × (openReply assemblyKind d ≡ read k) × (c .before .before .before .before .open-book .result ≡ saidDeck (read k))
-blocks c = let r = c .before .before .before .before .open-book in deck-ended (openReply assemblyKind (deck (c .before .before .before .before .before .before .before .before))) (r .result) (r .ensures .0) (c .enum-told .given .1)
+blocks : (c : tie.After-enum-told) → let d = deck (c .before .before .before .before .before .before .before .before) in (k : Deck) × (openReply assemblyKind d ≡ read k) × (c .before .before .before .before .open-deck .result ≡ saidDeck (read k))
+blocks c = let r = c .before .before .before .before .open-deck in deck-ended (openReply assemblyKind (deck (c .before .before .before .before .before .before .before .before))) (r .result) (r .ensures .0) (c .enum-told .given .1)
 
-filled : (c : tie.After-enum-told) → let s = c .before .before .before .before .before .before .before .before in c .before .before .before .before .open-book .last .1 .1 .0 ≡ openBook assemblyKind (deck s) (s .args .book .now)
-filled c = c .before .before .before .before .open-book .ensures .1
+filled : (c : tie.After-enum-told) → let s = c .before .before .before .before .before .before .before .before in c .before .before .before .before .open-deck .last .1 .1 .0 ≡ openBook assemblyKind (deck s) (s .args .book .now)
+filled c = c .before .before .before .before .open-deck .ensures .1
 
 -- and their book
-book : (c : tie.After-enum-told) → HonestBook (c .before .before .before .before .open-book .last .1 .1 .0) (bookOf (deck (c .before .before .before .before .before .before .before .before)) (blocks c .0 .blocks))
+book : (c : tie.After-enum-told) → HonestBook (c .before .before .before .before .open-deck .last .1 .1 .0) (bookOf (deck (c .before .before .before .before .before .before .before .before)) (blocks c .0 .blocks))
 book c =
     let s = c .before .before .before .before .before .before .before .before in
     let d = deck s in
     let (k, e, r) = blocks c in
     let (short, f) = open-read assemblyKind d e in
     honest-read assemblyKind d (λ i. omega (arith, c .before .before .before .before .before .before .before .shared-slice-known .given i)) (s .args .book .now) _ (omega (arith, few-heads assemblyKind d f, s .pre .room)) (s .pre .none) f
-    (c .before .before .before .before .open-book .ensures .1 ∙ book-short assemblyKind d (s .args .book .now) short) (c .before .before .before .book .given)
+    (c .before .before .before .before .open-deck .ensures .1 ∙ book-short assemblyKind d (s .args .book .now) short) (c .before .before .before .book .given)
 
 assembly-is : (c : tie.After-assembly-reply) → let k = blocks (c .before .before .before) .0 in c .assembly-reply .result ≡ saidReply (assemblyReplyAt (deck (c .before .before .before .before .before .before .before .before .before .before .before)) (k .blocks) (k .assembly))
 unfolding assemblyReplyAt
@@ -51,8 +51,8 @@ assembly-is c =
     let d = deck (t .before .before .before .before .before .before .before .before) in
     let (k, e, r) = blocks t in
     c .assembly-reply .ensures
-    ∙ ap (λ (x : DeckRead). saidReply (moved (placementPlace (x .layout .assembly)) (shelfReply (shelfIn (t .before .before .before .before .open-book .last .1 .1 .0)) (payloadAt d (x .layout .assembly))))) r
-    ∙ ap (λ (x : Read (Unit {0})). saidReply (moved (placementPlace (k .assembly)) x)) (same-refusals (t .before .before .before .before .open-book .last .1 .1 .0) (bookOf d (k .blocks)) (payloadAt d (k .assembly)) (book t))
+    ∙ ap (λ (x : DeckRead). saidReply (moved (placementPlace (x .layout .assembly)) (shelfReply (shelfIn (t .before .before .before .before .open-deck .last .1 .1 .0)) (payloadAt d (x .layout .assembly))))) r
+    ∙ ap (λ (x : Read (Unit {0})). saidReply (moved (placementPlace (k .assembly)) x)) (same-refusals (t .before .before .before .before .open-deck .last .1 .1 .0) (bookOf d (k .blocks)) (payloadAt d (k .assembly)) (book t))
 
 assembly-fine : (c : tie.After-enum-told3) → let k = blocks (c .before .before .before .before .before) .0 in assemblyReplyAt (deck (c .before .before .before .before .before .before .before .before .before .before .before .before .before)) (k .blocks) (k .assembly) ≡ read tt
 assembly-fine c = fine-read _ (sym (assembly-is (c .before .before)) ∙ c .enum-told3 .given .1)
@@ -65,7 +65,7 @@ sheet-is c =
 
 returns : tie.Need-returns
 returns c = let s = c .before .before .before .before .before .before .before .before in
-    let r = c .before .before .before .before .open-book in
+    let r = c .before .before .before .before .open-deck in
     let q = c .enum-told2 .given in
     let e = deck-stopped (openReply assemblyKind (deck s)) (r .result) (q .0 .0) (r .ensures .0) (q .1) in
     (r .ensures .0 ∙ ap saidDeck (e ∙ sym (bad-blocks (s .args .form) (deck s) (q .0 .0) e)), r .ensures .1)

@@ -1,11 +1,11 @@
--- `compose::blocks::open_book` meets its contract. Assumes nothing.
+-- `compose::blocks::open_deck` meets its contract. Assumes nothing.
 use mathlib.Core.Path.{sym, ap, _∙_}
 use borrow.Author.Needs.{needs}
 use Rattle.deck.specs.Said.{saidDeck}
 use Rattle.deck.proofs.Parts.{open-long, open-short}
 use Rattle.deck.proofs.Filled.{book-long, book-short}
-use Rattle.compose.proofs.blocks.open_book.Statement.{statement}
-use Rattle.compose.proofs.blocks.open_book.Tie as tie
+use Rattle.compose.proofs.blocks.open_deck.Statement.{statement}
+use Rattle.compose.proofs.blocks.open_deck.Tie as tie
 
 returns : tie.Need-returns
 returns c = let a = c .before .before .before .before .args in let h = c .before .if1 .taken in
@@ -19,5 +19,5 @@ returns-2 c =
     let e = k .read-blocks .ensures in
     (e .0 ∙ ap saidDeck (sym (open-short (a .last) (a .d .now) (o .if1 .left))), e .1 ∙ sym (book-short (a .last) (a .d .now) (a .book .now) (o .if1 .left)))
 
-pub open-book-spec : {M : Type 1} → statement M
-open-book-spec = tie.close (tie.spec (λ c κs. search needs) returns (λ c κs. search needs) (λ c. search needs) returns-2)
+pub open-deck-spec : {M : Type 1} → statement M
+open-deck-spec = tie.close (tie.spec (λ c κs. search needs) returns (λ c κs. search needs) (λ c. search needs) returns-2)
