@@ -6,14 +6,14 @@ use borrow.Author.Tests.{lt-ltb, le-ltb, le-leb, lt-leb}
 use lib.ListN.{length, getD}
 use Rattle.assembly.specs.Book.{find, bondBytes}
 use Rattle.assembly.specs.declared.BlockAt.{BlockAt}
-use Rattle.arms.specs.Arms.{noArm, opened, armIn, coreIn, rowArm}
+use Rattle.arms.specs.Arms.{noArm, opened, openedOf, armIn, coreIn, rowArm}
 use Rattle.arms.specs.declared.Arm.{Arm}
 use Rattle.arms.specs.declared.Core.{Core}
 use Rattle.catalogue.specs.Library.{mostCandidates, coreNumber, candidateNumber, candidateAtom, candidateAt}
 use Rattle.catalogue.specs.declared.Site.{Site}
-use Rattle.stock.specs.Stock.{openedOf, atomsOf, coreAt, candidateArm, armAt, armAmong}
+use Rattle.stock.specs.Stock.{atomsOf, coreAt, candidateArm, armAt, armAmong}
 
-pub opened-said : (d : List ℕ) (bs : List BlockAt) (x : ℕ) (b : BlockAt) (bonds : List ℕ) → b ≡ find bs x → bonds ≡ bondBytes d b → opened (b .atoms) bonds ≡ openedOf d bs x
+pub opened-said : (d : List ℕ) (bs : List BlockAt) (x : ℕ) (b : BlockAt) (bonds : List ℕ) → b ≡ find bs x → bonds ≡ bondBytes d b → opened (b .number) (b .atoms) bonds ≡ openedOf d bs x
 opened-said d bs x b bonds e h = rw (h, e)
 
 module _ (d : List ℕ) (bs : List BlockAt) (xs : List ℕ) where

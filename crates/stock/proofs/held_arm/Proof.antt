@@ -3,7 +3,7 @@ use mathlib.Core.Path.{sym, _∙_, ap}
 use native.Mathlib.Omega.{arith}
 use lib.ListN.{take}
 use borrow.Author.Needs.{needs}
-use Rattle.stock.specs.Stock.{openedOf}
+use Rattle.arms.specs.Arms.{openedOf}
 use Rattle.stock.proofs.Making.{site-past, index-past, arm-said}
 use Rattle.stock.proofs.held_arm.Statement.{statement}
 use Rattle.stock.proofs.held_arm.Tie as tie
