@@ -22,8 +22,8 @@ use records::le16_at;
 ghost use mathlib.Core.Path.{_≡_};
 ghost use Prim.Native.Nat.{_<_};
 ghost use lib.ListN.{take};
-ghost use Rattle.catalogue.specs.Library.{mostSites};
 ghost use Rattle.arms.specs.Arms.{openedOf};
+ghost use Rattle.catalogue.specs.Library.{mostSites};
 ghost use Rattle.stock.specs.Stock.{Holds, armAt, atomsOf, coreAt, armsAt, allArms, armAmong, armsAmong};
 
 // The rows of all arms: those of each site one after the other, a place for each candidate that a site may have.
