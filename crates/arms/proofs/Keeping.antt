@@ -49,13 +49,13 @@ module _ {A : Type 0} {none : A} {f : ℕ → A} {n : ℕ} {l : List A} where
   pub filled-all : {k : ℕ} → FilledTo none f n l k → n ≤ k → l ≡ table n f
   filled-all p h = ext-getD none l (table n f) (p .size ∙ sym (length-table n f)) (λ j i. p .says j (omega (arith, p .size)) ∙ sym (getD-table n f j none (omega (arith, p .size))))
 
-pub opened-long : (n : ℕ) (bonds : List ℕ) → length (opened n bonds) ≡ summaryBytes
+pub opened-long : (number n : ℕ) (bonds : List ℕ) → length (opened number n bonds) ≡ summaryBytes
 unfolding opened filledSummary
-opened-long n bonds = go (fillReply n bonds (length (replicate {A = ℕ} summaryBytes 0)))
+opened-long number n bonds = go (fillReply n bonds (length (replicate {A = ℕ} summaryBytes 0)))
   where
-    go : (r : Read (Unit {0})) → length (filledSummary r 0 (graphOf n bonds) (replicate summaryBytes 0)) ≡ summaryBytes
+    go : (r : Read (Unit {0})) → length (filledSummary r number (graphOf n bonds) (replicate summaryBytes 0)) ≡ summaryBytes
     go (refused r) = length-replicate {A = ℕ} summaryBytes 0
-    go (read u) = length-sets (replicate summaryBytes 0) 0 (summaryOf 0 (graphOf n bonds)) ∙ length-replicate {A = ℕ} summaryBytes 0
+    go (read u) = length-sets (replicate summaryBytes 0) 0 (summaryOf number (graphOf n bonds)) ∙ length-replicate {A = ℕ} summaryBytes 0
 
 pub arm-kept : (s : List ℕ) (a : ℕ) (x : Indices) (y : Seen) → x ≡ storedFields s → y ≡ seenAt s a → record { six = x; end = y .counts } ≡ armIn s a
 arm-kept s a x y e q = rw (e, q)

@@ -7,6 +7,8 @@ use lib.ListN.{getD, replicate}
 use Rattle.block.specs.Rows.{table}
 use Rattle.block.specs.declared.Indices.{Indices}
 use Rattle.block.specs.declared.Vertex.{Vertex}
+use Rattle.assembly.specs.Book.{find, bondBytes}
+use Rattle.assembly.specs.declared.BlockAt.{BlockAt}
 use Rattle.sighted.specs.Sighted.{stepsIn}
 use Rattle.summary.specs.Layout.{summaryBytes, storedFields, seenAt, vertexAt}
 use Rattle.filling.specs.Reply.{fillBytes}
@@ -62,15 +64,12 @@ portIn s atoms a = record { counts = vertexAt s a; near = portsNear (seenAt s a 
 unfoldable pub coreIn : List ℕ → List ℕ → Core
 coreIn s atoms = record { six = storedFields s; ends = table mostArms (λ k. portIn s atoms (getD atoms k 0)) }
 
--- a block opened into an empty place, which stays empty where the block is refused
-unfoldable pub opened : ℕ → List ℕ → List ℕ
-opened n bonds = fillBytes 0 n bonds (replicate summaryBytes 0)
+-- a block opened under a number into an empty place, which stays empty where the block is refused; and the one that has a number
+unfoldable pub opened : ℕ → ℕ → List ℕ → List ℕ
+opened number n bonds = fillBytes number n bonds (replicate summaryBytes 0)
 
-abbrev pub armOf : ℕ → List ℕ → ℕ → Arm
-armOf n bonds a = armIn (opened n bonds) a
-
-abbrev pub coreOf : ℕ → List ℕ → List ℕ → Core
-coreOf n bonds atoms = coreIn (opened n bonds) atoms
+abbrev pub openedOf : List ℕ → List BlockAt → ℕ → List ℕ
+openedOf d bs x = let b = find bs x in opened (b .number) (b .atoms) (bondBytes d b)
 
 -- what is counted from the atom of arm k once the first m arms are joined, v being counted before
 unfoldable pub sightFrom : List Port → List Arm → ℕ → Vertex → ℕ → Vertex

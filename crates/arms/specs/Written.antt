@@ -32,40 +32,40 @@ use Rattle.summary.specs.Back.{summary-fits, fields-told, summary-told}
 use Rattle.summaries.specs.Ready.{LentBytes}
 use Rattle.summaries.proofs.Ports.{fields-bytes}
 use Rattle.filling.specs.Reply.{fillReply, filledSummary, fillBytes}
-use Rattle.arms.specs.Arms.{mostArms, noPort, noArm, portsNear, portIn, coreIn, opened, armOf, sixOf}
+use Rattle.arms.specs.Arms.{mostArms, noPort, noArm, portsNear, portIn, armIn, coreIn, opened, openedOf, sixOf}
 use Rattle.arms.specs.Composed.{Keeps, six-composed}
 use Rattle.arms.specs.declared.Arm.{Arm}
 use Rattle.arms.specs.declared.Core.{Core}
 use Rattle.arms.specs.declared.Port.{Port}
 
 -- a block opened into a place
-module _ (n : ℕ) (bonds : List ℕ) where
+module _ (number n : ℕ) (bonds : List ℕ) where
   abbrev g : Graph
   g = graphOf n bonds
 
   module _ (fine : blockReply n bonds ≡ read tt) where
-    begins : (out : List ℕ) → summaryBytes ≤ length out → take (length (summaryOf 0 g)) (fillBytes 0 n bonds out) ≡ summaryOf 0 g
+    begins : (out : List ℕ) → summaryBytes ≤ length out → take (length (summaryOf number g)) (fillBytes number n bonds out) ≡ summaryOf number g
     unfolding fillReply filledSummary
     begins out room =
-        let t = summaryOf 0 g in
-        let h : 0 + length t ≤ length out = omega (arith, summary-fits 0 n bonds fine) in
+        let t = summaryOf number g in
+        let h : 0 + length t ≤ length out = omega (arith, summary-fits number n bonds fine) in
         rw (fine, le-ltb (length out) summaryBytes room)
         (ap (take (length t)) (sets-eq t out 0 h) ∙ take-at t (drop (0 + length t) out) (length t) refl)
 
-    opened-begins : take (length (summaryOf 0 g)) (opened n bonds) ≡ summaryOf 0 g
+    opened-begins : take (length (summaryOf number g)) (opened number n bonds) ≡ summaryOf number g
     unfolding opened
     opened-begins = begins (replicate summaryBytes 0) (omega (arith, length-replicate {A = ℕ} summaryBytes 0))
 
-    pub opened-told : Told (keptOf (opened n bonds)) (tableOf (graphOf n bonds))
-    opened-told = summary-told 0 n bonds fine (opened n bonds) opened-begins
+    pub opened-told : Told (keptOf (opened number n bonds)) (tableOf (graphOf n bonds))
+    opened-told = summary-told number n bonds fine (opened number n bonds) opened-begins
 
-    fine-small : SixBytes (storedFields (opened n bonds))
+    fine-small : SixBytes (storedFields (opened number n bonds))
     unfolding indicesOf
     fine-small =
         let m = molecule n bonds fine in
         let w = few-atoms n bonds fine in
         let q = mul-le-mul (w .high) (mul-le-mul (w .high) (w .high)) in
-        rw (fields-told 0 n bonds fine (opened n bonds) opened-begins) (record {
+        rw (fields-told number n bonds fine (opened number n bonds) opened-begins) (record {
           atoms = omega (arith, w .high);
           w = omega (arith, q, total-most m tame-itself);
           even = omega (arith, q, total-most m tame-even);
@@ -82,17 +82,17 @@ module _ (n : ℕ) (bonds : List ℕ) where
     ];
   }
 
-  pub opened-small : SixBytes (storedFields (opened n bonds))
+  pub opened-small : SixBytes (storedFields (opened number n bonds))
   unfolding opened fillReply filledSummary
   opened-small = go (blockReply n bonds) refl
     where
-      go : (r : Read (Unit {0})) → blockReply n bonds ≡ r → SixBytes (storedFields (opened n bonds))
+      go : (r : Read (Unit {0})) → blockReply n bonds ≡ r → SixBytes (storedFields (opened number n bonds))
       go (refused r) e = rw e (fields-bytes blank)
       go (read u) e = fine-small e
 
 -- a placed block, opened
 abbrev pub openedAt : List ℕ → List BlockAt → List ℕ → ℕ → List ℕ
-openedAt d bs xs k = let b = find bs (placementAt xs k .block) in opened (b .atoms) (bondBytes d b)
+openedAt d bs xs k = openedOf d bs (placementAt xs k .block)
 
 -- the core and the n arms of an assembly: all joined to the first placement, at these atoms
 pub record ArmsOf (d : List ℕ) (bs : List BlockAt) (xs atoms : List ℕ) (n : ℕ) (core : Core) (arms : List Arm) : Type 0 where
@@ -101,7 +101,7 @@ pub record ArmsOf (d : List ℕ) (bs : List BlockAt) (xs atoms : List ℕ) (n : 
   pub first : (k : ℕ) → k < n → placementAt xs (suc k) .parent ≡ 1
   pub kept : core ≡ coreIn (openedAt d bs xs 0) atoms
   pub sites : (k : ℕ) → k < n → getD atoms k 0 ≡ placementAt xs (suc k) .site
-  pub ends : (k : ℕ) → k < n → let b = find bs (placementAt xs (suc k) .block) in getD arms k noArm ≡ armOf (b .atoms) (bondBytes d b) (placementAt xs (suc k) .own)
+  pub ends : (k : ℕ) → k < n → getD arms k noArm ≡ armIn (openedAt d bs xs (suc k)) (placementAt xs (suc k) .own)
 
 module _ {d : List ℕ} {bs : List BlockAt} {xs atoms : List ℕ} {n : ℕ} {core : Core} {arms : List Arm} (t : ArmsOf d bs xs atoms n core arms) where
   port : (k : ℕ) → k < mostArms → getD (core .ends) k noPort ≡ portIn (openedAt d bs xs 0) atoms (getD atoms k 0)
@@ -112,7 +112,7 @@ module _ {d : List ℕ} {bs : List BlockAt} {xs atoms : List ℕ} {n : ℕ} {cor
   unfolding coreIn portIn portsNear joinOf
   keeps = record {
     few = t .few;
-    small = λ k. let b = find bs (placementAt xs k .block) in opened-small (b .atoms) (bondBytes d b);
+    small = λ k. let b = find bs (placementAt xs k .block) in opened-small (b .number) (b .atoms) (bondBytes d b);
     first = t .first;
     six = ap (λ (c : Core). c .six) (t .kept);
     sights = λ k h. ap (λ (x : Port). x .counts) (port k (omega (arith, t .few))) ∙ ap (vertexAt (openedAt d bs xs 0)) (t .sites k h);
@@ -133,4 +133,4 @@ module _ {d : List ℕ} {bs : List BlockAt} {xs atoms : List ℕ} {n : ℕ} {cor
       let a = assembled (bookOf d bs) xs (λ x u. molecule (find bs x .atoms) (bondBytes d (find bs x)) (fine x u)) w in
       let has : ((k : ℕ) → k ≤ n → used bs (placementAt xs k .block) ≡ true) = λ k h. w .right .has k (omega (arith, t .count)) in
       six-composed keeps n (omega arith)
-      ∙ rw last (fields-written n (rw last at a) (λ k h. let x = placementAt xs k .block in opened-told (find bs x .atoms) (bondBytes d (find bs x)) (fine x (has k h))))
+      ∙ rw last (fields-written n (rw last at a) (λ k h. let b = find bs (placementAt xs k .block) in opened-told (b .number) (b .atoms) (bondBytes d b) (fine (placementAt xs k .block) (has k h))))

@@ -12,7 +12,7 @@ use summary::fields;
 use summary::seen;
 ghost use mathlib.Core.Path.{_≡_};
 ghost use Prim.Native.Nat.{_-_, _<_, min};
-ghost use Rattle.arms.specs.Arms.{mostArms, armRow, rowArm, opened, armIn, armOf, portsNear, portIn, coreIn, coreOf, sightAt, stemOf, joinedTo};
+ghost use Rattle.arms.specs.Arms.{mostArms, armRow, rowArm, opened, armIn, portsNear, portIn, coreIn, sightAt, stemOf, joinedTo};
 
 // The most arms of a core.
 pub const ARMS: usize = 4;
@@ -119,31 +119,21 @@ impl Stem {
     }
 }
 
-// A block opened in a place, whatever the place had: empty where the block is refused.
-pub fn open_in(n: usize, bonds: &[u8], place: &mut [u8; SUMMARY])
-    ensures { λ _. ⌜ now (place .exit) ≡ opened n (now (bonds .entry)) ⌝ }
+// A block opened in a place under a number, whatever the place had: empty where the block is refused.
+pub fn open_in(number: u16, n: usize, bonds: &[u8], place: &mut [u8; SUMMARY])
+    ensures { λ _. ⌜ now (place .exit) ≡ opened number n (now (bonds .entry)) ⌝ }
 {
     *place = [0u8; SUMMARY];
-    fill(0, n, bonds, place);
+    fill(number, n, bonds, place);
 }
 
-// What is kept of the block that is opened in a place, and joins at atom a.
+// What is kept of the block that is opened in a place, and joins at atom a: 0 in all where the place is empty.
 pub fn arm_in(s: &[u8], a: usize) -> Arm
     ensures { λ r. ⌜ r ≡ armIn (now (s .entry)) a ⌝ }
 {
     let six = fields(s);
-    let all = seen(s, a);
-    let end = all.counts;
+    let end = seen(s, a).counts;
     Arm { six, end }
-}
-
-// What is kept of a block that joins at atom a: 0 in all where the block is refused.
-pub fn arm_of(n: usize, bonds: &[u8], a: usize) -> Arm
-    ensures { λ r. ⌜ r ≡ armOf n (now (bonds .entry)) a ⌝ }
-{
-    let mut place = [0u8; SUMMARY];
-    open_in(n, bonds, &mut place);
-    arm_in(&place, a)
 }
 
 // The numbers of steps to the atoms where arms join that a row says.
@@ -170,7 +160,8 @@ fn port_in(s: &[u8], atoms: [u8; ARMS], a: usize) -> Port
     Port { counts, near }
 }
 
-fn core_in(s: &[u8], atoms: [u8; ARMS]) -> Core
+// What is kept of the block that is opened in a place, and to whose atoms arms join: one search from each.
+pub fn core_in(s: &[u8], atoms: [u8; ARMS]) -> Core
     ensures { λ r. ⌜ r ≡ coreIn (now (s .entry)) atoms ⌝ }
 {
     let six = fields(s);
@@ -181,15 +172,6 @@ fn core_in(s: &[u8], atoms: [u8; ARMS]) -> Core
         k += 1;
     }
     Core { six, ends }
-}
-
-// What is kept of a block to whose atoms arms join: one search from each; 0 in all where the block is refused.
-pub fn core_of(n: usize, bonds: &[u8], atoms: [u8; ARMS]) -> Core
-    ensures { λ r. ⌜ r ≡ coreOf n (now (bonds .entry)) atoms ⌝ }
-{
-    let mut place = [0u8; SUMMARY];
-    open_in(n, bonds, &mut place);
-    core_in(&place, atoms)
 }
 
 // What is counted from the atom of arm k once the arms before it are joined.

@@ -17,7 +17,7 @@ use Rattle.assembly.specs.Placements.{placementAt}
 use Rattle.assembly.specs.declared.Placement.{Placement}
 use Rattle.deck.specs.Kept.{kept}
 use Rattle.deck.specs.Sound.{found}
-use Rattle.arms.specs.Arms.{noArm, armOf, coreIn, opened, sixOf}
+use Rattle.arms.specs.Arms.{noArm, armIn, coreIn, openedOf, sixOf}
 use Rattle.arms.specs.Written.{ArmsOf, arms-written}
 use Rattle.arms.specs.declared.Arm.{Arm}
 use Rattle.arms.specs.declared.Core.{Core}
@@ -112,9 +112,9 @@ module _ (d : List ℕ) (l : Library) (e : libraryReply d ≡ read l) where
           few = few-sites;
           count = count-is book xs (l .sites) (choiceAt (l .sites) position) (whole d l e .listed) (is-choice (l .sites) position low) ∙ ap suc (sym (ap length same) ∙ sites-length table n);
           first = λ k h. ap (λ (q : Placement). q .parent) (arm-there k h);
-          kept = c ∙ ap (λ (x : ℕ). let b = find (l .blocks) x in coreIn (opened (b .atoms) (bondBytes d b)) (atomsOf table)) (sym core-there);
+          kept = c ∙ ap (λ (x : ℕ). coreIn (openedOf d (l .blocks) x) (atomsOf table)) (sym core-there);
           sites = λ k h. getD-table mostSites (λ i. siteOf i .atom) k 0 (omega (arith, few-sites)) ∙ sym (ap (λ (q : Placement). q .site) (arm-there k h));
-          ends = λ k h. arm k h ∙ ap (λ (q : Placement). let b = find (l .blocks) (q .block) in armOf (b .atoms) (bondBytes d b) (q .own)) (sym (arm-there k h));
+          ends = λ k h. arm k h ∙ ap (λ (q : Placement). armIn (openedOf d (l .blocks) (q .block)) (q .own)) (sym (arm-there k h));
         }
 
         -- THE FIELDS OF A PRODUCT, joined from what is kept

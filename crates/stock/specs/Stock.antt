@@ -6,21 +6,20 @@ use mathlib.Core.Path.{_≡_}
 use lib.Dec.{leb, ltb}
 use lib.ListN.{length, getD}
 use Rattle.block.specs.Rows.{table}
-use Rattle.assembly.specs.Book.{find, bondBytes}
 use Rattle.assembly.specs.declared.BlockAt.{BlockAt}
-use Rattle.arms.specs.Arms.{noArm, armRow, rowArm, opened, armIn, coreIn}
+use Rattle.arms.specs.Arms.{noArm, armRow, rowArm, openedOf, armIn, coreIn}
 use Rattle.arms.specs.declared.Arm.{Arm}
 use Rattle.arms.specs.declared.Core.{Core}
 use Rattle.catalogue.specs.Library.{mostSites, mostCandidates, coreNumber, candidateNumber, candidateAtom, candidateAt}
 use Rattle.catalogue.specs.declared.Site.{Site}
 use Rattle.catalogue.specs.Said.{noSite}
 
--- the block of a number, opened; and a place that holds the block of a number, or none: no block's number has more than 16 bits
-abbrev pub openedOf : List ℕ → List BlockAt → ℕ → List ℕ
-openedOf d bs x = let b = find bs x in opened (b .atoms) (bondBytes d b)
+-- a place that holds the block of a number, or none: no block's number has more than 16 bits
+abbrev pub noNumber : ℕ
+noNumber = 65536
 
 abbrev pub Holds : List ℕ → List BlockAt → ℕ → List ℕ → Type 0
-Holds d bs x place = x < 65536 → place ≡ openedOf d bs x
+Holds d bs x place = x < noNumber → place ≡ openedOf d bs x
 
 -- of the core, with the sites' atoms
 unfoldable pub atomsOf : List Site → List ℕ

@@ -7,7 +7,10 @@ use Rattle.assembly.specs.declared.BlockAt.{BlockAt}
 use Rattle.arms.specs.declared.Arm.{Arm}
 use Rattle.arms.specs.declared.Core.{Core}
 use Rattle.catalogue.specs.declared.Site.{Site}
-use Rattle.stock.specs.Stock.{coreAt, armsAt, allArms, armsAmong}
+use Rattle.stock.specs.Stock.{atomsOf, coreAt, armsAt, allArms, armsAmong}
+
+pub unique-atoms-of : (sites : List Site) (r s : List ℕ) → r ≡ atomsOf sites → s ≡ atomsOf sites → r ≡ s
+unique-atoms-of sites r s = unique
 
 module _ (d : List ℕ) (bs : List BlockAt) (xs : List ℕ) (sites : List Site) where
   pub unique-core-at : (r s : Core) → r ≡ coreAt d bs xs sites → s ≡ coreAt d bs xs sites → r ≡ s

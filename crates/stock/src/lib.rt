@@ -1,14 +1,13 @@
-// What is kept of a library: its core, and the arms of its candidates. Each block is opened once for each time that it is named; of a choice, not again
-// where the next site names it again.
+// What is kept of a library: its core, and the arms of its candidates. Each block is opened once for each time that it is named, but not again where the
+// next candidate names it again.
 use arms::Arm;
 use arms::ArmRow;
 use arms::Core;
 use arms::NO_ARM;
 use arms::SUMMARY;
 use arms::arm_in;
-use arms::arm_of;
 use arms::arm_row;
-use arms::core_of;
+use arms::core_in;
 use arms::open_in;
 use arms::row_arm;
 use assembly::BlockTable;
@@ -23,8 +22,9 @@ use records::le16_at;
 ghost use mathlib.Core.Path.{_≡_};
 ghost use Prim.Native.Nat.{_<_};
 ghost use lib.ListN.{take};
+ghost use Rattle.arms.specs.Arms.{openedOf};
 ghost use Rattle.catalogue.specs.Library.{mostSites};
-ghost use Rattle.stock.specs.Stock.{openedOf, Holds, armAt, atomsOf, coreAt, armsAt, allArms, armAmong, armsAmong};
+ghost use Rattle.stock.specs.Stock.{Holds, armAt, atomsOf, coreAt, armsAt, allArms, armAmong, armsAmong};
 
 // The rows of all arms: those of each site one after the other, a place for each candidate that a site may have.
 pub const PLACES: usize = SITES * CANDIDATES;
@@ -34,27 +34,8 @@ pub type ArmRows = [ArmRow; PLACES];
 // No block has this number: they are of 16 bits.
 const NO_NUMBER: usize = 65536;
 
-// Of a site's candidate of an index; none where the site has no such candidate, or stands past the payload.
-fn arm_at(d: &[u8], blocks: BlockTable, count: usize, xs: &[u8], s: Site, j: usize) -> Arm
-    ensures { λ r. ⌜ r ≡ armAt (now (d .entry)) (take count blocks) (now (xs .entry)) s j ⌝ }
-{
-    if xs.len() < s.first {
-        return NO_ARM;
-    }
-    if (s.many as usize) <= j {
-        return NO_ARM;
-    }
-    let p = s.first + CANDIDATE * j;
-    let number = le16_at(xs, p) as usize;
-    let a = byte_at(xs, p + 2) as usize;
-    let b = find_block(blocks, count, number);
-    let n = b.atoms as usize;
-    let bonds = bonds_part(d, b);
-    arm_of(n, bonds, a)
-}
-
 // The atoms of the sites.
-fn atoms_of(sites: [Site; SITES]) -> [u8; SITES]
+pub fn atoms_of(sites: [Site; SITES]) -> [u8; SITES]
     ensures { λ r. ⌜ r ≡ atomsOf sites ⌝ }
 {
     let mut atoms = [0u8; SITES];
@@ -65,18 +46,6 @@ fn atoms_of(sites: [Site; SITES]) -> [u8; SITES]
         k += 1;
     }
     atoms
-}
-
-// The core of a library whose payload and sites these are.
-pub fn core_at(d: &[u8], blocks: BlockTable, count: usize, xs: &[u8], sites: [Site; SITES]) -> Core
-    ensures { λ r. ⌜ r ≡ coreAt (now (d .entry)) (take count blocks) (now (xs .entry)) sites ⌝ }
-{
-    let number = le16_at(xs, 0) as usize;
-    let b = find_block(blocks, count, number);
-    let n = b.atoms as usize;
-    let bonds = bonds_part(d, b);
-    let atoms = atoms_of(sites);
-    core_of(n, bonds, atoms)
 }
 
 // The block of a number opened in a place, unless the place holds it.
@@ -100,10 +69,20 @@ fn hold(
     let b = find_block(blocks, count, x);
     let n = b.atoms as usize;
     let bonds = bonds_part(d, b);
-    open_in(n, bonds, place);
+    open_in(b.number, n, bonds, place);
 }
 
-// As `arm_at`, by a place that then holds the candidate's block.
+// The core of a library whose payload and sites these are.
+pub fn core_at(d: &[u8], blocks: BlockTable, count: usize, xs: &[u8], sites: [Site; SITES]) -> Core
+    ensures { λ r. ⌜ r ≡ coreAt (now (d .entry)) (take count blocks) (now (xs .entry)) sites ⌝ }
+{
+    let mut place = [0u8; SUMMARY];
+    let mut held: usize = NO_NUMBER;
+    hold(d, blocks, count, le16_at(xs, 0), &mut held, &mut place);
+    core_in(&place, atoms_of(sites))
+}
+
+// Of a site's candidate of an index, by a place that then holds its block; none where the site has no such candidate, or stands past the payload.
 fn held_arm(
     d: &[u8],
     blocks: BlockTable,
@@ -165,10 +144,13 @@ pub fn all_arms(
     ensures { λ r. ⌜ r ≡ allArms (now (d .entry)) (take count blocks) (now (xs .entry)) sites ⌝ }
 {
     let mut all = [[0u64; 14]; PLACES];
+    let mut place = [0u8; SUMMARY];
+    let mut held: usize = NO_NUMBER;
     let mut i = 0;
     while i < PLACES {
         let s = sites[i / CANDIDATES];
-        all[i] = arm_row(arm_at(d, blocks, count, xs, s, i % CANDIDATES));
+        let j = i % CANDIDATES;
+        all[i] = arm_row(held_arm(d, blocks, count, xs, s, j, &mut held, &mut place));
         i += 1;
     }
     all

@@ -3,7 +3,7 @@ use mathlib.Core.Path.{_≡_, refl, _∙_, ap}
 use native.Mathlib.Omega.{arith}
 use lib.ListN.{take}
 use borrow.Author.Needs.{needs}
-use Rattle.stock.specs.Stock.{openedOf}
+use Rattle.arms.specs.Arms.{openedOf}
 use Rattle.stock.proofs.Making.{opened-said}
 use Rattle.stock.proofs.hold.Statement.{statement}
 use Rattle.stock.proofs.hold.Tie as tie
