@@ -4,21 +4,26 @@ use mathlib.Core.List.{List}
 use mathlib.Core.Path.{_≡_, refl, _∙_, ap}
 use native.Mathlib.Omega.{arith}
 use borrow.Author.Tests.{lt-ltb, le-ltb}
-use lib.ListN.{take, getD}
+use lib.ListN.{length, take, drop, getD, replicate}
 use lib.Seq.{take-append-seam}
 use Rattle.reply.specs.Read.{refused, read}
 use Rattle.reply.specs.declared.Refusal.{Refusal}
 use Rattle.block.specs.declared.Indices.{Indices}
 use Rattle.records.specs.Records.{payloadAt}
-use Rattle.catalogue.specs.Library.{mostSites, Library, libraryReply}
+use Rattle.assembly.specs.Book.{mostBlocks, noBlock}
+use Rattle.deck.specs.Deck.{blockAt}
+use Rattle.deck.specs.Filled.{openBook}
+use Rattle.deck.specs.Said.{blockTable}
+use Rattle.catalogue.specs.First.{onePlace, first-block, first-opened}
+use Rattle.catalogue.specs.Library.{mostSites, libraryKind, Library, libraryReply}
 use Rattle.catalogue.specs.Products.{products, productAt, productReply}
 use Rattle.catalogue.specs.Sound.{whole}
 use Rattle.catalogue.specs.Said.{saidLibrary}
 use Rattle.catalogue.specs.Table.{sites-back, table-empty}
 use Rattle.catalogue.specs.declared.LibraryRead.{LibraryRead}
 use Rattle.library.specs.Said.{saidProduct}
-use Rattle.library.specs.Held.{Held, Spread}
-use Rattle.arms.specs.Arms.{mostArms, noArm, sixOf, stemOf, joinedTo, stem-joined}
+use Rattle.library.specs.Held.{Held, FirstHeld, Spread}
+use Rattle.arms.specs.Arms.{mostArms, noArm, opened, sixOf, stemOf, joinedTo, stem-joined}
 use Rattle.arms.specs.declared.Arm.{Arm}
 use Rattle.arms.specs.declared.Core.{Core}
 use Rattle.arms.specs.declared.Stem.{Stem}
@@ -34,6 +39,15 @@ held-read d l r e f = rw f (record {
   same = sites-back (l .sites) (whole d l e .listed .few .high);
   rest = table-empty (l .sites);
 })
+
+pub first-read : (d : List ℕ) (l : Library) (r : LibraryRead) → libraryReply d ≡ read l → r ≡ saidLibrary (read l) → (first : List ℕ) → first ≡ openBook libraryKind d onePlace
+    → FirstHeld d (r .blocks) (r .count) first
+unfolding opened
+first-read d l r e f first q =
+    let F = first-block d l e in
+    let b = blockAt d 0 in
+    let at : getD (blockTable (l .blocks)) 0 noBlock ≡ b = rw (F .blocks) refl in
+    q ∙ first-opened d l e ∙ rw (f, take-append-seam (l .blocks) (drop (length (l .blocks)) (replicate mostBlocks noBlock)), at, F .found) refl
 
 pub spread-read : (d : List ℕ) (l : Library) (r : LibraryRead) → libraryReply d ≡ read l → r ≡ saidLibrary (read l) → (ys : List ℕ) (c : Core) (all : List (List ℕ)) → let bs = take (r .count) (r .blocks) in
     ys ≡ payloadAt d (r .at) → c ≡ coreAt d bs ys (r .sites) → all ≡ allArms d bs ys (r .sites)

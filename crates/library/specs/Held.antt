@@ -6,9 +6,10 @@ use mathlib.Core.Path.{_≡_, refl, _∙_, ap, ap₂}
 use native.Mathlib.Omega.{arith}
 use borrow.Author.Tests.{ltb-true, ltb-false}
 use lib.Dec.{ltb}
-use lib.ListN.{length, getD}
+use lib.ListN.{length, getD, take}
 use Rattle.reply.specs.Read.{read}
 use Rattle.records.specs.Records.{payloadAt}
+use Rattle.assembly.specs.Book.{noBlock}
 use Rattle.assembly.specs.declared.BlockAt.{BlockAt}
 use Rattle.catalogue.specs.Library.{mostSites, mostCandidates, candidateAt, Library, libraryReply}
 use Rattle.catalogue.specs.Products.{products, choiceAt, productAt}
@@ -16,7 +17,7 @@ use Rattle.catalogue.specs.Sound.{whole}
 use Rattle.catalogue.specs.declared.Site.{Site}
 use Rattle.catalogue.specs.Said.{noSite}
 use Rattle.catalogue.specs.Table.{sitesIn, sites-length}
-use Rattle.arms.specs.Arms.{noArm, sixOf, rowArm}
+use Rattle.arms.specs.Arms.{noArm, sixOf, rowArm, openedOf}
 use Rattle.arms.specs.declared.Arm.{Arm}
 use Rattle.arms.specs.declared.Core.{Core}
 use Rattle.stock.specs.Stock.{coreAt, candidateArm, armAt, allArms}
@@ -36,6 +37,10 @@ pub record Held (d : List ℕ) (l : Library) (bs : List BlockAt) (xs : List ℕ)
   pub payload : xs ≡ payloadAt d (l .at)
   pub same : sitesIn sites n ≡ l .sites
   pub rest : (k : ℕ) → n ≤ k → getD sites k noSite ≡ noSite
+
+-- the first block, opened
+abbrev pub FirstHeld : List ℕ → List BlockAt → ℕ → List ℕ → Type 0
+FirstHeld d blocks count first = first ≡ openedOf d (take count blocks) (getD blocks 0 noBlock .number)
 
 -- with what is kept of the core, and all arms
 pub record Spread (d : List ℕ) (l : Library) (bs : List BlockAt) (xs : List ℕ) (sites : List Site) (n : ℕ) (c : Core) (all : List (List ℕ)) : Type 0 where

@@ -3,6 +3,8 @@ mod choice;
 mod last;
 
 use arms::Core;
+use arms::SUMMARY;
+use arms::core_in;
 use arms::stem_of;
 use assembly::BlockTable;
 use block::Indices;
@@ -16,6 +18,7 @@ use last::staying_at;
 use last::turn;
 use last::turn_values;
 use records::Sheet;
+use records::le16_at;
 use records::payload_at;
 use reply::NumberReply;
 use reply::Refusal;
@@ -26,6 +29,7 @@ use sheets::put_sheet;
 use stock::ArmRows;
 use stock::all_arms;
 use stock::arms_at;
+use stock::atoms_of;
 use stock::core_at;
 ghost use mathlib.Core.Path.{_≡_};
 ghost use mathlib.Core.List.{List};
@@ -39,7 +43,8 @@ ghost use Rattle.catalogue.specs.Products.{products, productAt, productReply};
 ghost use Rattle.library.specs.Said.{saidProduct};
 ghost use Rattle.catalogue.specs.Said.{saidLibrary};
 ghost use Rattle.library.specs.Steps.{stepReply, stepOut, saidStep, runOf};
-ghost use Rattle.library.specs.Held.{Held, Spread};
+ghost use Rattle.library.specs.Held.{Held, FirstHeld, Spread};
+ghost use Rattle.stock.specs.Stock.{coreAt};
 ghost use Rattle.library.specs.Values.{mostFields, valuesOf, valuesReply, saidValues, valuesOut};
 ghost use Rattle.library.specs.Filled.{Filled};
 
@@ -57,6 +62,25 @@ pub enum StepReply {
     Next(usize),
 }
 
+// The core, by the first block as it was opened while the deck was read, where that is the core.
+fn core_by(
+    d: &[u8],
+    blocks: BlockTable,
+    count: usize,
+    xs: &[u8],
+    sites: [Site; SITES],
+    first: &[u8; SUMMARY],
+) -> Core
+    requires { ⌜ FirstHeld (now d) blocks count (now first) ⌝ }
+    ensures { λ r. ⌜ r ≡ coreAt (now (d .entry)) (take count blocks) (now (xs .entry)) sites ⌝ }
+{
+    let b = blocks[0];
+    if b.number == le16_at(xs, 0) {
+        return core_in(first, atoms_of(sites));
+    }
+    core_at(d, blocks, count, xs, sites)
+}
+
 // The fields of the product at a position of a library that is read.
 fn fields_at(
     d: &[u8],
@@ -66,8 +90,10 @@ fn fields_at(
     sites: [Site; SITES],
     n: usize,
     position: usize,
+    first: &[u8; SUMMARY],
 ) -> Indices
     requires { ⌜ ((l : Library) × Held (now d) l (take count blocks) (payloadAt (now d) at) sites n × (position < products (l .sites))) ⌝ }
+    requires { ⌜ FirstHeld (now d) blocks count (now first) ⌝ }
     ensures { λ r. ⌜
         ((l : Library) → Held (now (d .entry)) l (take count blocks) (payloadAt (now (d .entry)) at) sites n
         → position < products (l .sites) → r ≡ productAt (now (d .entry)) l position)
@@ -76,18 +102,19 @@ fn fields_at(
     let xs = payload_at(d, at);
     let digits = choose(sites, n, position);
     let arms = arms_at(d, blocks, count, xs, sites, digits);
-    let core = core_at(d, blocks, count, xs, sites);
+    let core = core_by(d, blocks, count, xs, sites, first);
     let k = n - 1;
     let arm = arms[k];
     let stem = stem_of(core, arms, k);
     stem.joined(arm)
 }
 
-// The fields of the product at a position of a library deck, or its refusal.
+// The fields of the product at a position of a library deck, or its refusal. Where the core is the deck's first block it is read once.
 pub fn product(d: &[u8], position: usize) -> ProductReply
     ensures { λ r. ⌜ r ≡ saidProduct (productReply (now (d .entry)) position) ⌝ }
 {
-    let l = read_library(d);
+    let mut first = [0u8; SUMMARY];
+    let l = read_library(d, &mut first);
     let reply = l.reply;
     match reply {
         Reply::Refused(refusal) => ProductReply::Refused(refusal),
@@ -97,7 +124,7 @@ pub fn product(d: &[u8], position: usize) -> ProductReply
             }
             let blocks = l.blocks;
             let sites = l.sites;
-            let all = fields_at(d, blocks, l.count, l.at, sites, l.n, position);
+            let all = fields_at(d, blocks, l.count, l.at, sites, l.n, position, &first);
             ProductReply::Of(all)
         }
     }
@@ -205,7 +232,7 @@ pub fn run(d: &[u8], sheet: Sheet, position: usize, out: &mut [u8]) -> StepReply
             place: 0,
         });
     }
-    let l = read_library(d);
+    let l = read_library(d, &mut [0u8; 1]);
     let reply = l.reply;
     match reply {
         Reply::Refused(refusal) => StepReply::Refused(refusal),
@@ -300,7 +327,7 @@ pub fn values(d: &[u8], field: usize, position: usize, row: &mut [u64]) -> Numbe
         now (row .exit) ≡ valuesOut (now (row .entry)) (valuesReply (now (d .entry)) field position (length (now (row .entry))))
         ⌝ }
 {
-    let l = read_library(d);
+    let l = read_library(d, &mut [0u8; 1]);
     let reply = l.reply;
     match reply {
         Reply::Refused(refusal) => NumberReply::Refused(refusal),

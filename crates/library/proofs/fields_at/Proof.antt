@@ -16,16 +16,16 @@ use Rattle.library.proofs.fields_at.Statement.{statement}
 use Rattle.library.proofs.fields_at.Tie as tie
 
 choose-requires : tie.Need-choose-requires
-choose-requires c κs = let h = c .before .before .pre .1 in (few h, λ k i. many h k i .low)
+choose-requires c κs = let h = c .before .before .pre .0 .1 in (few h, λ k i. many h k i .low)
 
 sub-k : tie.Need-sub-k
-sub-k c = one (c .before .before .before .before .before .pre .1)
+sub-k c = one (c .before .before .before .before .before .pre .0 .1)
 
 mul-arm : tie.Need-mul-arm
-mul-arm c = let h = c .before .before .before .before .before .pre .1 in omega (arith, few h, one h)
+mul-arm c = let h = c .before .before .before .before .before .pre .0 .1 in omega (arith, few h, one h)
 
 array-copy-out-arm : tie.Need-array-copy-out-arm
-array-copy-out-arm c = let h = c .before .before .before .before .before .pre .1 in omega (arith, few h, one h)
+array-copy-out-arm c = let h = c .before .before .before .before .before .pre .0 .1 in omega (arith, few h, one h)
 
 returns : tie.Need-returns
 returns c l h q =
@@ -33,7 +33,7 @@ returns c l h q =
     let xs = c .before .before .before .before .before .before .payload-at .ensures .bytes in
     let chosen = c .before .before .before .before .before .choose in
     let arms = c .before .before .before .before .arms-at in
-    let core = c .before .before .before .core-at in
+    let core = c .before .before .before .core-by in
     let bs = take (a .count) (a .blocks) in
     made-said (core .result) (arms .result) (a .n) (c .before .stem-of .result) _ (one h) (few h) (c .before .stem-of .ensures) (c .joined .ensures)
     ∙ product-joined h (a .position) q (chosen .result) (chosen .ensures) (core .result) (arms .result)

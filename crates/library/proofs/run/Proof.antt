@@ -18,11 +18,11 @@ use Rattle.library.proofs.run.Statement.{statement}
 use Rattle.library.proofs.run.Tie as tie
 
 -- the library that is read, and the room for a sheet
-library : (c : tie.After-enum-told) → let d = c .before .before .before .before .before .before .before .before .args .d .now in (l : Library) × (libraryReply d ≡ read l) × (c .before .before .read-library .result ≡ saidLibrary (read l))
-library c = let r = c .before .before .read-library in library-ends _ (r .result) (r .ensures) (c .enum-told .given .1)
+library : (c : tie.After-enum-told) → let d = c .before .before .before .before .before .before .before .before .before .before .args .d .now in (l : Library) × (libraryReply d ≡ read l) × (c .before .before .before .read-library .result ≡ saidLibrary (read l))
+library c = let r = c .before .before .before .read-library in library-ends _ (r .result) (r .ensures .0) (c .enum-told .given .1)
 
-room : (c : tie.After-enum-told) → let a = c .before .before .before .before .before .before .before .before .args in sheetBytes (a .sheet) ≤ length (a .out .now)
-room c = omega (arith, c .before .before .before .if2 .left, c .before .before .before .before .bytes-of .ensures)
+room : (c : tie.After-enum-told) → let a = c .before .before .before .before .before .before .before .before .before .before .args in sheetBytes (a .sheet) ≤ length (a .out .now)
+room c = omega (arith, c .before .before .before .before .before .if2 .left, c .before .before .before .before .before .before .bytes-of .ensures)
 
 returns : tie.Need-returns
 returns c = let a = c .before .before .before .args in let e = step-long (a .sheet) (a .d .now) (a .position) (length (a .out .now)) (c .if1 .taken) in (sym (ap (saidStep _) e), sym (ap (λ (x : Ran). x .out) (run-stops (a .sheet) (a .d .now) (a .position) (a .out .now) _ _ e)))
@@ -31,7 +31,7 @@ returns-2 : tie.Need-returns-2
 returns-2 c = let a = c .before .before .before .before .before .args in let e = step-short (a .sheet) (a .d .now) (a .position) (length (a .out .now)) (c .before .before .if1 .left) (omega (arith, c .if2 .taken, c .before .bytes-of .ensures)) in (sym (ap (saidStep _) e), sym (ap (λ (x : Ran). x .out) (run-stops (a .sheet) (a .d .now) (a .position) (a .out .now) _ _ e)))
 
 returns-3 : tie.Need-returns-3
-returns-3 c = let a = c .before .before .before .before .before .before .before .before .before .before .args in let (l, r, f) = library (c .before .before) in
+returns-3 c = let a = c .before .before .before .before .before .before .before .before .before .before .before .before .args in let (l, r, f) = library (c .before .before) in
     let e = done-step (a .sheet) (a .d .now) l r (a .position) (length (a .out .now)) (omega (arith, ap (λ (x : LibraryRead). x .products) f, c .if3 .taken)) (room (c .before .before)) in
     (sym (ap (saidStep _) e), sym (ap (λ (x : Ran). x .out) (run-ends (a .sheet) (a .d .now) (a .position) (a .out .now) _ e)))
 
@@ -39,15 +39,15 @@ run-read-requires : tie.Need-run-read-requires
 run-read-requires c κs = library (c .before .before .before)
 
 returns-4 : tie.Need-returns-4
-returns-4 c = let a = c .before .before .before .before .before .before .before .before .before .args in let r = c .before .before .before .read-library in
-    let e = step-product (a .sheet) (a .d .now) (a .position) (length (a .out .now)) (c .before .before .before .before .before .before .if1 .left) (omega (arith, c .before .before .before .before .if2 .left, c .before .before .before .before .before .bytes-of .ensures)) ∙ product-stops (a .d .now) (a .position) _ (library-stops _ (r .result) _ (r .ensures) (c .before .reply .given .1)) in (sym (ap (saidStep _) e), sym (ap (λ (x : Ran). x .out) (run-stops (a .sheet) (a .d .now) (a .position) (a .out .now) _ _ e)))
+returns-4 c = let a = c .before .before .before .before .before .before .before .before .before .before .before .args in let r = c .before .before .before .before .read-library in
+    let e = step-product (a .sheet) (a .d .now) (a .position) (length (a .out .now)) (c .before .before .before .before .before .before .before .before .if1 .left) (omega (arith, c .before .before .before .before .before .before .if2 .left, c .before .before .before .before .before .before .before .bytes-of .ensures)) ∙ product-stops (a .d .now) (a .position) _ (library-stops _ (r .result) _ (r .ensures .0) (c .before .reply .given .1)) in (sym (ap (saidStep _) e), sym (ap (λ (x : Ran). x .out) (run-stops (a .sheet) (a .d .now) (a .position) (a .out .now) _ _ e)))
 
 returns-5 : tie.Need-returns-5
-returns-5 c = let a = c .before .before .before .before .before .before .before .before .before .before .before .before .before .before .args in let (l, r, f) = library (c .before .before .before .before .before .before) in
+returns-5 c = let a = c .before .before .before .before .before .before .before .before .before .before .before .before .before .before .before .before .args in let (l, r, f) = library (c .before .before .before .before .before .before) in
     let e = made-step (a .sheet) (a .d .now) l r (a .position) (length (a .out .now)) (omega (arith, ap (λ (x : LibraryRead). x .products) f, c .before .before .before .before .if3 .left)) (room (c .before .before .before .before .before .before)) in
     (ap stepped.Next (c .before .before .run-read .ensures .0) ∙ sym (ap (saidStep _) e), c .before .before .run-read .ensures .1)
 
 pub run-spec : {M : Type 1} → statement M
 run-spec =
-    tie.close (tie.spec returns (λ c κs. search needs) returns-2 (λ c κs. search needs) (λ c. search needs) (λ c. search needs) returns-3 run-read-requires
-    returns-4 (λ c. search needs) returns-5)
+    tie.close (tie.spec returns (λ c κs. search needs) returns-2 (λ c. search needs) (λ c κs. search needs) (λ c. search needs) (λ c. search needs) returns-3
+    run-read-requires returns-4 (λ c. search needs) returns-5)
