@@ -13,7 +13,8 @@ use lib.Seq.{drop-cons, getD-take}
 use Rattle.graph.specs.Assembly.{Join}
 use Rattle.reply.specs.Read.{isOutside}
 use Rattle.assembly.specs.Book.{noBlock, find}
-use Rattle.assembly.specs.Placements.{placementAt, joinEnds, joinsOn, ownOn}
+use Rattle.assembly.specs.Placements.{placementAt, joinEnds, joinsOn}
+use Rattle.assembly.specs.Work.{ownOn}
 use Rattle.assembly.specs.Degrees.{joins-suc}
 use Rattle.assembly.specs.declared.BlockAt.{BlockAt}
 

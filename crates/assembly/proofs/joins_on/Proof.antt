@@ -4,7 +4,8 @@ use mathlib.Core.Bool.{Bool, cond}
 use mathlib.Core.Path.{_≡_, ap}
 use native.Mathlib.Omega.{arith}
 use borrow.Author.Needs.{needs}
-use Rattle.assembly.specs.Placements.{placementAt, joinOf, joinOn, joinsOn, ownOn}
+use Rattle.assembly.specs.Placements.{placementAt, joinOf, joinOn, joinsOn}
+use Rattle.assembly.specs.Work.{ownOn}
 use Rattle.assembly.specs.Degrees.{joins-zero}
 use Rattle.assembly.proofs.Walks.{own-none, joins-next}
 use Rattle.assembly.proofs.joins_on.Statement.{statement}
