@@ -12,8 +12,10 @@ use lib.ListN.{length, take, drop, getD, List·getD-eq-default, drop-of-length-l
 use lib.Seq.{drop-cons, getD-take}
 use Rattle.graph.specs.Assembly.{Join}
 use Rattle.reply.specs.Read.{isOutside}
+use Rattle.records.specs.Records.{assemblyKind}
 use Rattle.assembly.specs.Book.{noBlock, find}
-use Rattle.assembly.specs.Placements.{placementAt, joinEnds, joinsOn, ownOn}
+use Rattle.assembly.specs.Placements.{placementAt, joinEnds, joinsOn}
+use Rattle.assembly.specs.Work.{ownOn}
 use Rattle.assembly.specs.Degrees.{joins-suc}
 use Rattle.assembly.specs.declared.BlockAt.{BlockAt}
 
@@ -73,11 +75,11 @@ module _ (joins : ℕ → Join) (p a : ℕ) where
   unfolding joinEnds
   joins-next k = rw (add-one k) (omega (arith, own-next k, joins-suc joins k p a))
 
--- a placement whose parent's atom is not 0 stands within the bytes
-pub stands : (xs : List ℕ) (k : ℕ) → (placementAt xs k .site ≡ 0 → ⊥) → 7 + 6 * k ≤ length xs
+-- before a placement whose parent's atom is not 0 all bytes are there
+pub stands : (xs : List ℕ) (k : ℕ) → (placementAt xs k .site ≡ 0 → ⊥) → assemblyKind .fixed + assemblyKind .item * k ≤ length xs
 unfolding placementAt
-stands xs k h = go (decLt (6 + 6 * k) (length xs))
+stands xs k h = go (decLt (length xs) (assemblyKind .fixed + assemblyKind .item * k))
   where
-    go : Dec (6 + 6 * k < length xs) → 7 + 6 * k ≤ length xs
-    go (yes l) = omega arith
-    go (no l) = absurd (h (List·getD-eq-default xs 0 {n = 2 + 6 * k + 4} (omega arith)))
+    go : Dec (length xs < assemblyKind .fixed + assemblyKind .item * k) → assemblyKind .fixed + assemblyKind .item * k ≤ length xs
+    go (yes l) = absurd (h (List·getD-eq-default xs 0 (omega arith)))
+    go (no l) = omega arith

@@ -9,6 +9,7 @@
 -- | `bondsOn`                          | the bonds that 19 counts on a placed atom                    | `degree-is`: those of the molecule written out  |
 pub mod Book
 pub mod Placements
+pub mod Work
 pub mod Degrees
 pub mod Sound
 pub mod Rules

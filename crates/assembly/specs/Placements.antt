@@ -57,10 +57,6 @@ joinEnds j k p a = cond (eqb (j .parent) p && eqb (j .site) a) 1 0 + cond (eqb k
 unfoldable pub joinsOn : (ℕ → Join) → ℕ → ℕ → ℕ → ℕ
 joinsOn joins last p a = sum last (λ k. joinEnds (joins k) (suc k) p a)
 
--- of these ends those of a join's own side: only p's own join has one there, at index p - 1, if it is one of them
-unfoldable pub ownOn : (ℕ → Join) → ℕ → ℕ → ℕ → ℕ
-ownOn joins last p a = cond (isOutside last (p - 1)) 0 (cond (eqb (joins (p - 1) .own) a) 1 0)
-
 -- the bonds on atom a of placement number p, which is of block g: the block's, and those joins
 unfoldable pub bondsOn : Graph → (ℕ → Join) → ℕ → ℕ → ℕ → ℕ
 bondsOn g joins last p a = degree (g .bonds) a + joinsOn joins last p a

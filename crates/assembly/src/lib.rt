@@ -5,9 +5,10 @@ ghost use Prim.Native.Nat.{_+_, _*_, _^_, _<_, _≤_};
 ghost use lib.Dec.{eqb};
 ghost use lib.ListN.{length, take};
 ghost use Rattle.records.specs.Bytes.{PartOf, byteAt, le16};
-ghost use Rattle.records.specs.Records.{blockKind};
+ghost use Rattle.records.specs.Records.{blockKind, assemblyKind};
 ghost use Rattle.assembly.specs.Book.{find, isNumbered};
-ghost use Rattle.assembly.specs.Placements.{placementAt, ownOn, joinsOn, joinOn, isFull, firstFault, parentFault, joinFault};
+ghost use Rattle.assembly.specs.Placements.{placementAt, joinsOn, joinOn, isFull, firstFault, parentFault, joinFault};
+ghost use Rattle.assembly.specs.Work.{ownOn};
 use block::LIMIT;
 use records::ASSEMBLY;
 use records::BLOCK;
@@ -29,6 +30,9 @@ pub const BOND_BYTES: usize = BLOCK.item as usize;
 const ASSEMBLY_HEAD: usize = ASSEMBLY.fixed as usize;
 
 pub const PLACEMENT_BYTES: usize = ASSEMBLY.item as usize;
+
+// The largest number that a block can have.
+const LARGEST_NUMBER: usize = u16::MAX as usize;
 
 // Where a block stands: its number, the first byte of its payload, its atoms and its bonds.
 pub struct BlockAt {
@@ -67,7 +71,7 @@ pub struct JoinSite {
 fn same_number(x: u16, number: usize) -> bool
     ensures { λ r. ⌜ r ≡ eqb x number ⌝ }
 {
-    if 65535 < number {
+    if LARGEST_NUMBER < number {
         return false;
     }
     x == (number as u16)
@@ -171,7 +175,7 @@ fn one_if(x: bool, y: bool) -> usize
 
 // Whether the join of a placement that is all there, from a byte on, is on atom a of placement number p by its parent's side.
 fn is_on(xs: &[u8], at: usize, p: u16, a: u8) -> bool
-    requires { ⌜ at + 6 ≤ length (now xs) ⌝ }
+    requires { ⌜ at + assemblyKind .item ≤ length (now xs) ⌝ }
     ensures { λ r. ⌜ r ≡ (eqb (le16 (now (xs .entry)) (at + 2)) p && eqb (byteAt (now (xs .entry)) (at + 4)) a) ⌝ }
 {
     if two_at(xs, at + 2) != p {
@@ -196,7 +200,7 @@ fn own_on(xs: &[u8], last: usize, p: u16, a: u8) -> usize
 
 // How many ends these joins, which are within the bytes, have at atom a of placement number p.
 fn joins_on(xs: &[u8], last: usize, p: u16, a: u8) -> usize
-    requires { ⌜ 8 + 6 * last ≤ length (now xs) ⌝ }
+    requires { ⌜ assemblyKind .fixed + assemblyKind .item * (last + 1) ≤ length (now xs) ⌝ }
     ensures { λ r. ⌜ (r ≡ joinsOn (joinOn (placementAt (now (xs .entry)))) last p a) × (r ≤ last + 1) ⌝ }
 {
     let mut total = own_on(xs, last, p, a);
@@ -214,7 +218,7 @@ fn joins_on(xs: &[u8], last: usize, p: u16, a: u8) -> usize
 
 // Whether atom a of placement number p, which has some bonds in its block, has as many as it may, before the placement at index k is joined.
 fn is_full(ends: usize, xs: &[u8], k: usize, p: u16, a: u8) -> bool
-    requires { ⌜ 2 + 6 * k ≤ length (now xs) ⌝ }
+    requires { ⌜ assemblyKind .fixed + assemblyKind .item * k ≤ length (now xs) ⌝ }
     ensures { λ r. ⌜ r ≡ isFull ends (joinOn (placementAt (now (xs .entry)))) k p a ⌝ }
 {
     if LIMIT <= ends {

@@ -15,10 +15,9 @@ use Rattle.graph.specs.Graph.{Bond, joins, anyJoins, bonded, degree}
 use Rattle.graph.specs.Sets.{has}
 use Rattle.graph.specs.SetLaws.{has-none}
 use Rattle.graph.specs.Bonds.{any-none}
-use Rattle.reply.specs.Read.{_then_, refuseFor, refusal}
+use Rattle.reply.specs.Read.{refused, read, _then_, refuseFor, refusal}
 use Rattle.block.specs.Block.{limit, mostAtoms, bondsOf, graphOf, bondFault, bondsReply}
 use Rattle.block.specs.Near.{Draws}
-use Rattle.block.specs.Sketched.{orSeven}
 use Rattle.block.specs.Numbered.{bondAt, rest, rest-cons, rest-none, bonds-next, bonds-over}
 use Rattle.block.specs.Lent.{zeros}
 
@@ -94,7 +93,7 @@ module _ (n : ℕ) (xs : List ℕ) (k : ℕ) (l : 2 * k ≤ length xs) where
       let none : degree (rest ys k) v ≡ 0 = rw (rest-none ys k (omega (arith, long))) in
       omega (arith, ends-before ys k (omega (arith, long)) v, ap (λ (bs : List Bond). degree bs v) (before-take xs k k (omega arith)))
 
-  same-fault : (b : Bond) → bondFault n (bondsOf ys) b ≡ bondFault n (before xs k) b
+  pub same-fault : (b : Bond) → bondFault n (bondsOf ys) b ≡ bondFault n (before xs k) b
   unfolding bondFault
   same-fault b = rw (same-joined (b .one) (b .two), same-ends (b .one), same-ends (b .two))
 
@@ -115,21 +114,21 @@ reads-start n xs = record { answer = refl }
 
 module _ (n : ℕ) (xs : List ℕ) (k : ℕ) (A : Reads n xs k) where
   module _ (more : 2 * k + 1 < length xs) where
-    step : bondsReply n [] (bondsOf xs) ≡ (refuseFor (bondFault n (bondsOf (take (2 * k) xs)) (bondAt xs k)) (suc k) then λ _. bondsReply n (bondAt xs k ∷ before xs k) (rest xs (suc k)))
+    step : bondsReply n [] (bondsOf xs) ≡ (refuseFor (bondFault n (before xs k) (bondAt xs k)) (suc k) then λ _. bondsReply n (bondAt xs k ∷ before xs k) (rest xs (suc k)))
     unfolding bondsReply
-    step = A .answer ∙ rw (rest-cons xs k more, length-before xs k, same-fault n xs k (omega arith) (bondAt xs k)) refl
+    step = A .answer ∙ rw (rest-cons xs k more, length-before xs k) refl
 
-    pub reads-fault : (f : ℕ) → f ≢ 0 → f ≡ bondFault n (bondsOf (take (2 * k) xs)) (bondAt xs k) → refusal f (k + 1) ≡ orSeven (bondsReply n [] (bondsOf xs))
+    pub reads-fault : (f : ℕ) → f ≢ 0 → f ≡ bondFault n (before xs k) (bondAt xs k) → bondsReply n [] (bondsOf xs) ≡ refused (refusal f (k + 1))
     reads-fault zero ne e = absurd (ne refl)
-    reads-fault (suc f) ne e = rw (step, ← e, add-one)
+    reads-fault (suc f) ne e = step ∙ rw (← e, add-one)
 
-    pub reads-next : 0 ≡ bondFault n (bondsOf (take (2 * k) xs)) (bondAt xs k) → Reads n xs (k + 1)
+    pub reads-next : bondFault n (before xs k) (bondAt xs k) ≡ 0 → Reads n xs (k + 1)
     unfolding before
-    reads-next e = record { answer = step ∙ rw (← e, add-one k) }
+    reads-next e = record { answer = step ∙ rw (e, add-one k) }
 
-  pub reads-fine : length xs < 2 * k + 2 → refusal 7 0 ≡ orSeven (bondsReply n [] (bondsOf xs))
+  pub reads-fine : length xs < 2 * k + 2 → bondsReply n [] (bondsOf xs) ≡ read tt
   unfolding bondsReply
-  reads-fine last = rw (A .answer, rest-none xs k last, bondsReply)
+  reads-fine last = A .answer ∙ rw (rest-none xs k last) refl
 
 -- the bonds from byte i on: what two bytes add, and that fewer are none
 module _ (xs : List ℕ) (i a : ℕ) where

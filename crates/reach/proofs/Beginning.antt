@@ -24,7 +24,7 @@ use Rattle.block.specs.Near.{around}
 use Rattle.block.specs.Numbered.{bondAt, bonds-short, bond-listed, drawn-within, drawn-bytes, ends-apart}
 use Rattle.block.specs.Opened.{neighboursOf}
 use Rattle.block.specs.Told.{drawn-atoms, drawn-sound, drawn-plain}
-use Rattle.reach.specs.Reach.{Joined, Reach, firstLevel, upTo}
+use Rattle.reach.specs.Reach.{WithNeighbours, Reach, firstLevel, upTo}
 use Rattle.reach.proofs.Summing.{short, short-in, short-out, sum-mixed}
 
 -- two atoms are the same, one bond apart, or more than d bonds apart
@@ -86,11 +86,11 @@ module _ (n : ℕ) (xs : List ℕ) (drawn : drawnReply n xs ≡ read tt) where
           let e = sound-zero sound w p (omega arith) in
           absurd (true≢false (sym q ∙ rw (← e) b))
 
-  pub reach-first : (near sets : List ℕ) → near ≡ neighboursOf g → Joined n near sets → Reach g d sets
-  reach-first near sets e J = record {
-    fits = λ v a. rw (J .joined v a) (or-lt n (around near v) (alone v) (rw e (neighbour-fits g v (omega (arith, few)))) (pow-lt (omega arith)));
+  pub reach-first : (near sets : List ℕ) → near ≡ neighboursOf g → WithNeighbours n near sets → Reach g d sets
+  reach-first near sets e W = record {
+    fits = λ v a. rw (W .set-is v a) (or-lt n (around near v) (alone v) (rw e (neighbour-fits g v (omega (arith, few)))) (pow-lt (omega arith)));
     holds = λ v w a b.
-        ap (λ (x : ℕ). has x w) (J .joined v a)
+        ap (λ (x : ℕ). has x w) (W .set-is v a)
         ∙ has-or (around near v) (alone v) w
         ∙ ap₂ _||_ (ap (λ (l : List ℕ). has (around l v) w) e ∙ has-neighbour g v w (omega (arith, few)) b) (has-alone v w (a .low) (b .low))
         ∙ at v w (two v w a);

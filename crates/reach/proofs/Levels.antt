@@ -23,7 +23,7 @@ use Rattle.block.specs.Opened.{neighboursOf}
 use Rattle.block.specs.Told.{block-drawn, drawn-atoms, drawn-sound}
 use Rattle.block.specs.declared.Indices.{Indices}
 use Rattle.block.specs.declared.IndicesReply.the-variants.{Of, Refused}
-use Rattle.reach.specs.Reach.{Joined, Reach, Inner, Spread, ofLevel, AllNext, LowSums, Room, Added, Reached, LevelsUpTo, firstLevel, upTo, fartherOf, halved}
+use Rattle.reach.specs.Reach.{WithNeighbours, Reach, Inner, Spread, ofLevel, AllNext, LowSums, Room, Added, Reached, LevelsUpTo, firstLevel, upTo, fartherOf, halved}
 use Rattle.reach.specs.declared.Both.{Both}
 use Rattle.reach.proofs.Beginning.{first-below, first-deep, reach-first, up-first, first-wanting}
 use Rattle.reach.proofs.Meeting.{next-all}
@@ -63,12 +63,12 @@ module _ (n : ℕ) (xs : List ℕ) (drawn : drawnReply n xs ≡ read tt) where
   sound : Sound g
   sound = drawn-sound n xs drawn
 
-  pub level-start : (k : ℕ) {near odd even : List ℕ} (reached : List ℕ) → near ≡ neighboursOf g → k ≤ n → Joined n near odd × Joined n near even → ((p : ℕ) → getD reached p 0 ≡ 0)
+  pub level-start : (k : ℕ) {near odd even : List ℕ} (reached : List ℕ) → near ≡ neighboursOf g → k ≤ n → WithNeighbours n near odd × WithNeighbours n near even → ((p : ℕ) → getD reached p 0 ≡ 0)
       → Level n xs k (ofLevel (firstLevel xs) odd even) (ofLevel (firstLevel xs) even odd) reached (record { all = length xs; odd = length xs; threes = 0 }) (n + length xs) (firstLevel xs)
   unfolding oddOf isAt
   level-start k {near} {odd} {even} reached e h (J, K) none = record {
-    reach = reach-first n xs drawn near (ofLevel (firstLevel xs) odd even) e (of-either (Joined n near) (firstLevel xs) J K);
-    inner = reach-inner sound (le-refl (firstLevel xs)) (reach-first n xs drawn near (ofLevel (firstLevel xs) even odd) e (of-either (Joined n near) (firstLevel xs) K J));
+    reach = reach-first n xs drawn near (ofLevel (firstLevel xs) odd even) e (of-either (WithNeighbours n near) (firstLevel xs) J K);
+    inner = reach-inner sound (le-refl (firstLevel xs)) (reach-first n xs drawn near (ofLevel (firstLevel xs) even odd) e (of-either (WithNeighbours n near) (firstLevel xs) K J));
     upto = record {
       all-is = omega (arith, up-first n xs drawn itself);
       odd-is = omega (arith, up-first n xs drawn oddOf);

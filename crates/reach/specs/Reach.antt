@@ -17,8 +17,8 @@ use Rattle.block.specs.declared.Indices.{Indices}
 use Rattle.reach.specs.declared.Both.{Both}
 
 -- the set of each of n atoms has that atom and its neighbours
-pub record Joined (n : ℕ) (near sets : List ℕ) : Type 0 where
-  pub joined : (v : ℕ) → Within n v → around sets v ≡ bitOr (around near v) (alone v)
+pub record WithNeighbours (n : ℕ) (near sets : List ℕ) : Type 0 where
+  pub set-is : (v : ℕ) → Within n v → around sets v ≡ bitOr (around near v) (alone v)
 
 -- how many bonds away its atoms are at most: one, where there is a bond
 abbrev pub firstLevel : List ℕ → ℕ

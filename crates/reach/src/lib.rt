@@ -18,7 +18,7 @@ ghost use Rattle.block.specs.Near.{around};
 ghost use Rattle.block.specs.Opened.{neighboursOf, drawnNear};
 ghost use Rattle.block.specs.Rows.{lentRow};
 ghost use Rattle.reach.specs.Sums.{sumsReply};
-ghost use Rattle.reach.specs.Reach.{Joined, Spread, Fit, Low, togetherIn, fewAtoms, low, ofLevel, AllMeet, AllNext, exchanged, LowSums, firstLevel, fartherOf, halved, Room, Added, Left, Reached};
+ghost use Rattle.reach.specs.Reach.{WithNeighbours, Spread, Fit, Low, togetherIn, fewAtoms, low, ofLevel, AllMeet, AllNext, exchanged, LowSums, firstLevel, fartherOf, halved, Room, Added, Left, Reached};
 use block::ATOMS;
 use block::Indices;
 use block::IndicesReply;
@@ -44,9 +44,9 @@ struct Both {
 }
 
 // Each of n atoms with its neighbours, in both tables.
-fn joined(near: &Neighbours, n: usize, odd: &mut [u64], even: &mut [u64])
+fn with_neighbours(near: &Neighbours, n: usize, odd: &mut [u64], even: &mut [u64])
     requires { ⌜ (n ≤ mostAtoms) × (n ≤ length (now odd)) × (n ≤ length (now even)) ⌝ }
-    ensures { λ _. ⌜ Joined n (now (near .entry)) (now (odd .exit)) × Joined n (now (near .entry)) (now (even .exit)) ⌝ }
+    ensures { λ _. ⌜ WithNeighbours n (now (near .entry)) (now (odd .exit)) × WithNeighbours n (now (near .entry)) (now (even .exit)) ⌝ }
 {
     let mut i = 0;
     while i < n {
@@ -261,7 +261,7 @@ fn summed(n: usize, bonds: &[u8], drawn: &Neighbours, k: usize, reached: &mut [u
     let ends = bonds.len() as u64;
     let mut odd = [0u64; ATOMS];
     let mut even = [0u64; ATOMS];
-    joined(drawn, n, &mut odd, &mut even);
+    with_neighbours(drawn, n, &mut odd, &mut even);
     let mut s = Both {
         all: ends,
         odd: ends,

@@ -1,3 +1,2 @@
 -- Laws that the proofs cite.
 pub mod Looking
-pub mod Listing

@@ -1,15 +1,13 @@
 -- Laws. What the bonds before say of two atoms, bond by bond. Assumes nothing.
-use Prim.Native.Nat.{ℕ, _+_, _*_, _≤_, _<_}
-use mathlib.Core.Bool.{Bool, true, false, _||_, cond}
+use Prim.Native.Nat.{ℕ, _+_, _*_, _≤_}
+use mathlib.Core.Bool.{Bool, false, _||_, cond}
 use mathlib.Core.List.{List}
 use mathlib.Core.Path.{_≡_, refl, sym, _∙_}
 use native.Mathlib.Omega.{arith}
 use native.Mathlib.Numerals.{add-one}
-use lib.Dec.{eqb, leb}
-use borrow.Author.Tests.{le-leb, lt-leb}
+use lib.Dec.{eqb}
 use lib.ListN.{getD}
 use Rattle.graph.specs.Graph.{joins, anyJoins, degree}
-use Rattle.block.specs.Block.{limit}
 use Rattle.block.specs.Numbered.{bondAt}
 use Rattle.block.proofs.Reading.{before}
 use Rattle.wholefile.specs.Said.{seenBy}
@@ -48,10 +46,3 @@ module _ (xs : List ℕ) (a b k : ℕ) (joined : Bool) (one two : ℕ) (L : Look
 pub looked-all : (xs : List ℕ) (a b k i : ℕ) {joined : Bool} {one two : ℕ} → i ≡ k → LookedBack xs a b i joined one two
     → record { joined = joined; one = one; two = two } ≡ seenBy (before xs k) a b
 looked-all xs a b k i e L = rw (← e) (λ j. record { joined = L .joined-is j; one = L .one-is j; two = L .two-is j })
-
--- an atom with all the bonds that it may have, and one with fewer
-pub full : {r d : ℕ} → r ≡ d → limit ≤ r → leb limit d ≡ true
-full {r} {d} e l = le-leb limit d (omega arith)
-
-pub roomy : {r d : ℕ} → r ≡ d → r < limit → leb limit d ≡ false
-roomy {r} {d} e l = lt-leb limit d (omega arith)

@@ -4,7 +4,9 @@ use mathlib.Core.Bool.{Bool, cond}
 use mathlib.Core.Path.{_≡_, ap}
 use native.Mathlib.Omega.{arith}
 use borrow.Author.Needs.{needs}
-use Rattle.assembly.specs.Placements.{placementAt, joinOf, joinOn, joinsOn, ownOn}
+use Rattle.records.specs.Records.{assemblyKind}
+use Rattle.assembly.specs.Placements.{placementAt, joinOf, joinOn, joinsOn}
+use Rattle.assembly.specs.Work.{ownOn}
 use Rattle.assembly.specs.Degrees.{joins-zero}
 use Rattle.assembly.proofs.Walks.{own-none, joins-next}
 use Rattle.assembly.proofs.joins_on.Statement.{statement}
@@ -13,7 +15,7 @@ use Rattle.assembly.proofs.joins_on.Tie as tie
 abbrev Inv-loop : tie.InvT-loop
 Inv-loop xs last p a total₀ at₀ k₀ total at k =
     let joins = joinOn (placementAt xs) in
-    (total + ownOn joins k p a ≡ joinsOn joins k p a + ownOn joins last p a) × (total ≤ k + 1) × (k ≤ last) × (at ≡ 2 + 6 * k)
+    (total + ownOn joins k p a ≡ joinsOn joins k p a + ownOn joins last p a) × (total ≤ k + 1) × (k ≤ last) × (at ≡ assemblyKind .fixed + assemblyKind .item * k)
 
 abbrev μ-loop : tie.MeasureT-loop
 μ-loop xs last p a total₀ at₀ k₀ total at k = last - k
@@ -24,7 +26,7 @@ turn : (c : tie.After-is-on Inv-loop μ-loop) → let l = c .before .before in l
 unfolding placementAt joinOf
 turn c = let l = c .before .before in
     let a = l .before .before .before .args in
-    let e : l .loop .at + 6 ≡ 2 + 6 * (l .loop .k + 1) = omega arith in
+    let e : l .loop .at + assemblyKind .item ≡ assemblyKind .fixed + assemblyKind .item * (l .loop .k + 1) = omega arith in
     omega (arith, ap (λ (t : Bool). cond {A = ℕ} t 1 0) (rw e at (c .is-on .ensures)), joins-next (joinOn (placementAt (a .xs .now))) (a .p) (a .a) (l .loop .k))
 
 loop-holds : tie.Need-loop-holds Inv-loop μ-loop

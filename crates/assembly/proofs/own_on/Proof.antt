@@ -3,7 +3,8 @@ use Prim.Native.Nat.{_-_}
 use mathlib.Core.Path.{_≡_, sym, _∙_}
 use native.Mathlib.Omega.{arith}
 use borrow.Author.Needs.{needs}
-use Rattle.assembly.specs.Placements.{joinOf, ownOn}
+use Rattle.assembly.specs.Placements.{joinOf}
+use Rattle.assembly.specs.Work.{ownOn}
 use Rattle.assembly.proofs.own_on.Statement.{statement}
 use Rattle.assembly.proofs.own_on.Tie as tie
 

@@ -4,6 +4,7 @@ use mathlib.Core.Path.{sym}
 use native.Mathlib.Omega.{arith}
 use lib.ListN.{List·getD-eq-default}
 use Rattle.records.proofs.Numbers.{past}
+use Rattle.records.specs.Records.{assemblyKind}
 use Rattle.assembly.specs.Placements.{placementAt}
 use borrow.Author.Needs.{needs}
 use Rattle.assembly.proofs.placement_at.Statement.{statement}
@@ -13,7 +14,7 @@ returns : tie.Need-returns
 unfolding placementAt
 returns c = let a = c .before .before .args in
     let d = a .xs .now in
-    let at = 2 + 6 * a .k in
+    let at = assemblyKind .fixed + assemblyKind .item * a .k in
     sym (
     rw (
       past 2 d at (omega arith),

@@ -24,8 +24,8 @@ abbrev μ-loop : tie.MeasureT-loop
 mul-pairs : tie.Need-mul-pairs Inv-loop μ-loop
 mul-pairs c = let l = few _ _ (c .before .before .pre .0) .high in omega (arith, mul-le-mul l l)
 
-joined-requires : tie.Need-joined-requires Inv-loop μ-loop
-joined-requires c κs = let l = few _ _ (c .before .before .before .before .pre .0) .high in (l, l, l)
+with-neighbours-requires : tie.Need-with-neighbours-requires Inv-loop μ-loop
+with-neighbours-requires c κs = let l = few _ _ (c .before .before .before .before .pre .0) .high in (l, l, l)
 
 add-met : tie.Need-add-met Inv-loop μ-loop
 add-met c = let f = c .before .before .before .before .before .before .before .pre .0 in omega (arith, few _ _ f, drawn-bytes _ _ f .0)
@@ -36,7 +36,7 @@ first-requires c κs = tt
 loop-holds : tie.Need-loop-holds Inv-loop μ-loop
 loop-holds c =
     let p = c .before .before .before .before .before .before .before .before .pre in
-    (refl, refl, c .before .before .odd2 .given, c .before .even2 .given, rw (c .first .ensures) (level-start _ _ (p .0) _ _ (p .1) (p .2) (c .before .before .before .joined .ensures) (p .4)))
+    (refl, refl, c .before .before .odd2 .given, c .before .even2 .given, rw (c .first .ensures) (level-start _ _ (p .0) _ _ (p .1) (p .2) (c .before .before .before .with-neighbours .ensures) (p .4)))
 
 -- in a turn: 1 to 6 do not refuse, and a pair is left
 abbrev start : tie.At-loop Inv-loop μ-loop → tie.Start Inv-loop μ-loop
@@ -201,7 +201,7 @@ returns-3 c =
 
 pub summed-spec : {M : Type 1} → statement M
 summed-spec =
-    tie.close (tie.spec Inv-loop μ-loop mul-pairs (λ c. refl) (λ c. refl) joined-requires add-met first-requires loop-holds of-level-requires count-requires
-    sub-if1 all-next-requires add-farther sub-farther farther-requires add-finished finished-requires (λ c. omega arith) returns slice-aggregate-next-level
-    slice-aggregate-next-level-2 next-level-requires (λ c. omega arith) returns-2 add-d sub-farther-2 farther-requires-2 loop-less loop-again
-    finished-requires-2 (λ c. omega arith) returns-3)
+    tie.close (tie.spec Inv-loop μ-loop mul-pairs (λ c. refl) (λ c. refl) with-neighbours-requires add-met first-requires loop-holds of-level-requires
+    count-requires sub-if1 all-next-requires add-farther sub-farther farther-requires add-finished finished-requires (λ c. omega arith) returns
+    slice-aggregate-next-level slice-aggregate-next-level-2 next-level-requires (λ c. omega arith) returns-2 add-d sub-farther-2 farther-requires-2 loop-less
+    loop-again finished-requires-2 (λ c. omega arith) returns-3)

@@ -11,9 +11,8 @@ use Rattle.graph.specs.Graph.{anyJoins, degree}
 use Rattle.reply.specs.Read.{isOutside}
 use Rattle.block.specs.Block.{limit}
 use Rattle.block.specs.Faults.{three, three′, four, five, six, six′, none}
-use Rattle.block.proofs.Reading.{before}
+use Rattle.block.proofs.Reading.{before, full, roomy}
 use Rattle.wholefile.specs.declared.Seen.{Seen}
-use Rattle.wholefile.proofs.Looking.{full, roomy}
 use Rattle.wholefile.proofs.fault.Statement.{statement}
 use Rattle.wholefile.proofs.fault.Tie as tie
 

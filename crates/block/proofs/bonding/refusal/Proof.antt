@@ -1,9 +1,10 @@
 use Prim.Native.Nat.{_-_, _*_, _≤_}
-use mathlib.Core.Path.{sym, _∙_}
+use mathlib.Core.Path.{sym, ap, _∙_}
 use native.Mathlib.Omega.{arith}
 use borrow.Author.Needs.{needs}
 use lib.ListN.{length-take}
-use Rattle.block.proofs.Reading.{Reads, reads-start, reads-fault, reads-next, reads-fine}
+use Rattle.block.specs.Sketched.{orSeven}
+use Rattle.block.proofs.Reading.{same-fault, Reads, reads-start, reads-fault, reads-next, reads-fine}
 use Rattle.block.proofs.bonding.refusal.Statement.{statement}
 use Rattle.block.proofs.bonding.refusal.Tie as tie
 
@@ -20,13 +21,13 @@ slice-aggregate-fault : tie.Need-slice-aggregate-fault Inv-loop μ-loop
 slice-aggregate-fault c = let l = c .before .before in omega (arith, length-take (2 * l .loop .k) (l .before .before .args .bonds .now))
 
 returns : tie.Need-returns Inv-loop μ-loop
-returns c = reads-fault _ _ _ (c .before .before .before .before .before .before .loop .inv .1) (omega arith) _ (c .if1 .taken) (c .before .fault .ensures)
+returns c = sym (ap orSeven (reads-fault _ _ _ (c .before .before .before .before .before .before .loop .inv .1) (omega arith) _ (c .if1 .taken) (c .before .fault .ensures ∙ same-fault _ _ _ (omega arith) _)))
 
 loop-again : tie.Need-loop-again Inv-loop μ-loop
-loop-again c = (omega arith, reads-next _ _ _ (c .before .before .before .before .before .before .loop .inv .1) (omega arith) (sym (c .if1 .left) ∙ c .before .fault .ensures))
+loop-again c = (omega arith, reads-next _ _ _ (c .before .before .before .before .before .before .loop .inv .1) (omega arith) (sym (c .before .fault .ensures ∙ same-fault _ _ _ (omega arith) _) ∙ c .if1 .left))
 
 returns-2 : tie.Need-returns-2 Inv-loop μ-loop
-returns-2 c = reads-fine _ _ _ (c .before .loop .inv .1) (omega arith)
+returns-2 c = sym (ap orSeven (reads-fine _ _ _ (c .before .loop .inv .1) (omega arith)))
 
 pub refusal-spec : {M : Type 1} → statement M
 refusal-spec =

@@ -1,5 +1,5 @@
 -- `catalogue::candidates::is_sparse` meets its contract. Assumes nothing.
-use Prim.Native.Nat.{_+_, _*_, _-_}
+use Prim.Native.Nat.{ℕ, _+_, _*_, _-_}
 use native.Mathlib.Omega.{arith}
 use borrow.Author.Tests.{ltb-true}
 use Rattle.records.specs.Records.{blockKind}
@@ -8,11 +8,15 @@ use Rattle.catalogue.proofs.Turns.{not-full}
 use Rattle.catalogue.proofs.candidates.is_sparse.Statement.{statement}
 use Rattle.catalogue.proofs.candidates.is_sparse.Tie as tie
 
+-- the code's WINDOW
+abbrev window : ℕ
+window = 32
+
 returns-3 : tie.Need-returns-3
 returns-3 c = λ e.
     let b = c .before .before .before .before .before .before .before .args .b in
     let from = b .start + blockKind .fixed in
-    not-full (blockKind .item * b .bonds) (from + 32 - from) (c .ends-in .result) _ _ (c .ends-in .ensures) (omega arith) (omega (arith, ltb-true))
+    not-full (blockKind .item * b .bonds) (from + window - from) (c .ends-in .result) _ _ (c .ends-in .ensures) (omega arith) (omega (arith, ltb-true))
 
 pub is-sparse-spec : {M : Type 1} → statement M
 is-sparse-spec =

@@ -7,8 +7,8 @@ use lib.ListN.{getD}
 use Rattle.graph.specs.SetLaws.{shifted-one}
 use Rattle.block.specs.Block.{mostAtoms}
 use Rattle.block.specs.Lent.{EntriesFilled, filled-none, filled-store}
-use Rattle.reach.proofs.joined.Statement.{statement}
-use Rattle.reach.proofs.joined.Tie as tie
+use Rattle.reach.proofs.with_neighbours.Statement.{statement}
+use Rattle.reach.proofs.with_neighbours.Tie as tie
 
 -- the sets of the first i atoms
 abbrev Filled : List ℕ → ℕ → List ℕ → List ℕ → Type 0
@@ -45,9 +45,9 @@ returns : tie.Need-returns Inv-loop μ-loop
 returns c =
     let e : c .before .loop .i ≡ c .before .before .args .n = omega arith in
     let I = rw e at (c .before .loop .inv) in
-    (record { joined = λ v w. I .1 .first (v - 1) (omega arith) }, record { joined = λ v w. I .2 .first (v - 1) (omega arith) })
+    (record { set-is = λ v w. I .1 .first (v - 1) (omega arith) }, record { set-is = λ v w. I .2 .first (v - 1) (omega arith) })
 
-pub joined-spec : {M : Type 1} → statement M
-joined-spec =
+pub with-neighbours-spec : {M : Type 1} → statement M
+with-neighbours-spec =
     tie.close (tie.spec Inv-loop μ-loop loop-holds (λ c. omega arith) (λ c. omega arith) (λ c. omega arith) (λ c. omega arith) slice-write-odd
     (λ c. omega arith) slice-write-even (λ c. omega arith) (λ c. omega arith) loop-again same-length same-length-2 returns)
