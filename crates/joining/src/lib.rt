@@ -3,6 +3,7 @@
 use block::Indices;
 use block::Vertex;
 use reply::larger;
+ghost use mathlib.Core.Bool.{cond};
 ghost use mathlib.Core.Path.{_≡_};
 ghost use Prim.Native.Nat.{_+_, _*_, _^_, _<_, _≤_};
 ghost use Rattle.graph.specs.Graph.{isAt};
@@ -57,6 +58,14 @@ fn cut_fields(x: Indices) -> Indices
     }
 }
 
+// The first where a test holds, else the second: no branch, since of distances that are even or odd by chance none can be foretold.
+fn either(x: bool, a: u64, b: u64) -> u64
+    requires { ⌜ (a ≤ mostCounted) × (b ≤ mostCounted) ⌝ }
+    ensures { λ r. ⌜ (r ≡ cond x a b) × (r ≤ mostCounted) ⌝ }
+{
+    if x { a } else { b }
+}
+
 // What is counted of o, from an atom d bonds before the joining bond at whose other end o is counted: all is d + 1 farther.
 fn farther(d: u64, o: Vertex) -> Vertex
     requires { ⌜ d ≤ mostCounted ⌝ }
@@ -64,32 +73,20 @@ fn farther(d: u64, o: Vertex) -> Vertex
     ensures { λ r. ⌜ (r ≡ beyond d o) × Low r ⌝ }
 {
     let by = d + 1;
+    let turned = d % 2 == 0;
+    let evens = either(turned, o.odds, o.evens);
+    let odds = either(turned, o.evens, o.odds);
+    let even = times(by, evens) + either(turned, o.odd, o.even);
+    let odd = times(by, odds) + either(turned, o.even, o.odd);
     let ones = is_at(0, d);
-    let twos = times(ones, o.ones) + is_at(1, d);
-    if d % 2 == 0 {
-        let even = times(by, o.odds) + o.odd;
-        let odd = times(by, o.evens) + o.even;
-        return Vertex {
-            sum: even + odd,
-            even,
-            odd,
-            evens: o.odds,
-            odds: o.evens,
-            ones,
-            twos,
-            farthest: by + o.farthest,
-        };
-    }
-    let even = times(by, o.evens) + o.even;
-    let odd = times(by, o.odds) + o.odd;
     Vertex {
         sum: even + odd,
         even,
         odd,
-        evens: o.evens,
-        odds: o.odds,
+        evens,
+        odds,
         ones,
-        twos,
+        twos: times(ones, o.ones) + is_at(1, d),
         farthest: by + o.farthest,
     }
 }

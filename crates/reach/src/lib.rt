@@ -97,7 +97,7 @@ fn by_fours(sets: &[u64], q: usize) -> u64
     met
 }
 
-// With those of the first `from` atoms how many those of the first n have together.
+// How many atoms the sets of n atoms have together, those of the first `from` left out.
 fn one_by_one(sets: &[u64], from: usize, n: usize) -> u64
     requires { ⌜ (from ≤ n) × (n ≤ mostAtoms) × (n ≤ length (now sets)) ⌝ }
     ensures { λ r. ⌜ (togetherIn (now (sets .entry)) from + r ≡ togetherIn (now (sets .entry)) n) × (r ≤ mostAtoms * mostAtoms) ⌝ }

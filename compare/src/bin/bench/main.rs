@@ -108,7 +108,8 @@ fn goal_of(what: &str) -> Option<f64> {
 fn row(what: &str, [library, plain]: [f64; 2], given: f64) {
     let ratio = plain / library;
     let goal = goal_of(what).unwrap_or(given);
-    let told = if ratio < goal { format!("{goal:.2} MISSED") } else { format!("{:.2}", goal.max(0.9 * ratio)) };
+    let reached = (90.0 * ratio).ceil() / 100.0;
+    let told = if ratio < goal { format!("{goal:.2} MISSED") } else { format!("{:.2}", goal.max(reached)) };
     println!("| {what} | {} | {ratio:.2} | {told} |", duration(library));
 }
 
