@@ -1,7 +1,7 @@
 //! Library decks that meet each refusal, with number and place written by hand from the rules.
 
 use super::plan::{write_records, BlockPlan, RecordPlan};
-use super::shapes::{path, ring, star};
+use super::shapes::{block, path, ring, star};
 
 pub struct LibrarySpecimen {
     pub name: &'static str,
@@ -159,6 +159,13 @@ fn in_candidates(meets: Meets) {
     record(16, "the earlier of two wrong candidates", &[1, 0, 1, 0, 1, 2, 9, 0, 1, 3, 0, 1]);
     record(13, "a byte left over", &[1, 0, 1, 0, 1, 1, 2, 0, 1, 0]);
     record(13, "a whole candidate left over", &[1, 0, 1, 0, 1, 1, 2, 0, 1, 2, 0, 1]);
+    meets(19, 64, "a joining atom that is full by the last of sixteen bonds", {
+        let late = (1..=10).map(|atom| (atom, atom + 1)).chain((11..=16).map(|atom| (atom, 17)));
+        let blocks =
+            (1..).zip([ring(6), block(17, late.collect())]).map(|(number, block)| BlockPlan { number, ..block });
+        let records = blocks.map(|block| RecordPlan::new(1, block.payload()));
+        write_records(&records.chain([RecordPlan::new(5, vec![1, 0, 1, 0, 1, 1, 2, 0, 17])]).collect::<Vec<_>>())
+    });
     let left_over = behind_blocks(5, &[1, 0, 1, 0, 1, 1, 2, 0, 1, 0]);
     meets(13, 54, "a byte left over, and one behind the record", [&left_over[..], &[0]].concat());
     let full = behind_blocks(5, &[3, 0, 1, 0, 1, 1, 2, 0, 1]);
