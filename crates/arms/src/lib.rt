@@ -23,7 +23,7 @@ const NO_FIELDS: Indices = Indices {
 };
 
 // What is kept of a block as an arm: its fields, and what is counted from the atom where it joins.
-#[derive(Drop)]
+#[derive(Clone, Copy)]
 pub struct Arm {
     pub six: Indices,
     pub end: Vertex,
@@ -73,7 +73,7 @@ pub fn row_arm(row: ArmRow) -> Arm
 }
 
 // What is kept of an atom of the core where an arm joins: what is counted from it, and the number of steps to the atom of each arm.
-#[derive(Drop)]
+#[derive(Clone, Copy)]
 pub struct Port {
     pub counts: Vertex,
     pub near: [u8; ARMS],
@@ -85,14 +85,14 @@ const NO_PORT: Port = Port {
 };
 
 // What is kept of a block as the core: its fields, and the atoms where arms join.
-#[derive(Drop)]
+#[derive(Clone, Copy)]
 pub struct Core {
     pub six: Indices,
     pub ends: [Port; ARMS],
 }
 
 // The running summary of a core with its first arms: the fields, and what is counted from the atom where the next arm joins.
-#[derive(Drop)]
+#[derive(Clone, Copy)]
 pub struct Stem {
     pub six: Indices,
     pub from: Vertex,

@@ -1,4 +1,6 @@
 // An assembly: its blocks and placements, and what is wrong with a placement, 17 to 19, 23 and 24. Crate shelf tests all of them over a book.
+#![tactic(auto)]
+
 ghost use Rattle.std.specs.Prelude.{◌≡◌, ◌&&◌, cond, ◌+◌, ◌*◌, ◌^◌, ◌<◌, ◌≤◌, eqb, length, take};
 ghost use Rattle.records.specs.Bytes.{PartOf, byte_at, le16};
 ghost use Rattle.records.specs.Records.{block_kind, assembly_kind};
@@ -28,7 +30,7 @@ pub const PLACEMENT_BYTES: usize = ASSEMBLY.item as usize;
 const LARGEST_NUMBER: usize = u16::MAX as usize;
 
 // Where a block stands: its number, the first byte of its payload, its atoms and its bonds.
-#[derive(Drop)]
+#[derive(Clone, Copy)]
 pub struct BlockAt {
     pub number: u16,
     pub start: u16,

@@ -1,4 +1,6 @@
 // One block: its refusals 1 to 7, its distances, indices and vertex sums.
+#![tactic(auto)]
+
 ghost use Rattle.std.specs.Prelude.{true, ◌≡◌, min};
 ghost use Rattle.reply.specs.Read.{read, said_reply, said_number};
 ghost use Rattle.block.specs.Block.{most_atoms, drawn_reply, block_reply};
@@ -41,7 +43,7 @@ pub struct OneRow {
 }
 
 // The atom count, W, its even and odd parts, the polarity and the largest distance.
-#[derive(Drop)]
+#[derive(Clone, Copy)]
 pub struct Indices {
     pub atoms: u64,
     pub w: u64,
@@ -58,7 +60,7 @@ pub enum IndicesReply {
 }
 
 // The vertex sum of an atom, its even and odd parts, its even and odd counts, how many atoms lie at distance 1 and 2, and how far the farthest is.
-#[derive(Drop)]
+#[derive(Clone, Copy)]
 pub struct Vertex {
     pub sum: u64,
     pub even: u64,

@@ -32,7 +32,7 @@ pub const SITES: usize = 4;
 pub const CANDIDATES: usize = 8;
 
 // A site: the core's atom, how many candidates it has, and where in the record's payload the first of them stands.
-#[derive(Drop)]
+#[derive(Clone, Copy)]
 pub struct Site {
     pub atom: u8,
     pub many: u8,

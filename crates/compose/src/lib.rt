@@ -28,7 +28,7 @@ const FEW: usize = 2;
 const SOME: usize = 6;
 
 // The six fields of a deck's molecule, and the first byte after its assembly.
-#[derive(Drop)]
+#[derive(Clone, Copy)]
 pub struct Composed {
     pub fields: Indices,
     pub sheet: usize,

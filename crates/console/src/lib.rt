@@ -22,7 +22,7 @@ const WIDTH: usize = 131072 + 2 + line::LONGEST;
 const WORD: usize = 10;
 
 // What is asked of each input.
-#[derive(Drop)]
+#[derive(Clone, Copy)]
 enum Asked {
     Deck(Form),
     Text(Kind),
@@ -36,7 +36,7 @@ enum Word {
 }
 
 // What a text that is measured is.
-#[derive(Drop)]
+#[derive(Clone, Copy)]
 enum Kind {
     Molfile,
     Neighbours,

@@ -24,14 +24,14 @@ use reply::{Refusal, Reply, is_outside};
 pub const LONGEST: usize = 32768;
 
 // A deck to be composed has no sheet, a deck to be judged has one.
-#[derive(Drop)]
+#[derive(Clone, Copy)]
 pub enum Form {
     Composed,
     Judged,
 }
 
 // What stands where: the blocks, the assembly's first byte, how many placements it has, and the first byte after it.
-#[derive(Drop)]
+#[derive(Clone, Copy)]
 pub struct Layout {
     pub count: usize,
     pub blocks: BlockTable,

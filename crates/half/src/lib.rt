@@ -1,4 +1,6 @@
 // Half a table of distances: a byte for each two atoms, stored once.
+#![tactic(auto)]
+
 ghost use Rattle.std.specs.Prelude.{◌≡◌, ◌≤◌, min};
 ghost use Rattle.half.specs.Half.{most_atoms, all_pairs, row_start, above_place, no_pair, pair_place, half_at, half_with, half_row, half_with_row};
 ghost use Rattle.half.specs.Places.{Pair};

@@ -1,5 +1,7 @@
 // What is counted from an atom, and the six fields, as they grow when two are joined by a bond. For any numbers: of larger ones than
 // can be the lowest binary digits count.
+#![tactic(auto)]
+
 ghost use Rattle.std.specs.Prelude.{cond, ◌≡◌, ◌+◌, ◌*◌, ◌^◌, ◌<◌, ◌≤◌};
 ghost use Rattle.graph.specs.Graph.{is_at};
 ghost use Rattle.joining.specs.Parts.{beyond, both, join_six};

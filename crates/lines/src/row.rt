@@ -17,7 +17,7 @@ pub const FAR: usize = 255;
 const LONG: u64 = 1000000000000000;
 
 // The numbers behind a line's colon, how many of them are asked, and whether the word "refused" stands among them, which is told by its r.
-#[derive(Drop)]
+#[derive(Clone, Copy)]
 pub struct Row {
     pub refused: bool,
     pub asked: usize,

@@ -6,7 +6,7 @@ use crate::subject::Subject;
 use crate::tally::Tally;
 
 // The tally, and what the next lines ask about.
-#[derive(Drop)]
+#[derive(Clone, Copy)]
 pub struct Table {
     pub tally: Tally,
     pub subject: Subject,

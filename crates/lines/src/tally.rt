@@ -1,7 +1,7 @@
 // How many comparisons came out right. What is wrong is printed with its name.
 use libc::STDOUT_FILENO;
 
-#[derive(Drop)]
+#[derive(Clone, Copy)]
 pub struct Tally {
     pub right: u64,
     pub wrong: u64,

@@ -1,5 +1,7 @@
 // The distance matrix of a block, made row by row by a search from each atom and handed over by value: the plain way to the indices, beside those that keep
 // half of the distances or none. The program of the documents' numbers asks both ways.
+#![tactic(auto)]
+
 ghost use Rattle.std.specs.Prelude.{◌≡◌, ◌≤◌, min};
 ghost use Rattle.block.specs.Block.{most_atoms};
 ghost use Rattle.block.specs.Index.{indices_reply, said_indices};

@@ -3,6 +3,8 @@
 // The lines of a file come once, in the order in which they stand. Marks of hydrogens, ends of bonds and weights stand in arrays of one size, so that any
 // file takes the same stack; the new numbers come in the weights' place. An atom's weight is 1 for each bond and 1 more for one that leads to an H, so
 // that one pass over the bonds says which H go. Line feeds are looked for in 16 bytes at a time.
+#![tactic(auto)]
+
 ghost use Rattle.std.specs.Prelude.{◌≡◌, ◌+◌, ◌≤◌, length};
 ghost use Rattle.reply.specs.Read.{read};
 ghost use Rattle.text.specs.Text.{three_at, line_chars};
@@ -58,7 +60,7 @@ enum Walk {
 }
 
 // The two numbers that a line begins with, and where the next line begins.
-#[derive(Drop)]
+#[derive(Clone, Copy)]
 struct Numbers {
     pub one: usize,
     pub two: usize,

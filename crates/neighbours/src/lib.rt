@@ -3,6 +3,8 @@
 // The reader goes through the bytes once for 21, through the numbers once for 22 and the number of bonds, and once more to keep the bonds; the lent
 // output is touched when nothing can refuse any more. An end above 255 is kept as 255, which no block has as an atom either. The writer puts the text
 // into bytes of its own, with room for every block, so that its length is known before the output is touched.
+#![tactic(auto)]
+
 ghost use Rattle.std.specs.Prelude.{◌≡◌, ◌≤◌, length};
 ghost use Rattle.reply.specs.Read.{refusal};
 ghost use Rattle.block.specs.Block.{most_atoms, said_molecule};

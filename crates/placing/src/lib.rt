@@ -1,5 +1,7 @@
 // A row of values put into lent entries, three numbers each: value, tag and position, the best first. Where many come in they are put in order first, part by part, and
 // merged; else one after the other. Both are one and the same ranking.
+#![tactic(auto)]
+
 mod entries;
 mod merge;
 mod parts;

@@ -1,4 +1,6 @@
 // The even and odd polynomial values of a block.
+#![tactic(auto)]
+
 ghost use Rattle.std.specs.Prelude.{◌≡◌};
 ghost use Rattle.poly.specs.Poly.{pairs_counted, value, polynomial_at, polynomial_reply, said_polynomial};
 

@@ -5,6 +5,8 @@
 // and so W, both parts and the polarity, each twice; the last level is the largest distance. The atoms that an atom has not reached, all levels
 // together, are its vertex sum. The loops go by the number of bonds and of atoms and by no distance: that is why this is faster than a search from
 // each atom.
+#![tactic(auto)]
+
 ghost use Rattle.std.specs.Prelude.{◌≡◌, ℕ, ◌+◌, ◌*◌, ◌/◌, ◌≤◌, ◌<◌, length, get_or, true};
 ghost use Rattle.std.specs.Int.Count.{ones};
 ghost use Rattle.graph.specs.Graph.{Within, sum, odd_of};

@@ -1,4 +1,6 @@
 // Bytes, little-endian numbers and records: refusals 11 to 13.
+#![tactic(auto)]
+
 mod little;
 
 ghost use Rattle.std.specs.Prelude.{not, ◌≡◌, [], ◌∷◌, ◌+◌, ◌≤◌, eqb, length};
@@ -14,7 +16,7 @@ pub const HEAD: usize = 4;
 
 // A kind of record: its number, the bytes of payload that hold its counts, where in the payload the count of its items stands, the bytes of an item, and
 // whether it is loose: it has no such items, and who reads it says where its payload ends.
-#[derive(Drop)]
+#[derive(Clone, Copy)]
 pub struct Kind {
     pub number: u16,
     pub fixed: u16,
@@ -57,7 +59,7 @@ pub const SHEET_OF_SIX: Kind = Kind {
 };
 
 // A sheet has five fields or six.
-#[derive(Drop)]
+#[derive(Clone, Copy)]
 pub enum Sheet {
     Five,
     Six,

@@ -1,16 +1,18 @@
 // What every part of the library answers with: fine, a number, how many atoms and bonds there are, or a refusal. And what all of them do with small numbers.
+#![tactic(auto)]
+
 ghost use Rattle.std.specs.Prelude.{◌≡◌, ◌≤◌, max};
 ghost use Rattle.reply.specs.Read.{refusal, is_outside};
 
 // What is wrong, by the number of the rules' table, and where.
-#[derive(Drop)]
+#[derive(Clone, Copy)]
 pub struct Refusal {
     pub number: usize,
     pub place: usize,
 }
 
 // Fine, or refused.
-#[derive(Drop)]
+#[derive(Clone, Copy)]
 pub enum Reply {
     Fine,
     Refused(Refusal),

@@ -4,6 +4,8 @@
 // bonds, and the numbers of the atoms at their other ends added up. So a key of one unit tells of one bond, and to which atom; the root's is kept
 // above that. A leaf is found by looking at each atom once, and after a merge at the atom that was merged into; as long as a bond is left there is
 // one. Both kinds of sets are worked in one loop: two chains of products then run beside each other.
+#![tactic(auto)]
+
 ghost use Rattle.std.specs.Prelude.{◌≡◌};
 ghost use Rattle.reply.specs.Read.{refusal};
 ghost use Rattle.block.specs.Block.{graph_of};

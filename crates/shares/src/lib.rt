@@ -4,6 +4,8 @@
 // taken in start by start; where it grows, the entries so far are multiplied by the factor. Counts stop just above the limit of D, so that no bound
 // on them is owed. The entries stand in an array of the function's own and go into the lent ones at the end: refusal 8 may come late, and must change
 // nothing.
+#![tactic(auto)]
+
 ghost use Rattle.std.specs.Prelude.{◌≡◌, length};
 ghost use Rattle.reply.specs.Read.{read, said_number};
 ghost use Rattle.block.specs.Block.{graph_of, block_reply};

@@ -1,4 +1,6 @@
 // The sheet: a list of fields, each in so many bytes, of which a sheet of five has all but the last. It is read and compared by going along that list.
+#![tactic(auto)]
+
 ghost use Rattle.std.specs.Prelude.{◌≡◌, [], ◌∷◌, ◌+◌, ◌^◌, ◌<◌, length};
 ghost use Rattle.std.proofs.lemmas.List.Edits.{sets};
 ghost use Rattle.records.specs.Records.{head_bytes, sheet_at};

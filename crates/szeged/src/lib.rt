@@ -1,4 +1,6 @@
 // The Szeged index of a block, with the term of each bond.
+#![tactic(auto)]
+
 ghost use Rattle.std.specs.Prelude.{◌≡◌, ℕ, ◌+◌, ◌≤◌, length};
 ghost use Rattle.graph.specs.Graph.{wiener};
 ghost use Rattle.reply.specs.Read.{read, said_number};

@@ -1,4 +1,6 @@
 // Bytes of text: blanks, digits, numbers of three characters, and the lines of a file.
+#![tactic(auto)]
+
 ghost use Rattle.std.specs.Prelude.{◌≡◌, true, [], ◌∷◌, cond, ◌+◌, ◌≤◌, eqb, length, drop};
 ghost use Rattle.text.specs.Text.{feed, is_blank, is_digit, digit, line_end, starts_with, line_starts};
 ghost use Rattle.text.specs.Said.{field_number, line_at};
