@@ -1,4 +1,6 @@
 // Balaban's J of a block, in whole numbers.
+#![tactic(auto)]
+
 ghost use Rattle.std.specs.Prelude.{◌≡◌, ◌+◌, ◌-◌, ◌*◌, ◌/◌, ◌≤◌};
 ghost use Rattle.graph.specs.Graph.{Within};
 ghost use Rattle.reply.specs.Read.{said_number};

@@ -1,4 +1,6 @@
 // A block's indices as C asks for them: each is the library's function under the convention of `calls`.
+#![tactic(auto)]
+
 ghost use Rattle.std.specs.Prelude.{◌≡◌};
 ghost use Rattle.reply.specs.Read.{read};
 ghost use Rattle.block.specs.Block.{block_reply};

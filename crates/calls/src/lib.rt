@@ -5,6 +5,8 @@
 //   sheet_for              the sheet that a caller's number means
 // A promise is `r ≡ coded answer`, `Lent answer out r out'` for one output, `Beside answer one two out more r out' more'` for two (specs/Convention, Beside).
 // What a C function does stands in a crate above this one, with its whole promise; its export in `tteuyomal` is one line, since only that crate's exports reach the archive.
+#![tactic(auto)]
+
 ghost use Rattle.std.specs.Prelude.{◌≡◌, ◌≤◌, length};
 ghost use Rattle.reply.specs.Read.{read, told_number, told_counts};
 ghost use Rattle.sheets.specs.Sheets.{fields_of};

@@ -1,4 +1,6 @@
 // The summary of a block, put into lent bytes.
+#![tactic(auto)]
+
 mod atoms;
 mod store;
 

@@ -1,4 +1,6 @@
 // The indices of the block that a molfile or a neighbour text holds.
+#![tactic(auto)]
+
 ghost use Rattle.std.specs.Prelude.{◌≡◌};
 ghost use Rattle.reply.specs.Read.{told_counts};
 ghost use Rattle.block.specs.Index.{said_indices};

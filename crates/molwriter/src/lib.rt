@@ -1,4 +1,6 @@
 // Writes a block as a V2000 molfile.
+#![tactic(auto)]
+
 ghost use Rattle.std.specs.Prelude.{◌≡◌, ◌++◌, length};
 ghost use Rattle.graph.specs.Graph.{bond};
 ghost use Rattle.block.specs.Block.{bonds_of, block_reply};

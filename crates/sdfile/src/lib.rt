@@ -1,4 +1,6 @@
 // SDF: every record of a file, and what its data items say.
+#![tactic(auto)]
+
 ghost use Rattle.std.specs.Prelude.{◌≡◌, cond, ◌≤◌, ◌<◌, eqb, length, drop};
 ghost use Rattle.reply.specs.Read.{refused, refusal};
 ghost use Rattle.records.specs.Bytes.{PartOf};

@@ -1,4 +1,6 @@
 // A book of summaries, one behind the other: the place of a block's number, and what is refused of an assembly over them.
+#![tactic(auto)]
+
 ghost use Rattle.std.specs.Prelude.{◌≡◌, ◌*◌, ◌<◌};
 ghost use Rattle.reply.specs.Read.{said_reply};
 ghost use Rattle.records.specs.Bytes.{le16, PartOf};

@@ -1,4 +1,6 @@
 // Composing over a book of summaries: the six fields of an assembly by the joining rules, whatever the summaries say.
+#![tactic(auto)]
+
 mod ends;
 mod joins;
 mod links;

@@ -1,4 +1,6 @@
 // What the bytes of a summary say of a block, whatever the bytes are.
+#![tactic(auto)]
+
 ghost use Rattle.std.specs.Prelude.{◌≡◌, ◌*◌};
 ghost use Rattle.half.specs.Half.{most_atoms};
 ghost use Rattle.records.specs.Bytes.{byte_at, PartOf};

@@ -1,4 +1,6 @@
 // Molfiles and neighbour texts as C asks for them: each is the library's function under the convention of `calls`.
+#![tactic(auto)]
+
 ghost use Rattle.text_calls.specs.Molfiles.{MolfileRead, WholeFileRead, MolfileWritten};
 ghost use Rattle.text_calls.specs.Texts.{TextRead, TextWritten};
 

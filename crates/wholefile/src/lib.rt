@@ -1,4 +1,6 @@
 // V2000 molfiles read as one molecule of any size that three digits say: hydrogens with one bond dropped, bonds as pairs of numbers.
+#![tactic(auto)]
+
 ghost use Rattle.std.specs.Prelude.{◌≡◌, ◌&&◌, ◌||◌, cond, [], ◌+◌, ◌*◌, ◌≤◌, ◌<◌, eqb, length};
 ghost use Rattle.std.proofs.lemmas.List.Edits.{sets};
 ghost use Rattle.graph.specs.Graph.{bond, joins};

@@ -1,0 +1,20 @@
+use Prim.Native.Nat.{ℕ, ◌+◌, ◌*◌, ◌-◌, ◌≤◌}
+use mathlib.Core.Bool.{Bool, cond}
+use mathlib.Core.Path.{◌≡◌, ap}
+use native.Mathlib.Omega.{arith}
+use borrow.Author.Rules.{rules}
+use Rattle.records.specs.Records.{assembly_kind}
+use Rattle.assembly.specs.Placements.{placement_at, join_of, join_on, joins_on}
+use Rattle.assembly.specs.Work.{own_on}
+use Rattle.assembly.specs.Degrees.{joins_zero}
+use Rattle.assembly.proofs.Walks.{own_none, joins_next}
+use Rattle.assembly.proofs.joins_on.Given as goal
+
+-- `assembly::joins_on` meets its contract. The loop's invariant: the total is that of the joins up to k, but with the own side of all. Assumes nothing.
+abbrev pub invariant-loop-k : goal.invariant-loop-k
+invariant-loop-k l =
+    let joins = join_on (placement_at l.xs) in
+    (l.total + own_on joins l.k l.p l.a ≡ joins_on joins l.k l.p l.a + own_on joins l.last l.p l.a) × (l.total ≤ l.k + 1) × (l.k ≤ l.last) × (l.at ≡ assembly_kind.fixed + assembly_kind.item * l.k)
+
+abbrev pub decreases-loop-k : goal.decreases-loop-k
+decreases-loop-k l = l.last - l.k

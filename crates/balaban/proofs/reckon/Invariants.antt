@@ -1,0 +1,12 @@
+use Prim.Native.Nat.{◌-◌}
+use native.Mathlib.Omega.{arith}
+use Rattle.block.specs.Numbered.{few_bytes}
+use Rattle.balaban.proofs.Blocks.{Adding, adding_none, ends, adding_next, fits, reckoned_is}
+use Rattle.balaban.proofs.reckon.Given as goal
+
+-- `reckon` meets its contract: what the bonds passed bring is added up. Assumes nothing.
+abbrev pub invariant-loop-k : goal.invariant-loop-k
+invariant-loop-k l = Adding l.n l.bonds l.total l.k
+
+abbrev pub decreases-loop-k : goal.decreases-loop-k
+decreases-loop-k l = l.m - l.k

@@ -1,0 +1,14 @@
+use mathlib.Core.Path.{refl, sym, ap}
+use borrow.Author.Rules.{rules}
+use Rattle.reply.specs.Read.{said_reply}
+use Rattle.block.proofs.Replies.{refused_block}
+use Rattle.block.proofs.check.Goals as goal
+
+pub admit-requires : goal.admit-requires
+admit-requires c = refl
+
+pub returns-then-admit : goal.returns-then-admit
+returns-then-admit c = sym (ap said_reply (c.admit.ensures.ready c.if-admit.true).fine)
+
+pub returns : goal.returns
+returns c = sym (ap said_reply (refused_block _ _ c.refusal.ensures (c.admit.ensures.refuses c.if-admit.false)))

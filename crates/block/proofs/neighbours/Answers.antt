@@ -1,0 +1,14 @@
+use mathlib.Core.Path.{sym, ap}
+use borrow.Author.Rules.{rules}
+use Rattle.reply.specs.Read.{said_reply}
+use Rattle.block.specs.Drawn.{none_opened}
+use Rattle.block.proofs.Replies.{refused_block, near_opened}
+use Rattle.block.proofs.neighbours.Goals as goal
+
+pub returns-then-admit : goal.returns-then-admit
+returns-then-admit c = let R = c.admit.ensures.ready c.if-admit.true in record { reply = sym (ap said_reply R.fine); near = near_opened _ _ R }
+
+pub returns : goal.returns
+returns c =
+    let b = refused_block _ _ c.refusal.ensures (c.admit.ensures.refuses c.if-admit.false) in
+    record { reply = sym (ap said_reply b); near = sym (none_opened _ _ b) }

@@ -1,0 +1,8 @@
+use mathlib.Core.Path.{sym, ◌∙◌, ap}
+use borrow.Author.Rules.{rules}
+use Rattle.calls.specs.Convention.{reply_code}
+use Rattle.calls.proofs.reply_code.Goals as goal
+
+-- `calls::reply_code` meets its contract. Assumes nothing.
+pub returns-in-Refused : goal.returns-in-Refused
+returns-in-Refused c = c.code_of.ensures ∙ ap reply_code (sym c.in-Refused.is)

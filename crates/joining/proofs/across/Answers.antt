@@ -1,0 +1,7 @@
+use native.Mathlib.Omega.{arith}
+use borrow.Author.Rules.{rules}
+use Rattle.joining.proofs.across.Goals as goal
+
+-- `joining::across` meets its contract. Assumes nothing.
+pub returns : goal.returns
+returns c = (omega arith, omega arith)

@@ -1,0 +1,29 @@
+use Prim.Native.Nat.{ℕ, ◌-◌, ◌≤◌}
+use mathlib.Core.List.{List}
+use mathlib.Core.Path.{◌≡◌, refl, sym, ap, ◌∙◌}
+use lib.ListN.{length, length-set}
+use Rattle.reply.specs.Read.{read}
+use Rattle.reply.specs.Chain.{not_read}
+use Rattle.text.specs.Text.{next_line}
+use Rattle.text.specs.Said.{line_at}
+use Rattle.text.specs.Laws.{said_next, said_chars}
+use Rattle.molfile.specs.Molfile.{atom_line_place, hydrogen_at, in_turn, line_reply, atom_reply}
+use Rattle.molfile.specs.Work.{mark_of, said_walk}
+use Rattle.molfile.specs.declared.Walk.TheVariants.{At}
+use Rattle.molfile.proofs.Turns.{line_refused, line_read, turn_none, turn_more, turn_stops}
+use Rattle.molfile.proofs.Lines.{line_there}
+use Rattle.molfile.proofs.Filling.{Holds, holds_none, holds_more, atom_next}
+use borrow.Author.Rules.{rules}
+use native.Mathlib.Omega.{arith}
+use Rattle.molfile.proofs.atoms.Given as goal
+
+-- `molfile::atoms` meets its contract. The loop's invariant: i atom lines are there and marked, and the next begins at `at`.
+-- the mark of the atom line i
+abbrev pub mark : List ℕ → ℕ → ℕ
+mark d i = mark_of (hydrogen_at d (atom_line_place d i))
+
+abbrev pub invariant-loop-i : goal.invariant-loop-i
+invariant-loop-i l = (l.i ≤ l.n) × (l.at ≡ atom_line_place l.d l.i) × (in_turn l.i (atom_reply l.d) ≡ read tt) × (length l.marks ≡ length l.initial.marks) × Holds (mark l.d) l.i l.marks
+
+abbrev pub decreases-loop-i : goal.decreases-loop-i
+decreases-loop-i l = l.n - l.i

@@ -1,0 +1,12 @@
+use borrow.Author.Tests.{eq-eqb, ne_eqb}
+use Rattle.neighbours.proofs.scan.label_after.Goals as goal
+
+-- `label_after` meets its contract. Assumes nothing.
+pub returns-then-x-eq0 : goal.returns-then-x-eq0
+returns-then-x-eq0 c = rw (eq-eqb c.args.x 0 c.if-x-eq0.true)
+
+pub returns-then-label-eq0 : goal.returns-then-label-eq0
+returns-then-label-eq0 c = rw (ne_eqb c.args.x 0 c.if-x-eq0.false, eq-eqb c.args.label 0 c.if-label-eq0.true)
+
+pub returns-else-label-eq0 : goal.returns-else-label-eq0
+returns-else-label-eq0 c = rw (ne_eqb c.args.x 0 c.if-x-eq0.false, ne_eqb c.args.label 0 c.if-label-eq0.false)

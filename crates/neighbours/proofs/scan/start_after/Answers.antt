@@ -1,0 +1,10 @@
+use mathlib.Core.Path.{sym, ◌∙◌}
+use borrow.Author.Rules.{rules}
+use Rattle.neighbours.proofs.scan.start_after.Goals as goal
+
+-- `start_after` meets its contract. Assumes nothing.
+pub returns-then-is_digit : goal.returns-then-is_digit
+returns-then-is_digit c = rw (sym c.is_digit.ensures ∙ c.if-is_digit.true)
+
+pub returns-else-is_digit : goal.returns-else-is_digit
+returns-else-is_digit c = rw (sym c.is_digit.ensures ∙ c.if-is_digit.false)

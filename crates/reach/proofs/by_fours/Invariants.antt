@@ -1,0 +1,14 @@
+use Prim.Native.Nat.{◌-◌, ◌*◌, ◌≤◌}
+use mathlib.Core.Path.{◌≡◌, refl}
+use native.Mathlib.Omega.{arith}
+use Rattle.graph.specs.Graph.{sum}
+use Rattle.block.specs.Block.{most_atoms}
+use Rattle.reach.specs.Reach.{Low, together_in}
+use Rattle.reach.proofs.Counting.{four_more}
+use Rattle.reach.proofs.by_fours.Given as goal
+
+abbrev pub invariant-loop-k : goal.invariant-loop-k
+invariant-loop-k l = (l.k ≤ l.q) × (Low (4 * l.q) l.sets → l.met ≡ together_in l.sets (4 * l.k)) × (l.met ≤ most_atoms * l.k)
+
+abbrev pub decreases-loop-k : goal.decreases-loop-k
+decreases-loop-k l = l.q - l.k

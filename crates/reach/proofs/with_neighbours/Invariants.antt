@@ -1,0 +1,20 @@
+use Prim.Native.Nat.{ℕ, ◌-◌, ◌^◌, ◌≤◌}
+use mathlib.Core.List.{List}
+use mathlib.Core.Path.{◌≡◌}
+use native.Mathlib.Omega.{arith}
+use lib.Bits.{bit_or}
+use lib.ListN.{get_or}
+use Rattle.graph.specs.SetLaws.{shifted_one}
+use Rattle.block.specs.Block.{most_atoms}
+use Rattle.block.specs.Lent.{EntriesFilled, filled_none, filled_store}
+use Rattle.reach.proofs.with_neighbours.Given as goal
+
+-- the sets of the first i atoms
+abbrev pub Filled : List ℕ → ℕ → List ℕ → List ℕ → Type 0
+Filled near i old sets = EntriesFilled i (λ p. bit_or (get_or near p 0) (2 ^ p)) old sets
+
+abbrev pub invariant-loop-i : goal.invariant-loop-i
+invariant-loop-i l = (l.i ≤ l.n) × Filled l.near l.i l.initial.odd l.odd × Filled l.near l.i l.initial.even l.even
+
+abbrev pub decreases-loop-i : goal.decreases-loop-i
+decreases-loop-i l = l.n - l.i

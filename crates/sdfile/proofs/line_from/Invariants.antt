@@ -1,0 +1,18 @@
+use Prim.Native.Nat.{◌-◌}
+use mathlib.Core.Path.{◌≡◌, refl, sym, ap, ◌∙◌}
+use lib.ListN.{length}
+use Rattle.text.specs.Text.{starts_with}
+use Rattle.text.specs.Laws.{said_next, next_later, next_within}
+use Rattle.sdfile.specs.Sdf.{line_from}
+use Rattle.sdfile.specs.Laws.{from_past, from_here, from_later}
+use Rattle.sdfile.proofs.White.{part_is}
+use borrow.Author.Rules.{rules}
+use native.Mathlib.Omega.{arith}
+use Rattle.sdfile.proofs.line_from.Given as goal
+
+-- `sdfile::line_from` meets its contract. The loop's invariant: the lines from `at` on are to be looked at.
+abbrev pub invariant-loop-at : goal.invariant-loop-at
+invariant-loop-at l = line_from (starts_with l.word) l.d l.from ≡ line_from (starts_with l.word) l.d l.at
+
+abbrev pub decreases-loop-at : goal.decreases-loop-at
+decreases-loop-at l = length l.d - l.at

@@ -1,0 +1,7 @@
+use Rattle.text.specs.Laws.{said_next}
+use borrow.Author.Rules.{rules}
+use Rattle.sdfile.proofs.next_line.Goals as goal
+
+-- `sdfile::next_line` meets its contract. Assumes nothing.
+pub returns : goal.returns
+returns c = let a = c.args in said_next a.d.now a.at c.line_at-seen.ensures

@@ -1,0 +1,14 @@
+use Prim.Native.Nat.{ℕ, ◌*◌, ◌-◌, ◌≤◌}
+use mathlib.Core.Path.{◌≡◌, ap}
+use native.Mathlib.Nat.{le_refl}
+use native.Mathlib.Omega.{arith}
+use lib.ListN.{get_or}
+use Rattle.block.specs.Lent.{EntriesFilled, filled_none, filled_same, filled_store}
+use Rattle.shares.proofs.flows.raise.Given as goal
+
+-- `raise` meets its contract: the entries passed are multiplied.
+abbrev pub invariant-loop-k : goal.invariant-loop-k
+invariant-loop-k l = (l.k ≤ l.m) × EntriesFilled l.k (λ j. get_or l.initial.out j 0 * l.f) l.initial.out l.out
+
+abbrev pub decreases-loop-k : goal.decreases-loop-k
+decreases-loop-k l = l.m - l.k

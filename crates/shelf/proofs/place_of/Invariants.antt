@@ -1,0 +1,15 @@
+use Prim.Native.Nat.{ℕ, suc, ◌+◌, ◌-◌, ◌≤◌}
+use mathlib.Core.Path.{◌≡◌, sym, ap, ◌∙◌}
+use native.Mathlib.Numerals.{add-one}
+use native.Mathlib.Omega.{arith}
+use borrow.Author.Rules.{rules}
+use Rattle.shelf.specs.Shelf.{places_in, place_from, place_of}
+use Rattle.shelf.specs.Places.{place_here, place_next, place_none, place_zero, place_some}
+use Rattle.shelf.proofs.place_of.Given as goal
+
+-- `shelf::place_of` meets its contract. The loop's invariant: what is found among the places that are left is what is found. Assumes nothing.
+abbrev pub invariant-loop-i : goal.invariant-loop-i
+invariant-loop-i l = (l.i ≤ l.n) × (l.n ≡ places_in l.book) × (place_of l.book l.number ≡ place_from l.book l.number l.i (l.n - l.i))
+
+abbrev pub decreases-loop-i : goal.decreases-loop-i
+decreases-loop-i l = l.n - l.i

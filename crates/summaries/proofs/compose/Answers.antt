@@ -1,0 +1,48 @@
+use mathlib.Core.Path.{◌≡◌, sym, ◌∙◌, ap, subst}
+use native.Mathlib.Omega.{arith}
+use borrow.Author.Rules.{rules}
+use Rattle.graph.specs.Graph.{Within}
+use Rattle.reply.specs.Read.{read}
+use Rattle.block.specs.Index.{said_indices}
+use Rattle.block.specs.declared.IndicesReply.TheVariants as measured
+use Rattle.reply.specs.Chain.{fine_read, refused_read}
+use Rattle.assembly.specs.Placements.{most_placements, placement_at, shelf_reply}
+use Rattle.assembly.specs.Sound.{PlacedRight}
+use Rattle.shelf.specs.Shelf.{shelf_in}
+use Rattle.summaries.specs.Ready.{LentBytes}
+use Rattle.summaries.proofs.Linking.{six_linked, ready, reply-refused, reply_read, fine_count, fine_right}
+use Rattle.summaries.proofs.compose.Goals as goal
+use Rattle.summaries.proofs.compose.Goals.{After-le16_at-count, After-shared_slice_known-1, In-Fine}
+
+-- `summaries::compose` meets its contract. Assumes nothing.
+lent : (c : After-shared_slice_known-1) → LentBytes c.args.book.now
+lent c = record { byte = λ i. omega (arith, c.type_inv.book i) }
+
+-- nothing is refused
+fine : (c : In-Fine) → shelf_reply (shelf_in c.args.book.now) c.args.xs.now ≡ read tt
+fine c = fine_read (shelf_reply (shelf_in c.args.book.now) c.args.xs.now) (sym c.check-reply.ensures ∙ c.in-Fine.is)
+
+fine-in-After-le16_at-count : (c : After-le16_at-count) → shelf_reply (shelf_in c.args.book.now) c.args.xs.now ≡ read tt
+fine-in-After-le16_at-count c = fine_read (shelf_reply (shelf_in c.args.book.now) c.args.xs.now) (sym c.check-reply.ensures ∙ c.in-Fine.is)
+
+few : (c : After-le16_at-count) → Within most_placements c.le16_at-count.result
+few c = subst (Within most_placements) (sym c.le16_at-count.ensures) (fine_count c.args.book.now c.args.xs.now (fine-in-After-le16_at-count c))
+
+pub links_of-links-requires : goal.links_of-links-requires
+links_of-links-requires c = (few (goal.at.links_of-links-requires c).After-le16_at-count).high
+
+pub placed-all-requires : goal.placed-all-requires
+placed-all-requires c =
+    ready c.args.book.now c.links_of-links.ensures (lent (goal.at.placed-all-requires c).After-shared_slice_known-1) (few (goal.at.placed-all-requires c).After-le16_at-count)
+    (subst (PlacedRight (shelf_in c.args.book.now) (placement_at c.args.xs.now)) (sym c.le16_at-count.ensures) (fine_right c.args.book.now c.args.xs.now (fine (goal.at.placed-all-requires c).In-Fine)))
+
+pub returns-in-Refused : goal.returns-in-Refused
+returns-in-Refused c =
+    let a = c.args in
+    ap said_indices (sym (reply-refused a.book.now a.xs.now (refused_read (shelf_reply (shelf_in a.book.now) a.xs.now) _ (sym c.check-reply.ensures ∙ c.in-Refused.is))))
+
+pub returns-in-Fine : goal.returns-in-Fine
+returns-in-Fine c =
+    let a = c.args in
+    ap measured.Of (c.placed-all.ensures ∙ six_linked a.book.now c.links_of-links.ensures (few (goal.at.returns-in-Fine c).After-le16_at-count).low c.le16_at-count.ensures)
+    ∙ ap said_indices (sym (reply_read a.book.now a.xs.now (fine (goal.at.returns-in-Fine c).In-Fine)))

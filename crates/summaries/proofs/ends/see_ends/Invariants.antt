@@ -1,0 +1,15 @@
+use Prim.Native.Nat.{◌*◌, ◌-◌, ◌≤◌}
+use mathlib.Core.Path.{◌≡◌, refl, ◌∙◌, subst}
+use native.Mathlib.Omega.{arith}
+use lib.ListN.{length}
+use Rattle.summaries.specs.Ends.{Known}
+use Rattle.summaries.proofs.Storing.{known_none, steps_known, counts_known}
+use Rattle.summaries.proofs.ends.see_ends.Given as goal
+
+-- `summaries::ends::see_ends` meets its contract. The loop's invariant: the ends before e are stored, and those that count an atom. Assumes nothing.
+abbrev pub invariant-loop-e : goal.invariant-loop-e
+invariant-loop-e l =
+    (2 ≤ l.e) × (l.e ≤ 2 * l.count) × (length l.rows ≡ length l.initial.rows) × (length l.counts ≡ length l.initial.counts) × Known l.book l.links l.count l.rows l.counts l.e
+
+abbrev pub decreases-loop-e : goal.decreases-loop-e
+decreases-loop-e l = 2 * l.count - l.e

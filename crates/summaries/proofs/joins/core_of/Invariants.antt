@@ -1,0 +1,21 @@
+use Prim.Native.Nat.{ℕ, ◌-◌, ◌≤◌, ◌<◌}
+use mathlib.Core.Path.{◌≡◌, refl, sym, ◌∙◌, ap}
+use native.Mathlib.Omega.{arith}
+use borrow.Author.Rules.{rules}
+use lib.ListN.{length, length-set}
+use Rattle.joining.specs.Small.{grown_small}
+use Rattle.graph.specs.Graph.{Within}
+use Rattle.assembly.specs.Placements.{most_placements}
+use Rattle.summaries.specs.Ready.{place_in, joins_in, sight_from, Kept}
+use Rattle.summaries.proofs.Ports.{small, earlier, own_small, from_small, between_small, from_next}
+use Rattle.summaries.proofs.Storing.{kept_more}
+use Rattle.summaries.proofs.joins.core_of.Given as goal
+
+-- `summaries::joins::core_of` meets its contract. The loop's invariant: v is counted from the parent's atom in the first m placements, and the
+-- distances of those since the parent are kept. Assumes nothing.
+abbrev pub invariant-loop-m : goal.invariant-loop-m
+invariant-loop-m l =
+    ((joins_in l.links l.k).parent ≤ l.m) × (l.m ≤ l.k) × (l.v ≡ sight_from l.book l.links l.m l.k) × (l.p ≡ (joins_in l.links l.k).parent) × (length l.far ≡ length l.initial.far) × Kept l.book l.links l.far l.k l.m
+
+abbrev pub decreases-loop-m : goal.decreases-loop-m
+decreases-loop-m l = l.k - l.m

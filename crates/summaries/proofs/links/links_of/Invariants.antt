@@ -1,0 +1,16 @@
+use Prim.Native.Nat.{ℕ, ◌-◌, ◌≤◌, ◌<◌}
+use mathlib.Core.Path.{◌≡◌, ◌∙◌, ap, subst}
+use native.Mathlib.Omega.{arith}
+use borrow.Author.Rules.{rules}
+use Rattle.assembly.specs.Placements.{most_placements, placement_at}
+use Rattle.assembly.specs.declared.Placement.{Placement}
+use Rattle.summaries.specs.Ready.{LinkedUpTo}
+use Rattle.summaries.proofs.Linking.{linked_more}
+use Rattle.summaries.proofs.links.links_of.Given as goal
+
+-- `summaries::links::links_of` meets its contract. The loop's invariant: the first k placements stand in the table. Assumes nothing.
+abbrev pub invariant-loop-k : goal.invariant-loop-k
+invariant-loop-k l = (l.k ≤ l.count) × LinkedUpTo l.xs l.links l.k
+
+abbrev pub decreases-loop-k : goal.decreases-loop-k
+decreases-loop-k l = l.count - l.k

@@ -1,0 +1,15 @@
+use Prim.Native.Nat.{◌+◌, ◌-◌, ◌≤◌}
+use mathlib.Core.Path.{◌≡◌}
+use lib.ListN.{get_or}
+use Rattle.text.specs.Clear.{Clear}
+use Rattle.text.proofs.Lines.{clear_more, one_feed}
+use borrow.Author.Rules.{rules}
+use native.Mathlib.Omega.{arith}
+use Rattle.text.proofs.feeds.Given as goal
+
+-- `text::feeds` meets its contract. The loop's invariant: where the count is 0, none of the bytes passed is a line feed.
+abbrev pub invariant-loop-k : goal.invariant-loop-k
+invariant-loop-k l = (l.k ≤ 16) × (l.n ≤ l.k) × (l.n ≡ 0 → Clear l.d l.at l.k)
+
+abbrev pub decreases-loop-k : goal.decreases-loop-k
+decreases-loop-k l = 16 - l.k

@@ -1,0 +1,12 @@
+use Prim.Native.Nat.{◌-◌, ◌≤◌}
+use native.Mathlib.Omega.{arith}
+use borrow.Author.Rules.{rules}
+use Rattle.wholefile.proofs.Looking.{LookedBack, looked_none, looked_more, looked_all}
+use Rattle.wholefile.proofs.look_back.Given as goal
+
+-- `wholefile::look_back` meets its contract. The loop's invariant: what the first i bonds say.
+abbrev pub invariant-loop-i : goal.invariant-loop-i
+invariant-loop-i l = (l.i ≤ l.k) × LookedBack l.xs l.a l.b l.i l.joined l.one l.two
+
+abbrev pub decreases-loop-i : goal.decreases-loop-i
+decreases-loop-i l = l.k - l.i
