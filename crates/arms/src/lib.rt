@@ -1,4 +1,6 @@
 // A core and arms, each joined by a bond to an atom of the core: composed arm by arm, so that the first arms can stay while the last one turns.
+#![tactic(auto)]
+
 ghost use Rattle.std.specs.Prelude.{◌≡◌, ◌-◌, ◌<◌, min};
 ghost use Rattle.arms.specs.Arms.{most_arms, arm_row, row_arm, opened, arm_in, ports_near, port_in, core_in, sight_at, stem_of, joined_to};
 

@@ -1,4 +1,6 @@
 // The number of two placed atoms over a book of summaries: it climbs from the later placement to its parent, one search a step.
+#![tactic(auto)]
+
 ghost use Rattle.std.specs.Prelude.{◌≡◌, ◌+◌, ◌*◌, ◌<◌, max};
 ghost use Rattle.assembly.specs.Placements.{most_placements};
 ghost use Rattle.climb.specs.Far.{far_of, far_by, earlier_of, FirstLeg, placed_far};

@@ -1,4 +1,6 @@
 // Reading a deck, and composing it: the six fields of the molecule that it describes, over a book that is filled while its blocks are read.
+#![tactic(auto)]
+
 mod blocks;
 mod distance;
 mod reading;

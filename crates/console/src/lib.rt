@@ -1,11 +1,16 @@
 // The programs: a deck, a molfile or a neighbour text from standard input or from each file that is named, and one line for it.
-ghost use Rattle.std.specs.Prelude.{◌≡◌, ◌≤◌, length};
+#![tactic(auto)]
+
+ghost use Rattle.std.specs.Prelude.{◌≡◌, ◌≤◌, length, IfOk, IfSome};
 ghost use Rattle.io.specs.Counts.{IsPrefixLen};
 
 use block::IndicesReply;
 use deck::Form;
-use libc::{STDIN_FILENO, STDOUT_FILENO};
 use line::Line;
+use std::env::FillError;
+use std::io::Read;
+use std::rt::{Env, Files};
+use std::{fs, io};
 
 // One byte more than the longest deck, so that a longer one is seen to be longer.
 const ROOM: usize = deck::LONGEST + 1;
@@ -29,7 +34,7 @@ enum Asked {
 }
 
 // What a first word asks for.
-#[derive(Drop)]
+#[derive(Clone, Copy)]
 enum Word {
     Known(Asked),
     Other,
@@ -43,31 +48,29 @@ enum Kind {
 }
 
 // How many bytes were read, and whether no read failed.
-#[derive(Drop)]
+#[derive(Clone, Copy)]
 struct Got {
     whole: bool,
     n: usize,
 }
 
 // One read.
-fn read_some(fd: i32, part: &mut [u8]) -> Got
+fn read_some<F: Read>(from: &mut F, part: &mut [u8]) -> Got
     ensures { result.n ≤ length part.new }
 {
-    let got = libc::read(fd, part);
-    if got < 0 {
-        return Got { whole: false, n: 0 };
+    match from.read(part) {
+        Ok(n) => Got { whole: true, n },
+        Err(_) => Got { whole: false, n: 0 },
     }
-    let n = io::count(got, part);
-    Got { whole: true, n }
 }
 
 // Reads until the buffer is full, the input ends or a read fails.
-fn read_whole(fd: i32, bytes: &mut [u8]) -> Got
+fn read_whole<F: Read>(from: &mut F, bytes: &mut [u8]) -> Got
     ensures { IsPrefixLen result.n bytes.new }
 {
     let mut n = 0;
     while n < bytes.len() {
-        let got = read_some(fd, &mut bytes[n..]);
+        let got = read_some(from, &mut bytes[n..]);
         if got.n == 0 {
             return Got {
                 whole: got.whole,
@@ -79,12 +82,12 @@ fn read_whole(fd: i32, bytes: &mut [u8]) -> Got
     Got { whole: true, n }
 }
 
-// The line of a deck that stands in a descriptor.
-fn deck_line(form: Form, fd: i32) -> Line
+// The line of a deck that is read.
+fn deck_line<F: Read>(form: Form, from: &mut F) -> Line
     ensures { IsPrefixLen result.len result.text }
 {
     let mut deck = [0u8; ROOM];
-    let got = read_whole(fd, &mut deck);
+    let got = read_whole(from, &mut deck);
     if !got.whole {
         return line::unread_line();
     }
@@ -105,12 +108,12 @@ fn text_room() -> [u8; TEXT_ROOM] {
     [0; TEXT_ROOM]
 }
 
-// The line of a text that stands in a descriptor.
-fn text_line(kind: Kind, fd: i32) -> Line
+// The line of a text that is read.
+fn text_line<F: Read>(kind: Kind, from: &mut F) -> Line
     ensures { IsPrefixLen result.len result.text }
 {
     let mut text = text_room();
-    let got = read_whole(fd, &mut text);
+    let got = read_whole(from, &mut text);
     if !got.whole {
         return line::unread_line();
     }
@@ -121,74 +124,84 @@ fn text_line(kind: Kind, fd: i32) -> Line
     line::measured_line(measured(kind, &text[..n]))
 }
 
-fn input_line(asked: Asked, fd: i32) -> Line
+fn input_line<F: Read>(asked: Asked, from: &mut F) -> Line
     ensures { IsPrefixLen result.len result.text }
 {
     match asked {
-        Asked::Deck(form) => deck_line(form, fd),
-        Asked::Text(kind) => text_line(kind, fd),
+        Asked::Deck(form) => deck_line(form, from),
+        Asked::Text(kind) => text_line(kind, from),
     }
 }
 
-// Writes a line in one piece, and answers whether it could.
-fn print(text: &[u8]) -> bool {
-    let written = io::write_all(STDOUT_FILENO, text);
-    if !written {
-        os::fail(b"standard output");
-    }
-    written
-}
-
-// The line of the file that argument i names.
-fn file_line(asked: Asked, i: usize) -> Line
+// The line of a file by its name.
+fn file_line<R: Files>(rt: &R, asked: Asked, name: &str) -> Line
     ensures { IsPrefixLen result.len result.text }
 {
-    let mut path = io::buffer();
-    let n = os::arg(i, &mut path);
-    let fd = os::open_read(&path[..n]);
-    if fd < 0 {
-        return line::unread_line();
+    match fs::open(rt, name) {
+        Ok(mut file) => input_line(asked, &mut file),
+        Err(_) => line::unread_line(),
     }
-    let said = input_line(asked, fd);
-    libc::close(fd);
-    said
 }
 
-// Prints a line behind argument i.
-fn print_named(i: usize, said: Line) -> bool
+// The same by the bytes of its name. Nothing opens a file whose name is no text.
+fn named_line<R: Files>(rt: &R, asked: Asked, name: &[u8]) -> Line
+    ensures { IsPrefixLen result.len result.text }
+{
+    match std::str::from_utf8(name) {
+        Ok(text) => file_line(rt, asked, text),
+        Err(_) => line::unread_line(),
+    }
+}
+
+// Puts argument i at the front of a buffer, and answers how many bytes it has: 0 where it does not fit. Answers nothing where there is no such argument.
+fn argument<R: Env>(rt: &R, i: usize, out: &mut [u8]) -> Option<usize>
+    ensures { IfSome result (λ n. n ≤ length out.new) }
+{
+    match rt.arg(i, out) {
+        Ok(n) => Some(n),
+        Err(FillError::TooLong) => Some(0),
+        Err(FillError::NotPresent) => None,
+    }
+}
+
+// Prints a line behind a file's name, the first n bytes of out. A line is written in one piece.
+fn print_named<R: Print>(rt: &R, out: &mut [u8], n: usize, said: Line) -> io::Result<()>
     requires { IsPrefixLen said.len said.text }
 {
-    let mut out = [0u8; WIDTH];
-    let n = os::arg(i, &mut out);
     let text = said.text;
     let len = said.len;
-    let k = line::label(&mut out, n, &text[..len]);
-    print(&out[..k])
+    let k = line::label(out, n, &text[..len]);
+    rt.write_all(&out[..k])
 }
 
 // Prints the line of standard input.
-fn answer_input(asked: Asked) -> bool {
-    let said = input_line(asked, STDIN_FILENO);
+fn answer_input<R: Input + Print>(rt: &R, asked: Asked) -> io::Result<()> {
+    let mut input = rt.reader();
+    let said = input_line(asked, &mut input);
     let text = said.text;
     let len = said.len;
-    print(&text[..len])
+    rt.write_all(&text[..len])
 }
 
 // Prints the lines of the files that the arguments from one on name, as long as lines can be printed.
-fn answer_files(asked: Asked, from: usize, count: usize) {
-    let mut i = from;
-    while i < count && print_named(i, file_line(asked, i)) {
-        i += 1;
+fn answer_files<R: Env + Files + Print>(rt: &R, asked: Asked, from: usize) -> io::Result<()> {
+    let mut out = [0u8; WIDTH];
+    for i in from..usize::MAX {
+        let Some(n) = argument(rt, i, &mut out) else {
+            return Ok(());
+        };
+        let said = named_line(rt, asked, &out[..n]);
+        print_named(rt, &mut out, n, said)?;
     }
+    Ok(())
 }
 
 // One line for each file that the arguments from one on name, or for standard input where there are none.
-fn serve(asked: Asked, from: usize) {
-    let count = os::arg_count();
-    if count <= from {
-        answer_input(asked);
-    } else {
-        answer_files(asked, from, count);
+fn serve<R: Env + Files + Input + Print>(rt: &R, asked: Asked, from: usize) -> io::Result<()> {
+    let mut room = [0u8; 1];
+    match argument(rt, from, &mut room) {
+        None => answer_input(rt, asked),
+        Some(_) => answer_files(rt, asked, from),
     }
 }
 
@@ -209,24 +222,28 @@ fn asked_by(word: &[u8]) -> Word {
     Word::Other
 }
 
-// The program `sheet`: the sheet of each deck that has none. What is read and written no promise can say.
-pub fn serve_sheets()
-    ensures { result ≡ tt }
+// What the first argument asks for.
+fn first_word<R: Env>(rt: &R) -> Word {
+    let mut room = [0u8; WORD];
+    match argument(rt, 1, &mut room) {
+        None => Word::Other,
+        Some(n) => asked_by(&room[..n]),
+    }
+}
+
+// The program `sheet`: the sheet of each deck that has none. What is read and written no promise can say; the only error is that of a write.
+pub fn serve_sheets<R: Env + Files + Input + Print>(rt: &R) -> io::Result<()>
+    ensures { IfOk result (λ v. v ≡ tt) }
 {
-    serve(Asked::Deck(Form::Composed), 1)
+    serve(rt, Asked::Deck(Form::Composed), 1)
 }
 
 // The program `desk`: the first word says what is asked of each input, and any other word or none is told so.
-pub fn serve_by_word()
-    ensures { result ≡ tt }
+pub fn serve_by_word<R: Env + Files + Input + Print>(rt: &R) -> io::Result<()>
+    ensures { IfOk result (λ v. v ≡ tt) }
 {
-    let mut room = [0u8; WORD];
-    let n = os::arg(1, &mut room);
-    let word = asked_by(&room[..n]);
-    match word {
-        Word::Known(asked) => serve(asked, 2),
-        Word::Other => {
-            print(b"the first word is judge, measure or neighbours\n");
-        }
+    match first_word(rt) {
+        Word::Known(asked) => serve(rt, asked, 2),
+        Word::Other => rt.write_all(b"the first word is judge, measure or neighbours\n"),
     }
 }

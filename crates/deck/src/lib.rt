@@ -1,4 +1,6 @@
 // The deck: the forms that it has, what may stand where, and what is asked of one that is read. Reading it is in `compose`.
+#![tactic(auto)]
+
 ghost use Rattle.std.specs.Prelude.{◌≡◌, cond, ◌≤◌, eqb, take};
 ghost use Rattle.reply.specs.Read.{said_reply};
 ghost use Rattle.records.specs.Bytes.{PartOf};

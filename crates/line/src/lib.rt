@@ -1,4 +1,6 @@
 // The text of each reply: one line, as bytes.
+#![tactic(auto)]
+
 ghost use Rattle.std.specs.Prelude.{◌≡◌, [], ◌++◌, ◌+◌, leb};
 ghost use Rattle.io.specs.Counts.{IsPrefixLen};
 ghost use Rattle.text.specs.Text.{decimal};
@@ -18,7 +20,7 @@ const DIGITS: usize = 20;
 pub const LONGEST: usize = 31 + 5 * DIGITS;
 
 // A line, zeros behind it, and its length.
-#[derive(Drop)]
+#[derive(Clone, Copy)]
 pub struct Line {
     pub text: [u8; LONGEST],
     pub len: usize,

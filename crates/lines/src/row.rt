@@ -26,7 +26,7 @@ pub struct Row {
 }
 
 // How far a line is read: so many numbers are whole, so many stood before a comma, and while open, the next is still being read.
-#[derive(Drop)]
+#[derive(Clone, Copy)]
 struct Reading {
     refused: bool,
     open: bool,

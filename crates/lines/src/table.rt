@@ -4,6 +4,7 @@ ghost use Rattle.std.specs.Prelude.{◌<◌, length};
 use crate::row::Row;
 use crate::subject::Subject;
 use crate::tally::Tally;
+use std::io;
 
 // The tally, and what the next lines ask about.
 #[derive(Clone, Copy)]
@@ -30,15 +31,19 @@ impl Table {
         }
     }
 
-    // After a line that asks, and was right or not.
-    pub fn counted(self, text: &[u8], line: &[u8], ok: bool) -> Table {
+    // After a line that asks, and was right or not. The only error is that of a write.
+    pub fn counted<R: Print>(
+        self,
+        rt: &R,
+        text: &[u8],
+        line: &[u8],
+        ok: bool,
+    ) -> io::Result<Table> {
         let subject = self.subject;
         let tally = self.tally;
         let name = records::part(text, subject.from, subject.len);
-        Table {
-            tally: tally.count(name, line, ok),
-            subject,
-        }
+        let tally = tally.count(rt, name, line, ok)?;
+        Ok(Table { tally, subject })
     }
 }
 

@@ -1,5 +1,5 @@
 // How many comparisons came out right. What is wrong is printed with its name.
-use libc::STDOUT_FILENO;
+use std::io;
 
 #[derive(Clone, Copy)]
 pub struct Tally {
@@ -19,27 +19,26 @@ impl Tally {
         Tally { right: 0, wrong: 0 }
     }
 
-    // One comparison more: the line that says of what, and the line that asks.
-    pub fn count(self, name: &[u8], line: &[u8], ok: bool) -> Tally {
+    // One comparison more: the line that says of what, and the line that asks. The only error is that of a write.
+    pub fn count<R: Print>(self, rt: &R, name: &[u8], line: &[u8], ok: bool) -> io::Result<Tally> {
         if ok {
-            return Tally {
+            return Ok(Tally {
                 right: more(self.right),
                 wrong: self.wrong,
-            };
+            });
         }
-        io::write_all(STDOUT_FILENO, b"wrong: ");
-        io::write_all(STDOUT_FILENO, name);
-        io::write_all(STDOUT_FILENO, line);
-        Tally {
+        rt.write_all(b"wrong: ")?;
+        rt.write_all(name)?;
+        rt.write_all(line)?;
+        Ok(Tally {
             right: self.right,
             wrong: more(self.wrong),
-        }
+        })
     }
 
-    pub fn print(self) {
-        io::print_decimal(STDOUT_FILENO, self.right);
-        io::write_all(STDOUT_FILENO, b" right, ");
-        io::print_decimal(STDOUT_FILENO, self.wrong);
-        io::write_all(STDOUT_FILENO, b" wrong\n");
+    pub fn print<R: Print>(self, rt: &R) -> io::Result<()> {
+        let right = self.right;
+        let wrong = self.wrong;
+        println!(rt; "{right} right, {wrong} wrong")
     }
 }

@@ -1,14 +1,16 @@
 // Puts the documents' numbers about blocks and texts, a table on standard input, to the public functions: prints the lines that are wrong, and how many were right.
+#![tactic(auto)]
+
 mod blocks;
 mod texts;
 mod values;
 mod written;
 
-use libc::STDIN_FILENO;
 use lines::row::Row;
 use lines::subject::Subject;
 use lines::table::Table;
-use lines::{row, table};
+use lines::{input, row, table};
+use std::io;
 
 // Whether the reply to a question, which is known by its first letter, is that of its line.
 fn right(subject: Subject, letter: u8, row: Row) -> bool {
@@ -22,30 +24,34 @@ fn right(subject: Subject, letter: u8, row: Row) -> bool {
 }
 
 // A line whose first letter is small asks.
-fn after(table: Table, text: &[u8], line: &[u8], at: usize) -> Table {
+fn after<R: Print>(rt: &R, table: Table, text: &[u8], line: &[u8], at: usize) -> io::Result<Table> {
     let letter = records::byte_at(line, 0);
     let row = row::row_of(line, letter);
     if letter < b'a' {
-        return table.about(letter, row, at, line.len());
+        return Ok(table.about(letter, row, at, line.len()));
     }
-    table.counted(text, line, right(table.subject, letter, row))
+    table.counted(rt, text, line, right(table.subject, letter, row))
 }
 
-fn read_table(text: &[u8]) -> Table {
+fn read_table<R: Print>(rt: &R, text: &[u8]) -> io::Result<Table> {
     let mut table = Table::none();
     let mut at = 0;
     while at < text.len() {
         let end = table::line_end(text, at);
-        let next = after(table, text, records::part(text, at, end - at), at);
+        let next = after(rt, table, text, records::part(text, at, end - at), at)?;
         table = next;
         at = end;
     }
-    table
+    Ok(table)
 }
 
-fn main() {
-    let mut text = io::large_buffer();
-    let n = io::read_full(STDIN_FILENO, &mut text);
-    let tally = read_table(&text[..n]).tally;
-    tally.print();
+// The most bytes of a table.
+const ROOM: usize = 65536;
+
+fn main(rt: HostRuntime) -> io::Result<()> {
+    let mut text = [0u8; ROOM];
+    let mut from = rt.reader();
+    let n = input::read_full(&mut from, &mut text)?;
+    let tally = read_table(&rt, &text[..n])?.tally;
+    tally.print(&rt)
 }

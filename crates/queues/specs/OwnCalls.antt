@@ -203,7 +203,7 @@ module _ {G F O S T : Type 0} {trade : Trade G F O S T} {m : Meaning G F O T} (h
   told_alone : {s : List ℕ} {held : List (Entry G)} → KeptPlaces h s held → (cs : List (Call G O)) → answers trade s cs ≡ told_all m held cs
   unfolding answers told_all
   told_alone k [] = refl
-  told_alone k (c ∷ cs) = ap₂ (λ (a : Answer F T) (l : List (Answer F T)). a ∷ l) (same_answer h k c) (told_alone (same_left h k c) cs)
+  told_alone {s = s} {held = held} k (c ∷ cs) = ap₂ (λ (a : Answer F T) (l : List (Answer F T)). a ∷ l) (same_answer h k c) (told_alone {s = after trade s c} (same_left h k c) cs)
 
   -- a table that was made empty holds nothing, for either queue
   keeps_emptied : (t : List ℕ) → table_bytes trade.width ≤ length t → (q : Queue) → KeptPlaces h (shelf trade.width q (zeroed trade.width t)) []

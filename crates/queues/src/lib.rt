@@ -1,4 +1,6 @@
 // Two queues at one table: a lent table of sixteen summaries of blocks, eight places for each queue.
+#![tactic(auto)]
+
 mod places;
 
 ghost use Rattle.std.specs.Prelude.{◌≡◌, ◌≤◌};

@@ -1,4 +1,8 @@
 // Prints the sheet of a deck that has none.
-fn main() {
-    console::serve_sheets();
+#![tactic(auto)]
+
+use std::io;
+
+fn main(rt: HostRuntime) -> io::Result<()> {
+    console::serve_sheets(&rt)
 }

@@ -20,4 +20,4 @@ returns c =
     let a = c.args in
     let R = szeged_reply a.atoms a.bonds.now (length a.terms.now) in
     block_given a.atoms a.bonds.now R _ a.terms.now a.index.now (λ r e. reply-refused a.atoms a.bonds.now (length a.terms.now) e) (omega arith)
-    (c.terms-answer-2.ensures.entries.0 ∙ szeged_lent a.atoms a.bonds.now a.terms.now) (lent_number _ R c.terms-answer-2.ensures.reply c.give_number-2.ensures)
+    (c.terms-answer-2.ensures.entries ∙ szeged_lent a.atoms a.bonds.now a.terms.now) (lent_number _ R c.terms-answer-2.ensures.reply c.give_number-2.ensures)

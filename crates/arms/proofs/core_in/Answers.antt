@@ -1,0 +1,17 @@
+use Prim.Native.Nat.{◌-◌}
+use mathlib.Core.Path.{refl}
+use native.Mathlib.Omega.{arith}
+use lib.ListN.{get_or}
+use borrow.Author.Rules.{rules}
+use Rattle.arms.specs.Arms.{most_arms, no_port, port_in}
+use Rattle.arms.proofs.Keeping.{FilledTo, filled_none, filled_next, filled_all, core_kept}
+use Rattle.arms.proofs.core_in.Goals as goal
+
+pub loop-k-init : goal.loop-k-init
+loop-k-init c = filled_none refl
+
+pub loop-k-preserved : goal.loop-k-preserved
+loop-k-preserved c = filled_next c.loop-k.invariant (omega arith) c.port_in.ensures
+
+pub returns : goal.returns
+returns c = core_kept _ _ _ _ c.fields-six.ensures (filled_all c.loop-k.invariant (omega arith))

@@ -1,0 +1,23 @@
+use Prim.Native.Nat.{◌-◌, ◌≤◌}
+use mathlib.Core.Path.{◌≡◌, ◌∙◌, ap}
+use native.Mathlib.Omega.{arith}
+use lib.ListN.{get_or}
+use borrow.Author.Rules.{rules}
+use Rattle.arms.specs.Arms.{no_port, sight_from}
+use Rattle.arms.proofs.Keeping.{sight_start, sight_next}
+use Rattle.arms.proofs.sight.Goals as goal
+
+pub loop-m-init : goal.loop-m-init
+loop-m-init c = (omega arith, sight_start _ _ _ _)
+
+pub loop-m-preserved : goal.loop-m-preserved
+loop-m-preserved c =
+    let l = c.loop-m in
+    (omega arith, sight_next _ _ _ _ l.m l.v _ _ l.invariant.1 c.wide-d.ensures.0 c.grown-next.ensures)
+
+pub returns : goal.returns
+returns c =
+    let a = c.args in
+    let l = c.loop-m in
+    let e : l.m ≡ a.k = omega arith in
+    l.invariant.1 ∙ ap (sight_from a.ends a.arms a.k (get_or a.ends a.k no_port).counts) e

@@ -1,0 +1,15 @@
+use Prim.Native.Nat.{◌-◌, ◌≤◌}
+use mathlib.Core.Path.{◌≡◌, ◌∙◌, ap}
+use native.Mathlib.Omega.{arith}
+use lib.ListN.{get_or}
+use borrow.Author.Rules.{rules}
+use Rattle.arms.specs.Arms.{no_port, sight_from}
+use Rattle.arms.proofs.Keeping.{sight_start, sight_next}
+use Rattle.arms.proofs.sight.Given as goal
+
+-- `arms::sight` meets its contract. The loop's invariant: v is counted once the first m arms are joined. Assumes nothing.
+abbrev pub invariant-loop-m : goal.invariant-loop-m
+invariant-loop-m l = (l.m ≤ l.k) × (l.v ≡ sight_from l.ends l.arms l.k l.initial.v l.m)
+
+abbrev pub decreases-loop-m : goal.decreases-loop-m
+decreases-loop-m l = l.k - l.m

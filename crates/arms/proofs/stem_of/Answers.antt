@@ -1,0 +1,28 @@
+use Prim.Native.Nat.{◌-◌, ◌≤◌, min}
+use mathlib.Core.List.{List}
+use mathlib.Core.Path.{◌≡◌}
+use native.Mathlib.Omega.{arith}
+use borrow.Author.Rules.{rules}
+use Rattle.block.specs.declared.Indices.{Indices}
+use Rattle.arms.specs.declared.Core.{Core}
+use Rattle.arms.specs.declared.Port.{Port}
+use Rattle.arms.specs.Arms.{most_arms, six_of, sight_at}
+use Rattle.arms.proofs.Keeping.{six_start, sight_first, six_next, stem_end}
+use Rattle.arms.proofs.stem_of.Goals as goal
+use Rattle.arms.proofs.stem_of.Invariants.{whole}
+
+pub loop-k-init : goal.loop-k-init
+loop-k-init c = let a = c.args in (omega arith, six_start a.core a.arms, sight_first a.core a.arms)
+
+pub loop-k-preserved : goal.loop-k-preserved
+loop-k-preserved c =
+    let a = c.args in
+    let l = c.loop-k in
+    (omega arith, six_next a.core a.arms l.k l.six _ l.from l.invariant.1 l.invariant.2 c.joined-next.ensures, c.sight-turned.ensures)
+
+pub returns : goal.returns
+returns c =
+    let a = c.args in
+    let l = c.loop-k in
+    let e : l.k ≡ min a.m (most_arms - 1) = omega (arith, c.within-n.ensures) in
+    stem_end a.core a.arms l.k (min a.m (most_arms - 1)) _ _ e l.invariant.1 l.invariant.2

@@ -1,0 +1,21 @@
+use Prim.Native.Nat.{◌-◌, ◌≤◌, min}
+use mathlib.Core.List.{List}
+use mathlib.Core.Path.{◌≡◌}
+use native.Mathlib.Omega.{arith}
+use borrow.Author.Rules.{rules}
+use Rattle.block.specs.declared.Indices.{Indices}
+use Rattle.arms.specs.declared.Core.{Core}
+use Rattle.arms.specs.declared.Port.{Port}
+use Rattle.arms.specs.Arms.{most_arms, six_of, sight_at}
+use Rattle.arms.proofs.Keeping.{six_start, sight_first, six_next, stem_end}
+use Rattle.arms.proofs.stem_of.Given as goal
+
+-- `arms::stem_of` meets its contract. The loop's invariant: the fields are those with the first k arms, and what is counted from the next one's atom. Assumes nothing.
+abbrev pub whole : Indices → List Port → Core
+whole x ends = record { six = x; ends = ends }
+
+abbrev pub invariant-loop-k : goal.invariant-loop-k
+invariant-loop-k l = (l.k ≤ l.n) × (l.six ≡ six_of (whole l.initial.six l.ends) l.arms l.k) × (l.from ≡ sight_at l.ends l.arms l.k l.k)
+
+abbrev pub decreases-loop-k : goal.decreases-loop-k
+decreases-loop-k l = l.n - l.k

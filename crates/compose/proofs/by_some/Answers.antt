@@ -1,0 +1,8 @@
+use native.Mathlib.Omega.{arith}
+use borrow.Author.Rules.{rules}
+use Rattle.block.specs.Lent.{zeros}
+use Rattle.compose.proofs.by_some.Goals as goal
+
+-- `compose::by_some` meets its contract. Assumes nothing.
+pub in_book-requires : goal.in_book-requires
+in_book-requires c = record { room = omega (arith, c.requires); none = zeros 3168 }

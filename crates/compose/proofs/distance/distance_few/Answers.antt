@@ -1,0 +1,8 @@
+use native.Mathlib.Omega.{arith}
+use borrow.Author.Rules.{rules}
+use Rattle.block.specs.Lent.{zeros}
+use Rattle.compose.proofs.distance.distance_few.Goals as goal
+
+-- `compose::distance::distance_few` meets its contract. Assumes nothing.
+pub distance_in-requires : goal.distance_in-requires
+distance_in-requires c = record { room = omega (arith, c.requires); none = zeros 1056 }

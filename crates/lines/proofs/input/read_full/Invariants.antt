@@ -1,0 +1,9 @@
+-- What was read lies within the buffer; the room that is left falls.
+use Rattle.std.proofs.Common.{length, ◌-◌, ◌≤◌}
+use Rattle.lines.proofs.input.read_full.Given as goal
+
+abbrev pub invariant_loop_n : goal.invariant-loop-n
+invariant_loop_n g l = l.n ≤ length l.text
+
+abbrev pub decreases_loop_n : goal.decreases-loop-n
+decreases_loop_n g l = length l.initial.text - l.n
