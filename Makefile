@@ -1,6 +1,6 @@
 # What callers use, in any language.
 #   make                        the Python package with its shared object, from the code in made/: seconds, with a C compiler and no kit
-#   make prove                  the same, of what is proved on this machine first: minutes, and needs the Rattle kit
+#   make prove                  the same, of what is proved on this machine first: long from nothing, and needs the Rattle kit, which is for x86-64
 #   make made                   the code in made/, of what is proved on this machine: for who changes the library
 #   make install PREFIX=/usr    header, archive, shared object, pkg-config file, man pages and completions
 #   make wheel, make sdist      what pip takes, in target/dist: the same bytes each time

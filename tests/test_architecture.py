@@ -15,7 +15,7 @@ def files():
     listed = subprocess.run(["git", "-C", ROOT, "ls-files"], capture_output=True, text=True)
     if listed.returncode == 0:
         return listed.stdout.splitlines()
-    skipped = {".git", "target", "__pycache__"}
+    skipped = {".git", "target", "out", "__pycache__"}
     return [os.path.relpath(os.path.join(at, name), ROOT) for at, inner, names in os.walk(ROOT) if not skipped & set(at.split(os.sep)) for name in names]
 
 
@@ -47,7 +47,7 @@ class Architecture(unittest.TestCase):
                 self.assertRegex(code, rf"\bfn {name}\b", f"{crate}::{name}")
 
     def test_proofs_are_short(self):
-        """What `search needs` closes stands in the list at the end of its proof: `docs/needs --write` puts it there."""
+        """What `search rules` closes by itself has no answer: `docs/needs --write` takes it away."""
         said = subprocess.run([os.path.join(ROOT, "docs", "needs")], capture_output=True, text=True)
         self.assertEqual((said.returncode, said.stdout, said.stderr), (0, "", ""))
 

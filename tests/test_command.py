@@ -24,7 +24,7 @@ from tteuyomal.decks import Block, Deck, Placement, Sheet
 
 GOOD, WRONG = FORTY + RIGHT, FORTY + sheet(12, 198, 97, 101, 14)
 REFUSED = FORTY[:13] + b"\x02" + FORTY[14:] + RIGHT
-PROGRAM = os.path.join(ROOT, "target", "bin" if os.uname().machine == "x86_64" else "run", "judge")  # in run/ by the kit's emulator
+PROGRAM = os.path.join(ROOT, "target", "bin", "judge")
 
 
 class Room(unittest.TestCase):
