@@ -24,10 +24,10 @@ use Rattle.compose.proofs.in_book.Goals.{After-compose-answer, In_default}
 
 -- `compose::in_book` meets its contract. Assumes nothing.
 -- the blocks that are read
-blocks : (c : In_default) → (k : Deck) × (open_reply assembly_kind c.args.d.now ≡ read k) × (c.open_deck-k.result ≡ said_deck (read k))
+abbrev blocks : (c : In_default) → (k : Deck) × (open_reply assembly_kind c.args.d.now ≡ read k) × (c.open_deck-k.result ≡ said_deck (read k))
 blocks c = let r = c.open_deck-k in deck_ended (open_reply assembly_kind c.args.d.now) r.result r.ensures.reply c.in_default.is
 
-blocks-in-After-compose-answer : (c : After-compose-answer) → (k : Deck) × (open_reply assembly_kind c.args.d.now ≡ read k) × (c.open_deck-k.result ≡ said_deck (read k))
+abbrev blocks-in-After-compose-answer : (c : After-compose-answer) → (k : Deck) × (open_reply assembly_kind c.args.d.now ≡ read k) × (c.open_deck-k.result ≡ said_deck (read k))
 blocks-in-After-compose-answer c = let r = c.open_deck-k in deck_ended (open_reply assembly_kind c.args.d.now) r.result r.ensures.reply c.in_default.is
 
 -- the book that is filled

@@ -40,16 +40,16 @@ abbrev deck-in-After-sheet_reply-s : After-sheet_reply-s → List ℕ
 deck-in-After-sheet_reply-s s = s.args.d.now
 
 -- the blocks, read
-blocks : (c : In-Fine) → let d = deck-in-In-Fine c in (k : Deck) × (open_reply assembly_kind d ≡ read k) × (c.open_deck-k.result ≡ said_deck (read k))
+abbrev blocks : (c : In-Fine) → let d = deck-in-In-Fine c in (k : Deck) × (open_reply assembly_kind d ≡ read k) × (c.open_deck-k.result ≡ said_deck (read k))
 blocks c = let r = c.open_deck-k in deck_ended (open_reply assembly_kind (deck-in-In-Fine c)) r.result r.ensures.reply c.in-Fine.is
 
-blocks-in-After-assembly_reply-a : (c : After-assembly_reply-a) → let d = deck-in-After-assembly_reply-a c in (k : Deck) × (open_reply assembly_kind d ≡ read k) × (c.open_deck-k.result ≡ said_deck (read k))
+abbrev blocks-in-After-assembly_reply-a : (c : After-assembly_reply-a) → let d = deck-in-After-assembly_reply-a c in (k : Deck) × (open_reply assembly_kind d ≡ read k) × (c.open_deck-k.result ≡ said_deck (read k))
 blocks-in-After-assembly_reply-a c = let r = c.open_deck-k in deck_ended (open_reply assembly_kind (deck-in-After-assembly_reply-a c)) r.result r.ensures.reply c.in-Fine.is
 
-blocks-in-In-Fine-a : (c : In-Fine-a) → let d = deck-in-In-Fine-a c in (k : Deck) × (open_reply assembly_kind d ≡ read k) × (c.open_deck-k.result ≡ said_deck (read k))
+abbrev blocks-in-In-Fine-a : (c : In-Fine-a) → let d = deck-in-In-Fine-a c in (k : Deck) × (open_reply assembly_kind d ≡ read k) × (c.open_deck-k.result ≡ said_deck (read k))
 blocks-in-In-Fine-a c = let r = c.open_deck-k in deck_ended (open_reply assembly_kind (deck-in-In-Fine-a c)) r.result r.ensures.reply c.in-Fine.is
 
-blocks-in-After-sheet_reply-s : (c : After-sheet_reply-s) → let d = deck-in-After-sheet_reply-s c in (k : Deck) × (open_reply assembly_kind d ≡ read k) × (c.open_deck-k.result ≡ said_deck (read k))
+abbrev blocks-in-After-sheet_reply-s : (c : After-sheet_reply-s) → let d = deck-in-After-sheet_reply-s c in (k : Deck) × (open_reply assembly_kind d ≡ read k) × (c.open_deck-k.result ≡ said_deck (read k))
 blocks-in-After-sheet_reply-s c = let r = c.open_deck-k in deck_ended (open_reply assembly_kind (deck-in-After-sheet_reply-s c)) r.result r.ensures.reply c.in-Fine.is
 
 filled : (c : In-Fine) → c.open_deck-k.new.book ≡ open_book assembly_kind (deck-in-In-Fine c) c.args.book.now
