@@ -1,4 +1,6 @@
 // Reading a library deck: its refusals, where its sites stand, and how many products it has.
+#![tactic(auto)]
+
 mod candidates;
 mod sites;
 

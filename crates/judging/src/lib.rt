@@ -1,4 +1,6 @@
 // The judge: composing a deck's sheet, writing it, and judging one that somebody else wrote.
+#![tactic(auto)]
+
 ghost use Rattle.std.specs.Prelude.{◌≡◌, length};
 ghost use Rattle.reply.specs.Read.{read};
 ghost use Rattle.block.specs.Index.{said_indices};

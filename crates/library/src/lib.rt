@@ -1,4 +1,6 @@
 // The products of a library: what is kept of its core and its candidates, and each product joined from that by the composing crates.
+#![tactic(auto)]
+
 mod choice;
 mod last;
 

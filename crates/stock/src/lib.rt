@@ -1,5 +1,7 @@
 // What is kept of a library: its core, and the arms of its candidates. Each block is opened once for each time that it is named, but not again where the
 // next candidate names it again.
+#![tactic(auto)]
+
 ghost use Rattle.std.specs.Prelude.{◌≡◌, ◌<◌, take};
 ghost use Rattle.arms.specs.Arms.{opened_of};
 ghost use Rattle.catalogue.specs.Library.{most_sites};

@@ -1,5 +1,7 @@
 // The molecule of a deck written out: every bond as two atoms' numbers in the whole molecule. Block by block, in the order of the placements; behind each
 // later block's bonds stands the bond that joins it.
+#![tactic(auto)]
+
 ghost use Rattle.std.specs.Prelude.{◌≡◌, [], ◌∷◌, ◌+◌, ◌*◌, ◌≤◌, ◌<◌, length, set};
 ghost use Rattle.std.proofs.lemmas.List.Edits.{sets};
 ghost use Rattle.graph.specs.Assembly.{start_at};

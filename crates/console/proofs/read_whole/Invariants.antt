@@ -2,8 +2,8 @@
 use Rattle.std.proofs.Common.{length, ◌-◌, ◌≤◌}
 use Rattle.console.proofs.read_whole.Given as goal
 
-abbrev pub invariant_loop_n : goal.invariant-loop-n
-invariant_loop_n g l = l.n ≤ length l.bytes
+abbrev pub invariant-loop-n : goal.invariant-loop-n
+invariant-loop-n g l = l.n ≤ length l.bytes
 
-abbrev pub decreases_loop_n : goal.decreases-loop-n
-decreases_loop_n g l = length l.initial.bytes - l.n
+abbrev pub decreases-loop-n : goal.decreases-loop-n
+decreases-loop-n g l = length l.initial.bytes - l.n

@@ -2,5 +2,5 @@
 use Rattle.std.proofs.Common.{length, ◌-◌}
 use Rattle.deck_numbers.proofs.read_table.Given as goal
 
-abbrev pub decreases_loop_at : goal.decreases-loop-at
-decreases_loop_at g l = length l.text - l.at
+abbrev pub decreases-loop-at : goal.decreases-loop-at
+decreases-loop-at g l = length l.text - l.at

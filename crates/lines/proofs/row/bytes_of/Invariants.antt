@@ -2,8 +2,8 @@
 use Rattle.std.proofs.Common.{length, ◌-◌, ◌≡◌}
 use Rattle.lines.proofs.row.bytes_of.Given as goal
 
-abbrev pub invariant_loop_k : goal.invariant-loop-k
-invariant_loop_k l = (length l.values ≡ 480) × (length l.bytes ≡ 32769)
+abbrev pub invariant-loop-k : goal.invariant-loop-k
+invariant-loop-k l = (length l.values ≡ 480) × (length l.bytes ≡ 32769)
 
-abbrev pub decreases_loop_k : goal.decreases-loop-k
-decreases_loop_k l = 480 - l.k
+abbrev pub decreases-loop-k : goal.decreases-loop-k
+decreases-loop-k l = 480 - l.k

@@ -2,5 +2,5 @@
 use Rattle.std.proofs.Common.{length, ◌-◌}
 use Rattle.lines.proofs.row.numbers_at.Given as goal
 
-abbrev pub decreases_loop_at : goal.decreases-loop-at
-decreases_loop_at l = length l.line - l.at
+abbrev pub decreases-loop-at : goal.decreases-loop-at
+decreases-loop-at l = length l.line - l.at

@@ -2,8 +2,8 @@
 use Rattle.std.proofs.Common.{◌-◌, ◌≤◌}
 use Rattle.lines.proofs.row.same.Given as goal
 
-abbrev pub invariant_loop_k : goal.invariant-loop-k
-invariant_loop_k l = l.i ≤ l.k
+abbrev pub invariant-loop-k : goal.invariant-loop-k
+invariant-loop-k l = l.i ≤ l.k
 
-abbrev pub decreases_loop_k : goal.decreases-loop-k
-decreases_loop_k l = 480 - l.k
+abbrev pub decreases-loop-k : goal.decreases-loop-k
+decreases-loop-k l = 480 - l.k

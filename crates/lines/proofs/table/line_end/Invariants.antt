@@ -2,8 +2,8 @@
 use Rattle.std.proofs.Common.{length, ◌-◌, ◌≤◌}
 use Rattle.lines.proofs.table.line_end.Given as goal
 
-abbrev pub invariant_loop_at : goal.invariant-loop-at
-invariant_loop_at l = l.fn.from ≤ l.at
+abbrev pub invariant-loop-at : goal.invariant-loop-at
+invariant-loop-at l = l.fn.from ≤ l.at
 
-abbrev pub decreases_loop_at : goal.decreases-loop-at
-decreases_loop_at l = length l.text - l.at
+abbrev pub decreases-loop-at : goal.decreases-loop-at
+decreases-loop-at l = length l.text - l.at

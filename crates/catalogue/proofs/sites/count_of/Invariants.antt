@@ -1,0 +1,16 @@
+use Prim.Native.Nat.{ℕ, ◌+◌, ◌*◌, ◌-◌, ◌^◌, ◌≤◌}
+use mathlib.Core.Path.{◌≡◌, sym, ◌∙◌, ap, ap₂}
+use native.Mathlib.Numerals.{add-one}
+use native.Mathlib.Omega.{arith}
+use borrow.Author.Rules.{rules}
+use Rattle.catalogue.specs.Products.{products}
+use Rattle.catalogue.specs.Table.{sites_in}
+use Rattle.catalogue.proofs.Turns.{products_grow, one_product, byte_more, few_bytes}
+use Rattle.catalogue.proofs.sites.count_of.Given as goal
+
+-- `catalogue::sites::count_of` meets its contract. Assumes nothing.
+abbrev pub invariant-loop-k : goal.invariant-loop-k
+invariant-loop-k l = (l.k ≤ l.n) × (l.total ≡ products (sites_in l.sites l.k)) × (l.total ≤ 256 ^ l.k)
+
+abbrev pub decreases-loop-k : goal.decreases-loop-k
+decreases-loop-k l = l.n - l.k

@@ -1,0 +1,15 @@
+use Prim.Native.Nat.{ℕ, suc, ◌-◌, ◌≤◌}
+use mathlib.Core.Path.{◌≡◌, refl, sym, ◌∙◌, ap}
+use native.Mathlib.Omega.{arith}
+use borrow.Author.Rules.{rules}
+use Rattle.catalogue.specs.Library.{is_taken}
+use Rattle.catalogue.specs.Table.{sites_in}
+use Rattle.catalogue.proofs.Turns.{taken_here, taken_before, none_taken}
+use Rattle.catalogue.proofs.sites.is_taken.Given as goal
+
+-- `catalogue::sites::is_taken` meets its contract. Assumes nothing.
+abbrev pub invariant-loop-k : goal.invariant-loop-k
+invariant-loop-k l = (l.k ≤ l.n) × (is_taken (sites_in l.sites l.n) l.atom ≡ is_taken (sites_in l.sites l.k) l.atom)
+
+abbrev pub decreases-loop-k : goal.decreases-loop-k
+decreases-loop-k l = l.k

@@ -1,0 +1,15 @@
+use mathlib.Core.Path.{sym, ◌∙◌}
+use borrow.Author.Rules.{rules}
+use Rattle.deck.specs.declared.Form.TheVariants.{Judged}
+use Rattle.judging.proofs.Judging.{composed-refused, composed-read, judge_refused, judge_read}
+use Rattle.judging.proofs.judge.Goals as goal
+
+-- `judging::judge` meets its contract. Assumes nothing.
+pub returns-in-Refused : goal.returns-in-Refused
+returns-in-Refused c = judge_refused _ _ (composed-refused Judged _ _ (sym c.in-Refused.is ∙ c.fields-told.ensures))
+
+pub returns-in-Composed : goal.returns-in-Composed
+returns-in-Composed c =
+    let d = c.args.d.now in
+    let (k, e, p, q) = composed-read Judged d _ (sym c.in-Composed.is ∙ c.fields-told.ensures) in
+    judge_read d k _ _ c.first_wrong.result _ e p q c.first_wrong.ensures c.compared.ensures

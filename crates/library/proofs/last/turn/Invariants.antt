@@ -1,0 +1,28 @@
+use Prim.Native.Nat.{ℕ, zero, suc, ◌+◌, ◌-◌, ◌^◌, ◌≤◌, ◌<◌}
+use mathlib.Core.List.{List, ◌++◌}
+use mathlib.Core.Path.{◌≡◌, refl, sym, ◌∙◌, ap, subst}
+use native.Mathlib.Omega.{arith}
+use lib.ListN.{length, take, drop}
+use borrow.Author.Rules.{rules}
+use Rattle.arms.specs.Arms.{joined_to}
+use Rattle.sheets.specs.Sheets.{sheet_bytes}
+use Rattle.catalogue.specs.Library.{Library}
+use Rattle.catalogue.specs.Products.{products, product_at}
+use Rattle.catalogue.specs.Fine.{few_products}
+use Rattle.library.specs.Steps.{Ran}
+use Rattle.library.specs.Turning.{Going, Turns}
+use Rattle.arms.specs.declared.Arm.{Arm}
+use Rattle.library.proofs.Spreading.{going_next, lent_whole, lent_long, some_bytes}
+use Rattle.library.proofs.last.turn.Given as goal
+
+-- `library::last::turn` meets its contract. Assumes nothing.
+abbrev pub invariant-loop-k : goal.invariant-loop-k
+invariant-loop-k l =
+    (length l.out ≡ length l.initial.out)
+    × (l.at ≤ length l.out)
+    × (l.k ≤ l.left)
+    × (l.k ≡ 0 → l.at ≡ l.start)
+    × ((d : List ℕ) (l : Library) (whole : Ran) → Turns d l l.all l.position (record { stem = l.stem; place = l.place; left = l.left }) → Going l.sheet d whole l.initial.out l.position l.start → Going l.sheet d whole l.out (l.position + l.k) l.at)
+
+abbrev pub decreases-loop-k : goal.decreases-loop-k
+decreases-loop-k l = l.left - l.k

@@ -1,0 +1,25 @@
+use Prim.Native.Nat.{ℕ, ◌-◌, ◌≤◌, ◌<◌}
+use mathlib.Core.List.{List}
+use mathlib.Core.Path.{◌≡◌, refl, sym, ap}
+use native.Mathlib.Omega.{arith}
+use lib.ListN.{length}
+use borrow.Author.Rules.{rules}
+use Rattle.assembly.specs.declared.BlockAt.{BlockAt}
+use Rattle.sheets.specs.Sheets.{sheet_bytes}
+use Rattle.catalogue.specs.Library.{Library}
+use Rattle.catalogue.specs.Products.{products}
+use Rattle.library.specs.Held.{Spread}
+use Rattle.library.specs.Steps.{Ran, steps_from}
+use Rattle.library.specs.Turning.{Going}
+use Rattle.library.proofs.Spreading.{going_start, going_full, going_done}
+use Rattle.library.proofs.run_over.Given as goal
+
+-- `library::run_over` meets its contract. Assumes nothing.
+abbrev pub invariant-loop-p : goal.invariant-loop-p
+invariant-loop-p l =
+    (length l.out ≡ length l.initial.out)
+    × (l.at ≤ length l.out)
+    × ((d : List ℕ) (l : Library) (bs : List BlockAt) (xs : List ℕ) → Spread d l bs xs l.sites l.n l.core l.all → l.many ≡ products l.sites → Going l.sheet d (steps_from (length l.initial.out) l.sheet d l.position l.initial.out) l.out l.p l.at)
+
+abbrev pub decreases-loop-p : goal.decreases-loop-p
+decreases-loop-p l = l.many - l.p
