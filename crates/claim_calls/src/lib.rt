@@ -1,4 +1,6 @@
 // Claims of a molecule, and the records and data items of an SDF, as C asks for them.
+#![tactic(auto)]
+
 ghost use Rattle.std.specs.Prelude.{◌≡◌};
 ghost use Rattle.judging.specs.Judging.{said_verdict};
 ghost use Rattle.claims.specs.Molecules.{deck_claims_reply, block_claims_reply};

@@ -1,4 +1,6 @@
 // Claims: numbers of a molecule that a program printed, read and compared with its fields. Claim after claim: the field (1 byte), a length (1 byte), and so many bytes of text.
+#![tactic(auto)]
+
 ghost use Rattle.std.specs.Prelude.{◌≡◌, true, false, ◌||◌, ◌+◌, ◌-◌, ◌≤◌, ◌<◌, length};
 ghost use Rattle.reply.specs.Read.{read, refusal};
 ghost use Rattle.judging.specs.Judging.{said_verdict};

@@ -1,4 +1,6 @@
 // Claims of a molecule, judged: numbers that a program printed of a deck's molecule or of a block.
+#![tactic(auto)]
+
 ghost use Rattle.std.specs.Prelude.{◌≡◌, true, ◌+◌, ◌-◌, ◌*◌, ◌/◌, ◌≤◌};
 ghost use Rattle.reply.specs.Read.{read};
 ghost use Rattle.block.specs.Block.{most_bytes, graph_of, block_reply};

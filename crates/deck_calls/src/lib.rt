@@ -1,4 +1,6 @@
 // Decks as C asks for them: judged, their sheet written or composed, the distance of two placed atoms.
+#![tactic(auto)]
+
 ghost use Rattle.std.specs.Prelude.{◌≡◌, ◌+◌, ◌*◌, ◌%◌, length};
 ghost use Rattle.judging.specs.Judging.{judge_reply, said_verdict, sheet_write_reply, sheet_out};
 ghost use Rattle.calls.specs.Convention.{most_place, coded, Lent};

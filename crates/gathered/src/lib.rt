@@ -1,4 +1,6 @@
 // Composing a sheet from a whole record over the blocks that a queue holds.
+#![tactic(auto)]
+
 ghost use Rattle.std.specs.Prelude.{◌≡◌, cond, ltb, length};
 ghost use Rattle.reply.specs.Read.{refused, refusal, read, ◌then◌};
 ghost use Rattle.block.specs.Index.{said_indices};

@@ -1,5 +1,7 @@
 // Whether a deck's molecule is a molecule that is listed atom by atom, by a matching that somebody hands in. Who made the deck and the matching need not be
 // believed: after a yes the two differ only in the numbering of their atoms.
+#![tactic(auto)]
+
 ghost use Rattle.std.specs.Prelude.{◌≡◌, ◌&&◌, ◌+◌, ◌*◌, ◌/◌, ◌^◌, ◌≤◌, ◌<◌, eqb, length};
 ghost use Rattle.graph.specs.Graph.{bond, joins, any_joins};
 ghost use Rattle.reply.specs.Read.{read};

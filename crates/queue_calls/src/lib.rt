@@ -1,4 +1,6 @@
 // Two queues at one table, as C asks for them.
+#![tactic(auto)]
+
 ghost use Rattle.std.specs.Prelude.{◌≡◌, length};
 ghost use Rattle.summary.specs.Layout.{summary_bytes};
 ghost use Rattle.queues.specs.Table.{table_reply, emptied};

@@ -1,4 +1,6 @@
 // The molecule of a deck written out, and a listed molecule held against it by a matching, as C asks for them.
+#![tactic(auto)]
+
 ghost use Rattle.std.specs.Prelude.{◌≡◌};
 ghost use Rattle.matched.specs.Matched.{match_reply};
 ghost use Rattle.matched.specs.Said.{said_match};

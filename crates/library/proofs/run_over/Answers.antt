@@ -39,7 +39,7 @@ pub loop-p-smaller : goal.loop-p-smaller
 loop-p-smaller c = let r = c.loop-p in
     let a = c.args in
     let room : sheet_bytes a.sheet ≤ length r.out - r.at = omega (arith, c.bytes_of-bytes.ensures, c.if-out-at.false) in
-    omega (arith, c.turn-reached.ensures.on.0 room, c.loop-p-test.true)
+    omega (arith, c.turn-reached.ensures.on room, c.loop-p-test.true)
 
 pub loop-p-preserved : goal.loop-p-preserved
 loop-p-preserved c = let a = c.args in let r = c.loop-p in
@@ -49,7 +49,7 @@ loop-p-preserved c = let a = c.args in let r = c.loop-p in
       reached.ensures.within,
       λ d l bs xs t m.
           let low : r.p < products l.sites = omega (arith, m, test) in
-          reached.ensures.on.1 d l (steps_from (length a.out.now) a.sheet d a.position a.out.now) (c.staying_at-stay.ensures d l bs xs t low) (r.invariant.2 d l bs xs t m),
+          reached.ensures.goes d l (steps_from (length a.out.now) a.sheet d a.position a.out.now) (c.staying_at-stay.ensures d l bs xs t low) (r.invariant.2 d l bs xs t m),
     )
 
 pub shape_of-out : goal.shape_of-out

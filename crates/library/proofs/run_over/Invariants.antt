@@ -16,10 +16,10 @@ use Rattle.library.proofs.run_over.Given as goal
 
 -- `library::run_over` meets its contract. Assumes nothing.
 abbrev pub invariant-loop-p : goal.invariant-loop-p
-invariant-loop-p l =
-    (length l.out ≡ length l.initial.out)
-    × (l.at ≤ length l.out)
-    × ((d : List ℕ) (l : Library) (bs : List BlockAt) (xs : List ℕ) → Spread d l bs xs l.sites l.n l.core l.all → l.many ≡ products l.sites → Going l.sheet d (steps_from (length l.initial.out) l.sheet d l.position l.initial.out) l.out l.p l.at)
+invariant-loop-p loop =
+    (length loop.out ≡ length loop.initial.out)
+    × (loop.at ≤ length loop.out)
+    × ((d : List ℕ) (l : Library) (bs : List BlockAt) (xs : List ℕ) → Spread d l bs xs loop.sites loop.n loop.core loop.all → loop.many ≡ products l.sites → Going loop.sheet d (steps_from (length loop.initial.out) loop.sheet d loop.position loop.initial.out) loop.out loop.p loop.at)
 
 abbrev pub decreases-loop-p : goal.decreases-loop-p
 decreases-loop-p l = l.many - l.p

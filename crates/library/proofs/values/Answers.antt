@@ -16,10 +16,10 @@ use Rattle.library.proofs.values.Goals.{After-count_from-count, In-Fine}
 
 -- `library::values` meets its contract. Assumes nothing.
 -- the library that is read
-library : (c : In-Fine) → let d = c.args.d.now in (l : Library) × (library_reply d ≡ read l) × (c.read_library-l.result ≡ said_library (read l))
+abbrev library : (c : In-Fine) → let d = c.args.d.now in (l : Library) × (library_reply d ≡ read l) × (c.read_library-l.result ≡ said_library (read l))
 library c = let r = c.read_library-l in library_ends _ r.result r.ensures.reply c.in-Fine.is
 
-library-in-After-count_from-count : (c : After-count_from-count) → let d = c.args.d.now in (l : Library) × (library_reply d ≡ read l) × (c.read_library-l.result ≡ said_library (read l))
+abbrev library-in-After-count_from-count : (c : After-count_from-count) → let d = c.args.d.now in (l : Library) × (library_reply d ≡ read l) × (c.read_library-l.result ≡ said_library (read l))
 library-in-After-count_from-count c = let r = c.read_library-l in library_ends _ r.result r.ensures.reply c.in-Fine.is
 
 -- how many values there are

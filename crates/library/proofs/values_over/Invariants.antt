@@ -15,10 +15,10 @@ use Rattle.library.proofs.values_over.Given as goal
 
 -- `library::values_over` meets its contract. Assumes nothing.
 abbrev pub invariant-loop-at : goal.invariant-loop-at
-invariant-loop-at l =
-    (length l.row ≡ length l.initial.row)
-    × (l.at ≤ l.count)
-    × ((d : List ℕ) (l : Library) (bs : List BlockAt) (xs : List ℕ) → Spread d l bs xs l.sites l.n l.core l.all → l.count ≤ products l.sites - l.position → Filled (values_of d l l.field l.position) l.initial.row l.row l.at)
+invariant-loop-at loop =
+    (length loop.row ≡ length loop.initial.row)
+    × (loop.at ≤ loop.count)
+    × ((d : List ℕ) (l : Library) (bs : List BlockAt) (xs : List ℕ) → Spread d l bs xs loop.sites loop.n loop.core loop.all → loop.count ≤ products l.sites - loop.position → Filled (values_of d l loop.field loop.position) loop.initial.row loop.row loop.at)
 
 abbrev pub decreases-loop-at : goal.decreases-loop-at
 decreases-loop-at l = l.count - l.at

@@ -17,12 +17,12 @@ use Rattle.library.proofs.last.turn.Given as goal
 
 -- `library::last::turn` meets its contract. Assumes nothing.
 abbrev pub invariant-loop-k : goal.invariant-loop-k
-invariant-loop-k l =
-    (length l.out ≡ length l.initial.out)
-    × (l.at ≤ length l.out)
-    × (l.k ≤ l.left)
-    × (l.k ≡ 0 → l.at ≡ l.start)
-    × ((d : List ℕ) (l : Library) (whole : Ran) → Turns d l l.all l.position (record { stem = l.stem; place = l.place; left = l.left }) → Going l.sheet d whole l.initial.out l.position l.start → Going l.sheet d whole l.out (l.position + l.k) l.at)
+invariant-loop-k loop =
+    (length loop.out ≡ length loop.initial.out)
+    × (loop.at ≤ length loop.out)
+    × (loop.k ≤ loop.left)
+    × (loop.k ≡ 0 → loop.at ≡ loop.start)
+    × ((d : List ℕ) (l : Library) (whole : Ran) → Turns d l loop.all loop.position (record { stem = loop.stem; place = loop.place; left = loop.left }) → Going loop.sheet d whole loop.initial.out loop.position loop.start → Going loop.sheet d whole loop.out (loop.position + loop.k) loop.at)
 
 abbrev pub decreases-loop-k : goal.decreases-loop-k
 decreases-loop-k l = l.left - l.k

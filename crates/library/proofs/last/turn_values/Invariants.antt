@@ -16,12 +16,12 @@ use Rattle.library.proofs.last.turn_values.Given as goal
 
 -- `library::last::turn_values` meets its contract. Assumes nothing.
 abbrev pub invariant-loop-i : goal.invariant-loop-i
-invariant-loop-i l =
-    (length l.row ≡ length l.initial.row)
-    × (l.i ≤ l.left)
-    × (l.start + l.i ≤ l.end)
-    × ((d : List ℕ) (l : Library) (position : ℕ) (old : List ℕ) → Turns d l l.all (position + l.start) (record { stem = l.stem; place = l.place; left = l.left })
-    → Filled (values_of d l l.field position) old l.initial.row l.start → Filled (values_of d l l.field position) old l.row (l.start + l.i))
+invariant-loop-i loop =
+    (length loop.row ≡ length loop.initial.row)
+    × (loop.i ≤ loop.left)
+    × (loop.start + loop.i ≤ loop.end)
+    × ((d : List ℕ) (l : Library) (position : ℕ) (old : List ℕ) → Turns d l loop.all (position + loop.start) (record { stem = loop.stem; place = loop.place; left = loop.left })
+    → Filled (values_of d l loop.field position) old loop.initial.row loop.start → Filled (values_of d l loop.field position) old loop.row (loop.start + loop.i))
 
 abbrev pub decreases-loop-i : goal.decreases-loop-i
 decreases-loop-i l = l.left - l.i

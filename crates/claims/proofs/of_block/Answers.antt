@@ -1,0 +1,18 @@
+use mathlib.Core.Path.{refl, sym, ◌∙◌}
+use Rattle.reach.specs.Told.{indices_fine}
+use Rattle.claims.proofs.Molecules.{bonds_fit, block_refused, block_read}
+use borrow.Author.Rules.{rules}
+use Rattle.claims.proofs.of_block.Goals as goal
+
+-- `claims::of_block` meets its contract. Assumes nothing.
+pub block_fields-own-requires : goal.block_fields-own-requires
+block_fields-own-requires c = indices_fine _ _ _ (sym c.measure-told.ensures ∙ c.in-Of.is)
+
+pub above-most-requires : goal.above-most-requires
+above-most-requires c = bonds_fit _ _ (indices_fine _ _ _ (sym c.measure-told.ensures ∙ c.in-Of.is)).0
+
+pub returns-in-Refused : goal.returns-in-Refused
+returns-in-Refused c = block_refused _ _ _ (sym c.in-Refused.is ∙ c.measure-told.ensures)
+
+pub returns-in-Of : goal.returns-in-Of
+returns-in-Of c = block_read _ _ (indices_fine _ _ _ (sym c.measure-told.ensures ∙ c.in-Of.is)).0 _ _ _ _ _ c.block_fields-own.ensures refl c.above-most.ensures refl c.judged.ensures

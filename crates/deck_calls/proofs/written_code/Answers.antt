@@ -1,0 +1,8 @@
+use mathlib.Core.Path.{sym, ◌∙◌, ap}
+use borrow.Author.Rules.{rules}
+use Rattle.deck_calls.specs.Replies.{written_code}
+use Rattle.deck_calls.proofs.written_code.Goals as goal
+
+-- `deck_calls::written_code` meets its contract.
+pub returns-in-Refused : goal.returns-in-Refused
+returns-in-Refused c = c.code_of.ensures ∙ ap written_code (sym c.in-Refused.is)

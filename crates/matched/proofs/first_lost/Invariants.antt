@@ -1,0 +1,14 @@
+use Prim.Native.Nat.{ℕ, ◌+◌, ◌-◌, ◌≤◌}
+use mathlib.Core.Path.{◌≡◌, sym, ◌∙◌, ap}
+use native.Mathlib.Omega.{arith}
+use borrow.Author.Rules.{rules}
+use Rattle.matched.specs.Matched.{is_lost, first_atom}
+use Rattle.matched.specs.Laws.{atom_hit, atom_on, atom_over}
+use Rattle.matched.proofs.first_lost.Given as goal
+
+-- `matched::first_lost` meets its contract. The loop's invariant: what is left of the atoms gives what all of them give. Assumes nothing.
+abbrev pub invariant-loop-v : goal.invariant-loop-v
+invariant-loop-v l = (1 ≤ l.v) × (l.v ≤ l.n + 1) × (first_atom (l.n + 1 - l.v) l.v (is_lost l.to) ≡ first_atom l.n 1 (is_lost l.to))
+
+abbrev pub decreases-loop-v : goal.decreases-loop-v
+decreases-loop-v l = l.n + 1 - l.v

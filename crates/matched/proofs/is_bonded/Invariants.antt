@@ -1,0 +1,16 @@
+use Prim.Native.Nat.{◌-◌, ◌≤◌}
+use mathlib.Core.Path.{◌≡◌, refl, sym, ◌∙◌}
+use native.Mathlib.Omega.{arith}
+use borrow.Author.Rules.{rules}
+use lib.ListN.{length, drop}
+use Rattle.graph.specs.Graph.{any_joins}
+use Rattle.block.specs.Block.{bonds_of}
+use Rattle.matched.specs.Laws.{bonded_hit, bonded_on, bonded_over}
+use Rattle.matched.proofs.is_bonded.Given as goal
+
+-- `matched::is_bonded` meets its contract. The loop's invariant: what is left of the bonds gives what all of them give. Assumes nothing.
+abbrev pub invariant-loop-i : goal.invariant-loop-i
+invariant-loop-i l = (l.i ≤ length l.bonds) × (any_joins (bonds_of (drop l.i l.bonds)) l.x l.y ≡ any_joins (bonds_of l.bonds) l.x l.y)
+
+abbrev pub decreases-loop-i : goal.decreases-loop-i
+decreases-loop-i l = length l.bonds - l.i
