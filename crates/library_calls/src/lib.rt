@@ -1,4 +1,6 @@
 // The products of a library as C asks for them.
+#![tactic(auto)]
+
 ghost use Rattle.std.specs.Prelude.{◌≡◌, suc, ◌≤◌, length};
 ghost use Rattle.library.specs.Steps.{step_reply, step_out, run_of};
 ghost use Rattle.calls.specs.Convention.{Lent};

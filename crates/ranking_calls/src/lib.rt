@@ -1,4 +1,6 @@
 // The best products of a library as C asks for them.
+#![tactic(auto)]
+
 ghost use Rattle.std.specs.Prelude.{◌≡◌};
 ghost use Rattle.library.specs.Values.{values_reply};
 ghost use Rattle.calls.specs.Convention.{coded, then_nine};

@@ -1,5 +1,7 @@
 // The functions of the library as C calls them, under the convention of include/tteuyomal.h. Each is one line: what it calls stands in a crate below, with the
 // same promise. Only what is exported here reaches the archive.
+#![tactic(auto)]
+
 pub mod blocks;
 pub mod claims_printed;
 pub mod decks;

@@ -1,5 +1,4 @@
 use native.Mathlib.Omega.{arith}
-use borrow.Author.Rules.{rules}
 use Rattle.half.specs.Places.{place_is}
 use Rattle.half.proofs.above.Goals as goal
 

@@ -1,8 +1,6 @@
-use Prim.Native.Nat.{◌-◌, ◌≤◌}
 use mathlib.Core.Path.{◌≡◌}
 use native.Mathlib.Omega.{arith}
-use Rattle.half.specs.Half.{most_atoms, row_start}
-use Rattle.half.specs.Work.{Upto}
+use Rattle.half.specs.Half.{most_atoms}
 use Rattle.half.proofs.Lines.{along_place, along_next}
 use Rattle.half.proofs.along.Goals as goal
 

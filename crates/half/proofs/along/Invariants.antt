@@ -1,9 +1,7 @@
 use Prim.Native.Nat.{◌-◌, ◌≤◌}
 use mathlib.Core.Path.{◌≡◌}
-use native.Mathlib.Omega.{arith}
 use Rattle.half.specs.Half.{most_atoms, row_start}
 use Rattle.half.specs.Work.{Upto}
-use Rattle.half.proofs.Lines.{along_place, along_next}
 use Rattle.half.proofs.along.Given as goal
 
 abbrev pub invariant-loop-j : goal.invariant-loop-j

@@ -1,6 +1,5 @@
-use Prim.Native.Nat.{◌-◌}
 use native.Mathlib.Omega.{arith}
-use Rattle.half.proofs.Lines.{Down, down_first, down_place, down_next, down_last}
+use Rattle.half.proofs.Lines.{down_first, down_place, down_next, down_last}
 use Rattle.half.proofs.column.Goals as goal
 
 pub loop-j-init : goal.loop-j-init

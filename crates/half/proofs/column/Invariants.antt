@@ -1,6 +1,5 @@
 use Prim.Native.Nat.{◌-◌}
-use native.Mathlib.Omega.{arith}
-use Rattle.half.proofs.Lines.{Down, down_first, down_place, down_next, down_last}
+use Rattle.half.proofs.Lines.{Down}
 use Rattle.half.proofs.column.Given as goal
 
 abbrev pub invariant-loop-j : goal.invariant-loop-j

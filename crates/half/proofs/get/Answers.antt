@@ -1,4 +1,3 @@
-use borrow.Author.Rules.{rules}
 use Rattle.half.proofs.Pairs.{get_some, get_none}
 use Rattle.half.proofs.get.Goals as goal
 

@@ -1,5 +1,4 @@
 use mathlib.Core.Path.{sym, ◌∙◌}
-use borrow.Author.Rules.{rules}
 use Rattle.half.specs.Half.{no_pair}
 use Rattle.half.proofs.no_pair.Goals as goal
 

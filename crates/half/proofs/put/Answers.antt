@@ -1,4 +1,3 @@
-use borrow.Author.Rules.{rules}
 use Rattle.half.proofs.Pairs.{put_some, put_out, put_none}
 use Rattle.half.proofs.put.Goals as goal
 

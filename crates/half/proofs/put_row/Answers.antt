@@ -1,11 +1,10 @@
-use Prim.Native.Nat.{◌-◌, ◌≤◌, ◌<◌, min}
+use Prim.Native.Nat.{◌<◌}
 use mathlib.Core.Bool.{false}
 use mathlib.Core.Path.{◌≡◌, refl, sym, ◌∙◌}
 use native.Mathlib.Omega.{arith}
-use lib.ListN.{length}
 use Rattle.reply.specs.Read.{is_outside}
-use Rattle.half.specs.Half.{most_atoms, all_pairs}
-use Rattle.half.proofs.Lines.{atom, along_place, Storing, store_first, store_place, store_next, store_last, store_out, store_short}
+use Rattle.half.specs.Half.{most_atoms}
+use Rattle.half.proofs.Lines.{atom, along_place, store_first, store_place, store_next, store_last, store_out, store_short}
 use Rattle.half.proofs.put_row.Goals as goal
 use Rattle.half.proofs.put_row.Goals.{Else-is_outside}
 

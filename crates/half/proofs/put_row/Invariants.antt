@@ -1,11 +1,10 @@
-use Prim.Native.Nat.{◌-◌, ◌≤◌, ◌<◌, min}
+use Prim.Native.Nat.{◌-◌, ◌≤◌, min}
 use mathlib.Core.Bool.{false}
-use mathlib.Core.Path.{◌≡◌, refl, sym, ◌∙◌}
-use native.Mathlib.Omega.{arith}
+use mathlib.Core.Path.{◌≡◌}
 use lib.ListN.{length}
 use Rattle.reply.specs.Read.{is_outside}
 use Rattle.half.specs.Half.{most_atoms, all_pairs}
-use Rattle.half.proofs.Lines.{atom, along_place, Storing, store_first, store_place, store_next, store_last, store_out, store_short}
+use Rattle.half.proofs.Lines.{Storing}
 use Rattle.half.proofs.put_row.Given as goal
 
 abbrev pub invariant-loop-j : goal.invariant-loop-j

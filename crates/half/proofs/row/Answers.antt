@@ -1,5 +1,4 @@
 use mathlib.Core.Path.{sym, ◌∙◌}
-use borrow.Author.Rules.{rules}
 use Rattle.half.proofs.Lines.{atom, row_none, upto_end}
 use Rattle.half.proofs.row.Goals as goal
 

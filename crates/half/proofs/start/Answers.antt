@@ -1,6 +1,5 @@
 use mathlib.Core.Path.{refl}
 use native.Mathlib.Omega.{arith}
-use borrow.Author.Rules.{rules}
 use Rattle.half.specs.Half.{row_start}
 use Rattle.half.proofs.Pairs.{corner, start_low}
 use Rattle.half.proofs.start.Goals as goal

@@ -1,0 +1,23 @@
+use Prim.Native.Nat.{suc}
+use mathlib.Core.Path.{◌∙◌, ap}
+use native.Mathlib.Omega.{arith}
+use lib.ListN.{length}
+use borrow.Author.Rules.{rules}
+use Rattle.records.specs.declared.Sheet.{Sheet}
+use Rattle.library.specs.Steps.{step_reply, step_out, said_step}
+use Rattle.calls.specs.Blocks.{sheet_for}
+use Rattle.library_calls.specs.Libraries.{with_next, step_code}
+use Rattle.library_calls.proofs.Walking.{walked_lacking, walked_told, step_wrote}
+use Rattle.library_calls.proofs.step.Goals as goal
+
+-- `library_calls::step` meets its contract. Assumes nothing.
+pub returns-then-next-lt1 : goal.returns-then-next-lt1
+returns-then-next-lt1 c = let a = c.args in
+    walked_lacking (step_reply (sheet_for a.kind) a.deck.now a.position (length a.out.now)) (step_out (sheet_for a.kind) a.out.now (step_reply (sheet_for a.kind) a.deck.now a.position (length a.out.now))) (suc a.position) a.out.now a.next.now (omega arith) _
+    (c.unlent_step.ensures ∙ ap (λ (s : Sheet). step_code (with_next 0 (step_reply s a.deck.now a.position (length a.out.now)))) c.sheet_for-sheet.ensures)
+
+pub returns : goal.returns
+returns c = let a = c.args in let s = c.sheet_for-sheet.ensures in let w = c.step-told.ensures in let t = c.tell.ensures in
+    walked_told (step_reply (sheet_for a.kind) a.deck.now a.position (length a.out.now)) (step_out (sheet_for a.kind) a.out.now (step_reply (sheet_for a.kind) a.deck.now a.position (length a.out.now))) (suc a.position) a.out.now a.next.now (omega arith) _ _ _ _
+    (w.reply ∙ ap (λ (s : Sheet). said_step (suc a.position) (step_reply s a.deck.now a.position (length a.out.now))) s) t.reply t.next (w.bytes ∙ ap (λ (s : Sheet). (step_out s a.out.now (step_reply s a.deck.now a.position (length a.out.now)))) s)
+    (step_wrote (sheet_for a.kind) a.out.now (step_reply (sheet_for a.kind) a.deck.now a.position (length a.out.now)))

@@ -1,0 +1,25 @@
+use mathlib.Core.Path.{sym, ◌∙◌, ap}
+use native.Mathlib.Omega.{arith}
+use borrow.Author.Rules.{rules}
+use Rattle.reply.specs.Read.{Read}
+use Rattle.catalogue.specs.Products.{Product}
+use Rattle.library.specs.Running.{step_long, step_short, step_product}
+use Rattle.library.proofs.Stepping.{product_told}
+use Rattle.library_calls.specs.Libraries.{with_next, step_code}
+use Rattle.library_calls.proofs.unlent_step.Goals as goal
+
+-- `library_calls::unlent_step` meets its contract. Assumes nothing.
+pub returns-then-deck-gt-LONGEST : goal.returns-then-deck-gt-LONGEST
+returns-then-deck-gt-LONGEST c = let a = c.args in sym (ap (λ (x : Read Product). step_code (with_next 0 x)) (step_long a.sheet a.deck.now a.position a.room c.if-deck-gt-LONGEST.true))
+
+pub returns-then-room-bytes_of : goal.returns-then-room-bytes_of
+returns-then-room-bytes_of c = let a = c.args in sym (ap (λ (x : Read Product). step_code (with_next 0 x)) (step_short a.sheet a.deck.now a.position a.room c.if-deck-gt-LONGEST.false (omega (arith, c.if-room-bytes_of.true, c.bytes_of.ensures))))
+
+pub returns-in-Refused : goal.returns-in-Refused
+returns-in-Refused c = let a = c.args in c.code_of.ensures ∙ sym (ap (λ (x : Read Product). step_code (with_next 0 x)) (step_product a.sheet a.deck.now a.position a.room c.if-deck-gt-LONGEST.false (omega (arith, c.if-room-bytes_of.false, c.bytes_of.ensures)) ∙ sym (product_told _ _ (sym c.in-Refused.is ∙ c.product-answer.ensures))))
+
+pub returns-in-Done : goal.returns-in-Done
+returns-in-Done c = let a = c.args in sym (ap (λ (x : Read Product). step_code (with_next 0 x)) (step_product a.sheet a.deck.now a.position a.room c.if-deck-gt-LONGEST.false (omega (arith, c.if-room-bytes_of.false, c.bytes_of.ensures)) ∙ sym (product_told _ _ (sym c.in-Done.is ∙ c.product-answer.ensures))))
+
+pub returns-in-Of : goal.returns-in-Of
+returns-in-Of c = let a = c.args in sym (ap (λ (x : Read Product). step_code (with_next 0 x)) (step_product a.sheet a.deck.now a.position a.room c.if-deck-gt-LONGEST.false (omega (arith, c.if-room-bytes_of.false, c.bytes_of.ensures)) ∙ sym (product_told _ _ (sym c.in-Of.is ∙ c.product-answer.ensures))))
