@@ -1,4 +1,3 @@
-use borrow.Author.Rules.{rules}
 use Rattle.arms.proofs.Keeping.{arm_kept}
 use Rattle.arms.proofs.arm_in.Goals as goal
 

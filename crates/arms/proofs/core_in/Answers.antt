@@ -1,10 +1,8 @@
 use Prim.Native.Nat.{◌-◌}
 use mathlib.Core.Path.{refl}
 use native.Mathlib.Omega.{arith}
-use lib.ListN.{get_or}
-use borrow.Author.Rules.{rules}
-use Rattle.arms.specs.Arms.{most_arms, no_port, port_in}
-use Rattle.arms.proofs.Keeping.{FilledTo, filled_none, filled_next, filled_all, core_kept}
+use Rattle.arms.specs.Arms.{port_in}
+use Rattle.arms.proofs.Keeping.{filled_none, filled_next, filled_all, core_kept}
 use Rattle.arms.proofs.core_in.Goals as goal
 
 pub loop-k-init : goal.loop-k-init

@@ -1,10 +1,7 @@
 use Prim.Native.Nat.{◌-◌}
-use mathlib.Core.Path.{refl}
-use native.Mathlib.Omega.{arith}
 use lib.ListN.{get_or}
-use borrow.Author.Rules.{rules}
 use Rattle.arms.specs.Arms.{most_arms, no_port, port_in}
-use Rattle.arms.proofs.Keeping.{FilledTo, filled_none, filled_next, filled_all, core_kept}
+use Rattle.arms.proofs.Keeping.{FilledTo}
 use Rattle.arms.proofs.core_in.Given as goal
 
 -- `arms::core_in` meets its contract. The loop's invariant: the first k ends are seen. Assumes nothing.

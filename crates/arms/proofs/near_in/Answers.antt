@@ -1,11 +1,8 @@
 use Prim.Native.Nat.{◌-◌}
 use mathlib.Core.Path.{refl}
 use native.Mathlib.Omega.{arith}
-use lib.ListN.{get_or}
-use borrow.Author.Rules.{rules}
-use Rattle.sighted.specs.Sighted.{steps_in}
-use Rattle.arms.specs.Arms.{most_arms, ports_near}
-use Rattle.arms.proofs.Keeping.{FilledTo, filled_none, filled_next, filled_all}
+use Rattle.arms.specs.Arms.{ports_near}
+use Rattle.arms.proofs.Keeping.{filled_none, filled_next, filled_all}
 use Rattle.arms.proofs.near_in.Goals as goal
 
 pub loop-j-init : goal.loop-j-init

@@ -1,11 +1,8 @@
 use Prim.Native.Nat.{◌-◌}
-use mathlib.Core.Path.{refl}
-use native.Mathlib.Omega.{arith}
 use lib.ListN.{get_or}
-use borrow.Author.Rules.{rules}
 use Rattle.sighted.specs.Sighted.{steps_in}
-use Rattle.arms.specs.Arms.{most_arms, ports_near}
-use Rattle.arms.proofs.Keeping.{FilledTo, filled_none, filled_next, filled_all}
+use Rattle.arms.specs.Arms.{most_arms}
+use Rattle.arms.proofs.Keeping.{FilledTo}
 use Rattle.arms.proofs.near_in.Given as goal
 
 -- `arms::near_in` meets its contract. The loop's invariant: the first j numbers are there. Assumes nothing.

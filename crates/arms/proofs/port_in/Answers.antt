@@ -1,4 +1,3 @@
-use borrow.Author.Rules.{rules}
 use Rattle.arms.proofs.Keeping.{port_kept}
 use Rattle.arms.proofs.port_in.Goals as goal
 

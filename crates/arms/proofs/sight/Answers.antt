@@ -1,8 +1,7 @@
-use Prim.Native.Nat.{◌-◌, ◌≤◌}
+use Prim.Native.Nat.{◌-◌}
 use mathlib.Core.Path.{◌≡◌, ◌∙◌, ap}
 use native.Mathlib.Omega.{arith}
 use lib.ListN.{get_or}
-use borrow.Author.Rules.{rules}
 use Rattle.arms.specs.Arms.{no_port, sight_from}
 use Rattle.arms.proofs.Keeping.{sight_start, sight_next}
 use Rattle.arms.proofs.sight.Goals as goal

@@ -1,10 +1,6 @@
 use Prim.Native.Nat.{◌-◌, ◌≤◌}
-use mathlib.Core.Path.{◌≡◌, ◌∙◌, ap}
-use native.Mathlib.Omega.{arith}
-use lib.ListN.{get_or}
-use borrow.Author.Rules.{rules}
-use Rattle.arms.specs.Arms.{no_port, sight_from}
-use Rattle.arms.proofs.Keeping.{sight_start, sight_next}
+use mathlib.Core.Path.{◌≡◌}
+use Rattle.arms.specs.Arms.{sight_from}
 use Rattle.arms.proofs.sight.Given as goal
 
 -- `arms::sight` meets its contract. The loop's invariant: v is counted once the first m arms are joined. Assumes nothing.

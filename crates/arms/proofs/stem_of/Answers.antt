@@ -1,15 +1,9 @@
-use Prim.Native.Nat.{◌-◌, ◌≤◌, min}
-use mathlib.Core.List.{List}
+use Prim.Native.Nat.{◌-◌, min}
 use mathlib.Core.Path.{◌≡◌}
 use native.Mathlib.Omega.{arith}
-use borrow.Author.Rules.{rules}
-use Rattle.block.specs.declared.Indices.{Indices}
-use Rattle.arms.specs.declared.Core.{Core}
-use Rattle.arms.specs.declared.Port.{Port}
-use Rattle.arms.specs.Arms.{most_arms, six_of, sight_at}
+use Rattle.arms.specs.Arms.{most_arms}
 use Rattle.arms.proofs.Keeping.{six_start, sight_first, six_next, stem_end}
 use Rattle.arms.proofs.stem_of.Goals as goal
-use Rattle.arms.proofs.stem_of.Invariants.{whole}
 
 pub loop-k-init : goal.loop-k-init
 loop-k-init c = let a = c.args in (omega arith, six_start a.core a.arms, sight_first a.core a.arms)

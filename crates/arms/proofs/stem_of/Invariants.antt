@@ -1,13 +1,10 @@
-use Prim.Native.Nat.{◌-◌, ◌≤◌, min}
+use Prim.Native.Nat.{◌-◌, ◌≤◌}
 use mathlib.Core.List.{List}
 use mathlib.Core.Path.{◌≡◌}
-use native.Mathlib.Omega.{arith}
-use borrow.Author.Rules.{rules}
 use Rattle.block.specs.declared.Indices.{Indices}
 use Rattle.arms.specs.declared.Core.{Core}
 use Rattle.arms.specs.declared.Port.{Port}
-use Rattle.arms.specs.Arms.{most_arms, six_of, sight_at}
-use Rattle.arms.proofs.Keeping.{six_start, sight_first, six_next, stem_end}
+use Rattle.arms.specs.Arms.{six_of, sight_at}
 use Rattle.arms.proofs.stem_of.Given as goal
 
 -- `arms::stem_of` meets its contract. The loop's invariant: the fields are those with the first k arms, and what is counted from the next one's atom. Assumes nothing.

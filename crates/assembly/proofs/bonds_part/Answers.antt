@@ -1,7 +1,6 @@
 use Prim.Native.Nat.{◌+◌, ◌*◌}
 use native.Mathlib.Omega.{arith}
 use Rattle.records.proofs.Numbers.{past_end}
-use borrow.Author.Rules.{rules}
 use Rattle.assembly.proofs.bonds_part.Goals as goal
 
 -- `assembly::bonds_part` meets its contract. Assumes nothing.

@@ -1,9 +1,9 @@
-use Prim.Native.Nat.{◌-◌, ◌<◌, ◌≤◌}
+use Prim.Native.Nat.{◌-◌, ◌<◌}
 use mathlib.Core.Path.{◌≡◌, refl, sym, ◌∙◌}
 use native.Mathlib.Omega.{arith}
-use lib.ListN.{length, take, drop, length-take}
+use lib.ListN.{length, take, length-take}
 use borrow.Author.Rules.{rules}
-use Rattle.assembly.specs.Book.{most_blocks, find}
+use Rattle.assembly.specs.Book.{most_blocks}
 use Rattle.assembly.proofs.Walks.{find_over, find_here, find_next}
 use Rattle.assembly.proofs.find_block.Goals as goal
 use Rattle.assembly.proofs.find_block.Goals.{Else-count-i, Start}

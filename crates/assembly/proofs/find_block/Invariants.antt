@@ -1,10 +1,7 @@
-use Prim.Native.Nat.{◌-◌, ◌<◌, ◌≤◌}
-use mathlib.Core.Path.{◌≡◌, refl, sym, ◌∙◌}
-use native.Mathlib.Omega.{arith}
-use lib.ListN.{length, take, drop, length-take}
-use borrow.Author.Rules.{rules}
+use Prim.Native.Nat.{◌-◌, ◌≤◌}
+use mathlib.Core.Path.{◌≡◌}
+use lib.ListN.{take, drop}
 use Rattle.assembly.specs.Book.{most_blocks, find}
-use Rattle.assembly.proofs.Walks.{find_over, find_here, find_next}
 use Rattle.assembly.proofs.find_block.Given as goal
 
 -- `assembly::find_block` meets its contract. The loop's invariant: what is found among the blocks that are left is what is found among all. Assumes nothing.

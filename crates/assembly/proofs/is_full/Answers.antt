@@ -6,7 +6,6 @@ use lib.Dec.{leb}
 use Rattle.block.specs.Block.{limit}
 use Rattle.assembly.specs.Placements.{placement_at, join_on, joins_on}
 use Rattle.assembly.specs.Degrees.{joins_zero}
-use borrow.Author.Rules.{rules}
 use Rattle.assembly.proofs.is_full.Goals as goal
 
 -- `assembly::is_full` meets its contract. Assumes nothing.

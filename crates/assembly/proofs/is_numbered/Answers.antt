@@ -1,5 +1,4 @@
 use borrow.Author.Tests.{eq-eqb, ne_eqb}
-use borrow.Author.Rules.{rules}
 use Rattle.assembly.proofs.is_numbered.Goals as goal
 
 -- `assembly::is_numbered` meets its contract. Assumes nothing.

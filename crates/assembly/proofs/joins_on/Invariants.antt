@@ -1,13 +1,8 @@
-use Prim.Native.Nat.{ℕ, ◌+◌, ◌*◌, ◌-◌, ◌≤◌}
-use mathlib.Core.Bool.{Bool, cond}
-use mathlib.Core.Path.{◌≡◌, ap}
-use native.Mathlib.Omega.{arith}
-use borrow.Author.Rules.{rules}
+use Prim.Native.Nat.{◌+◌, ◌*◌, ◌-◌, ◌≤◌}
+use mathlib.Core.Path.{◌≡◌}
 use Rattle.records.specs.Records.{assembly_kind}
-use Rattle.assembly.specs.Placements.{placement_at, join_of, join_on, joins_on}
+use Rattle.assembly.specs.Placements.{placement_at, join_on, joins_on}
 use Rattle.assembly.specs.Work.{own_on}
-use Rattle.assembly.specs.Degrees.{joins_zero}
-use Rattle.assembly.proofs.Walks.{own_none, joins_next}
 use Rattle.assembly.proofs.joins_on.Given as goal
 
 -- `assembly::joins_on` meets its contract. The loop's invariant: the total is that of the joins up to k, but with the own side of all. Assumes nothing.

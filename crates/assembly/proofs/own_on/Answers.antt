@@ -1,7 +1,6 @@
 use Prim.Native.Nat.{◌-◌}
 use mathlib.Core.Path.{◌≡◌, sym, ◌∙◌}
 use native.Mathlib.Omega.{arith}
-use borrow.Author.Rules.{rules}
 use Rattle.assembly.specs.Placements.{join_of}
 use Rattle.assembly.specs.Work.{own_on}
 use Rattle.assembly.proofs.own_on.Goals as goal

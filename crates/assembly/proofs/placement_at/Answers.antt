@@ -5,7 +5,6 @@ use lib.ListN.{get_or-eq_default}
 use Rattle.records.proofs.Numbers.{past}
 use Rattle.records.specs.Records.{assembly_kind}
 use Rattle.assembly.specs.Placements.{placement_at}
-use borrow.Author.Rules.{rules}
 use Rattle.assembly.proofs.placement_at.Goals as goal
 
 -- `assembly::placement_at` meets its contract. Assumes nothing.

@@ -1,5 +1,4 @@
 use native.Mathlib.Omega.{arith}
-use borrow.Author.Rules.{rules}
 use Rattle.records.specs.Bytes.{little}
 use Rattle.assembly.proofs.two_at.Goals as goal
 

@@ -2,7 +2,6 @@ use Prim.Native.Nat.{ℕ, ◌*◌}
 use mathlib.Core.Path.{ap₂, ◌∙◌}
 use native.Mathlib.Nat.{mul-le-mul}
 use native.Mathlib.Omega.{arith}
-use borrow.Author.Rules.{rules}
 use Rattle.balaban.specs.Balaban.{bound, largest_root}
 use Rattle.balaban.proofs.brings.Goals as goal
 

@@ -1,6 +1,5 @@
 use native.Mathlib.Nat.{mul-le-mul}
 use native.Mathlib.Omega.{arith}
-use borrow.Author.Rules.{rules}
 use Rattle.balaban.proofs.divided.Goals as goal
 
 -- `balaban::divided` meets its contract: the product fits, and the divisor is not 0. Assumes nothing.

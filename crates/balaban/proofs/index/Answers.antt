@@ -1,5 +1,4 @@
 use mathlib.Core.Path.{◌≡◌, sym, ◌∙◌}
-use borrow.Author.Rules.{rules}
 use Rattle.reply.specs.Read.{read}
 use Rattle.reply.specs.Chain.{fine_read, refused_read}
 use Rattle.block.specs.Block.{block_reply}

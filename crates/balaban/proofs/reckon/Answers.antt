@@ -1,7 +1,7 @@
 use Prim.Native.Nat.{◌-◌}
 use native.Mathlib.Omega.{arith}
 use Rattle.block.specs.Numbered.{few_bytes}
-use Rattle.balaban.proofs.Blocks.{Adding, adding_none, ends, adding_next, fits, reckoned_is}
+use Rattle.balaban.proofs.Blocks.{adding_none, ends, adding_next, fits, reckoned_is}
 use Rattle.balaban.proofs.reckon.Goals as goal
 
 pub loop-k-init : goal.loop-k-init

@@ -1,7 +1,5 @@
 use Prim.Native.Nat.{◌-◌}
-use native.Mathlib.Omega.{arith}
-use Rattle.block.specs.Numbered.{few_bytes}
-use Rattle.balaban.proofs.Blocks.{Adding, adding_none, ends, adding_next, fits, reckoned_is}
+use Rattle.balaban.proofs.Blocks.{Adding}
 use Rattle.balaban.proofs.reckon.Given as goal
 
 -- `reckon` meets its contract: what the bonds passed bring is added up. Assumes nothing.

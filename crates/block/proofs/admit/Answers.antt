@@ -1,7 +1,6 @@
 use mathlib.Core.Bool.{true, true≢false, false≢true}
 use mathlib.Core.Path.{◌≡◌, refl, sym, ◌∙◌}
 use native.Mathlib.Omega.{arith}
-use borrow.Author.Rules.{rules}
 use borrow.Author.Tests.{not-true, not-false}
 use Rattle.reply.specs.Read.{read}
 use Rattle.block.specs.Block.{graph_of, drawn_reply}

@@ -1,5 +1,4 @@
 use mathlib.Core.Path.{ap, ◌∙◌}
-use borrow.Author.Rules.{rules}
 use Prim.Native.Nat.{ℕ}
 use Rattle.block.specs.Sums.{entry, vertex_by}
 use Rattle.block.proofs.Summing.{vertex_total}

@@ -1,5 +1,4 @@
 use mathlib.Core.Path.{refl, sym, ap}
-use borrow.Author.Rules.{rules}
 use Rattle.reply.specs.Read.{said_reply}
 use Rattle.block.proofs.Replies.{refused_block}
 use Rattle.block.proofs.check.Goals as goal

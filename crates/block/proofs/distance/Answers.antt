@@ -1,6 +1,5 @@
 use mathlib.Core.Logic.{⊎_elim}
 use mathlib.Core.Path.{◌≡◌, sym, ◌∙◌}
-use borrow.Author.Rules.{rules}
 use Rattle.reply.specs.Read.{read}
 use Rattle.reply.specs.Chain.{fine_read, refused_read}
 use Rattle.block.specs.Block.{block_reply}

@@ -1,5 +1,4 @@
 use mathlib.Core.Path.{sym, ap, ◌∙◌}
-use borrow.Author.Rules.{rules}
 use borrow.Author.Tests.{not-true, not-false}
 use Rattle.reply.specs.Read.{said_reply}
 use Rattle.block.specs.Drawn.{drawn_is, none_drawn, drawn_near_lem}

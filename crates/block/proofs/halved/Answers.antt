@@ -1,5 +1,4 @@
 use mathlib.Core.Path.{refl, sym, ap}
-use borrow.Author.Rules.{rules}
 use borrow.Author.Tests.{not-true, not-false}
 use Rattle.reply.specs.Read.{said_reply}
 use Rattle.block.proofs.Filling.{kept, stored}

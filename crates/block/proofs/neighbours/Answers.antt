@@ -1,5 +1,4 @@
 use mathlib.Core.Path.{sym, ap}
-use borrow.Author.Rules.{rules}
 use Rattle.reply.specs.Read.{said_reply}
 use Rattle.block.specs.Drawn.{none_opened}
 use Rattle.block.proofs.Replies.{refused_block, near_opened}

@@ -1,5 +1,4 @@
 use mathlib.Core.Path.{refl, sym, ◌∙◌}
-use borrow.Author.Rules.{rules}
 use Rattle.reply.specs.Chain.{fine_read, refused_read}
 use Rattle.block.specs.Halved.{half_lent}
 use Rattle.block.proofs.Answers.{pairs_refused, pairs_fine}

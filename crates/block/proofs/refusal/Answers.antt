@@ -1,7 +1,6 @@
 use mathlib.Core.Bool.{false}
 use mathlib.Core.Logic.{⊎_map}
 use mathlib.Core.Path.{◌≡◌, sym, ◌∙◌}
-use borrow.Author.Rules.{rules}
 use Rattle.reply.specs.Read.{is_outside}
 use Rattle.block.specs.Block.{most_atoms}
 use Rattle.block.proofs.Replies.{refuses_one, refuses_two, refuses_bond}

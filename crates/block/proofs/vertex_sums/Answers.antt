@@ -1,4 +1,3 @@
-use borrow.Author.Rules.{rules}
 use Rattle.block.proofs.Answers.{vertex_refused, vertex_fine}
 use Rattle.block.proofs.vertex_sums.Goals as goal
 

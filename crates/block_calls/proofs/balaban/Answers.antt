@@ -1,4 +1,3 @@
-use borrow.Author.Rules.{rules}
 use Rattle.balaban.specs.Balaban.{balaban_reply}
 use Rattle.calls.proofs.Laws.{lent_number}
 use Rattle.block_calls.proofs.balaban.Goals as goal

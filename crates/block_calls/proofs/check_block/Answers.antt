@@ -1,5 +1,4 @@
 use mathlib.Core.Path.{◌∙◌}
-use borrow.Author.Rules.{rules}
 use Rattle.block.specs.Block.{block_reply}
 use Rattle.calls.proofs.Laws.{reply_coded}
 use Rattle.block_calls.proofs.check_block.Goals as goal

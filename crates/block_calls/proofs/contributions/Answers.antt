@@ -1,6 +1,5 @@
 use mathlib.Core.Path.{refl, ◌∙◌}
 use native.Mathlib.Omega.{arith}
-use borrow.Author.Rules.{rules}
 use lib.ListN.{length}
 use Rattle.shares.specs.Reply.{shares_reply}
 use Rattle.shares.proofs.Reply.{reply-refused}

@@ -1,5 +1,4 @@
 use mathlib.Core.Path.{◌≡◌, sym, ◌∙◌, ap}
-use borrow.Author.Rules.{rules}
 use Rattle.reply.specs.Read.{Read, refused, read, ◌then◌}
 use Rattle.sets.specs.Reply.{sets_reply, said_sets}
 use Rattle.sets.specs.declared.Sets.{Sets}

@@ -1,7 +1,6 @@
 use Prim.Native.Nat.{ℕ}
 use mathlib.Core.List.{List, [], ◌∷◌}
 use mathlib.Core.Path.{◌≡◌, sym, ◌∙◌, ap}
-use borrow.Author.Rules.{rules}
 use Rattle.reply.specs.Read.{Read, read, ◌then◌}
 use Rattle.reply.specs.declared.Reply.{Reply}
 use Rattle.block.specs.Rows.{row_reply}

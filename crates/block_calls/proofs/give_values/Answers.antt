@@ -1,5 +1,4 @@
 use native.Mathlib.Omega.{arith}
-use borrow.Author.Rules.{rules}
 use Rattle.block_calls.specs.Replies.{values_list}
 use Rattle.calls.proofs.Laws.{lent_lacking, lent_over, both_put}
 use Rattle.block_calls.proofs.give_values.Goals as goal

@@ -1,4 +1,3 @@
-use borrow.Author.Rules.{rules}
 use Rattle.records.specs.declared.Sheet.TheVariants.{Five}
 use Rattle.block.specs.Index.{indices_reply}
 use Rattle.calls.proofs.Blocks.{lent_fields}

@@ -1,5 +1,4 @@
 use mathlib.Core.Path.{sym, ◌∙◌, ap}
-use borrow.Author.Rules.{rules}
 use Rattle.reply.specs.Read.{Read, read, ◌then◌}
 use Rattle.poly.specs.declared.Values.{Values}
 use Rattle.poly.specs.Poly.{polynomial_reply}

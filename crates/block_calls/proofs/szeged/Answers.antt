@@ -1,6 +1,5 @@
 use mathlib.Core.Path.{◌∙◌}
 use native.Mathlib.Omega.{arith}
-use borrow.Author.Rules.{rules}
 use lib.ListN.{length}
 use Rattle.szeged.specs.Reply.{szeged_reply}
 use Rattle.szeged.proofs.Reply.{reply-refused}

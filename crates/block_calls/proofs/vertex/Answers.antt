@@ -1,5 +1,4 @@
 use mathlib.Core.Path.{sym, ◌∙◌, ap}
-use borrow.Author.Rules.{rules}
 use Rattle.reply.specs.Read.{Read, read, ◌then◌}
 use Rattle.block.specs.Index.{vertex_reply}
 use Rattle.block.specs.declared.Vertex.{Vertex}

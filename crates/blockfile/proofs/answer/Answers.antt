@@ -4,7 +4,6 @@ use Rattle.reply.specs.Read.{read}
 use Rattle.reply.specs.Chain.{fine_read, refused_read}
 use Rattle.block.specs.Block.{block_reply}
 use Rattle.molfile.proofs.Fronts.{answers_refused, answers_short, answers_fine}
-use borrow.Author.Rules.{rules}
 use Rattle.blockfile.proofs.answer.Goals as goal
 use Rattle.blockfile.proofs.answer.Goals.{In-Fine}
 

@@ -1,12 +1,9 @@
 use Prim.Native.Nat.{◌-◌, ◌≤◌}
 use mathlib.Core.List.{map}
-use mathlib.Core.Path.{◌≡◌, refl, ◌∙◌}
-use lib.ListN.{length, take, length-set}
+use mathlib.Core.Path.{◌≡◌}
+use lib.ListN.{length, take}
 use lib.Seq.{sets}
-use native.Mathlib.Omega.{arith}
-use borrow.Author.Rules.{rules}
 use Rattle.blockfile.specs.Bytes.{low}
-use Rattle.blockfile.proofs.Lows.{narrow_more, narrow_all}
 use Rattle.blockfile.proofs.narrow.Given as goal
 
 -- `blockfile::narrow` meets its contract. The loop's invariant: the last bytes of the first i numbers are put.

@@ -7,7 +7,6 @@ use Rattle.block.specs.Block.{most_bytes, block_reply}
 use Rattle.molfile.proofs.Fronts.{Front, front, reads_refused, reads_kept, alike}
 use Rattle.blockfile.specs.Bytes.{low}
 use Rattle.blockfile.proofs.Lows.{narrowed, cut_same}
-use borrow.Author.Rules.{rules}
 use Rattle.blockfile.proofs.read.Goals as goal
 use Rattle.blockfile.proofs.read.Goals.{After-narrow, In-Of}
 

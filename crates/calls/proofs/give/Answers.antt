@@ -1,5 +1,4 @@
 use native.Mathlib.Omega.{arith}
-use borrow.Author.Rules.{rules}
 use Rattle.calls.proofs.Laws.{lent_lacking, lent_over}
 use Rattle.calls.proofs.give.Goals as goal
 

@@ -1,5 +1,4 @@
 use mathlib.Core.Path.{ap}
-use borrow.Author.Rules.{rules}
 use Rattle.reply.specs.Read.{told_counts}
 use Rattle.reply.specs.declared.CountsReply.{CountsReply}
 use Rattle.calls.specs.Convention.{counts_list}

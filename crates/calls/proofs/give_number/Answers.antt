@@ -1,5 +1,4 @@
 use mathlib.Core.Path.{ap}
-use borrow.Author.Rules.{rules}
 use Rattle.reply.specs.Read.{told_number}
 use Rattle.reply.specs.declared.NumberReply.{NumberReply}
 use Rattle.calls.specs.Convention.{number_list}

@@ -1,5 +1,4 @@
 use mathlib.Core.Path.{sym, ◌∙◌, ap}
-use borrow.Author.Rules.{rules}
 use Rattle.calls.specs.Convention.{reply_code}
 use Rattle.calls.proofs.reply_code.Goals as goal
 

@@ -1,5 +1,4 @@
 use mathlib.Core.Path.{sym, ◌∙◌, ap}
-use borrow.Author.Rules.{rules}
 use Rattle.reply.specs.Read.{Read}
 use Rattle.block.specs.Block.{block_reply}
 use Rattle.calls.specs.Convention.{coded}

@@ -1,5 +1,4 @@
 use mathlib.Core.Path.{ap}
-use borrow.Author.Rules.{rules}
 use Rattle.catalogue.specs.declared.LibraryRead.{LibraryRead}
 use Rattle.catalogue.proofs.Reading.{library_stops, library_ends, count_refused, count_fine}
 use Rattle.catalogue.proofs.count.Goals as goal

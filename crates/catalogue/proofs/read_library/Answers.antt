@@ -2,7 +2,6 @@ use Prim.Native.Nat.{◌≤◌}
 use mathlib.Core.List.{List}
 use mathlib.Core.Path.{◌≡◌, sym, ◌∙◌, ap, ap₂, subst}
 use lib.ListN.{length}
-use borrow.Author.Rules.{rules}
 use Rattle.reply.specs.Read.{read}
 use Rattle.records.specs.Records.{payload_at}
 use Rattle.deck.specs.Deck.{Deck, open_reply}
@@ -30,7 +29,10 @@ read_record-requires c = let d = c.args.d.now in let (k, e, r) = blocks (goal.at
     subst (λ (x : DeckRead). library_kind.fixed ≤ length (payload_at d x.layout.assembly)) (sym r) (payload_long d k e)
 
 pub returns : goal.returns
-returns c = let d = c.args.d.now in let (k, e, r) = blocks (goal.at.returns c).In-Fine in record { reply = c.read_record.ensures
+returns c = let d = c.args.d.now in let (k, e, r) = blocks (goal.at.returns c).In-Fine in record {
+  reply = c.read_record.ensures
       ∙ ap₂ (λ (bs : List BlockAt) (x : DeckRead). tabled_library x.layout.blocks x.layout.count (after_blocks d bs x.layout.assembly x.layout.sheet)) (table_blocks k c.open_deck-k.result r) r
       ∙ said_tabled d k.blocks k.assembly k.sheet
-      ∙ ap said_library (sym (library_after d k e)); bytes = c.open_deck-k.ensures.bytes }
+      ∙ ap said_library (sym (library_after d k e));
+  bytes = c.open_deck-k.ensures.bytes;
+}

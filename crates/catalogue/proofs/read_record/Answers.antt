@@ -3,7 +3,6 @@ use mathlib.Core.List.{List}
 use mathlib.Core.Path.{◌≡◌, sym, ◌∙◌, ap, subst}
 use native.Mathlib.Omega.{arith}
 use lib.ListN.{length, take}
-use borrow.Author.Rules.{rules}
 use Rattle.reply.specs.Read.{read}
 use Rattle.records.specs.Records.{payload_at}
 use Rattle.assembly.specs.Book.{book_of}

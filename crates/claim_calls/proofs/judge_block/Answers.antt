@@ -1,5 +1,4 @@
 use mathlib.Core.Path.{◌∙◌, ap}
-use borrow.Author.Rules.{rules}
 use Rattle.deck_calls.specs.Replies.{verdict_code}
 use Rattle.claim_calls.proofs.judge_block.Goals as goal
 

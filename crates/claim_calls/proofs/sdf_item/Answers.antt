@@ -1,6 +1,5 @@
 use mathlib.Core.List.{[], ◌∷◌}
 use mathlib.Core.Path.{sym, ◌∙◌, ap}
-use borrow.Author.Rules.{rules}
 use Rattle.reply.specs.Read.{Read, read, ◌then◌}
 use Rattle.sdfile.specs.Sdf.{item_reply}
 use Rattle.sdfile.specs.declared.Span.{Span}

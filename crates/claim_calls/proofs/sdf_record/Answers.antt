@@ -1,5 +1,4 @@
 use mathlib.Core.Path.{sym, ◌∙◌, ap, refl}
-use borrow.Author.Rules.{rules}
 use Rattle.reply.specs.Read.{refusal}
 use Rattle.claim_calls.specs.Spans.{step_list}
 use Rattle.calls.proofs.Laws.{lent_refused, lent_read}

@@ -1,6 +1,5 @@
 use mathlib.Core.Path.{sym, ◌∙◌}
 use Rattle.claiming.proofs.Steps.{at_outside, at_short, at_said}
-use borrow.Author.Rules.{rules}
 use Rattle.claiming.proofs.claim_at.Goals as goal
 
 -- `claiming::claim_at` meets its contract. Assumes nothing.

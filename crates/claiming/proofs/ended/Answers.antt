@@ -1,6 +1,5 @@
 use borrow.Author.Tests.{not-true, not-false}
 use Rattle.claiming.proofs.Steps.{end_none, end_refused, end_tree}
-use borrow.Author.Rules.{rules}
 use Rattle.claiming.proofs.ended.Goals as goal
 
 -- `claiming::ended` meets its contract. Assumes nothing.

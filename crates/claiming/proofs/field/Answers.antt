@@ -2,7 +2,6 @@ use mathlib.Core.Path.{sym, ◌∙◌}
 use native.Mathlib.Omega.{arith}
 use lib.ListN.{length}
 use Rattle.claiming.proofs.Steps.{inside, field_none, field_some}
-use borrow.Author.Rules.{rules}
 use Rattle.claiming.proofs.field.Goals as goal
 
 -- `claiming::field` meets its contract. Assumes nothing.

@@ -1,8 +1,7 @@
-use Prim.Native.Nat.{ℕ, ◌+◌, ◌-◌, ◌≤◌}
+use Prim.Native.Nat.{ℕ, ◌+◌, ◌-◌}
 use mathlib.Core.Path.{◌≡◌, sym, ◌∙◌, ap}
 use lib.ListN.{length}
 use native.Mathlib.Omega.{arith}
-use borrow.Author.Rules.{rules}
 use Rattle.claiming.specs.Asked.{asks, asks_from}
 use Rattle.claiming.specs.Alike.{asks_end, asks_here, asks_later, asks_all}
 use Rattle.claiming.proofs.is_asked.Goals as goal

@@ -1,10 +1,7 @@
-use Prim.Native.Nat.{ℕ, ◌+◌, ◌-◌, ◌≤◌}
-use mathlib.Core.Path.{◌≡◌, sym, ◌∙◌, ap}
+use Prim.Native.Nat.{◌-◌, ◌≤◌}
+use mathlib.Core.Path.{◌≡◌}
 use lib.ListN.{length}
-use native.Mathlib.Omega.{arith}
-use borrow.Author.Rules.{rules}
 use Rattle.claiming.specs.Asked.{asks, asks_from}
-use Rattle.claiming.specs.Alike.{asks_end, asks_here, asks_later, asks_all}
 use Rattle.claiming.proofs.is_asked.Given as goal
 
 -- `claiming::is_asked` meets its contract. The loop's invariant: what is asked for from here on is what is asked for in all.

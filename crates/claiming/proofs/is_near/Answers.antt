@@ -3,7 +3,6 @@ use native.Mathlib.Omega.{arith}
 use Prim.Native.Nat.{ℕ, ◌-◌}
 use lib.Dec.{leb}
 use Rattle.claiming.proofs.Steps.{below, not_below}
-use borrow.Author.Rules.{rules}
 use Rattle.claiming.proofs.is_near.Goals as goal
 
 -- `claiming::is_near` meets its contract. Assumes nothing.

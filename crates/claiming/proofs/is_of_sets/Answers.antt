@@ -1,5 +1,4 @@
 use Rattle.claiming.proofs.Steps.{sets_eight, sets_nine}
-use borrow.Author.Rules.{rules}
 use Rattle.claiming.proofs.is_of_sets.Goals as goal
 
 -- `claiming::is_of_sets` meets its contract. Assumes nothing.

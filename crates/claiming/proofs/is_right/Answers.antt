@@ -1,5 +1,4 @@
 use Rattle.claiming.proofs.Steps.{right_fine, right_whole}
-use borrow.Author.Rules.{rules}
 use Rattle.claiming.proofs.is_right.Goals as goal
 
 -- `claiming::is_right` meets its contract. Assumes nothing.

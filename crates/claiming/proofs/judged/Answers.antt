@@ -1,6 +1,5 @@
 use mathlib.Core.Path.{sym, ◌∙◌}
 use Rattle.claiming.proofs.Steps.{judged_none, judged_refused, judged_met}
-use borrow.Author.Rules.{rules}
 use Rattle.claiming.proofs.judged.Goals as goal
 
 -- `claiming::judged` meets its contract. Assumes nothing.

@@ -1,5 +1,4 @@
 use Rattle.claiming.proofs.Steps.{number_fine, number_whole}
-use borrow.Author.Rules.{rules}
 use Rattle.claiming.proofs.number.Goals as goal
 
 -- `claiming::number` meets its contract. Assumes nothing.

@@ -1,6 +1,5 @@
 use mathlib.Core.Path.{sym, ◌∙◌}
 use Rattle.claiming.proofs.Steps.{said_unread, said_read}
-use borrow.Author.Rules.{rules}
 use Rattle.claiming.proofs.said.Goals as goal
 
 -- `claiming::said` meets its contract. Assumes nothing.

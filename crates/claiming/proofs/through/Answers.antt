@@ -3,9 +3,8 @@ use mathlib.Core.Bool.{false}
 use mathlib.Core.Path.{◌≡◌, refl, sym, ◌∙◌, ap}
 use lib.ListN.{length}
 use native.Mathlib.Omega.{arith}
-use borrow.Author.Rules.{rules}
 use Rattle.claiming.specs.Claims.{size_at, claim_reply}
-use Rattle.claiming.specs.Work.{said_claim, said_gone, gone_through}
+use Rattle.claiming.specs.Work.{said_claim, said_gone}
 use Rattle.claiming.specs.Going.{gone_end}
 use Rattle.claiming.specs.declared.ClaimReply.TheVariants as claim
 use Rattle.claiming.proofs.Steps.{turn_refused, turn_fits, turn_more}

@@ -1,14 +1,9 @@
-use Prim.Native.Nat.{◌+◌, ◌-◌, ◌≤◌}
+use Prim.Native.Nat.{◌-◌, ◌≤◌}
 use mathlib.Core.Bool.{false}
-use mathlib.Core.Path.{◌≡◌, refl, sym, ◌∙◌, ap}
+use mathlib.Core.Path.{◌≡◌}
 use lib.ListN.{length}
-use native.Mathlib.Omega.{arith}
-use borrow.Author.Rules.{rules}
-use Rattle.claiming.specs.Claims.{size_at, claim_reply}
-use Rattle.claiming.specs.Work.{said_claim, said_gone, gone_through}
-use Rattle.claiming.specs.Going.{gone_end}
+use Rattle.claiming.specs.Work.{gone_through}
 use Rattle.claiming.specs.declared.ClaimReply.TheVariants as claim
-use Rattle.claiming.proofs.Steps.{turn_refused, turn_fits, turn_more}
 use Rattle.claiming.proofs.through.Given as goal
 
 -- `claiming::through` meets its contract. The loop's invariant: what is met from here on, after what was met, is what is met in all.

@@ -1,5 +1,4 @@
 use Rattle.claims.proofs.Molecules.{ten_fields}
-use borrow.Author.Rules.{rules}
 use Rattle.claims.proofs.block_fields.Goals as goal
 
 -- `claims::block_fields` meets its contract. Assumes nothing.

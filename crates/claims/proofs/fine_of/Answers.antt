@@ -1,6 +1,5 @@
 use mathlib.Core.Path.{sym, ◌∙◌}
 use Rattle.claims.proofs.Molecules.{fine_none, fine_is}
-use borrow.Author.Rules.{rules}
 use Rattle.claims.proofs.fine_of.Goals as goal
 
 -- `claims::fine_of` meets its contract. Assumes nothing.

@@ -1,7 +1,6 @@
 use mathlib.Core.Path.{refl, sym, ◌∙◌}
 use Rattle.reach.specs.Told.{indices_fine}
 use Rattle.claims.proofs.Molecules.{bonds_fit, block_refused, block_read}
-use borrow.Author.Rules.{rules}
 use Rattle.claims.proofs.of_block.Goals as goal
 
 -- `claims::of_block` meets its contract. Assumes nothing.

@@ -1,6 +1,5 @@
 use mathlib.Core.Path.{sym, ◌∙◌}
 use Rattle.claims.proofs.Molecules.{deck_refused, deck-read}
-use borrow.Author.Rules.{rules}
 use Rattle.claims.proofs.of_deck.Goals as goal
 
 -- `claims::of_deck` meets its contract. Assumes nothing.

@@ -1,6 +1,5 @@
 use mathlib.Core.Bool.{true≢false}
 use mathlib.Core.Path.{sym, ◌∙◌}
-use borrow.Author.Rules.{rules}
 use Rattle.claims.proofs.sets_asked.Goals as goal
 
 -- `claims::sets_asked` meets its contract. Assumes nothing.

@@ -1,6 +1,5 @@
 use mathlib.Core.Path.{sym, ◌∙◌}
 use Rattle.claims.proofs.Molecules.{sets_none, sets_is}
-use borrow.Author.Rules.{rules}
 use Rattle.claims.proofs.sets_of.Goals as goal
 
 -- `claims::sets_of` meets its contract. Assumes nothing.

@@ -1,6 +1,5 @@
 use mathlib.Core.Bool.{true≢false}
 use mathlib.Core.Path.{sym, ◌∙◌}
-use borrow.Author.Rules.{rules}
 use Rattle.claims.proofs.szeged_asked.Goals as goal
 
 -- `claims::szeged_asked` meets its contract. Assumes nothing.

@@ -1,6 +1,5 @@
 use mathlib.Core.Path.{sym, ◌∙◌}
 use Rattle.claims.proofs.Molecules.{szeged_none, szeged_is}
-use borrow.Author.Rules.{rules}
 use Rattle.claims.proofs.szeged_of.Goals as goal
 
 -- `claims::szeged_of` meets its contract. Assumes nothing.

@@ -1,7 +1,6 @@
 use Prim.Native.Nat.{ℕ}
 use mathlib.Core.Path.{ap}
 use native.Mathlib.Omega.{arith}
-use borrow.Author.Rules.{rules}
 use Rattle.climb.specs.Far.{far_by}
 use Rattle.climb.specs.Steps.{earlier_low, within_one, from_later}
 use Rattle.climb.proofs.first_leg.Goals as goal

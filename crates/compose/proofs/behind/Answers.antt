@@ -1,5 +1,4 @@
 use mathlib.Core.Path.{refl, sym, ◌∙◌}
-use borrow.Author.Rules.{rules}
 use Rattle.reply.specs.Chain.{fine_read, refused_read}
 use Rattle.deck.specs.Deck.{sheet_reply}
 use Rattle.compose.specs.Fields.{behind_reply}

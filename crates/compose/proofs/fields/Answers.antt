@@ -1,5 +1,4 @@
 use native.Mathlib.Omega.{arith}
-use borrow.Author.Rules.{rules}
 use Rattle.compose.proofs.fields.Goals as goal
 
 -- `compose::fields` meets its contract. Assumes nothing.

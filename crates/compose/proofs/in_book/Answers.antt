@@ -2,7 +2,6 @@ use Prim.Native.Nat.{ℕ}
 use mathlib.Core.List.{[], ◌∷◌}
 use mathlib.Core.Path.{◌≡◌, ◌∙◌, ap}
 use native.Mathlib.Omega.{arith}
-use borrow.Author.Rules.{rules}
 use Rattle.reply.specs.Read.{read, refused, refusal}
 use Rattle.records.specs.Records.{payload_at, assembly_kind}
 use Rattle.records.specs.Taken.{taken}
@@ -57,8 +56,7 @@ pub refused_at-requires : goal.refused_at-requires
 refused_at-requires c =
     let d = c.args.d.now in
     let (k, e, r) = blocks (goal.at.refused_at-requires c).In_default in
-    let (short, f) = open_read assembly_kind d e in
-    (
+    let (short, f) = open_read assembly_kind d e in (
       omega (arith, short, at-is (goal.at.refused_at-requires c).In_default, (taken d k.assembly (assembly_kind ∷ []) (kept assembly_kind d f).after).whole),
       place_few (book_of d k.blocks) (payload_at d k.assembly) c.in-Refused-answer.refusal (is_refused c.args.form d k e _ _ (book (goal.at.refused_at-requires c).In_default) (payload-is (goal.at.refused_at-requires c).After-compose-answer) _ c.compose-answer.ensures c.in-Refused-answer.refusal c.in-Refused-answer.is),
     )

@@ -1,5 +1,4 @@
 use mathlib.Core.Path.{◌∙◌, ap}
-use borrow.Author.Rules.{rules}
 use Rattle.assembly.specs.Book.{find}
 use Rattle.assembly.specs.declared.Placement.{Placement}
 use Rattle.deck.specs.Molecule.{placed_in}

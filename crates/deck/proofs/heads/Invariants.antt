@@ -1,11 +1,7 @@
-use Prim.Native.Nat.{ℕ, suc, ◌+◌, ◌*◌, ◌-◌, ◌≤◌}
-use mathlib.Core.Path.{◌≡◌, sym, ◌∙◌, ap}
-use native.Mathlib.Omega.{arith}
-use borrow.Author.Rules.{rules}
-use Rattle.records.specs.Records.{kind_at}
+use Prim.Native.Nat.{◌+◌, ◌*◌, ◌-◌, ◌≤◌}
+use mathlib.Core.Path.{◌≡◌}
 use Rattle.assembly.specs.Book.{most_blocks}
 use Rattle.deck.specs.Unfilled.{heads_from}
-use Rattle.deck.proofs.Few.{head_more, head_none, heads_end}
 use Rattle.deck.proofs.heads.Given as goal
 
 -- `deck::heads` meets its contract. The loop's invariant: those counted and those from here on are all. Assumes nothing.

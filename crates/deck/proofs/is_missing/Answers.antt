@@ -1,7 +1,6 @@
 use Prim.Native.Nat.{◌-◌}
 use mathlib.Core.Path.{sym, ◌∙◌}
 use native.Mathlib.Omega.{arith}
-use borrow.Author.Rules.{rules}
 use Rattle.block.specs.Faults.{inside}
 use Rattle.deck.specs.Placed.{is_missing}
 use Rattle.deck.specs.Placed.{deck_of}

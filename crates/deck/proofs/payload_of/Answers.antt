@@ -3,7 +3,6 @@ use mathlib.Core.List.{List}
 use mathlib.Core.Path.{◌≡◌, sym, ap, ◌∙◌}
 use lib.ListN.{take}
 use borrow.Author.Tests.{not-true, not-false}
-use borrow.Author.Rules.{rules}
 use Rattle.records.specs.Records.{block_kind}
 use Rattle.assembly.specs.Book.{is_numbered, used}
 use Rattle.assembly.specs.declared.BlockAt.{BlockAt}

@@ -2,7 +2,6 @@ use Prim.Native.Nat.{ℕ, ◌+◌, ◌≤◌}
 use mathlib.Core.Path.{◌≡◌, sym, ap, ◌∙◌}
 use native.Mathlib.Omega.{arith}
 use lib.ListN.{length}
-use borrow.Author.Rules.{rules}
 use Rattle.reply.specs.Read.{read, said_reply}
 use Rattle.reply.specs.Chain.{fine_read, refused_read}
 use Rattle.records.specs.Records.{end_at, record_reply}

@@ -1,4 +1,3 @@
-use borrow.Author.Rules.{rules}
 use Rattle.deck.specs.declared.Form.TheVariants.{Composed}
 use Rattle.compose.specs.Fields.{fields_reply}
 use Rattle.calls.proofs.Blocks.{lent_fields}

@@ -1,4 +1,3 @@
-use borrow.Author.Rules.{rules}
 use Rattle.deck.specs.Placed.{placed_distance_reply}
 use Rattle.calls.proofs.Laws.{lent_number}
 use Rattle.deck_calls.proofs.placed_distance.Goals as goal

@@ -1,6 +1,5 @@
 use mathlib.Core.Path.{◌∙◌}
 use lib.ListN.{length}
-use borrow.Author.Rules.{rules}
 use Rattle.judging.specs.Judging.{sheet_write_reply}
 use Rattle.deck_calls.proofs.Laws.{written_coded}
 use Rattle.deck_calls.proofs.write_sheet.Goals as goal

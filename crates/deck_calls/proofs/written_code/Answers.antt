@@ -1,5 +1,4 @@
 use mathlib.Core.Path.{sym, ◌∙◌, ap}
-use borrow.Author.Rules.{rules}
 use Rattle.deck_calls.specs.Replies.{written_code}
 use Rattle.deck_calls.proofs.written_code.Goals as goal
 

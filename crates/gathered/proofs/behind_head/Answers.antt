@@ -1,5 +1,4 @@
 use mathlib.Core.Path.{sym, ◌∙◌, ap}
-use borrow.Author.Rules.{rules}
 use Rattle.block.specs.Index.{said_indices}
 use Rattle.block.specs.Said.{indices_told}
 use Rattle.gathered.proofs.Answers.{behind_refused, behind_read}

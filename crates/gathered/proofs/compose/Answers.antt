@@ -1,6 +1,5 @@
 use mathlib.Core.Path.{sym, ◌∙◌, ap}
 use lib.ListN.{length}
-use borrow.Author.Rules.{rules}
 use Rattle.judging.specs.Judging.{said_sheet_written, sheet_out}
 use Rattle.gathered.proofs.Answers.{short_table, told_fault, record_told}
 use Rattle.gathered.proofs.compose.Goals as goal

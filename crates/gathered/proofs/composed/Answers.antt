@@ -1,5 +1,4 @@
 use mathlib.Core.Path.{sym, ◌∙◌, ap}
-use borrow.Author.Rules.{rules}
 use Rattle.reply.specs.Chain.{fine_read, refused_read}
 use Rattle.block.specs.Index.{said_indices}
 use Rattle.records.specs.Records.{assembly_kind}

@@ -1,7 +1,6 @@
 use mathlib.Core.Path.{sym, ◌∙◌, ap}
 use native.Mathlib.Omega.{arith}
 use Prim.Native.Nat.{ℕ}
-use borrow.Author.Rules.{rules}
 use Rattle.reply.specs.Read.{refusal}
 use Rattle.block.specs.Index.{said_indices}
 use Rattle.block.specs.declared.IndicesReply.TheVariants as measured

@@ -1,6 +1,5 @@
 use mathlib.Core.Path.{sym}
 use native.Mathlib.Omega.{arith}
-use borrow.Author.Rules.{rules}
 use Rattle.gathered.proofs.Answers.{too_long, too_short, both_fit}
 use Rattle.gathered.proofs.fault.Goals as goal
 

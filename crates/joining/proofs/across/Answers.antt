@@ -1,5 +1,4 @@
 use native.Mathlib.Omega.{arith}
-use borrow.Author.Rules.{rules}
 use Rattle.joining.proofs.across.Goals as goal
 
 -- `joining::across` meets its contract. Assumes nothing.

@@ -1,7 +1,6 @@
 use native.Mathlib.Omega.{arith}
 use mathlib.Core.Path.{refl}
 use Rattle.joining.specs.Parts.{even_across, odd_across, join_six}
-use borrow.Author.Rules.{rules}
 use Rattle.joining.proofs.added.Goals as goal
 
 -- `joining::added` meets its contract. Assumes nothing.

@@ -2,7 +2,6 @@ use Prim.Native.Nat.{ℕ, ◌+◌, ◌*◌}
 use mathlib.Core.Bool.{Bool, true, false, cond}
 use mathlib.Core.Path.{◌≡◌, refl}
 use native.Mathlib.Omega.{arith}
-use borrow.Author.Rules.{rules}
 use Rattle.graph.specs.Graph.{is_even}
 use Rattle.joining.specs.Parts.{beyond, even_beyond, odd_beyond}
 use Rattle.joining.proofs.farther.Goals as goal

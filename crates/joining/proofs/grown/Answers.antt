@@ -1,7 +1,6 @@
 use mathlib.Core.Path.{refl}
 use Rattle.joining.specs.Parts.{grow}
 use Rattle.joining.specs.Joining.{grown_of}
-use borrow.Author.Rules.{rules}
 use Rattle.joining.proofs.grown.Goals as goal
 
 -- `joining::grown` meets its contract. Assumes nothing.

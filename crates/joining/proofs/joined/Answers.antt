@@ -1,6 +1,5 @@
 use mathlib.Core.Path.{refl}
 use Rattle.joining.specs.Joining.{joined_of}
-use borrow.Author.Rules.{rules}
 use Rattle.joining.proofs.joined.Goals as goal
 
 -- `joining::joined` meets its contract. Assumes nothing.

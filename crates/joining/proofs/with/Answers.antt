@@ -1,6 +1,5 @@
 use native.Mathlib.Omega.{arith}
 use Rattle.joining.specs.Parts.{both}
-use borrow.Author.Rules.{rules}
 use Rattle.joining.proofs.with.Goals as goal
 
 -- `joining::with` meets its contract. Assumes nothing.

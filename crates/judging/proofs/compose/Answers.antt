@@ -1,7 +1,6 @@
 use mathlib.Core.Path.{sym, ◌∙◌}
 use Rattle.deck.specs.declared.Form.TheVariants.{Composed}
 use Rattle.judging.proofs.Judging.{composed-refused, composed-read, fields_refused, fields_read}
-use borrow.Author.Rules.{rules}
 use Rattle.judging.proofs.compose.Goals as goal
 
 -- `judging::compose` meets its contract. Assumes nothing.

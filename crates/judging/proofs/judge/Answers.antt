@@ -1,5 +1,4 @@
 use mathlib.Core.Path.{sym, ◌∙◌}
-use borrow.Author.Rules.{rules}
 use Rattle.deck.specs.declared.Form.TheVariants.{Judged}
 use Rattle.judging.proofs.Judging.{composed-refused, composed-read, judge_refused, judge_read}
 use Rattle.judging.proofs.judge.Goals as goal

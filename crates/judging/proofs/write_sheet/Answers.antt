@@ -1,7 +1,6 @@
 use mathlib.Core.Path.{sym, ◌∙◌, ap}
 use native.Mathlib.Omega.{arith}
 use lib.ListN.{length}
-use borrow.Author.Rules.{rules}
 use Rattle.reply.specs.Read.{refused, read}
 use Rattle.judging.specs.Judging.{said_sheet_written, sheet_out}
 use Rattle.judging.proofs.Judging.{write_long, write_short, write_told}

@@ -1,5 +1,4 @@
 use mathlib.Core.Path.{◌≡◌, refl, ◌∙◌}
-use borrow.Author.Rules.{rules}
 use lib.ListN.{get_or}
 use Rattle.assembly.specs.Book.{no_block}
 use Rattle.catalogue.specs.Library.{core_number}

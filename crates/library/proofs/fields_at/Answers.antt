@@ -10,7 +10,6 @@ use Rattle.stock.specs.Stock.{core_at, arms_at}
 use Rattle.stock.specs.Stands.{arms_there}
 use Rattle.library.specs.Held.{few, one, many, product_joined}
 use Rattle.library.proofs.Making.{made_said}
-use borrow.Author.Rules.{rules}
 use Rattle.library.proofs.fields_at.Goals as goal
 
 -- `library::fields_at` meets its contract. Assumes nothing.

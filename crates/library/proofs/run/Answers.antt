@@ -2,7 +2,6 @@ use Prim.Native.Nat.{◌≤◌}
 use mathlib.Core.Path.{◌≡◌, sym, ◌∙◌, ap}
 use native.Mathlib.Omega.{arith}
 use lib.ListN.{length}
-use borrow.Author.Rules.{rules}
 use Rattle.reply.specs.Read.{read}
 use Rattle.sheets.specs.Sheets.{sheet_bytes}
 use Rattle.catalogue.specs.Library.{Library, library_reply}

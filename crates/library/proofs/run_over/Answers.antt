@@ -1,16 +1,11 @@
-use Prim.Native.Nat.{ℕ, ◌-◌, ◌≤◌, ◌<◌}
-use mathlib.Core.List.{List}
-use mathlib.Core.Path.{◌≡◌, refl, sym, ap}
+use Prim.Native.Nat.{◌-◌, ◌≤◌, ◌<◌}
+use mathlib.Core.Path.{refl, sym, ap}
 use native.Mathlib.Omega.{arith}
 use lib.ListN.{length}
 use borrow.Author.Rules.{rules}
-use Rattle.assembly.specs.declared.BlockAt.{BlockAt}
 use Rattle.sheets.specs.Sheets.{sheet_bytes}
-use Rattle.catalogue.specs.Library.{Library}
 use Rattle.catalogue.specs.Products.{products}
-use Rattle.library.specs.Held.{Spread}
 use Rattle.library.specs.Steps.{Ran, steps_from}
-use Rattle.library.specs.Turning.{Going}
 use Rattle.library.proofs.Spreading.{going_start, going_full, going_done}
 use Rattle.library.proofs.run_over.Goals as goal
 

@@ -5,7 +5,6 @@ use Rattle.catalogue.specs.declared.LibraryRead.{LibraryRead}
 use Rattle.catalogue.specs.Products.{products}
 use Rattle.library.specs.Held.{Spread}
 use Rattle.library.proofs.Making.{spread_read}
-use borrow.Author.Rules.{rules}
 use Rattle.library.proofs.run_read.Goals as goal
 use Rattle.library.proofs.run_read.Goals.{After-all_arms-all}
 

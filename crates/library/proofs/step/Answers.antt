@@ -3,7 +3,6 @@ use mathlib.Core.Path.{sym, ◌∙◌, ap}
 use native.Mathlib.Numerals.{add-one}
 use native.Mathlib.Omega.{arith}
 use lib.ListN.{length}
-use borrow.Author.Rules.{rules}
 use Rattle.library.specs.Steps.{step_out, said_step}
 use Rattle.library.specs.Running.{step_long, step_short, step_product}
 use Rattle.library.specs.declared.StepReply.TheVariants as stepped

@@ -2,7 +2,6 @@ use Prim.Native.Nat.{◌-◌, min}
 use mathlib.Core.Path.{◌≡◌, sym, ◌∙◌, ap}
 use native.Mathlib.Omega.{arith}
 use lib.ListN.{length}
-use borrow.Author.Rules.{rules}
 use Rattle.reply.specs.Read.{read}
 use Rattle.block.specs.Faults.{inside}
 use Rattle.catalogue.specs.Library.{Library, library_reply}

@@ -1,16 +1,13 @@
-use Prim.Native.Nat.{ℕ, ◌+◌, ◌-◌, ◌≤◌, ◌<◌}
+use Prim.Native.Nat.{ℕ, ◌-◌, ◌≤◌}
 use mathlib.Core.List.{List}
-use mathlib.Core.Path.{◌≡◌, refl, subst}
-use native.Mathlib.Omega.{arith}
+use mathlib.Core.Path.{◌≡◌}
 use lib.ListN.{length}
-use borrow.Author.Rules.{rules}
 use Rattle.assembly.specs.declared.BlockAt.{BlockAt}
 use Rattle.catalogue.specs.Library.{Library}
 use Rattle.catalogue.specs.Products.{products}
-use Rattle.catalogue.specs.Fine.{few_products}
 use Rattle.library.specs.Held.{Spread}
 use Rattle.library.specs.Values.{values_of}
-use Rattle.library.specs.Filled.{Filled, filled_start}
+use Rattle.library.specs.Filled.{Filled}
 use Rattle.library.proofs.values_over.Given as goal
 
 -- `library::values_over` meets its contract. Assumes nothing.

@@ -2,7 +2,6 @@ use lib.ListN.{take}
 use Rattle.records.specs.Records.{payload_at}
 use Rattle.library.specs.Held.{Spread}
 use Rattle.library.proofs.Making.{spread_read}
-use borrow.Author.Rules.{rules}
 use Rattle.library.proofs.values_read.Goals as goal
 use Rattle.library.proofs.values_read.Goals.{After-all_arms-all}
 

@@ -1,4 +1,3 @@
-use borrow.Author.Rules.{rules}
 use Rattle.catalogue.specs.Products.{count_reply}
 use Rattle.calls.proofs.Laws.{lent_number}
 use Rattle.library_calls.proofs.count.Goals as goal

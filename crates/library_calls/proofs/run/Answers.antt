@@ -1,7 +1,6 @@
 use mathlib.Core.Path.{◌∙◌, ap}
 use native.Mathlib.Omega.{arith}
 use lib.ListN.{length}
-use borrow.Author.Rules.{rules}
 use Rattle.records.specs.declared.Sheet.{Sheet}
 use Rattle.library.specs.Steps.{step_reply, said_step, run_of}
 use Rattle.calls.specs.Blocks.{sheet_for}

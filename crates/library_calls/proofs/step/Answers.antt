@@ -2,7 +2,6 @@ use Prim.Native.Nat.{suc}
 use mathlib.Core.Path.{◌∙◌, ap}
 use native.Mathlib.Omega.{arith}
 use lib.ListN.{length}
-use borrow.Author.Rules.{rules}
 use Rattle.records.specs.declared.Sheet.{Sheet}
 use Rattle.library.specs.Steps.{step_reply, step_out, said_step}
 use Rattle.calls.specs.Blocks.{sheet_for}

@@ -1,5 +1,4 @@
 use mathlib.Core.Path.{sym, ◌∙◌, ap}
-use borrow.Author.Rules.{rules}
 use Rattle.library.specs.declared.StepReply.{StepReply}
 use Rattle.library_calls.specs.Libraries.{stepped_code, stepped_next}
 use Rattle.calls.proofs.Laws.{first_put}

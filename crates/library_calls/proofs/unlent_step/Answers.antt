@@ -1,6 +1,5 @@
 use mathlib.Core.Path.{sym, ◌∙◌, ap}
 use native.Mathlib.Omega.{arith}
-use borrow.Author.Rules.{rules}
 use Rattle.reply.specs.Read.{Read}
 use Rattle.catalogue.specs.Products.{Product}
 use Rattle.library.specs.Running.{step_long, step_short, step_product}

@@ -1,6 +1,5 @@
 use mathlib.Core.Path.{◌≡◌, ◌∙◌}
 use native.Mathlib.Omega.{arith}
-use borrow.Author.Rules.{rules}
 use Rattle.reply.specs.Read.{read}
 use Rattle.deck.specs.Deck.{deck_reply}
 use Rattle.deck.specs.declared.Form.TheVariants.{Composed}

@@ -1,11 +1,9 @@
-use Prim.Native.Nat.{◌+◌, ◌*◌, ◌-◌, ◌≤◌}
+use Prim.Native.Nat.{◌-◌, ◌≤◌}
 use mathlib.Core.Path.{◌≡◌, refl, sym, ◌∙◌}
 use native.Mathlib.Omega.{arith}
-use borrow.Author.Rules.{rules}
-use lib.ListN.{length, drop}
+use lib.ListN.{length}
 use Rattle.graph.specs.Graph.{bond}
-use Rattle.block.specs.Block.{bonds_of, graph_of}
-use Rattle.matched.specs.Matched.{first_bond}
+use Rattle.block.specs.Block.{graph_of}
 use Rattle.matched.specs.Work.{is_amiss}
 use Rattle.matched.specs.Laws.{first_hit, first_on, first_over}
 use Rattle.matched.proofs.first_amiss.Goals as goal

@@ -1,13 +1,9 @@
 use Prim.Native.Nat.{◌+◌, ◌*◌, ◌-◌, ◌≤◌}
-use mathlib.Core.Path.{◌≡◌, refl, sym, ◌∙◌}
-use native.Mathlib.Omega.{arith}
-use borrow.Author.Rules.{rules}
+use mathlib.Core.Path.{◌≡◌}
 use lib.ListN.{length, drop}
-use Rattle.graph.specs.Graph.{bond}
 use Rattle.block.specs.Block.{bonds_of, graph_of}
 use Rattle.matched.specs.Matched.{first_bond}
 use Rattle.matched.specs.Work.{is_amiss}
-use Rattle.matched.specs.Laws.{first_hit, first_on, first_over}
 use Rattle.matched.proofs.first_amiss.Given as goal
 
 -- `matched::first_amiss` meets its contract. The loop's invariant: what is left of the bonds gives what all of them give. Assumes nothing.

@@ -1,7 +1,6 @@
 use Prim.Native.Nat.{ℕ, ◌+◌, ◌-◌, ◌≤◌}
 use mathlib.Core.Path.{◌≡◌, sym, ◌∙◌, ap}
 use native.Mathlib.Omega.{arith}
-use borrow.Author.Rules.{rules}
 use Rattle.matched.specs.Matched.{is_lost, first_atom}
 use Rattle.matched.specs.Laws.{atom_hit, atom_on, atom_over}
 use Rattle.matched.proofs.first_lost.Goals as goal

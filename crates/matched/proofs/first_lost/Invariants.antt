@@ -1,9 +1,6 @@
-use Prim.Native.Nat.{ℕ, ◌+◌, ◌-◌, ◌≤◌}
-use mathlib.Core.Path.{◌≡◌, sym, ◌∙◌, ap}
-use native.Mathlib.Omega.{arith}
-use borrow.Author.Rules.{rules}
+use Prim.Native.Nat.{◌+◌, ◌-◌, ◌≤◌}
+use mathlib.Core.Path.{◌≡◌}
 use Rattle.matched.specs.Matched.{is_lost, first_atom}
-use Rattle.matched.specs.Laws.{atom_hit, atom_on, atom_over}
 use Rattle.matched.proofs.first_lost.Given as goal
 
 -- `matched::first_lost` meets its contract. The loop's invariant: what is left of the atoms gives what all of them give. Assumes nothing.

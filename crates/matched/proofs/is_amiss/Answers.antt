@@ -1,6 +1,5 @@
 use mathlib.Core.Bool.{Bool, not}
 use mathlib.Core.Path.{sym, ◌∙◌, ap}
-use borrow.Author.Rules.{rules}
 use Rattle.graph.specs.Graph.{bond}
 use Rattle.block.specs.Block.{graph_of}
 use Rattle.matched.specs.Matched.{is_unlisted}

@@ -1,6 +1,5 @@
 use mathlib.Core.Bool.{true}
 use mathlib.Core.Path.{sym, ◌∙◌}
-use borrow.Author.Rules.{rules}
 use Rattle.matched.specs.Laws.{joins_first, joins_second}
 use Rattle.matched.proofs.is_between.Goals as goal
 

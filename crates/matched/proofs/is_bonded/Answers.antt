@@ -1,10 +1,7 @@
 use Prim.Native.Nat.{◌-◌, ◌≤◌}
-use mathlib.Core.Path.{◌≡◌, refl, sym, ◌∙◌}
+use mathlib.Core.Path.{refl, sym, ◌∙◌}
 use native.Mathlib.Omega.{arith}
-use borrow.Author.Rules.{rules}
-use lib.ListN.{length, drop}
-use Rattle.graph.specs.Graph.{any_joins}
-use Rattle.block.specs.Block.{bonds_of}
+use lib.ListN.{length}
 use Rattle.matched.specs.Laws.{bonded_hit, bonded_on, bonded_over}
 use Rattle.matched.proofs.is_bonded.Goals as goal
 

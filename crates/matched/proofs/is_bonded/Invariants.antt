@@ -1,11 +1,8 @@
 use Prim.Native.Nat.{◌-◌, ◌≤◌}
-use mathlib.Core.Path.{◌≡◌, refl, sym, ◌∙◌}
-use native.Mathlib.Omega.{arith}
-use borrow.Author.Rules.{rules}
+use mathlib.Core.Path.{◌≡◌}
 use lib.ListN.{length, drop}
 use Rattle.graph.specs.Graph.{any_joins}
 use Rattle.block.specs.Block.{bonds_of}
-use Rattle.matched.specs.Laws.{bonded_hit, bonded_on, bonded_over}
 use Rattle.matched.proofs.is_bonded.Given as goal
 
 -- `matched::is_bonded` meets its contract. The loop's invariant: what is left of the bonds gives what all of them give. Assumes nothing.

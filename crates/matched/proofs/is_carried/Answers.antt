@@ -1,11 +1,9 @@
 use Prim.Native.Nat.{ℕ, ◌-◌, ◌≤◌}
 use mathlib.Core.Path.{◌≡◌, refl, sym, ◌∙◌, ap₂}
 use native.Mathlib.Omega.{arith}
-use borrow.Author.Rules.{rules}
-use lib.ListN.{length, drop}
-use Rattle.graph.specs.Graph.{bond, joins, any_joins}
-use Rattle.block.specs.Block.{bonds_of}
-use Rattle.matched.specs.Matched.{partner, carried}
+use lib.ListN.{length}
+use Rattle.graph.specs.Graph.{bond, joins}
+use Rattle.matched.specs.Matched.{partner}
 use Rattle.matched.specs.Laws.{carried_hit, carried_on, carried_over}
 use Rattle.matched.proofs.is_carried.Goals as goal
 use Rattle.matched.proofs.is_carried.Goals.{After-is_between}

@@ -1,12 +1,9 @@
-use Prim.Native.Nat.{ℕ, ◌-◌, ◌≤◌}
-use mathlib.Core.Path.{◌≡◌, refl, sym, ◌∙◌, ap₂}
-use native.Mathlib.Omega.{arith}
-use borrow.Author.Rules.{rules}
+use Prim.Native.Nat.{◌-◌, ◌≤◌}
+use mathlib.Core.Path.{◌≡◌}
 use lib.ListN.{length, drop}
-use Rattle.graph.specs.Graph.{bond, joins, any_joins}
+use Rattle.graph.specs.Graph.{any_joins}
 use Rattle.block.specs.Block.{bonds_of}
-use Rattle.matched.specs.Matched.{partner, carried}
-use Rattle.matched.specs.Laws.{carried_hit, carried_on, carried_over}
+use Rattle.matched.specs.Matched.{carried}
 use Rattle.matched.proofs.is_carried.Given as goal
 
 -- `matched::is_carried` meets its contract. The loop's invariant: what is left of the bonds gives what all of them give. Assumes nothing.

@@ -1,5 +1,4 @@
 use mathlib.Core.Path.{sym, ◌∙◌}
-use borrow.Author.Rules.{rules}
 use Rattle.block.specs.Block.{graph_of}
 use mathlib.Core.Logic.{⊎_elim}
 use Rattle.matched.specs.Laws.{loose_one, loose_two, loose_apart}

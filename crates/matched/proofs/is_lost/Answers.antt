@@ -1,8 +1,6 @@
 use mathlib.Core.Path.{◌∙◌}
 use native.Mathlib.Omega.{arith}
-use borrow.Author.Rules.{rules}
 use borrow.Author.Tests.{eq-eqb}
-use Rattle.matched.specs.Matched.{partner}
 use Rattle.matched.specs.Laws.{lost_none, lost_later}
 use Rattle.matched.proofs.is_lost.Goals as goal
 

@@ -1,7 +1,6 @@
-use Prim.Native.Nat.{ℕ, ◌≤◌}
+use Prim.Native.Nat.{ℕ}
 use mathlib.Core.Path.{◌≡◌, refl, sym, ◌∙◌, ap}
 use native.Mathlib.Omega.{arith}
-use borrow.Author.Rules.{rules}
 use Rattle.matched.specs.Matched.{partner}
 use Rattle.matched.specs.Work.{is_taken}
 use Rattle.matched.specs.Laws.{taken_hit, taken_on, taken_none}

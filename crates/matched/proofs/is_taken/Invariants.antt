@@ -1,10 +1,6 @@
-use Prim.Native.Nat.{ℕ, ◌≤◌}
-use mathlib.Core.Path.{◌≡◌, refl, sym, ◌∙◌, ap}
-use native.Mathlib.Omega.{arith}
-use borrow.Author.Rules.{rules}
-use Rattle.matched.specs.Matched.{partner}
+use Prim.Native.Nat.{◌≤◌}
+use mathlib.Core.Path.{◌≡◌}
 use Rattle.matched.specs.Work.{is_taken}
-use Rattle.matched.specs.Laws.{taken_hit, taken_on, taken_none}
 use Rattle.matched.proofs.is_taken.Given as goal
 
 -- `matched::is_taken` meets its contract. The loop's invariant: what the atoms up to u give is what all of them give. Assumes nothing.

@@ -1,7 +1,6 @@
 use Prim.Native.Nat.{ℕ, ◌+◌}
 use mathlib.Core.Path.{◌≡◌, sym, ◌∙◌, ap}
 use native.Mathlib.Omega.{arith}
-use borrow.Author.Rules.{rules}
 use Rattle.block.specs.Block.{bonds_of, graph_of}
 use Rattle.block.specs.Numbered.{bonds_length}
 use Rattle.matched.specs.Matched.{is_unlisted, first_bond}

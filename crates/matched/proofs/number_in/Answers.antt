@@ -1,7 +1,6 @@
 use Prim.Native.Nat.{ℕ, ◌+◌}
 use mathlib.Core.Path.{sym, ◌∙◌, ap}
 use native.Mathlib.Omega.{arith}
-use borrow.Author.Rules.{rules}
 use Rattle.deck.specs.Placed.{deck_of}
 use Rattle.deck.specs.Present.{present}
 use Rattle.matched.specs.Matched.{placed_number}

@@ -1,6 +1,5 @@
 use mathlib.Core.Path.{sym, ◌∙◌}
 use native.Mathlib.Omega.{arith}
-use borrow.Author.Rules.{rules}
 use lib.ListN.{length}
 use Rattle.block.specs.Faults.{inside}
 use Rattle.matched.specs.Laws.{partner_none, partner_some}

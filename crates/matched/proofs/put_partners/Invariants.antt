@@ -1,12 +1,8 @@
-use Prim.Native.Nat.{◌+◌, ◌*◌, ◌-◌, ◌≤◌, ◌<◌}
-use mathlib.Core.Path.{◌≡◌, refl, sym, ◌∙◌, ap}
-use native.Mathlib.Omega.{arith}
-use borrow.Author.Rules.{rules}
-use lib.ListN.{length, take, get_or, length-set}
-use lib.Seq.{take_all}
+use Prim.Native.Nat.{◌-◌, ◌≤◌}
+use mathlib.Core.Path.{◌≡◌}
+use lib.ListN.{length, take}
 use Rattle.deck.specs.Placed.{deck_of}
 use Rattle.matched.specs.Matched.{partners}
-use Rattle.matched.specs.Laws.{number_few, partners_next}
 use Rattle.matched.proofs.put_partners.Given as goal
 
 -- `matched::put_partners` meets its contract. The loop's invariant: the partners of the atoms before i are put. Assumes nothing.

@@ -1,9 +1,8 @@
-use Prim.Native.Nat.{◌≤◌, ◌-◌}
+use Prim.Native.Nat.{◌-◌}
 use mathlib.Core.Path.{◌≡◌}
 use native.Mathlib.Omega.{arith}
 use lib.Dec.{eqb}
 use Rattle.block.proofs.Tallies.{bit_low, odd_low}
-use Rattle.matrix.specs.Work.{LineOf}
 use Rattle.matrix.proofs.Lines.{line_none, line_more}
 use Rattle.matrix.proofs.along.Goals as goal
 

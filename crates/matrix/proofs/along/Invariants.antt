@@ -1,10 +1,5 @@
 use Prim.Native.Nat.{◌≤◌, ◌-◌}
-use mathlib.Core.Path.{◌≡◌}
-use native.Mathlib.Omega.{arith}
-use lib.Dec.{eqb}
-use Rattle.block.proofs.Tallies.{bit_low, odd_low}
 use Rattle.matrix.specs.Work.{LineOf}
-use Rattle.matrix.proofs.Lines.{line_none, line_more}
 use Rattle.matrix.proofs.along.Given as goal
 
 abbrev pub invariant-loop-j : goal.invariant-loop-j

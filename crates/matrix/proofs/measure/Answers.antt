@@ -1,7 +1,6 @@
 use Prim.Native.Nat.{ℕ, min}
 use mathlib.Core.List.{List}
 use mathlib.Core.Path.{◌≡◌, sym, ap, ap₂, ◌∙◌}
-use borrow.Author.Rules.{rules}
 use Rattle.reply.specs.Read.{refused, read}
 use Rattle.reply.specs.Chain.{fine_read, refused_read}
 use Rattle.reply.specs.declared.Refusal.{Refusal}

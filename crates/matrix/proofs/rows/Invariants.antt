@@ -1,14 +1,8 @@
-use Prim.Native.Nat.{ℕ, suc, ◌≤◌, ◌-◌}
-use mathlib.Core.List.{List, []}
-use mathlib.Core.Path.{◌≡◌, refl, sym, ap, ◌∙◌}
-use native.Mathlib.Omega.{arith}
-use native.Mathlib.Numerals.{add-one}
-use borrow.Author.Rules.{rules}
-use Rattle.reply.specs.Chain.{fine_read, refused_read}
+use Prim.Native.Nat.{suc, ◌≤◌, ◌-◌}
+use mathlib.Core.List.{[]}
 use Rattle.block.specs.Block.{most_atoms}
-use Rattle.block.specs.Rows.{no_row, row_reply, said_row, rows_of, far_of}
-use Rattle.block.specs.declared.OneRow.{OneRow}
-use Rattle.block.proofs.Filling.{Filled, fill_start, fill_next, fill_end, kept, stored}
+use Rattle.block.specs.Rows.{no_row, row_reply, said_row}
+use Rattle.block.proofs.Filling.{Filled}
 use Rattle.matrix.proofs.rows.Given as goal
 
 abbrev pub invariant-loop-i : goal.invariant-loop-i

@@ -1,9 +1,7 @@
-use Prim.Native.Nat.{◌≤◌, ◌-◌}
+use Prim.Native.Nat.{◌-◌}
 use mathlib.Core.Path.{◌≡◌, refl, ap, ◌∙◌}
 use native.Mathlib.Omega.{arith}
-use Rattle.block.specs.Block.{most_atoms}
 use Rattle.matrix.specs.Matrix.{matrix_indices}
-use Rattle.matrix.specs.Work.{UpTo}
 use Rattle.matrix.proofs.Lines.{up_none, up_more, up_end}
 use Rattle.matrix.proofs.sums.Goals as goal
 

@@ -7,7 +7,6 @@ use Rattle.reply.specs.Read.{told_counts}
 use Rattle.reply.specs.declared.CountsReply.{CountsReply}
 use Rattle.block.specs.Index.{said_indices}
 use Rattle.measuring.specs.Measuring.{counted_reply}
-use borrow.Author.Rules.{rules}
 use Rattle.measuring.proofs.counted.Goals as goal
 use Rattle.measuring.proofs.counted.Goals.{In-Of}
 

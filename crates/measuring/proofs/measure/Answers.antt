@@ -4,7 +4,6 @@ use Rattle.molfile.specs.Molfile.{molfile_reply}
 use Rattle.block.specs.Block.{most_bytes}
 use Rattle.block.specs.Index.{said_indices}
 use Rattle.measuring.proofs.Fits.{fits, counted_is, never_nine, molfile_cut}
-use borrow.Author.Rules.{rules}
 use Rattle.measuring.proofs.measure.Goals as goal
 
 -- `measuring::measure` meets its contract: the bonds that were read are measured.

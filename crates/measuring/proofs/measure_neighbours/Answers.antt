@@ -5,7 +5,6 @@ use Rattle.block.specs.Block.{most_bytes}
 use Rattle.block.specs.Index.{said_indices}
 use Rattle.measuring.proofs.Fits.{fits, counted_is}
 use Rattle.measuring.proofs.Texts.{text_is, text_cut}
-use borrow.Author.Rules.{rules}
 use Rattle.measuring.proofs.measure_neighbours.Goals as goal
 
 -- `measuring::measure_neighbours` meets its contract: the bonds that were read are measured.

@@ -1,19 +1,17 @@
-use Prim.Native.Nat.{ℕ, ◌-◌, ◌≤◌}
-use mathlib.Core.List.{List}
+use Prim.Native.Nat.{ℕ, ◌-◌}
 use mathlib.Core.Path.{◌≡◌, refl, sym, ap, ◌∙◌}
-use lib.ListN.{length, length-set}
+use lib.ListN.{length-set}
 use Rattle.reply.specs.Read.{read}
 use Rattle.reply.specs.Chain.{not_read}
 use Rattle.text.specs.Text.{next_line}
 use Rattle.text.specs.Said.{line_at}
 use Rattle.text.specs.Laws.{said_next, said_chars}
-use Rattle.molfile.specs.Molfile.{atom_line_place, hydrogen_at, in_turn, line_reply, atom_reply}
+use Rattle.molfile.specs.Molfile.{atom_line_place, hydrogen_at, line_reply, atom_reply}
 use Rattle.molfile.specs.Work.{mark_of, said_walk}
 use Rattle.molfile.specs.declared.Walk.TheVariants.{At}
 use Rattle.molfile.proofs.Turns.{line_refused, line_read, turn_none, turn_more, turn_stops}
 use Rattle.molfile.proofs.Lines.{line_there}
-use Rattle.molfile.proofs.Filling.{Holds, holds_none, holds_more, atom_next}
-use borrow.Author.Rules.{rules}
+use Rattle.molfile.proofs.Filling.{holds_none, holds_more, atom_next}
 use native.Mathlib.Omega.{arith}
 use Rattle.molfile.proofs.atoms.Goals as goal
 use Rattle.molfile.proofs.atoms.Invariants.{mark}

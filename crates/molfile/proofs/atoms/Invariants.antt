@@ -1,20 +1,11 @@
 use Prim.Native.Nat.{ℕ, ◌-◌, ◌≤◌}
 use mathlib.Core.List.{List}
-use mathlib.Core.Path.{◌≡◌, refl, sym, ap, ◌∙◌}
-use lib.ListN.{length, length-set}
+use mathlib.Core.Path.{◌≡◌}
+use lib.ListN.{length}
 use Rattle.reply.specs.Read.{read}
-use Rattle.reply.specs.Chain.{not_read}
-use Rattle.text.specs.Text.{next_line}
-use Rattle.text.specs.Said.{line_at}
-use Rattle.text.specs.Laws.{said_next, said_chars}
-use Rattle.molfile.specs.Molfile.{atom_line_place, hydrogen_at, in_turn, line_reply, atom_reply}
-use Rattle.molfile.specs.Work.{mark_of, said_walk}
-use Rattle.molfile.specs.declared.Walk.TheVariants.{At}
-use Rattle.molfile.proofs.Turns.{line_refused, line_read, turn_none, turn_more, turn_stops}
-use Rattle.molfile.proofs.Lines.{line_there}
-use Rattle.molfile.proofs.Filling.{Holds, holds_none, holds_more, atom_next}
-use borrow.Author.Rules.{rules}
-use native.Mathlib.Omega.{arith}
+use Rattle.molfile.specs.Molfile.{atom_line_place, hydrogen_at, in_turn, atom_reply}
+use Rattle.molfile.specs.Work.{mark_of}
+use Rattle.molfile.proofs.Filling.{Holds}
 use Rattle.molfile.proofs.atoms.Given as goal
 
 -- `molfile::atoms` meets its contract. The loop's invariant: i atom lines are there and marked, and the next begins at `at`.

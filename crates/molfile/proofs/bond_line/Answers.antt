@@ -7,7 +7,6 @@ use Rattle.molfile.specs.declared.Numbers.{Numbers}
 use Rattle.molfile.specs.declared.NumbersRead.TheVariants.{Read}
 use Rattle.molfile.proofs.Turns.{numbers-refused, numbers-read}
 use Rattle.molfile.proofs.Lines.{bond_no_numbers, bond_outside, bond_inside}
-use borrow.Author.Rules.{rules}
 use Rattle.molfile.proofs.bond_line.Goals as goal
 use Rattle.molfile.proofs.bond_line.Goals.{In-Read}
 

@@ -1,20 +1,18 @@
-use Prim.Native.Nat.{ℕ, ◌-◌, ◌≤◌}
-use mathlib.Core.List.{List}
+use Prim.Native.Nat.{ℕ, ◌-◌}
 use mathlib.Core.Path.{◌≡◌, refl, sym, ap, ◌∙◌}
-use lib.ListN.{length, length-set}
+use lib.ListN.{length-set}
 use Rattle.graph.specs.Graph.{Bond, Within}
 use Rattle.reply.specs.Read.{read}
 use Rattle.reply.specs.Chain.{not_read}
 use Rattle.text.specs.Text.{next_line}
 use Rattle.text.specs.Laws.{later_more}
-use Rattle.molfile.specs.Molfile.{atom_line_place, atom_line_count, bond_line_place, ends_of_line, bond_of_line, in_turn, bond_reply, bond_reply_of}
+use Rattle.molfile.specs.Molfile.{atom_line_place, atom_line_count, bond_line_place, ends_of_line, bond_reply, bond_reply_of}
 use Rattle.molfile.specs.Work.{said_walk, numbers_at}
 use Rattle.molfile.specs.declared.Numbers.{Numbers}
 use Rattle.molfile.specs.declared.Walk.TheVariants.{At}
 use Rattle.molfile.proofs.Turns.{numbers-refused, numbers-read, turn_none, turn_more, turn_stops}
 use Rattle.molfile.proofs.Lines.{bond_within, bond_is}
-use Rattle.molfile.proofs.Filling.{Holds, holds_none, holds_more}
-use borrow.Author.Rules.{rules}
+use Rattle.molfile.proofs.Filling.{holds_none, holds_more}
 use native.Mathlib.Omega.{arith}
 use Rattle.molfile.proofs.bonds.Goals as goal
 use Rattle.molfile.proofs.bonds.Invariants.{one, two}

@@ -3,7 +3,6 @@ use Rattle.molfile.specs.Molfile.{counts_place, in_turn, header_reply, numbers_r
 use Rattle.molfile.specs.Work.{said_numbers}
 use Rattle.molfile.proofs.Turns.{walk_refused, walk-read}
 use Rattle.molfile.proofs.Chains.{counts_no_header, counts_go_on}
-use borrow.Author.Rules.{rules}
 use Rattle.molfile.proofs.counts_line.Goals as goal
 
 -- `molfile::counts_line` meets its contract. Assumes nothing.

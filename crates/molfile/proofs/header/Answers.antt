@@ -1,13 +1,11 @@
-use Prim.Native.Nat.{◌-◌, ◌≤◌}
+use Prim.Native.Nat.{◌-◌}
 use mathlib.Core.Path.{◌≡◌, refl, sym, ap, ◌∙◌}
-use Rattle.reply.specs.Read.{read}
 use Rattle.text.specs.Text.{later_line, next_line}
 use Rattle.text.specs.Laws.{said_next, later_more}
 use Rattle.molfile.specs.Molfile.{in_turn, line_reply, header_reply, counts_place}
 use Rattle.molfile.specs.Work.{said_walk}
 use Rattle.molfile.specs.declared.Walk.TheVariants.{At}
 use Rattle.molfile.proofs.Turns.{line_refused, line_read, turn_more, turn_stops}
-use borrow.Author.Rules.{rules}
 use native.Mathlib.Omega.{arith}
 use Rattle.molfile.proofs.header.Goals as goal
 

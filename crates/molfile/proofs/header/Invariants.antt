@@ -1,14 +1,8 @@
 use Prim.Native.Nat.{◌-◌, ◌≤◌}
-use mathlib.Core.Path.{◌≡◌, refl, sym, ap, ◌∙◌}
+use mathlib.Core.Path.{◌≡◌}
 use Rattle.reply.specs.Read.{read}
-use Rattle.text.specs.Text.{later_line, next_line}
-use Rattle.text.specs.Laws.{said_next, later_more}
-use Rattle.molfile.specs.Molfile.{in_turn, line_reply, header_reply, counts_place}
-use Rattle.molfile.specs.Work.{said_walk}
-use Rattle.molfile.specs.declared.Walk.TheVariants.{At}
-use Rattle.molfile.proofs.Turns.{line_refused, line_read, turn_more, turn_stops}
-use borrow.Author.Rules.{rules}
-use native.Mathlib.Omega.{arith}
+use Rattle.text.specs.Text.{later_line}
+use Rattle.molfile.specs.Molfile.{in_turn, header_reply}
 use Rattle.molfile.proofs.header.Given as goal
 
 -- `molfile::header` meets its contract. The loop's invariant: k lines are there, and the next begins at `at`.

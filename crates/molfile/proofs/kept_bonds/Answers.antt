@@ -4,7 +4,6 @@ use Rattle.molfile.specs.Work.{counts_reply}
 use Rattle.molfile.proofs.Turns.{numbers-refused, numbers-read}
 use Rattle.molfile.proofs.Chains.{lines_no_counts}
 use Rattle.molfile.proofs.Replies.{refused-kept}
-use borrow.Author.Rules.{rules}
 use Rattle.molfile.proofs.kept_bonds.Goals as goal
 
 pub listed-requires : goal.listed-requires

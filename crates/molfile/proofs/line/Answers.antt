@@ -4,7 +4,6 @@ use Rattle.molfile.specs.Work.{said_line}
 use Rattle.molfile.specs.declared.LineRead.TheVariants.{Read}
 use Rattle.molfile.proofs.Lines.{line_missing, line_short, line_long}
 use native.Mathlib.Omega.{arith}
-use borrow.Author.Rules.{rules}
 use Rattle.molfile.proofs.line.Goals as goal
 
 -- `molfile::line` meets its contract. Assumes nothing.

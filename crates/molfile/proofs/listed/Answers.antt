@@ -9,7 +9,6 @@ use Rattle.molfile.proofs.Replies.{refused-kept, of_kept}
 use Rattle.molfile.proofs.Files.{given_is, inside_is, keeps_at}
 use native.Mathlib.Omega.{arith}
 use Rattle.molfile.proofs.Turns.{walk-read, walk_refused}
-use borrow.Author.Rules.{rules}
 use Rattle.molfile.proofs.listed.Goals as goal
 use Rattle.molfile.proofs.listed.Goals.{In-At, Start}
 

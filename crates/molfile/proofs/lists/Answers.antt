@@ -8,7 +8,6 @@ use Rattle.molfile.specs.declared.Numbers.{Numbers}
 use Rattle.molfile.proofs.Turns.{walked, stopped}
 use Rattle.molfile.proofs.Filling.{bonds_begin}
 use Rattle.molfile.proofs.Chains.{marks_learnt, lists_no_atom, lists_go_on}
-use borrow.Author.Rules.{rules}
 use Rattle.molfile.proofs.lists.Goals as goal
 use Rattle.molfile.proofs.lists.Goals.{In-At, Start}
 

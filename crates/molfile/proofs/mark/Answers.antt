@@ -1,7 +1,6 @@
 use mathlib.Core.Path.{◌≡◌, sym, ap, ◌∙◌}
 use Rattle.molfile.specs.Molfile.{hydrogen_at}
 use Rattle.molfile.specs.Work.{mark_of}
-use borrow.Author.Rules.{rules}
 use Rattle.molfile.proofs.mark.Goals as goal
 use Rattle.molfile.proofs.mark.Goals.{After-one_h}
 

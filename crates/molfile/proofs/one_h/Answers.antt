@@ -1,6 +1,5 @@
 use mathlib.Core.Path.{sym, ◌∙◌}
 use Rattle.molfile.proofs.Symbols.{h_first, h_then, h_second, h_third, h_no_third, h_none}
-use borrow.Author.Rules.{rules}
 use Rattle.molfile.proofs.one_h.Goals as goal
 
 -- `molfile::one_h` meets its contract. Assumes nothing.

@@ -10,7 +10,6 @@ use Rattle.molfile.specs.Work.{said_walk}
 use Rattle.molfile.specs.declared.Walk.TheVariants.{At}
 use Rattle.molfile.proofs.Turns.{walked, stopped}
 use Rattle.molfile.proofs.Chains.{ends_learnt, rest_no_bond, rest_ended, rest_no_end}
-use borrow.Author.Rules.{rules}
 use Rattle.molfile.proofs.rest.Goals as goal
 use Rattle.molfile.proofs.rest.Goals.{In-At}
 

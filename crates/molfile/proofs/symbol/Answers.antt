@@ -3,7 +3,6 @@ use borrow.Author.Tests.{lt-ltb, le-ltb}
 use Rattle.text.specs.Text.{line_chars}
 use Rattle.molfile.specs.Molfile.{symbol_at}
 use native.Mathlib.Omega.{arith}
-use borrow.Author.Rules.{rules}
 use Rattle.molfile.proofs.symbol.Goals as goal
 
 -- `molfile::symbol` meets its contract. Assumes nothing.

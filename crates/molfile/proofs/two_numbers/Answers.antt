@@ -11,7 +11,6 @@ use Rattle.molfile.specs.declared.NumbersRead.TheVariants.{Read}
 use Rattle.molfile.proofs.Turns.{line_refused, line_read}
 use Rattle.molfile.proofs.Lines.{line_there, numbers_no_line, numbers_first, numbers_second, numbers_both}
 use native.Mathlib.Omega.{arith}
-use borrow.Author.Rules.{rules}
 use Rattle.molfile.proofs.two_numbers.Goals as goal
 use Rattle.molfile.proofs.two_numbers.Goals.{In-Read}
 

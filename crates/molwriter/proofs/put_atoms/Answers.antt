@@ -1,7 +1,5 @@
-use Prim.Native.Nat.{◌-◌, ◌≤◌}
+use Prim.Native.Nat.{◌-◌}
 use mathlib.Core.Path.{◌≡◌, refl, ap}
-use lib.ListN.{length}
-use Rattle.text.specs.Put.{Puts}
 use Rattle.molwriter.specs.Pieces.{atoms_text}
 use Rattle.text.proofs.Putting.{none, both, as_word}
 use Rattle.molwriter.proofs.Pieces.{atoms_none, atoms_more}

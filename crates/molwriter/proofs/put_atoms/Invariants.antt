@@ -1,12 +1,8 @@
 use Prim.Native.Nat.{◌-◌, ◌≤◌}
-use mathlib.Core.Path.{◌≡◌, refl, ap}
+use mathlib.Core.Path.{◌≡◌}
 use lib.ListN.{length}
 use Rattle.text.specs.Put.{Puts}
 use Rattle.molwriter.specs.Pieces.{atoms_text}
-use Rattle.text.proofs.Putting.{none, both, as_word}
-use Rattle.molwriter.proofs.Pieces.{atoms_none, atoms_more}
-use borrow.Author.Rules.{rules}
-use native.Mathlib.Omega.{arith}
 use Rattle.molwriter.proofs.put_atoms.Given as goal
 
 -- `molwriter::put_atoms` meets its contract. The loop's invariant: i atom lines are put.

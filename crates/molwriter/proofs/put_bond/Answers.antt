@@ -2,7 +2,6 @@ use mathlib.Core.Path.{ap}
 use Rattle.text.specs.Text.{three}
 use Rattle.text.proofs.Putting.{both, as_word}
 use Rattle.molwriter.proofs.Pieces.{bond_is}
-use borrow.Author.Rules.{rules}
 use Rattle.molwriter.proofs.put_bond.Goals as goal
 
 -- `molwriter::put_bond` meets its contract: the words one after the other.

@@ -1,10 +1,8 @@
-use Prim.Native.Nat.{◌+◌, ◌-◌, ◌*◌, ◌/◌, ◌≤◌}
-use mathlib.Core.List.{List, [], ◌∷◌, ◌++◌}
-use mathlib.Core.Path.{◌≡◌, refl, ap}
-use lib.ListN.{length, drop, get_or}
-use Rattle.graph.specs.Graph.{Bond, bond}
-use Rattle.block.specs.Block.{bonds_of}
-use Rattle.text.specs.Put.{Puts}
+use Prim.Native.Nat.{◌+◌, ◌-◌, ◌*◌}
+use mathlib.Core.List.{[], ◌∷◌, ◌++◌}
+use mathlib.Core.Path.{refl, ap}
+use lib.ListN.{get_or}
+use Rattle.graph.specs.Graph.{bond}
 use Rattle.molwriter.specs.Pieces.{bonds_text}
 use Rattle.text.proofs.Putting.{none, both, as_word}
 use Rattle.molwriter.proofs.Pieces.{bonds_none, bonds_more, done_more, all_done}

@@ -1,6 +1,5 @@
 use Rattle.text.proofs.Putting.{both, as_word}
 use Rattle.molwriter.proofs.Pieces.{counts_is}
-use borrow.Author.Rules.{rules}
 use Rattle.molwriter.proofs.put_counts.Goals as goal
 
 -- `molwriter::put_counts` meets its contract: the words one after the other.

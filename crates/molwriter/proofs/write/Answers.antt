@@ -5,7 +5,6 @@ use Rattle.molwriter.specs.Written.{molfile_text}
 use Rattle.molwriter.specs.Replies.{write_refused, stays}
 use Rattle.reply.specs.Read.{said_number}
 use Rattle.reply.specs.Chain.{fine_read, refused_read}
-use borrow.Author.Rules.{rules}
 use Rattle.molwriter.proofs.write.Goals as goal
 
 -- `molwriter::write` meets its contract. Assumes nothing.

@@ -15,7 +15,6 @@ use Rattle.molwriter.specs.Length.{half_length, pieces-length}
 use Rattle.text.proofs.Putting.{both, as_word, at_front}
 use Rattle.molwriter.specs.Replies.{write_short, write_fine, stays, fills}
 use native.Mathlib.Omega.{arith}
-use borrow.Author.Rules.{rules}
 use Rattle.molwriter.proofs.written.Goals as goal
 use Rattle.molwriter.proofs.written.Goals.{Start}
 

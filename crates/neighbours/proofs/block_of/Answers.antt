@@ -4,7 +4,6 @@ use lib.ListN.{length}
 use Rattle.adjacency.specs.Work.{steps_at}
 use Rattle.adjacency.specs.Blocks.{too_few, too_many, too_long, stays}
 use Rattle.block.specs.Block.{said_molecule}
-use borrow.Author.Rules.{rules}
 use Rattle.neighbours.proofs.block_of.Goals as goal
 
 -- `block_of` meets its contract: 1, 2, then the rest. Assumes nothing.

@@ -5,7 +5,6 @@ use lib.ListN.{length}
 use Rattle.text.proofs.Putting.{at_front}
 use Rattle.adjacency.specs.Writing.{given_short, given_all, text_stays, text_put}
 use Rattle.neighbours.specs.Said.{said_neighbours_written}
-use borrow.Author.Rules.{rules}
 use Rattle.neighbours.proofs.given.Goals as goal
 
 -- `given` meets its contract. Assumes nothing.

@@ -7,7 +7,6 @@ use Rattle.text.proofs.Putting.{at_front}
 use Rattle.adjacency.specs.Blocks.{kept_bad, kept_short, kept_all, stays, half, put_in}
 use Rattle.block.specs.Block.{said_molecule}
 use Rattle.reply.specs.declared.CountsReply.TheVariants.{Of}
-use borrow.Author.Rules.{rules}
 use Rattle.neighbours.proofs.kept.Goals as goal
 
 -- `kept` meets its contract: each return is one way through the definition.

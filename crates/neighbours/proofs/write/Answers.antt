@@ -7,7 +7,6 @@ use Rattle.block.specs.Told.{few_atoms}
 use Rattle.adjacency.specs.Writing.{by_sets, write_given, write_refused, text_stays}
 use Rattle.adjacency.specs.RoundTrip.{text_fits}
 use Rattle.neighbours.specs.Said.{said_neighbours_written}
-use borrow.Author.Rules.{rules}
 use Rattle.neighbours.proofs.write.Goals as goal
 use Rattle.neighbours.proofs.write.Goals.{In-Fine}
 

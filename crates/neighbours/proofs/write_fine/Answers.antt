@@ -5,7 +5,6 @@ use lib.Seq.{length-take-le}
 use Rattle.adjacency.specs.Written.{text_by}
 use Rattle.adjacency.specs.Work.{joined_in}
 use Rattle.adjacency.specs.Writing.{front_within, front_is}
-use borrow.Author.Rules.{rules}
 use Rattle.neighbours.proofs.write_fine.Goals as goal
 use Rattle.neighbours.proofs.write_fine.Goals.{After-text-len}
 

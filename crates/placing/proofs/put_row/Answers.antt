@@ -6,7 +6,6 @@ use Rattle.placing.specs.Ranked.{Entry, put_all, coming}
 use Rattle.placing.specs.Entries.{entries_in, room, laid, value_in}
 use Rattle.placing.proofs.Rows.{all_said}
 use Rattle.placing.proofs.Coming.{from_first}
-use borrow.Author.Rules.{rules}
 use Rattle.placing.proofs.put_row.Goals as goal
 
 -- `placing::put_row` meets its contract. Assumes nothing.

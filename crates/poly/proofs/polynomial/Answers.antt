@@ -1,5 +1,4 @@
 use mathlib.Core.Path.{◌∙◌}
-use borrow.Author.Rules.{rules}
 use Rattle.poly.proofs.Pairs.{refused_reply, fine_reply}
 use Rattle.poly.proofs.polynomial.Goals as goal
 

@@ -7,8 +7,7 @@ use borrow.Author.Tests.{eq-eqb, ne_eqb}
 use lib.Dec.{lit≤}
 use lib.IntN.{pos}
 use lib.Ieee.{Float, binary64, add, mul, of_int, of_bits}
-use borrow.Author.Rules.{rules}
-use Rattle.poly.specs.Poly.{pairs_counted, of_parity, turn, horner, most_distance, value}
+use Rattle.poly.specs.Poly.{pairs_counted, of_parity, turn, horner, value}
 use Rattle.poly.proofs.value_of.Goals as goal
 
 -- `poly::value_of` meets its contract. The loop's invariant: what is left to do from v at k is the whole value. The measure is k.

@@ -1,14 +1,6 @@
-use Prim.Native.Nat.{ℕ, zero, suc, ◌-◌, ◌%◌, ◌≤◌, ◌<◌}
-use mathlib.Core.Path.{◌≡◌, refl, sym, ap, ◌∙◌}
-use mathlib.Core.Logic.{⊎_elim}
-use native.Mathlib.Nat.{lt_irrefl, lt_of_lt_of_le, zero-lt-suc}
-use native.Mathlib.Omega.{arith}
-use borrow.Author.Tests.{eq-eqb, ne_eqb}
-use lib.Dec.{lit≤}
-use lib.IntN.{pos}
-use lib.Ieee.{Float, binary64, add, mul, of_int, of_bits}
-use borrow.Author.Rules.{rules}
-use Rattle.poly.specs.Poly.{pairs_counted, of_parity, turn, horner, most_distance, value}
+use Prim.Native.Nat.{◌-◌, ◌≤◌}
+use mathlib.Core.Path.{◌≡◌}
+use Rattle.poly.specs.Poly.{pairs_counted, of_parity, horner, most_distance, value}
 use Rattle.poly.proofs.value_of.Given as goal
 
 abbrev pub invariant-loop-k : goal.invariant-loop-k

@@ -2,7 +2,6 @@ use Prim.Native.Nat.{ℕ}
 use mathlib.Core.Path.{◌≡◌, refl, ap₂, ◌∙◌}
 use mathlib.Core.Bool.{Bool, true, false, not, ◌&&◌}
 use lib.Ieee.{Float, of_bits, lt, le}
-use borrow.Author.Rules.{rules}
 use Rattle.reply.specs.Read.{read, ◌then◌, refuse_if}
 use Rattle.poly.specs.declared.ValuesReply.{ValuesReply}
 use Rattle.poly.specs.Poly.{zero_f, one_f, pairs_counted, polynomial_values, polynomial_at, said_polynomial}

@@ -1,11 +1,8 @@
 use Prim.Native.Nat.{◌-◌, ◌<◌}
-use mathlib.Core.Path.{◌≡◌, refl, sym, ◌∙◌, ap}
-use borrow.Author.Rules.{rules}
-use native.Mathlib.Omega.{arith}
+use mathlib.Core.Path.{◌≡◌}
 use Rattle.text.specs.Text.{value_from}
 use Rattle.records.specs.Bytes.{part}
-use Rattle.printed.specs.Printed.{most_printed, said_value}
-use Rattle.printed.proofs.Reading.{one_more, one_large, none_left, none_due}
+use Rattle.printed.specs.Printed.{most_printed}
 use Rattle.printed.proofs.digits.Reads as reads
 use Rattle.printed.proofs.digits.Lts as lts
 use Rattle.printed.proofs.more.Reads as more-reads

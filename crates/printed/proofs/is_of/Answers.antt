@@ -1,4 +1,3 @@
-use borrow.Author.Rules.{rules}
 use mathlib.Core.Path.{sym, ◌∙◌, ap}
 use Rattle.printed.proofs.Reading.{is_blank, is_tab}
 use Rattle.printed.specs.Printed.{is_of}

@@ -1,4 +1,3 @@
-use borrow.Author.Rules.{rules}
 use Rattle.printed.proofs.Reading.{shape_is}
 use Rattle.printed.proofs.laid_out.Reads as reads
 use Rattle.printed.proofs.laid_out.Lts as lts

@@ -1,9 +1,6 @@
 use Prim.Native.Nat.{◌-◌}
-use mathlib.Core.Path.{◌≡◌, refl, sym, ◌∙◌}
-use lib.ListN.{length}
-use borrow.Author.Rules.{rules}
+use mathlib.Core.Path.{refl, sym, ◌∙◌}
 use borrow.Author.Tests.{not-true, not-false}
-use Rattle.printed.specs.Printed.{past}
 use Rattle.printed.proofs.Reading.{past_here, past_later, past_end}
 use Rattle.printed.proofs.past.Reads as reads
 use Rattle.printed.proofs.past.Lts as lts

@@ -1,10 +1,7 @@
 use Prim.Native.Nat.{◌-◌}
-use mathlib.Core.Path.{◌≡◌, refl, sym, ◌∙◌}
+use mathlib.Core.Path.{◌≡◌}
 use lib.ListN.{length}
-use borrow.Author.Rules.{rules}
-use borrow.Author.Tests.{not-true, not-false}
 use Rattle.printed.specs.Printed.{past}
-use Rattle.printed.proofs.Reading.{past_here, past_later, past_end}
 use Rattle.printed.proofs.past.Reads as reads
 use Rattle.printed.proofs.past.Lts as lts
 use Rattle.printed.proofs.is_of.Reads as is-of-reads

@@ -1,4 +1,3 @@
-use borrow.Author.Rules.{rules}
 use native.Mathlib.Omega.{arith}
 use Rattle.printed.proofs.Reading.{unit_is, unit_some}
 use Rattle.printed.proofs.unit.Reads as reads

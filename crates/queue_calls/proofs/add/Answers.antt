@@ -1,4 +1,3 @@
-use borrow.Author.Rules.{rules}
 use Rattle.queues.specs.declared.Queue.{Queue}
 use Rattle.queues.specs.Queues.{add_told, table_added}
 use Rattle.queue_calls.specs.TwoQueues.{queue_for}

@@ -1,5 +1,4 @@
 use lib.ListN.{length}
-use borrow.Author.Rules.{rules}
 use Rattle.queues.specs.declared.Queue.{Queue}
 use Rattle.records.specs.declared.Sheet.{Sheet}
 use Rattle.gathered.specs.Gathered.{sheet_told}

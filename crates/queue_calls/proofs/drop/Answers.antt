@@ -1,4 +1,3 @@
-use borrow.Author.Rules.{rules}
 use Rattle.queues.specs.declared.Queue.{Queue}
 use Rattle.queues.specs.Queues.{drop_told, table_dropped}
 use Rattle.queue_calls.specs.TwoQueues.{queue_for}

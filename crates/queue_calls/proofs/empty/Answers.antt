@@ -1,5 +1,4 @@
 use mathlib.Core.Path.{◌∙◌}
-use borrow.Author.Rules.{rules}
 use Rattle.summary.specs.Layout.{summary_bytes}
 use Rattle.queues.specs.Table.{table_reply}
 use Rattle.calls.proofs.Laws.{reply_coded}

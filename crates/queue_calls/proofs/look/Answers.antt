@@ -1,5 +1,4 @@
 use mathlib.Core.Path.{◌∙◌, ap}
-use borrow.Author.Rules.{rules}
 use Rattle.block.specs.Index.{said_indices}
 use Rattle.records.specs.declared.Sheet.TheVariants.{Six}
 use Rattle.queues.specs.declared.Queue.{Queue}

@@ -9,7 +9,6 @@ use Rattle.queues.specs.Table.{shelf}
 use Rattle.summary.specs.Layout.{summary_bytes}
 use Rattle.queues.specs.Queues.{stored_block}
 use Rattle.queues.proofs.Answers.{short_reply, short_after, reply_on, after_on}
-use borrow.Author.Rules.{rules}
 use Rattle.queues.proofs.add.Goals as goal
 
 -- `add` meets its contract.

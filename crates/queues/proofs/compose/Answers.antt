@@ -7,7 +7,6 @@ use Rattle.summaries.specs.Composing.{composed_reply}
 use Rattle.queues.specs.Table.{shelf}
 use Rattle.summary.specs.Layout.{summary_bytes}
 use Rattle.queues.proofs.Answers.{short_reply, reply_on}
-use borrow.Author.Rules.{rules}
 use Rattle.queues.proofs.compose.Goals as goal
 
 -- `compose` meets its contract.

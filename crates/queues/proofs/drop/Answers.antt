@@ -7,7 +7,6 @@ use Rattle.reply.specs.Read.{said_reply}
 use Rattle.queues.specs.Table.{shelf}
 use Rattle.summary.specs.Layout.{summary_bytes}
 use Rattle.queues.proofs.Answers.{short_reply, short_after, reply_on, after_on}
-use borrow.Author.Rules.{rules}
 use Rattle.queues.proofs.drop.Goals as goal
 
 -- `drop` meets its contract.

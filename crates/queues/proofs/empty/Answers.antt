@@ -2,7 +2,6 @@ use mathlib.Core.Path.{sym, ◌∙◌, ap}
 use native.Mathlib.Omega.{arith}
 use Rattle.reply.specs.Read.{said_reply}
 use Rattle.queues.proofs.Answers.{short_table, long_table, short_empty, long_empty}
-use borrow.Author.Rules.{rules}
 use Rattle.queues.proofs.empty.Goals as goal
 
 -- `empty` meets its contract.

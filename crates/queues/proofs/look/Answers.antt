@@ -7,7 +7,6 @@ use Rattle.queues.specs.Shelf.{look_reply}
 use Rattle.queues.specs.Table.{shelf}
 use Rattle.summary.specs.Layout.{summary_bytes, stored_fields}
 use Rattle.queues.proofs.Answers.{short_reply, reply_on}
-use borrow.Author.Rules.{rules}
 use Rattle.queues.proofs.look.Goals as goal
 
 -- `look` meets its contract.

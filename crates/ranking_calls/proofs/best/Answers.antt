@@ -1,6 +1,5 @@
 use native.Mathlib.Omega.{arith}
 use Rattle.ranking_calls.specs.Unlent.{ranks_lacking, ranks_told}
-use borrow.Author.Rules.{rules}
 use Rattle.ranking_calls.proofs.best.Goals as goal
 
 -- `ranking_calls::best` meets its contract. Assumes nothing.

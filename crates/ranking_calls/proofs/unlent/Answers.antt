@@ -1,7 +1,6 @@
 use mathlib.Core.Path.{sym, ◌∙◌}
 use Rattle.library.specs.Values.{values_reply}
 use Rattle.ranking_calls.specs.Unlent.{values_refused, values_of}
-use borrow.Author.Rules.{rules}
 use Rattle.ranking_calls.proofs.unlent.Goals as goal
 
 -- `ranking_calls::unlent` meets its contract. Assumes nothing.

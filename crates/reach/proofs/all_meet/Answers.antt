@@ -4,7 +4,7 @@ use native.Mathlib.Omega.{arith}
 use lib.Count.{count_trailing_zeros}
 use Rattle.graph.specs.Lowest.{lowest_in, rest_less}
 use Rattle.block.specs.Block.{most_atoms}
-use Rattle.reach.proofs.Meeting.{Meeting, meeting_start, meeting_next, meeting_end}
+use Rattle.reach.proofs.Meeting.{meeting_start, meeting_next, meeting_end}
 use Rattle.reach.proofs.all_meet.Goals as goal
 use Rattle.reach.proofs.all_meet.Goals.{In-loop-rest}
 

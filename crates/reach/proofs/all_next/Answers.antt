@@ -1,8 +1,8 @@
-use Prim.Native.Nat.{◌-◌, ◌≤◌}
+use Prim.Native.Nat.{◌-◌}
 use mathlib.Core.Bool.{false≢true}
 use native.Mathlib.Omega.{arith}
 use borrow.Author.Tests.{not-false}
-use Rattle.reach.proofs.Meeting.{NextUpTo, next_more}
+use Rattle.reach.proofs.Meeting.{next_more}
 use Rattle.reach.proofs.all_next.Goals as goal
 
 pub first_atoms-all-requires : goal.first_atoms-all-requires

@@ -1,8 +1,5 @@
 use Prim.Native.Nat.{◌-◌, ◌≤◌}
-use mathlib.Core.Bool.{false≢true}
-use native.Mathlib.Omega.{arith}
-use borrow.Author.Tests.{not-false}
-use Rattle.reach.proofs.Meeting.{NextUpTo, next_more}
+use Rattle.reach.proofs.Meeting.{NextUpTo}
 use Rattle.reach.proofs.all_next.Given as goal
 
 abbrev pub invariant-loop-i : goal.invariant-loop-i

@@ -1,9 +1,7 @@
-use Prim.Native.Nat.{◌-◌, ◌*◌, ◌≤◌}
+use Prim.Native.Nat.{◌-◌}
 use mathlib.Core.Path.{◌≡◌, refl}
 use native.Mathlib.Omega.{arith}
 use Rattle.graph.specs.Graph.{sum}
-use Rattle.block.specs.Block.{most_atoms}
-use Rattle.reach.specs.Reach.{Low, together_in}
 use Rattle.reach.proofs.Counting.{four_more}
 use Rattle.reach.proofs.by_fours.Goals as goal
 

@@ -1,10 +1,7 @@
 use Prim.Native.Nat.{◌-◌, ◌*◌, ◌≤◌}
-use mathlib.Core.Path.{◌≡◌, refl}
-use native.Mathlib.Omega.{arith}
-use Rattle.graph.specs.Graph.{sum}
+use mathlib.Core.Path.{◌≡◌}
 use Rattle.block.specs.Block.{most_atoms}
 use Rattle.reach.specs.Reach.{Low, together_in}
-use Rattle.reach.proofs.Counting.{four_more}
 use Rattle.reach.proofs.by_fours.Given as goal
 
 abbrev pub invariant-loop-k : goal.invariant-loop-k

@@ -1,9 +1,8 @@
-use Prim.Native.Nat.{suc, ◌-◌, ◌≤◌}
+use Prim.Native.Nat.{suc, ◌-◌}
 use mathlib.Core.Path.{◌≡◌}
 use native.Mathlib.Nat.{le_refl}
 use native.Mathlib.Omega.{arith}
 use Rattle.block.specs.Lent.{filled_none, filled_store}
-use Rattle.reach.specs.Reach.{Added}
 use Rattle.reach.proofs.count.Goals as goal
 
 pub loop-i-init : goal.loop-i-init

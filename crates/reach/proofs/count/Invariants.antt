@@ -1,8 +1,4 @@
-use Prim.Native.Nat.{suc, ◌-◌, ◌≤◌}
-use mathlib.Core.Path.{◌≡◌}
-use native.Mathlib.Nat.{le_refl}
-use native.Mathlib.Omega.{arith}
-use Rattle.block.specs.Lent.{filled_none, filled_store}
+use Prim.Native.Nat.{◌-◌, ◌≤◌}
 use Rattle.reach.specs.Reach.{Added}
 use Rattle.reach.proofs.count.Given as goal
 

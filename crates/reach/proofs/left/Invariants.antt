@@ -1,9 +1,6 @@
-use Prim.Native.Nat.{suc, ◌+◌, ◌-◌, ◌*◌, ◌≤◌}
-use mathlib.Core.Path.{◌≡◌}
-use native.Mathlib.Nat.{mul-le-mul, le_refl}
-use native.Mathlib.Omega.{arith}
+use Prim.Native.Nat.{◌+◌, ◌-◌, ◌*◌, ◌≤◌}
 use lib.ListN.{get_or}
-use Rattle.block.specs.Lent.{EntriesFilled, filled_none, filled_store}
+use Rattle.block.specs.Lent.{EntriesFilled}
 use Rattle.reach.proofs.left.Given as goal
 
 abbrev pub invariant-loop-i : goal.invariant-loop-i

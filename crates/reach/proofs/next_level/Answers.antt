@@ -1,7 +1,6 @@
 use Prim.Native.Nat.{◌%◌}
 use mathlib.Core.Path.{refl}
 use native.Mathlib.Omega.{arith}
-use borrow.Author.Rules.{rules}
 use borrow.Author.Tests.{eq-eqb, ne_eqb}
 use Rattle.reach.proofs.next_level.Goals as goal
 

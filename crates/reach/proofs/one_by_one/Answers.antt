@@ -1,8 +1,6 @@
-use Prim.Native.Nat.{◌+◌, ◌-◌, ◌*◌, ◌≤◌}
+use Prim.Native.Nat.{◌+◌, ◌-◌}
 use mathlib.Core.Path.{◌≡◌, refl}
 use native.Mathlib.Omega.{arith}
-use Rattle.block.specs.Block.{most_atoms}
-use Rattle.reach.specs.Reach.{together_in}
 use Rattle.reach.proofs.Counting.{one_more}
 use Rattle.reach.proofs.one_by_one.Goals as goal
 

@@ -1,6 +1,5 @@
 use mathlib.Core.Path.{sym, ◌∙◌}
 use native.Mathlib.Omega.{arith}
-use borrow.Author.Rules.{rules}
 use Rattle.reply.specs.Chain.{fine_read, refused_read}
 use Rattle.block.specs.Drawn.{drawn_near_lem}
 use Rattle.block.specs.Lent.{zeros}

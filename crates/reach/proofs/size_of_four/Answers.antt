@@ -1,5 +1,4 @@
 use mathlib.Core.Path.{◌∙◌}
-use native.Mathlib.Omega.{arith}
 use Rattle.reach.proofs.Counting.{four_beside}
 use Rattle.reach.proofs.size_of_four.Goals as goal
 

@@ -5,10 +5,10 @@ use native.Mathlib.Omega.{arith}
 use lib.ListN.{length, get_or}
 use Rattle.graph.specs.Graph.{Within}
 use Rattle.reply.specs.Read.{read}
-use Rattle.block.specs.Block.{most_atoms, graph_of, drawn_reply}
+use Rattle.block.specs.Block.{most_atoms, drawn_reply}
 use Rattle.block.specs.Numbered.{drawn_within}
 use Rattle.block.specs.Told.{drawn_atoms}
-use Rattle.reach.proofs.Spreading.{Took, Gone, took_none, took_next, took_all}
+use Rattle.reach.proofs.Spreading.{took_none, took_next, took_all}
 use Rattle.reach.proofs.spread.Goals as goal
 
 pub loop-k-init : goal.loop-k-init

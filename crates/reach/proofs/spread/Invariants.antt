@@ -1,14 +1,6 @@
-use Prim.Native.Nat.{ℕ, ◌+◌, ◌-◌, ◌*◌, ◌/◌, ◌<◌}
-use mathlib.Core.List.{List}
-use mathlib.Core.Path.{◌≡◌, ◌∙◌}
-use native.Mathlib.Omega.{arith}
-use lib.ListN.{length, get_or}
-use Rattle.graph.specs.Graph.{Within}
-use Rattle.reply.specs.Read.{read}
-use Rattle.block.specs.Block.{most_atoms, graph_of, drawn_reply}
-use Rattle.block.specs.Numbered.{drawn_within}
-use Rattle.block.specs.Told.{drawn_atoms}
-use Rattle.reach.proofs.Spreading.{Took, Gone, took_none, took_next, took_all}
+use Prim.Native.Nat.{◌-◌}
+use Rattle.block.specs.Block.{graph_of}
+use Rattle.reach.proofs.Spreading.{Took, Gone}
 use Rattle.reach.proofs.spread.Given as goal
 
 abbrev pub invariant-loop-k : goal.invariant-loop-k

@@ -3,12 +3,11 @@ use mathlib.Core.Path.{◌≡◌, refl, sym, ◌∙◌}
 use native.Mathlib.Nat.{mul-le-mul}
 use native.Mathlib.Numerals.{add-one}
 use native.Mathlib.Omega.{arith}
-use lib.ListN.{length}
 use Rattle.graph.specs.Graph.{each}
 use Rattle.reply.specs.Read.{read}
 use Rattle.block.specs.Block.{most_atoms, graph_of, drawn_reply}
 use Rattle.block.specs.Numbered.{drawn_bytes}
-use Rattle.reach.proofs.Levels.{Level, of_next, few, level_start, shallow, low, spare, grows, fits, stuck, upto_next, counts_next, all_here, met_next, level_next, odd_less, level_end, not_of, of_reached}
+use Rattle.reach.proofs.Levels.{of_next, few, level_start, shallow, low, spare, grows, fits, stuck, upto_next, counts_next, all_here, met_next, level_next, odd_less, level_end, not_of, of_reached}
 use Rattle.reach.specs.Reach.{Added, LowSums, LevelsUpTo, of_level, up_to}
 use Rattle.reach.proofs.summed.Goals as goal
 use Rattle.reach.proofs.summed.Goals.{After-count, After-farther, After-loop-met, After-next_level-more, Else-more-met, In-loop-met, Then-all_next}
@@ -126,8 +125,11 @@ finished-requires c = odd_less _ _ (drawn-in (goal.at.finished-requires c).In-lo
 pub returns-then-all_next : goal.returns-then-all_next
 returns-then-all_next c =
     let p = c.requires in
-    let f = c.finished.ensures in record { reply = f ∙ level_end _ _ p.0 (finished-in (goal.at.returns-then-all_next c).After-farther) (omega arith); reached = λ x e. of_reached _ x (sym f ∙ e)
-          (rw (add-one c.loop-met.d) (counts_next _ _ p.0 c.loop-met.invariant.4 (more-in (goal.at.returns-then-all_next c).In-loop-met) p.2 _ (added-in (goal.at.returns-then-all_next c).After-count))) }
+    let f = c.finished.ensures in record {
+      reply = f ∙ level_end _ _ p.0 (finished-in (goal.at.returns-then-all_next c).After-farther) (omega arith);
+      reached = λ x e. of_reached _ x (sym f ∙ e)
+          (rw (add-one c.loop-met.d) (counts_next _ _ p.0 c.loop-met.invariant.4 (more-in (goal.at.returns-then-all_next c).In-loop-met) p.2 _ (added-in (goal.at.returns-then-all_next c).After-count)));
+    }
 
 pub slice_bounds-next_level-end : goal.slice_bounds-next_level-end
 slice_bounds-next_level-end c = sym c.loop-met.invariant.2

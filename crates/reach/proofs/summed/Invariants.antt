@@ -1,15 +1,9 @@
-use Prim.Native.Nat.{ℕ, suc, ◌+◌, ◌-◌, ◌*◌, ◌≤◌, ◌<◌}
-use mathlib.Core.Path.{◌≡◌, refl, sym, ◌∙◌}
-use native.Mathlib.Nat.{mul-le-mul}
-use native.Mathlib.Numerals.{add-one}
-use native.Mathlib.Omega.{arith}
+use Prim.Native.Nat.{◌-◌, ◌*◌}
+use mathlib.Core.Path.{◌≡◌}
 use lib.ListN.{length}
-use Rattle.graph.specs.Graph.{each}
-use Rattle.reply.specs.Read.{read}
-use Rattle.block.specs.Block.{most_atoms, graph_of, drawn_reply}
-use Rattle.block.specs.Numbered.{drawn_bytes}
-use Rattle.reach.proofs.Levels.{Level, of_next, few, level_start, shallow, low, spare, grows, fits, stuck, upto_next, counts_next, all_here, met_next, level_next, odd_less, level_end, not_of, of_reached}
-use Rattle.reach.specs.Reach.{Added, LowSums, LevelsUpTo, of_level, up_to}
+use Rattle.block.specs.Block.{most_atoms}
+use Rattle.reach.proofs.Levels.{Level}
+use Rattle.reach.specs.Reach.{of_level}
 use Rattle.reach.proofs.summed.Given as goal
 
 abbrev pub invariant-loop-met : goal.invariant-loop-met

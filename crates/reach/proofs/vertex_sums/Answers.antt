@@ -1,6 +1,5 @@
 use mathlib.Core.Path.{sym, ap, ◌∙◌}
 use native.Mathlib.Omega.{arith}
-use borrow.Author.Rules.{rules}
 use Rattle.reply.specs.Read.{said_reply}
 use Rattle.reply.specs.Chain.{fine_read, refused_read}
 use Rattle.block.specs.Block.{most_atoms}

@@ -1,14 +1,10 @@
-use Prim.Native.Nat.{ℕ, ◌-◌, ◌^◌, ◌≤◌}
-use mathlib.Core.List.{List}
+use Prim.Native.Nat.{◌-◌}
 use mathlib.Core.Path.{◌≡◌}
 use native.Mathlib.Omega.{arith}
-use lib.Bits.{bit_or}
-use lib.ListN.{get_or}
 use Rattle.graph.specs.SetLaws.{shifted_one}
 use Rattle.block.specs.Block.{most_atoms}
-use Rattle.block.specs.Lent.{EntriesFilled, filled_none, filled_store}
+use Rattle.block.specs.Lent.{filled_none, filled_store}
 use Rattle.reach.proofs.with_neighbours.Goals as goal
-use Rattle.reach.proofs.with_neighbours.Invariants.{Filled}
 use Rattle.reach.proofs.with_neighbours.Goals.{After-set-1}
 
 pub loop-i-init : goal.loop-i-init

@@ -1,12 +1,8 @@
 use Prim.Native.Nat.{ℕ, ◌-◌, ◌^◌, ◌≤◌}
 use mathlib.Core.List.{List}
-use mathlib.Core.Path.{◌≡◌}
-use native.Mathlib.Omega.{arith}
 use lib.Bits.{bit_or}
 use lib.ListN.{get_or}
-use Rattle.graph.specs.SetLaws.{shifted_one}
-use Rattle.block.specs.Block.{most_atoms}
-use Rattle.block.specs.Lent.{EntriesFilled, filled_none, filled_store}
+use Rattle.block.specs.Lent.{EntriesFilled}
 use Rattle.reach.proofs.with_neighbours.Given as goal
 
 -- the sets of the first i atoms

@@ -1,6 +1,5 @@
 use mathlib.Core.Path.{sym}
 use lib.ListN.{get_or-eq_default}
-use borrow.Author.Rules.{rules}
 use Rattle.records.proofs.byte_at.Goals as goal
 
 -- `records::byte_at` meets its contract. Assumes nothing.

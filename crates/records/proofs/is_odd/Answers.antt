@@ -3,7 +3,6 @@ use mathlib.Core.Bool.{not}
 use mathlib.Core.Path.{◌≡◌, ap, ap₂}
 use native.Mathlib.Omega.{arith}
 use lib.Dec.{eqb}
-use borrow.Author.Rules.{rules}
 use Rattle.records.specs.Records.{wanted}
 use Rattle.records.proofs.Numbers.{product}
 use Rattle.records.proofs.is_odd.Goals as goal

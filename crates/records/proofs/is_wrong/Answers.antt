@@ -2,7 +2,6 @@ use Prim.Native.Nat.{ℕ}
 use mathlib.Core.Path.{sym, ◌∙◌, ap}
 use lib.Dec.{ltb}
 use Rattle.records.proofs.Replies.{wrong_loose, wrong_counted}
-use borrow.Author.Rules.{rules}
 use Rattle.records.proofs.is_wrong.Goals as goal
 
 -- `records::is_wrong` meets its contract. Assumes nothing.

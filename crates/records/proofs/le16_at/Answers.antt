@@ -2,7 +2,6 @@ use mathlib.Core.Path.{sym}
 use native.Mathlib.Omega.{arith}
 use Rattle.records.specs.Bytes.{little}
 use Rattle.records.proofs.Numbers.{past}
-use borrow.Author.Rules.{rules}
 use Rattle.records.proofs.le16_at.Goals as goal
 
 -- `records::le16_at` meets its contract. Assumes nothing.

@@ -1,7 +1,6 @@
 use mathlib.Core.Path.{sym, ◌∙◌, ap}
 use Rattle.reply.specs.Read.{said_reply}
 use Rattle.records.proofs.Replies.{length_wrong, length_right}
-use borrow.Author.Rules.{rules}
 use Rattle.records.proofs.length_reply.Goals as goal
 
 -- `records::length_reply` meets its contract. Assumes nothing.

@@ -1,6 +1,5 @@
 use Prim.Native.Nat.{◌+◌}
 use native.Mathlib.Omega.{arith}
-use borrow.Author.Rules.{rules}
 use Rattle.records.specs.Records.{length_at}
 use Rattle.records.proofs.Numbers.{past_end}
 use Rattle.records.proofs.payload_at.Goals as goal

@@ -5,7 +5,6 @@ use lib.ListN.{length}
 use Rattle.reply.specs.Read.{said_reply}
 use Rattle.records.specs.Records.{end_at}
 use Rattle.records.proofs.Replies.{cut_off, is_one, is_other, is_neither}
-use borrow.Author.Rules.{rules}
 use Rattle.records.proofs.record_at.Goals as goal
 use Rattle.records.proofs.record_at.Goals.{Else-d-at-2}
 

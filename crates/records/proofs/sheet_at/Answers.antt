@@ -1,7 +1,6 @@
 use Prim.Native.Nat.{◌+◌}
 use mathlib.Core.Path.{sym, ◌∙◌}
 use native.Mathlib.Omega.{arith}
-use borrow.Author.Rules.{rules}
 use Rattle.records.proofs.Numbers.{past}
 use Rattle.records.proofs.Replies.{is_six, not_six}
 use Rattle.records.proofs.sheet_at.Goals as goal

@@ -1,5 +1,4 @@
 use mathlib.Core.Path.{sym, ap}
-use borrow.Author.Rules.{rules}
 use Rattle.records.specs.Records.{sheet_kind}
 use Rattle.records.proofs.sheet_kind.Goals as goal
 

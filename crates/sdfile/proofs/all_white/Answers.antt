@@ -1,9 +1,6 @@
 use Prim.Native.Nat.{◌-◌}
-use mathlib.Core.Path.{◌≡◌, refl, sym, ◌∙◌}
-use lib.ListN.{length, drop}
-use Rattle.sdfile.specs.Sdf.{all_white}
+use mathlib.Core.Path.{refl, sym, ◌∙◌}
 use Rattle.sdfile.proofs.White.{white_past, white_not, white_more}
-use borrow.Author.Rules.{rules}
 use native.Mathlib.Omega.{arith}
 use Rattle.sdfile.proofs.all_white.Goals as goal
 

@@ -1,10 +1,7 @@
 use Prim.Native.Nat.{◌-◌}
-use mathlib.Core.Path.{◌≡◌, refl, sym, ◌∙◌}
+use mathlib.Core.Path.{◌≡◌}
 use lib.ListN.{length, drop}
 use Rattle.sdfile.specs.Sdf.{all_white}
-use Rattle.sdfile.proofs.White.{white_past, white_not, white_more}
-use borrow.Author.Rules.{rules}
-use native.Mathlib.Omega.{arith}
 use Rattle.sdfile.proofs.all_white.Given as goal
 
 -- `sdfile::all_white` meets its contract. The loop's invariant: the bytes from i on are to be looked at.

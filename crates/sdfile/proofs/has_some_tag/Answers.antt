@@ -1,9 +1,6 @@
 use Prim.Native.Nat.{◌-◌}
-use mathlib.Core.Path.{◌≡◌, refl, sym, ◌∙◌}
-use lib.ListN.{length, drop}
-use Rattle.sdfile.specs.Sdf.{has_tag}
+use mathlib.Core.Path.{refl, sym, ◌∙◌}
 use Rattle.sdfile.proofs.Tags.{tagged_past, tagged_here, tagged_later}
-use borrow.Author.Rules.{rules}
 use native.Mathlib.Omega.{arith}
 use Rattle.sdfile.proofs.has_some_tag.Goals as goal
 

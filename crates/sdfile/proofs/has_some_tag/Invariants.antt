@@ -1,10 +1,7 @@
 use Prim.Native.Nat.{◌-◌}
-use mathlib.Core.Path.{◌≡◌, refl, sym, ◌∙◌}
+use mathlib.Core.Path.{◌≡◌}
 use lib.ListN.{length, drop}
 use Rattle.sdfile.specs.Sdf.{has_tag}
-use Rattle.sdfile.proofs.Tags.{tagged_past, tagged_here, tagged_later}
-use borrow.Author.Rules.{rules}
-use native.Mathlib.Omega.{arith}
 use Rattle.sdfile.proofs.has_some_tag.Given as goal
 
 -- `sdfile::has_some_tag` meets its contract. The loop's invariant: the places from i on are to be looked at.

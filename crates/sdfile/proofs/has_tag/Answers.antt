@@ -1,9 +1,7 @@
 use Prim.Native.Nat.{◌-◌}
-use mathlib.Core.Path.{◌≡◌, refl, sym, ◌∙◌}
-use lib.ListN.{length, drop}
-use Rattle.sdfile.specs.Sdf.{tagged, has_name}
+use mathlib.Core.Path.{refl, sym, ◌∙◌}
+use Rattle.sdfile.specs.Sdf.{tagged}
 use Rattle.sdfile.proofs.Tags.{holds_past, holds_here, holds_later}
-use borrow.Author.Rules.{rules}
 use native.Mathlib.Omega.{arith}
 use Rattle.sdfile.proofs.has_tag.Goals as goal
 

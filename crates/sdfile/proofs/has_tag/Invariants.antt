@@ -1,10 +1,7 @@
 use Prim.Native.Nat.{◌-◌}
-use mathlib.Core.Path.{◌≡◌, refl, sym, ◌∙◌}
+use mathlib.Core.Path.{◌≡◌}
 use lib.ListN.{length, drop}
 use Rattle.sdfile.specs.Sdf.{tagged, has_name}
-use Rattle.sdfile.proofs.Tags.{holds_past, holds_here, holds_later}
-use borrow.Author.Rules.{rules}
-use native.Mathlib.Omega.{arith}
 use Rattle.sdfile.proofs.has_tag.Given as goal
 
 -- `sdfile::has_tag` meets its contract. The loop's invariant: the places from i on are to be looked at.

@@ -1,10 +1,8 @@
 use Prim.Native.Nat.{◌-◌}
-use mathlib.Core.Path.{◌≡◌, refl, sym, ap, ◌∙◌}
-use lib.ListN.{length}
+use mathlib.Core.Path.{refl, sym, ap, ◌∙◌}
 use Rattle.text.specs.Laws.{said_next, next_later, next_within}
 use Rattle.sdfile.specs.Sdf.{is_header, header_from}
 use Rattle.sdfile.specs.Laws.{from_past, from_here, from_later}
-use borrow.Author.Rules.{rules}
 use native.Mathlib.Omega.{arith}
 use Rattle.sdfile.proofs.header_from.Goals as goal
 

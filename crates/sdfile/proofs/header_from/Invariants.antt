@@ -1,11 +1,7 @@
 use Prim.Native.Nat.{◌-◌}
-use mathlib.Core.Path.{◌≡◌, refl, sym, ap, ◌∙◌}
+use mathlib.Core.Path.{◌≡◌}
 use lib.ListN.{length}
-use Rattle.text.specs.Laws.{said_next, next_later, next_within}
-use Rattle.sdfile.specs.Sdf.{is_header, header_from}
-use Rattle.sdfile.specs.Laws.{from_past, from_here, from_later}
-use borrow.Author.Rules.{rules}
-use native.Mathlib.Omega.{arith}
+use Rattle.sdfile.specs.Sdf.{header_from}
 use Rattle.sdfile.proofs.header_from.Given as goal
 
 -- `sdfile::header_from` meets its contract. The loop's invariant: the lines from `at` on are to be looked at.

@@ -1,5 +1,4 @@
 use mathlib.Core.Path.{sym, ◌∙◌, ap}
-use borrow.Author.Rules.{rules}
 use lib.Dec.{ltb}
 use Rattle.sdfile.specs.Sdf.{most_opens}
 use Rattle.sdfile.proofs.Items.{no_name_empty, no_name_many}

@@ -1,7 +1,6 @@
 use mathlib.Core.Path.{sym, ◌∙◌}
 use Rattle.text.specs.Laws.{end_from, end_within}
 use Rattle.sdfile.proofs.Tags.{some_not, some_is}
-use borrow.Author.Rules.{rules}
 use native.Mathlib.Omega.{arith}
 use Rattle.sdfile.proofs.is_some_header.Goals as goal
 

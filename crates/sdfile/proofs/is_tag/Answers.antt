@@ -3,7 +3,6 @@ use Prim.Native.Nat.{◌+◌}
 use Rattle.text.specs.Text.{starts_with}
 use Rattle.sdfile.proofs.White.{part_is}
 use Rattle.sdfile.proofs.Tags.{tag_other, tag_short, tag_not, tag_is}
-use borrow.Author.Rules.{rules}
 use Rattle.sdfile.proofs.is_tag.Goals as goal
 
 -- `sdfile::is_tag` meets its contract. Assumes nothing.

@@ -2,7 +2,6 @@ use mathlib.Core.Path.{sym, ap, ◌∙◌}
 use Rattle.sdfile.specs.Sdf.{header_from}
 use Rattle.sdfile.specs.Said.{said_value}
 use Rattle.sdfile.proofs.Items.{item_no_name, item_none, item_there}
-use borrow.Author.Rules.{rules}
 use Rattle.sdfile.proofs.item.Goals as goal
 
 -- `sdfile::item` meets its contract. Assumes nothing.

@@ -1,6 +1,5 @@
 use Rattle.sdfile.specs.Sdf.{item_reply}
 use Rattle.sdfile.proofs.Items.{span_refused, span_read, part_at}
-use borrow.Author.Rules.{rules}
 use Rattle.sdfile.proofs.item_part.Goals as goal
 
 -- `sdfile::item_part` meets its contract. Assumes nothing.

@@ -1,5 +1,4 @@
 use Rattle.sdfile.proofs.Items.{items_begin}
-use borrow.Author.Rules.{rules}
 use Rattle.sdfile.proofs.items_from.Goals as goal
 
 -- `sdfile::items_from` meets its contract. Assumes nothing.

@@ -1,12 +1,10 @@
 use Prim.Native.Nat.{◌-◌}
-use mathlib.Core.Path.{◌≡◌, refl, sym, ap, ◌∙◌}
-use lib.ListN.{length}
+use mathlib.Core.Path.{refl, sym, ap, ◌∙◌}
 use Rattle.text.specs.Text.{starts_with}
 use Rattle.text.specs.Laws.{said_next, next_later, next_within}
 use Rattle.sdfile.specs.Sdf.{line_from}
 use Rattle.sdfile.specs.Laws.{from_past, from_here, from_later}
 use Rattle.sdfile.proofs.White.{part_is}
-use borrow.Author.Rules.{rules}
 use native.Mathlib.Omega.{arith}
 use Rattle.sdfile.proofs.line_from.Goals as goal
 

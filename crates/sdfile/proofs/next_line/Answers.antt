@@ -1,5 +1,4 @@
 use Rattle.text.specs.Laws.{said_next}
-use borrow.Author.Rules.{rules}
 use Rattle.sdfile.proofs.next_line.Goals as goal
 
 -- `sdfile::next_line` meets its contract. Assumes nothing.

@@ -1,9 +1,5 @@
-use Prim.Native.Nat.{◌+◌, ◌-◌, ◌≤◌}
-use mathlib.Core.Path.{◌≡◌}
+use Prim.Native.Nat.{◌-◌}
 use native.Mathlib.Omega.{arith}
-use lib.ListN.{length, drop}
-use borrow.Author.Rules.{rules}
-use Rattle.sdfile.specs.Sdf.{opens_in}
 use Rattle.sdfile.proofs.Items.{opens_end, opens_next}
 use Rattle.sdfile.proofs.opens_in.Goals as goal
 

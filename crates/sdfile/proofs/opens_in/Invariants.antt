@@ -1,10 +1,7 @@
 use Prim.Native.Nat.{◌+◌, ◌-◌, ◌≤◌}
 use mathlib.Core.Path.{◌≡◌}
-use native.Mathlib.Omega.{arith}
 use lib.ListN.{length, drop}
-use borrow.Author.Rules.{rules}
 use Rattle.sdfile.specs.Sdf.{opens_in}
-use Rattle.sdfile.proofs.Items.{opens_end, opens_next}
 use Rattle.sdfile.proofs.opens_in.Given as goal
 
 -- `sdfile::opens_in` meets its contract. The loop's invariant: what is counted so far, and what is left to count, are all.

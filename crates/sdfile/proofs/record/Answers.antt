@@ -8,7 +8,6 @@ use Rattle.text.specs.Text.{starts_with, next_line}
 use Rattle.sdfile.specs.Sdf.{marks, record_end, all_white, step_at}
 use Rattle.sdfile.specs.Laws.{from_from, step_done, step_next}
 use Rattle.sdfile.specs.declared.Step.TheVariants.{Next}
-use borrow.Author.Rules.{rules}
 use native.Mathlib.Omega.{arith}
 use Rattle.sdfile.proofs.record.Goals as goal
 

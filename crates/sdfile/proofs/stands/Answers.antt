@@ -1,9 +1,6 @@
 use Prim.Native.Nat.{◌-◌}
-use mathlib.Core.Path.{◌≡◌, refl, sym, ◌∙◌}
-use lib.ListN.{length, drop}
-use Rattle.sdfile.specs.Sdf.{stands}
+use mathlib.Core.Path.{refl, sym, ◌∙◌}
 use Rattle.sdfile.proofs.Tags.{stands_past, stands_here, stands_later}
-use borrow.Author.Rules.{rules}
 use native.Mathlib.Omega.{arith}
 use Rattle.sdfile.proofs.stands.Goals as goal
 

@@ -1,10 +1,7 @@
 use Prim.Native.Nat.{◌-◌}
-use mathlib.Core.Path.{◌≡◌, refl, sym, ◌∙◌}
+use mathlib.Core.Path.{◌≡◌}
 use lib.ListN.{length, drop}
 use Rattle.sdfile.specs.Sdf.{stands}
-use Rattle.sdfile.proofs.Tags.{stands_past, stands_here, stands_later}
-use borrow.Author.Rules.{rules}
-use native.Mathlib.Omega.{arith}
 use Rattle.sdfile.proofs.stands.Given as goal
 
 -- `sdfile::stands` meets its contract. The loop's invariant: the places from i on are to be looked at.

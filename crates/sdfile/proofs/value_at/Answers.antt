@@ -1,7 +1,6 @@
 use mathlib.Core.Path.{sym, ap}
 use Rattle.sdfile.specs.Said.{said_value}
 use Rattle.sdfile.proofs.Items.{value_twice, value_once}
-use borrow.Author.Rules.{rules}
 use Rattle.sdfile.proofs.value_at.Goals as goal
 
 -- `sdfile::value_at` meets its contract. Assumes nothing.

@@ -1,7 +1,6 @@
 use mathlib.Core.Path.{sym, ◌∙◌}
 use Rattle.text.specs.Laws.{said_chars}
 use Rattle.sdfile.proofs.Items.{value_missing, value_header, value_line}
-use borrow.Author.Rules.{rules}
 use Rattle.sdfile.proofs.value_chars.Goals as goal
 
 -- `sdfile::value_chars` meets its contract. Assumes nothing.

@@ -1,5 +1,4 @@
 use mathlib.Core.Path.{◌∙◌, ap}
-use borrow.Author.Rules.{rules}
 use Rattle.sets.specs.Reply.{said_sets}
 use Rattle.sets.proofs.Replies.{from_first}
 use Rattle.sets.proofs.count.Goals as goal

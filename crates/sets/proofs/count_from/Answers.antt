@@ -1,5 +1,4 @@
 use mathlib.Core.Path.{sym, ◌∙◌}
-use borrow.Author.Rules.{rules}
 use Rattle.reply.specs.Chain.{fine_read, refused_read}
 use Rattle.sets.proofs.Replies.{reply-refused, reply_outside, reply_no_tree, reply_rooted, reply_counted}
 use Rattle.sets.proofs.count_from.Goals as goal

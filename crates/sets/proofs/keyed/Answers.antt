@@ -1,7 +1,6 @@
-use Prim.Native.Nat.{◌-◌, ◌≤◌}
+use Prim.Native.Nat.{◌-◌}
 use native.Mathlib.Omega.{arith}
-use borrow.Author.Rules.{rules}
-use Rattle.sets.proofs.Keying.{Keying, keying_start, first_adds, second_adds, keying_next, keying_end}
+use Rattle.sets.proofs.Keying.{keying_start, first_adds, second_adds, keying_next, keying_end}
 use Rattle.sets.proofs.keyed.Goals as goal
 
 pub loop-k-init : goal.loop-k-init

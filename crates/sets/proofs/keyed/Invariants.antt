@@ -1,7 +1,5 @@
 use Prim.Native.Nat.{◌-◌, ◌≤◌}
-use native.Mathlib.Omega.{arith}
-use borrow.Author.Rules.{rules}
-use Rattle.sets.proofs.Keying.{Keying, keying_start, first_adds, second_adds, keying_next, keying_end}
+use Rattle.sets.proofs.Keying.{Keying}
 use Rattle.sets.proofs.keyed.Given as goal
 
 -- `sets::keyed` meets its contract. The loop's invariant: the bonds from k on are still to be added. The measure is how many those are.

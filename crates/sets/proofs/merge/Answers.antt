@@ -1,4 +1,3 @@
-use borrow.Author.Rules.{rules}
 use Rattle.sets.proofs.Storing.{room_first, room_second, stored}
 use Rattle.sets.proofs.merge.Goals as goal
 

@@ -1,8 +1,7 @@
-use Prim.Native.Nat.{◌+◌, ◌-◌}
+use Prim.Native.Nat.{◌-◌}
 use native.Mathlib.Omega.{arith}
-use borrow.Author.Rules.{rules}
 use Rattle.sets.proofs.Trees.{listed}
-use Rattle.sets.proofs.Running.{Running, running_start, in_places, p_places, store_bonds, store_atoms, key_enough, some_left, running_merged, more_atoms, running_next, root-places, atoms_fit, answered}
+use Rattle.sets.proofs.Running.{running_start, in_places, p_places, store_bonds, store_atoms, key_enough, some_left, running_merged, more_atoms, running_next, root-places, atoms_fit, answered}
 use Rattle.sets.proofs.recursion.Goals as goal
 use Rattle.sets.proofs.recursion.Goals.{After-chosen-then-key-eq1-1, After-chosen-then-key-eq1-1-unread, In-loop-left-unread}
 

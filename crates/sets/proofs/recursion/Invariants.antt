@@ -1,8 +1,5 @@
 use Prim.Native.Nat.{◌+◌, ◌-◌}
-use native.Mathlib.Omega.{arith}
-use borrow.Author.Rules.{rules}
-use Rattle.sets.proofs.Trees.{listed}
-use Rattle.sets.proofs.Running.{Running, running_start, in_places, p_places, store_bonds, store_atoms, key_enough, some_left, running_merged, more_atoms, running_next, root-places, atoms_fit, answered}
+use Rattle.sets.proofs.Running.{Running}
 use Rattle.sets.proofs.recursion.Given as goal
 
 -- `sets::recursion` meets its contract. The loop's invariant: what the lists hold counts the sets of the whole tree. The measure is how many atoms were not looked at, and how

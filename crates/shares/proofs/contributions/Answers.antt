@@ -1,5 +1,4 @@
 use mathlib.Core.Path.{sym, ◌∙◌, ap}
-use borrow.Author.Rules.{rules}
 use Rattle.reply.specs.Chain.{fine_read, refused_read}
 use Rattle.block.specs.Drawn.{opened_near_lem}
 use Rattle.block.specs.Halved.{half_lent, far_lent}

@@ -1,6 +1,5 @@
 use Prim.Native.Nat.{◌+◌}
 use mathlib.Core.Path.{ap}
-use borrow.Author.Rules.{rules}
 use Rattle.records.specs.Records.{head_bytes}
 use Rattle.records.specs.declared.Kind.{Kind}
 use Rattle.sheets.proofs.bytes_of.Goals as goal

@@ -6,7 +6,6 @@ use Prim.Native.Nat.{ℕ}
 use Rattle.sheets.specs.Sheets.{all_widths, fields_at}
 use Rattle.sheets.specs.Along.{widths_total, Narrow}
 use Rattle.sheets.proofs.Puts.{fields_past}
-use borrow.Author.Rules.{rules}
 use Rattle.sheets.proofs.claimed.Goals as goal
 
 -- `sheets::claimed` meets its contract. Assumes nothing.

@@ -1,9 +1,6 @@
-use Prim.Native.Nat.{suc, ◌-◌}
-use mathlib.Core.Path.{◌≡◌, refl, sym, ◌∙◌}
+use Prim.Native.Nat.{◌-◌}
+use mathlib.Core.Path.{refl, sym, ◌∙◌}
 use native.Mathlib.Omega.{arith}
-use borrow.Author.Rules.{rules}
-use lib.ListN.{length, drop}
-use Rattle.sheets.specs.Sheets.{first_wrong}
 use Rattle.sheets.proofs.Puts.{wrong_here, wrong_later, wrong_nowhere}
 use Rattle.sheets.proofs.first_apart.Goals as goal
 

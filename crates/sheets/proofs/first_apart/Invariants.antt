@@ -1,10 +1,7 @@
 use Prim.Native.Nat.{suc, ◌-◌}
-use mathlib.Core.Path.{◌≡◌, refl, sym, ◌∙◌}
-use native.Mathlib.Omega.{arith}
-use borrow.Author.Rules.{rules}
+use mathlib.Core.Path.{◌≡◌}
 use lib.ListN.{length, drop}
 use Rattle.sheets.specs.Sheets.{first_wrong}
-use Rattle.sheets.proofs.Puts.{wrong_here, wrong_later, wrong_nowhere}
 use Rattle.sheets.proofs.first_apart.Given as goal
 
 -- `sheets::first_apart` meets its contract. The loop's invariant: the answer is that of what is left, counted from where it stands.

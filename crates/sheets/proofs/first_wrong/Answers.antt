@@ -1,6 +1,5 @@
 use mathlib.Core.Path.{◌≡◌, sym, ◌∙◌, ap, ap₂}
 use lib.ListN.{length}
-use borrow.Author.Rules.{rules}
 use Rattle.records.specs.Records.{sheet_at}
 use Rattle.sheets.specs.Sheets.{all_widths, field_count, first_wrong}
 use Rattle.sheets.proofs.Puts.{there, lent, length_all, length_fields, fields_taken, claims_taken}

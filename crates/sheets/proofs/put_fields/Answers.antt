@@ -1,5 +1,4 @@
 use Rattle.sheets.proofs.Puts.{fields_five, fields_six}
-use borrow.Author.Rules.{rules}
 use Rattle.sheets.proofs.put_fields.Goals as goal
 
 -- `sheets::put_fields` meets its contract.

@@ -1,5 +1,4 @@
 use Rattle.sheets.proofs.Puts.{five_fields}
-use borrow.Author.Rules.{rules}
 use Rattle.sheets.proofs.put_five.Goals as goal
 
 -- `sheets::put_five` meets its contract.

@@ -1,5 +1,4 @@
 use Rattle.sheets.proofs.Puts.{two_fields}
-use borrow.Author.Rules.{rules}
 use Rattle.sheets.proofs.put_head.Goals as goal
 
 -- `sheets::put_head` meets its contract.

@@ -1,6 +1,5 @@
 use native.Mathlib.Omega.{arith}
 use Rattle.sheets.proofs.Puts.{head_and_fields, too_short}
-use borrow.Author.Rules.{rules}
 use Rattle.sheets.proofs.put_sheet.Goals as goal
 
 -- `sheets::put_sheet` meets its contract: the head, and then the fields, where there is room. Assumes nothing.

@@ -1,10 +1,6 @@
-use Prim.Native.Nat.{◌+◌, ◌-◌, ◌^◌, ◌<◌}
-use mathlib.Core.Path.{◌≡◌}
+use Prim.Native.Nat.{◌-◌}
 use native.Mathlib.Omega.{arith}
-use borrow.Author.Rules.{rules}
-use lib.ListN.{length}
-use Rattle.sheets.specs.Along.{widths_total}
-use Rattle.sheets.proofs.Puts.{Reading, read_none, read_room, read_one, read_all}
+use Rattle.sheets.proofs.Puts.{read_none, read_room, read_one, read_all}
 use Rattle.sheets.proofs.read_fields.Goals as goal
 
 pub loop-i-init : goal.loop-i-init

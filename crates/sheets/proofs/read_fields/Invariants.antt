@@ -1,10 +1,8 @@
 use Prim.Native.Nat.{◌+◌, ◌-◌, ◌^◌, ◌<◌}
 use mathlib.Core.Path.{◌≡◌}
-use native.Mathlib.Omega.{arith}
-use borrow.Author.Rules.{rules}
 use lib.ListN.{length}
 use Rattle.sheets.specs.Along.{widths_total}
-use Rattle.sheets.proofs.Puts.{Reading, read_none, read_room, read_one, read_all}
+use Rattle.sheets.proofs.Puts.{Reading}
 use Rattle.sheets.proofs.read_fields.Given as goal
 
 -- `sheets::read_fields` meets its contract. The loop's invariant: what is left to read makes of the fields what all of it makes of the first ones.

@@ -1,15 +1,7 @@
-use Prim.Native.Nat.{ℕ, suc, ◌+◌, ◌-◌, ◌≤◌}
-use mathlib.Core.Path.{◌≡◌, sym, ap, ap₂, ◌∙◌}
-use native.Mathlib.Numerals.{add-one}
-use native.Mathlib.Omega.{arith}
-use borrow.Author.Rules.{rules}
-use mathlib.Core.Bool.{true, false}
-use mathlib.Core.List.{List}
-use Rattle.reply.specs.Read.{refused, refusal, is_outside, said_reply}
-use Rattle.reply.specs.declared.Reply.TheVariants.{Refused}
+use Prim.Native.Nat.{◌-◌, ◌≤◌}
+use mathlib.Core.Path.{◌≡◌}
 use Rattle.shelf.specs.Shelf.{shelf_in}
-use Rattle.assembly.specs.Placements.{most_placements, placement_count, placement_at, Shelf, fault, placements_reply, shelf_reply}
-use Rattle.assembly.proofs.Faults.{faulty, faultless, none_left}
+use Rattle.assembly.specs.Placements.{placement_at, fault, placements_reply, shelf_reply}
 use Rattle.shelf.proofs.check.Given as goal
 
 -- `shelf::check` meets its contract. The loop's invariant: the reply for the placements that are left is the reply. Assumes nothing.

@@ -1,10 +1,6 @@
-use Prim.Native.Nat.{ℕ, suc, ◌+◌, ◌-◌, ◌≤◌}
-use mathlib.Core.Path.{◌≡◌, sym, ap, ◌∙◌}
-use native.Mathlib.Numerals.{add-one}
-use native.Mathlib.Omega.{arith}
-use borrow.Author.Rules.{rules}
+use Prim.Native.Nat.{◌-◌, ◌≤◌}
+use mathlib.Core.Path.{◌≡◌}
 use Rattle.shelf.specs.Shelf.{places_in, place_from, place_of}
-use Rattle.shelf.specs.Places.{place_here, place_next, place_none, place_zero, place_some}
 use Rattle.shelf.proofs.place_of.Given as goal
 
 -- `shelf::place_of` meets its contract. The loop's invariant: what is found among the places that are left is what is found. Assumes nothing.

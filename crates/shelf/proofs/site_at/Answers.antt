@@ -4,7 +4,6 @@ use mathlib.Core.Path.{◌≡◌, refl, ap, ◌∙◌}
 use Rattle.assembly.specs.Placements.{atom_site}
 use Rattle.assembly.specs.declared.JoinSite.{JoinSite}
 use Rattle.shelf.specs.Shelf.{sites_in}
-use borrow.Author.Rules.{rules}
 use Rattle.shelf.proofs.site_at.Goals as goal
 
 -- `shelf::site_at` meets its contract. Assumes nothing.

@@ -2,7 +2,6 @@ use Prim.Native.Nat.{◌*◌}
 use native.Mathlib.Omega.{arith}
 use Rattle.records.proofs.Numbers.{past_end}
 use Rattle.summary.specs.Layout.{summary_bytes}
-use borrow.Author.Rules.{rules}
 use Rattle.shelf.proofs.summary_at.Goals as goal
 
 -- `shelf::summary_at` meets its contract. Assumes nothing.

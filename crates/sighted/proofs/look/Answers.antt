@@ -3,8 +3,7 @@ use native.Mathlib.Omega.{arith}
 use lib.Count.{ones-le}
 use Rattle.graph.specs.Lowest.{lowest_in, rest_less}
 use Rattle.block.specs.Block.{most_atoms}
-use Rattle.sighted.proofs.Looking.{Leaves, lowest_of, look_start, look_next, look_end}
-use Rattle.sighted.specs.Sighted.{sets_in}
+use Rattle.sighted.proofs.Looking.{lowest_of, look_start, look_next, look_end}
 use Rattle.sighted.proofs.look.Goals as goal
 use Rattle.sighted.proofs.look.Goals.{In-loop-level}
 

@@ -1,11 +1,8 @@
 use Prim.Native.Nat.{◌-◌, ◌<◌}
-use mathlib.Core.Logic.{⊎_elim}
 use mathlib.Core.Path.{sym}
 use native.Mathlib.Omega.{arith}
-use borrow.Author.Rules.{rules}
-use borrow.Author.Tests.{ltb-true, ltb-false}
-use Rattle.sighted.proofs.Running.{Running, run_start, run_size, odd_less, low_next, run_next, run_end}
-use Rattle.sighted.specs.Sighted.{sets_in}
+use borrow.Author.Tests.{ltb-true}
+use Rattle.sighted.proofs.Running.{run_start, run_size, odd_less, low_next, run_next, run_end}
 use Rattle.sighted.proofs.search.Goals as goal
 use Rattle.sighted.proofs.search.Goals.{then-loop-level-test+else-d-n, else-loop-level-test}
 use Rattle.sighted.proofs.search.Goals.{Then-d-n}

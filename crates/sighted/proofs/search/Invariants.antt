@@ -1,10 +1,5 @@
-use Prim.Native.Nat.{◌-◌, ◌<◌}
-use mathlib.Core.Logic.{⊎_elim}
-use mathlib.Core.Path.{sym}
-use native.Mathlib.Omega.{arith}
-use borrow.Author.Rules.{rules}
-use borrow.Author.Tests.{ltb-true, ltb-false}
-use Rattle.sighted.proofs.Running.{Running, run_start, run_size, odd_less, low_next, run_next, run_end}
+use Prim.Native.Nat.{◌-◌}
+use Rattle.sighted.proofs.Running.{Running}
 use Rattle.sighted.specs.Sighted.{sets_in}
 use Rattle.sighted.proofs.search.Given as goal
 

@@ -1,6 +1,5 @@
 use Prim.Native.Nat.{ℕ}
 use mathlib.Core.Path.{sym, ap, ap₂, ◌∙◌}
-use borrow.Author.Rules.{rules}
 use lib.Bits.{bit_xor}
 use Rattle.graph.specs.Sets.{firsts}
 use Rattle.sighted.specs.Sighted.{sets_in, seen_in, seen_of}

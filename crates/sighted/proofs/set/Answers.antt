@@ -1,7 +1,6 @@
 use mathlib.Core.Bool.{false}
 use mathlib.Core.Path.{◌≡◌, sym, ◌∙◌}
 use native.Mathlib.Omega.{arith}
-use borrow.Author.Rules.{rules}
 use Rattle.graph.specs.Graph.{Within}
 use Rattle.reply.specs.Read.{is_outside}
 use Rattle.block.specs.Block.{most_atoms}

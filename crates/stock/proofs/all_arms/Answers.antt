@@ -1,18 +1,10 @@
-use Prim.Native.Nat.{ℕ, ◌-◌, ◌/◌, ◌%◌}
-use mathlib.Core.List.{List, []}
+use Prim.Native.Nat.{◌-◌}
 use mathlib.Core.Path.{refl, ◌∙◌, ap}
 use native.Mathlib.Omega.{arith}
-use lib.ListN.{take, get_or}
-use borrow.Author.Rules.{rules}
 use Rattle.arms.specs.Arms.{arm_row}
-use Rattle.arms.proofs.Keeping.{FilledTo, filled_none, filled_next, filled_all}
-use Rattle.assembly.specs.declared.BlockAt.{BlockAt}
-use Rattle.catalogue.specs.Library.{most_candidates}
-use Rattle.catalogue.specs.Said.{no_site}
-use Rattle.catalogue.specs.declared.Site.{Site}
-use Rattle.stock.specs.Stock.{Holds, arm_at, all_places, all_arms}
+use Rattle.arms.proofs.Keeping.{filled_none, filled_next, filled_all}
+use Rattle.stock.specs.Stock.{all_arms}
 use Rattle.stock.proofs.all_arms.Goals as goal
-use Rattle.stock.proofs.all_arms.Invariants.{row}
 
 pub loop-i-init : goal.loop-i-init
 loop-i-init c = (filled_none refl, λ h. absurd (omega arith))

@@ -1,16 +1,13 @@
 use Prim.Native.Nat.{ℕ, ◌-◌, ◌/◌, ◌%◌}
 use mathlib.Core.List.{List, []}
-use mathlib.Core.Path.{refl, ◌∙◌, ap}
-use native.Mathlib.Omega.{arith}
 use lib.ListN.{take, get_or}
-use borrow.Author.Rules.{rules}
 use Rattle.arms.specs.Arms.{arm_row}
-use Rattle.arms.proofs.Keeping.{FilledTo, filled_none, filled_next, filled_all}
+use Rattle.arms.proofs.Keeping.{FilledTo}
 use Rattle.assembly.specs.declared.BlockAt.{BlockAt}
 use Rattle.catalogue.specs.Library.{most_candidates}
 use Rattle.catalogue.specs.Said.{no_site}
 use Rattle.catalogue.specs.declared.Site.{Site}
-use Rattle.stock.specs.Stock.{Holds, arm_at, all_places, all_arms}
+use Rattle.stock.specs.Stock.{Holds, arm_at, all_places}
 use Rattle.stock.proofs.all_arms.Given as goal
 
 -- `stock::all_arms` meets its contract. The loop's invariant: the first i rows are kept, and the place holds what it says. Assumes nothing.

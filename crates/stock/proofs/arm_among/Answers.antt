@@ -1,5 +1,4 @@
 use native.Mathlib.Omega.{arith}
-use borrow.Author.Rules.{rules}
 use Rattle.stock.proofs.Making.{none_among, one_among}
 use Rattle.stock.proofs.arm_among.Goals as goal
 

@@ -1,12 +1,8 @@
 use Prim.Native.Nat.{◌-◌}
 use mathlib.Core.Path.{refl}
 use native.Mathlib.Omega.{arith}
-use lib.ListN.{get_or}
-use borrow.Author.Rules.{rules}
-use Rattle.arms.specs.Arms.{no_arm}
-use Rattle.arms.proofs.Keeping.{FilledTo, filled_none, filled_next, filled_all}
-use Rattle.catalogue.specs.Library.{most_sites}
-use Rattle.stock.specs.Stock.{arm_among, arms_among}
+use Rattle.arms.proofs.Keeping.{filled_none, filled_next, filled_all}
+use Rattle.stock.specs.Stock.{arms_among}
 use Rattle.stock.proofs.arms_among.Goals as goal
 
 pub loop-k-init : goal.loop-k-init

@@ -1,12 +1,9 @@
 use Prim.Native.Nat.{◌-◌}
-use mathlib.Core.Path.{refl}
-use native.Mathlib.Omega.{arith}
 use lib.ListN.{get_or}
-use borrow.Author.Rules.{rules}
 use Rattle.arms.specs.Arms.{no_arm}
-use Rattle.arms.proofs.Keeping.{FilledTo, filled_none, filled_next, filled_all}
+use Rattle.arms.proofs.Keeping.{FilledTo}
 use Rattle.catalogue.specs.Library.{most_sites}
-use Rattle.stock.specs.Stock.{arm_among, arms_among}
+use Rattle.stock.specs.Stock.{arm_among}
 use Rattle.stock.proofs.arms_among.Given as goal
 
 -- `stock::arms_among` meets its contract. The loop's invariant: the first k arms are found. Assumes nothing.

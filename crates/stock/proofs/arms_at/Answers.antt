@@ -1,13 +1,8 @@
 use Prim.Native.Nat.{◌-◌}
 use mathlib.Core.Path.{refl}
 use native.Mathlib.Omega.{arith}
-use lib.ListN.{take, get_or}
-use borrow.Author.Rules.{rules}
-use Rattle.arms.specs.Arms.{no_arm}
-use Rattle.arms.proofs.Keeping.{FilledTo, filled_none, filled_next, filled_all}
-use Rattle.catalogue.specs.Library.{most_sites}
-use Rattle.catalogue.specs.Said.{no_site}
-use Rattle.stock.specs.Stock.{Holds, arm_at, arms_at}
+use Rattle.arms.proofs.Keeping.{filled_none, filled_next, filled_all}
+use Rattle.stock.specs.Stock.{arms_at}
 use Rattle.stock.proofs.arms_at.Goals as goal
 
 pub loop-k-init : goal.loop-k-init

@@ -1,11 +1,7 @@
 use Prim.Native.Nat.{◌-◌}
 use mathlib.Core.Path.{refl}
 use native.Mathlib.Omega.{arith}
-use lib.ListN.{get_or}
-use borrow.Author.Rules.{rules}
-use Rattle.arms.proofs.Keeping.{FilledTo, filled_none, filled_next, filled_all}
-use Rattle.catalogue.specs.Library.{most_sites}
-use Rattle.catalogue.specs.Said.{no_site}
+use Rattle.arms.proofs.Keeping.{filled_none, filled_next, filled_all}
 use Rattle.stock.specs.Stock.{atoms_of}
 use Rattle.stock.proofs.atoms_of.Goals as goal
 

@@ -1,12 +1,8 @@
 use Prim.Native.Nat.{◌-◌}
-use mathlib.Core.Path.{refl}
-use native.Mathlib.Omega.{arith}
 use lib.ListN.{get_or}
-use borrow.Author.Rules.{rules}
-use Rattle.arms.proofs.Keeping.{FilledTo, filled_none, filled_next, filled_all}
+use Rattle.arms.proofs.Keeping.{FilledTo}
 use Rattle.catalogue.specs.Library.{most_sites}
 use Rattle.catalogue.specs.Said.{no_site}
-use Rattle.stock.specs.Stock.{atoms_of}
 use Rattle.stock.proofs.atoms_of.Given as goal
 
 -- `stock::atoms_of` meets its contract. The loop's invariant: the first k atoms are the sites'. Assumes nothing.

@@ -1,7 +1,6 @@
 use mathlib.Core.Path.{sym, ◌∙◌, ap, ap₂}
 use native.Mathlib.Omega.{arith}
 use lib.ListN.{length, take}
-use borrow.Author.Rules.{rules}
 use Rattle.arms.specs.Arms.{opened_of, core_in}
 use Rattle.arms.proofs.Keeping.{opened_long}
 use Rattle.stock.specs.Stock.{core_at}

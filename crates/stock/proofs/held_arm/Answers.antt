@@ -1,7 +1,6 @@
 use mathlib.Core.Path.{sym, ◌∙◌, ap, ap₂}
 use native.Mathlib.Omega.{arith}
 use lib.ListN.{take}
-use borrow.Author.Rules.{rules}
 use Rattle.arms.specs.Arms.{opened_of, arm_in}
 use Rattle.stock.specs.Stock.{candidate_arm}
 use Rattle.stock.specs.Stands.{arm_stands}
@@ -25,5 +24,8 @@ returns c =
     let a = c.args in
     let d = a.d.now in
     let bs = take a.count a.blocks in
-    let e = c.hold.ensures in record { arm = c.arm_in.ensures ∙ ap₂ arm_in (e.place ∙ ap (opened_of d bs) c.le16_at-number.ensures) c.byte_at.ensures
-          ∙ sym (arm_stands d bs a.xs.now a.s a.j (omega (arith, c.if-xs-s.false)) (omega (arith, c.if-s-j.false))); place = λ l. e.place ∙ ap (opened_of d bs) (sym e.held) }
+    let e = c.hold.ensures in record {
+      arm = c.arm_in.ensures ∙ ap₂ arm_in (e.place ∙ ap (opened_of d bs) c.le16_at-number.ensures) c.byte_at.ensures
+          ∙ sym (arm_stands d bs a.xs.now a.s a.j (omega (arith, c.if-xs-s.false)) (omega (arith, c.if-s-j.false)));
+      place = λ l. e.place ∙ ap (opened_of d bs) (sym e.held);
+    }

@@ -1,7 +1,6 @@
 use mathlib.Core.Path.{◌≡◌, refl, ◌∙◌, ap}
 use native.Mathlib.Omega.{arith}
 use lib.ListN.{take}
-use borrow.Author.Rules.{rules}
 use Rattle.arms.specs.Arms.{opened_of}
 use Rattle.stock.proofs.Making.{opened_said}
 use Rattle.stock.proofs.hold.Goals as goal

@@ -1,4 +1,3 @@
-use borrow.Author.Rules.{rules}
 use Rattle.summaries.proofs.by_rows.Goals as goal
 
 -- `summaries::by_rows` meets its contract. Assumes nothing.

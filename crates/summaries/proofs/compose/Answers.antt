@@ -1,6 +1,5 @@
 use mathlib.Core.Path.{◌≡◌, sym, ◌∙◌, ap, subst}
 use native.Mathlib.Omega.{arith}
-use borrow.Author.Rules.{rules}
 use Rattle.graph.specs.Graph.{Within}
 use Rattle.reply.specs.Read.{read}
 use Rattle.block.specs.Index.{said_indices}

@@ -1,5 +1,4 @@
 use native.Mathlib.Omega.{arith}
-use borrow.Author.Rules.{rules}
 use Rattle.summaries.proofs.Storing.{unmarked}
 use Rattle.summaries.proofs.placed.Goals as goal
 

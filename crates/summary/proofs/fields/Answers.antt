@@ -2,7 +2,6 @@ use mathlib.Core.Path.{refl}
 use native.Mathlib.Omega.{arith}
 use Rattle.records.specs.Words.{little_small}
 use Rattle.summary.specs.Layout.{stored_fields}
-use borrow.Author.Rules.{rules}
 use Rattle.summary.proofs.fields.Goals as goal
 
 -- `summary::fields` meets its contract. Assumes nothing.

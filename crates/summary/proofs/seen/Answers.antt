@@ -1,7 +1,6 @@
 use Prim.Native.Nat.{ℕ}
 use mathlib.Core.List.{List}
 use mathlib.Core.Path.{ap₂, ◌∙◌}
-use borrow.Author.Rules.{rules}
 use Rattle.sighted.specs.Sighted.{sets_in, seen_of}
 use Rattle.summary.specs.Layout.{seen_at}
 use Rattle.summary.proofs.seen.Goals as goal

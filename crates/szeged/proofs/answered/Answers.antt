@@ -2,7 +2,6 @@ use mathlib.Core.Path.{sym, ◌∙◌, ap}
 use Rattle.reply.specs.Read.{said_number}
 use Rattle.reply.specs.declared.NumberReply.TheVariants.{Of}
 use Rattle.szeged.proofs.Reply.{reply_short, reply_done, entries_stay, entries_done}
-use borrow.Author.Rules.{rules}
 use Rattle.szeged.proofs.answered.Goals as goal
 
 -- `answered` meets its contract: each return is one way through the definition.

@@ -2,7 +2,7 @@ use Prim.Native.Nat.{◌-◌}
 use native.Mathlib.Omega.{arith}
 use Rattle.block.specs.Told.{few_atoms}
 use Rattle.block.specs.Numbered.{few_bytes}
-use Rattle.szeged.proofs.Filling.{Filling, filling_none, filling_next, filling_done}
+use Rattle.szeged.proofs.Filling.{filling_none, filling_next, filling_done}
 use Rattle.szeged.proofs.fill.Goals as goal
 
 pub loop-k-init : goal.loop-k-init

@@ -1,10 +1,9 @@
-use Prim.Native.Nat.{◌-◌, ◌≤◌}
+use Prim.Native.Nat.{◌-◌}
 use mathlib.Core.Path.{◌≡◌, ◌∙◌}
 use native.Mathlib.Omega.{arith}
 use lib.Dec.{ltb}
 use lib.ListN.{get_or}
 use Rattle.block.proofs.Tallies.{bit_low}
-use Rattle.szeged.specs.Work.{CloserCounted}
 use Rattle.szeged.proofs.Counting.{count_none, count_more}
 use Rattle.szeged.proofs.nearer.Goals as goal
 

@@ -4,7 +4,6 @@ use native.Mathlib.Omega.{arith}
 use Rattle.block.specs.Block.{most_atoms}
 use Rattle.szeged.specs.Work.{smaller}
 use Rattle.szeged.proofs.Counting.{product_most}
-use borrow.Author.Rules.{rules}
 use Rattle.szeged.proofs.term.Goals as goal
 use Rattle.szeged.proofs.term.Goals.{After-nearer-q}
 

@@ -3,7 +3,6 @@ use Rattle.reply.specs.Chain.{fine_read, refused_read}
 use Rattle.block.specs.Halved.{half_lent}
 use Rattle.reply.specs.Read.{said_number}
 use Rattle.szeged.proofs.Reply.{reply-refused, entries_stay, tree_told}
-use borrow.Author.Rules.{rules}
 use Rattle.szeged.proofs.terms.Goals as goal
 
 -- `terms` meets its contract: the block's refusal, or the answer for a block that is not refused.

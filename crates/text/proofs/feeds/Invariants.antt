@@ -1,10 +1,6 @@
-use Prim.Native.Nat.{◌+◌, ◌-◌, ◌≤◌}
+use Prim.Native.Nat.{◌-◌, ◌≤◌}
 use mathlib.Core.Path.{◌≡◌}
-use lib.ListN.{get_or}
 use Rattle.text.specs.Clear.{Clear}
-use Rattle.text.proofs.Lines.{clear_more, one_feed}
-use borrow.Author.Rules.{rules}
-use native.Mathlib.Omega.{arith}
 use Rattle.text.proofs.feeds.Given as goal
 
 -- `text::feeds` meets its contract. The loop's invariant: where the count is 0, none of the bytes passed is a line feed.

@@ -1,6 +1,5 @@
 use Rattle.text.proofs.Lines.{end_from, line_last, line_empty, line_carriage, line_plain}
 use native.Mathlib.Omega.{arith}
-use borrow.Author.Rules.{rules}
 use Rattle.text.proofs.line_at.Goals as goal
 
 -- `text::line_at` meets its contract. Assumes nothing.

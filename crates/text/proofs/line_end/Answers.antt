@@ -1,9 +1,6 @@
 use Prim.Native.Nat.{◌-◌}
-use mathlib.Core.Path.{◌≡◌, sym, ◌∙◌}
-use lib.ListN.{length}
-use Rattle.text.specs.Text.{line_end}
+use mathlib.Core.Path.{sym, ◌∙◌}
 use Rattle.text.proofs.Lines.{end_past, end_here, end_later}
-use borrow.Author.Rules.{rules}
 use native.Mathlib.Omega.{arith}
 use Rattle.text.proofs.line_end.Goals as goal
 

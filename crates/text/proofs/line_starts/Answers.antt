@@ -7,7 +7,6 @@ use lib.Seq.{take_all}
 use Rattle.text.specs.Text.{starts_with, line_starts}
 use Rattle.text.specs.Laws.{said_next, next_later, next_within}
 use Rattle.text.proofs.Words.{starts_past, starts_here, starts_later}
-use borrow.Author.Rules.{rules}
 use native.Mathlib.Omega.{arith}
 use Rattle.text.proofs.line_starts.Goals as goal
 

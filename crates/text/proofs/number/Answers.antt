@@ -3,7 +3,6 @@ use mathlib.Core.Bool.{true, false}
 use mathlib.Core.List.{[], ◌∷◌}
 use Rattle.text.proofs.Numbers.{one_blank, no_digit, no_digits, all_digits_lem, behind_none, behind_two, value_three}
 use native.Mathlib.Omega.{arith}
-use borrow.Author.Rules.{rules}
 use Rattle.text.proofs.number.Goals as goal
 
 -- `text::number` meets its contract. Assumes nothing.

@@ -1,6 +1,5 @@
 use mathlib.Core.Path.{sym, ◌∙◌}
 use Rattle.text.proofs.Numbers.{one_digit, one_none}
-use borrow.Author.Rules.{rules}
 use Rattle.text.proofs.number_of_one.Goals as goal
 
 -- `text::number_of_one` meets its contract. Assumes nothing.

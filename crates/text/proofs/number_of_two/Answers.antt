@@ -3,7 +3,6 @@ use mathlib.Core.Bool.{true, false}
 use mathlib.Core.List.{[], ◌∷◌}
 use Rattle.text.proofs.Numbers.{one_blank, no_digit, no_digits, all_digits_lem, behind_one, value_two}
 use native.Mathlib.Omega.{arith}
-use borrow.Author.Rules.{rules}
 use Rattle.text.proofs.number_of_two.Goals as goal
 
 -- `text::number_of_two` meets its contract. Assumes nothing.

@@ -1,9 +1,6 @@
 use Prim.Native.Nat.{◌-◌}
-use mathlib.Core.Path.{◌≡◌, refl, ◌∙◌}
-use lib.ListN.{length}
-use Rattle.text.specs.Text.{line_end}
+use mathlib.Core.Path.{refl, ◌∙◌}
 use Rattle.text.proofs.Lines.{end_clear}
-use borrow.Author.Rules.{rules}
 use native.Mathlib.Omega.{arith}
 use Rattle.text.proofs.skip.Goals as goal
 

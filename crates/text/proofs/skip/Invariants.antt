@@ -1,10 +1,7 @@
 use Prim.Native.Nat.{◌-◌}
-use mathlib.Core.Path.{◌≡◌, refl, ◌∙◌}
+use mathlib.Core.Path.{◌≡◌}
 use lib.ListN.{length}
 use Rattle.text.specs.Text.{line_end}
-use Rattle.text.proofs.Lines.{end_clear}
-use borrow.Author.Rules.{rules}
-use native.Mathlib.Omega.{arith}
 use Rattle.text.proofs.skip.Given as goal
 
 -- `text::skip` meets its contract. The loop's invariant: the line that goes on at i ends where the whole line does.

@@ -1,10 +1,7 @@
 use Prim.Native.Nat.{◌-◌}
-use mathlib.Core.Path.{◌≡◌, refl, sym, ◌∙◌}
+use mathlib.Core.Path.{◌≡◌}
 use lib.ListN.{length, drop}
 use Rattle.text.specs.Text.{starts_with}
-use Rattle.text.proofs.Words.{word_done, word_short, word_other, word_more}
-use borrow.Author.Rules.{rules}
-use native.Mathlib.Omega.{arith}
 use Rattle.text.proofs.starts_with.Given as goal
 
 -- `text::starts_with` meets its contract. The loop's invariant: what is left of both is to be compared.

@@ -1,7 +1,6 @@
 use mathlib.Core.Path.{◌∙◌}
 use native.Mathlib.Omega.{arith}
 use lib.ListN.{length}
-use borrow.Author.Rules.{rules}
 use Rattle.block.specs.Block.{block_reply}
 use Rattle.molfile.specs.Molfile.{bytes_of, molfile_reply}
 use Rattle.calls.proofs.Laws.{counts_short, counts_beside}

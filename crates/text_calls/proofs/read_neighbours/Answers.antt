@@ -1,7 +1,6 @@
 use mathlib.Core.Path.{◌∙◌}
 use native.Mathlib.Omega.{arith}
 use lib.ListN.{length}
-use borrow.Author.Rules.{rules}
 use Rattle.adjacency.specs.Neighbours.{neighbours_reply}
 use Rattle.calls.proofs.Laws.{counts_short, counts_beside}
 use Rattle.text_calls.proofs.Texts.{any_room, bytes_filled}

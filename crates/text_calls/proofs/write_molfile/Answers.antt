@@ -1,5 +1,4 @@
 use native.Mathlib.Omega.{arith}
-use borrow.Author.Rules.{rules}
 use Rattle.text_calls.proofs.MolfileReplies.{write_lacking, write_given}
 use Rattle.text_calls.proofs.write_molfile.Goals as goal
 

@@ -1,5 +1,4 @@
 use native.Mathlib.Omega.{arith}
-use borrow.Author.Rules.{rules}
 use Rattle.text_calls.proofs.Texts.{write_lacking, write_given}
 use Rattle.text_calls.proofs.write_neighbours.Goals as goal
 

@@ -1,12 +1,11 @@
-use Prim.Native.Nat.{ℕ, ◌*◌, ◌-◌, ◌≤◌, ◌<◌}
+use Prim.Native.Nat.{ℕ, ◌-◌, ◌≤◌, ◌<◌}
 use mathlib.Core.Path.{◌≡◌, sym, ◌∙◌, ap}
 use native.Mathlib.Omega.{arith}
-use borrow.Author.Rules.{rules}
 use lib.ListN.{length}
 use Rattle.block.specs.Block.{most_bytes, bonds_of}
 use Rattle.deck.specs.Molecule.{graph_at, join_at}
 use Rattle.deck.specs.Placed.{deck_of}
-use Rattle.whole.specs.Work.{most_brought, bonds_before}
+use Rattle.whole.specs.Work.{bonds_before}
 use Rattle.whole.specs.Joins.{bonds_few, bonds_are, brought-length, joining-length, before_none, before_length}
 use Rattle.whole.proofs.bond_count.Goals as goal
 use Rattle.whole.proofs.bond_count.Goals.{After-bonds_part-bonds}

@@ -1,13 +1,9 @@
-use Prim.Native.Nat.{ℕ, ◌*◌, ◌-◌, ◌≤◌, ◌<◌}
-use mathlib.Core.Path.{◌≡◌, sym, ◌∙◌, ap}
-use native.Mathlib.Omega.{arith}
-use borrow.Author.Rules.{rules}
+use Prim.Native.Nat.{◌*◌, ◌-◌, ◌≤◌}
+use mathlib.Core.Path.{◌≡◌}
 use lib.ListN.{length}
-use Rattle.block.specs.Block.{most_bytes, bonds_of}
 use Rattle.deck.specs.Molecule.{graph_at, join_at}
 use Rattle.deck.specs.Placed.{deck_of}
 use Rattle.whole.specs.Work.{most_brought, bonds_before}
-use Rattle.whole.specs.Joins.{bonds_few, bonds_are, brought-length, joining-length, before_none, before_length}
 use Rattle.whole.proofs.bond_count.Given as goal
 
 -- `whole::bond_count` meets its contract. The loop's invariant: the bonds of the placements before k are counted, at most half of `most_brought` each.

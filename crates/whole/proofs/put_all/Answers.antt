@@ -1,13 +1,12 @@
-use Prim.Native.Nat.{ℕ, ◌*◌, ◌-◌, ◌≤◌}
+use Prim.Native.Nat.{ℕ, ◌-◌}
 use mathlib.Core.Path.{◌≡◌, refl, ◌∙◌, ap}
 use native.Mathlib.Omega.{arith}
-use borrow.Author.Rules.{rules}
 use lib.ListN.{length}
 use lib.Seq.{sets, length-sets}
 use Rattle.deck.specs.Molecule.{graph_at, join_at}
 use Rattle.deck.specs.Placed.{deck_of}
 use Rattle.whole.specs.Whole.{pair_numbers}
-use Rattle.whole.specs.Work.{most_brought, brought, bonds_before}
+use Rattle.whole.specs.Work.{brought, bonds_before}
 use Rattle.whole.specs.Joins.{before_none, before_length, before_numbers}
 use Rattle.whole.proofs.put_all.Goals as goal
 

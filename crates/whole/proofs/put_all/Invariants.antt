@@ -1,14 +1,11 @@
-use Prim.Native.Nat.{ℕ, ◌*◌, ◌-◌, ◌≤◌}
-use mathlib.Core.Path.{◌≡◌, refl, ◌∙◌, ap}
-use native.Mathlib.Omega.{arith}
-use borrow.Author.Rules.{rules}
+use Prim.Native.Nat.{◌*◌, ◌-◌, ◌≤◌}
+use mathlib.Core.Path.{◌≡◌}
 use lib.ListN.{length}
-use lib.Seq.{sets, length-sets}
+use lib.Seq.{sets}
 use Rattle.deck.specs.Molecule.{graph_at, join_at}
 use Rattle.deck.specs.Placed.{deck_of}
 use Rattle.whole.specs.Whole.{pair_numbers}
-use Rattle.whole.specs.Work.{most_brought, brought, bonds_before}
-use Rattle.whole.specs.Joins.{before_none, before_length, before_numbers}
+use Rattle.whole.specs.Work.{most_brought, bonds_before}
 use Rattle.whole.proofs.put_all.Given as goal
 
 -- `whole::put_all` meets its contract. The loop's invariant: what the placements before k bring is put, and `at` is the place past it.

@@ -2,10 +2,8 @@ use Prim.Native.Nat.{ℕ, ◌+◌, ◌-◌, ◌≤◌}
 use mathlib.Core.Path.{◌≡◌, refl, sym, ◌∙◌, ap}
 use mathlib.Core.List.{[], ◌∷◌}
 use native.Mathlib.Omega.{arith}
-use borrow.Author.Rules.{rules}
-use lib.ListN.{length, drop}
-use lib.Seq.{sets, length-sets}
-use Rattle.whole.specs.Work.{block_numbers}
+use lib.ListN.{length}
+use lib.Seq.{length-sets}
 use Rattle.whole.specs.Laws.{numbers_step, numbers_none}
 use Rattle.whole.proofs.put_block.Goals as goal
 

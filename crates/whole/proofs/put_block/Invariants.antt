@@ -1,12 +1,8 @@
-use Prim.Native.Nat.{ℕ, ◌+◌, ◌-◌, ◌≤◌}
-use mathlib.Core.Path.{◌≡◌, refl, sym, ◌∙◌, ap}
-use mathlib.Core.List.{[], ◌∷◌}
-use native.Mathlib.Omega.{arith}
-use borrow.Author.Rules.{rules}
+use Prim.Native.Nat.{◌+◌, ◌-◌, ◌≤◌}
+use mathlib.Core.Path.{◌≡◌}
 use lib.ListN.{length, drop}
-use lib.Seq.{sets, length-sets}
+use lib.Seq.{sets}
 use Rattle.whole.specs.Work.{block_numbers}
-use Rattle.whole.specs.Laws.{numbers_step, numbers_none}
 use Rattle.whole.proofs.put_block.Given as goal
 
 -- `whole::put_block` meets its contract. The loop's invariant: what is left of the bonds, put from here on, gives what all of them give.

@@ -3,7 +3,6 @@ use native.Mathlib.Numerals.{add-one}
 use mathlib.Core.Path.{◌∙◌, ap}
 use mathlib.Core.List.{List}
 use lib.ListN.{set}
-use borrow.Author.Rules.{rules}
 use Rattle.whole.proofs.put_bond.Goals as goal
 
 -- `whole::put_bond` meets its contract.

@@ -1,12 +1,8 @@
-use Prim.Native.Nat.{◌+◌, ◌*◌, ◌-◌, ◌≤◌}
-use mathlib.Core.Path.{◌≡◌, sym, ◌∙◌, ap, ap₂}
-use native.Mathlib.Omega.{arith}
-use borrow.Author.Rules.{rules}
+use Prim.Native.Nat.{◌*◌, ◌-◌, ◌≤◌}
+use mathlib.Core.Path.{◌≡◌}
 use Rattle.graph.specs.Assembly.{start_at}
 use Rattle.deck.specs.Molecule.{graph_at}
 use Rattle.deck.specs.Placed.{deck_of}
-use Rattle.deck.proofs.Reading.{block-atoms}
-use Rattle.whole.specs.Laws.{start_none, start_more}
 use Rattle.whole.proofs.start_of.Given as goal
 
 -- `whole::start_of` meets its contract. The loop's invariant: the atoms of the placements before i are added up.

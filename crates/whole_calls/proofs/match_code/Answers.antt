@@ -1,6 +1,5 @@
 use mathlib.Core.Path.{sym, ◌∙◌, ap}
 use Rattle.whole_calls.specs.Replies.{match_code}
-use borrow.Author.Rules.{rules}
 use Rattle.whole_calls.proofs.match_code.Goals as goal
 
 -- `whole_calls::match_code` meets its contract. Assumes nothing.

@@ -1,6 +1,5 @@
 use mathlib.Core.Path.{◌∙◌, ap}
 use Rattle.whole_calls.specs.Replies.{match_code}
-use borrow.Author.Rules.{rules}
 use Rattle.whole_calls.proofs.matched.Goals as goal
 
 -- `whole_calls::matched` meets its contract. Assumes nothing.

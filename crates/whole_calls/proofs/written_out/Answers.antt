@@ -1,7 +1,6 @@
 use mathlib.Core.Path.{◌∙◌}
 use native.Mathlib.Omega.{arith}
 use lib.ListN.{length}
-use borrow.Author.Rules.{rules}
 use Rattle.whole.specs.Whole.{whole_reply}
 use Rattle.calls.proofs.Laws.{counts_short, counts_beside}
 use Rattle.whole_calls.proofs.Replies.{any_room, numbers_filled}

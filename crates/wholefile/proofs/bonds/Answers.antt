@@ -1,8 +1,8 @@
-use Prim.Native.Nat.{◌-◌, ◌≤◌}
+use Prim.Native.Nat.{◌-◌}
 use mathlib.Core.Path.{sym, ap, ◌∙◌}
 use native.Mathlib.Omega.{arith}
 use Rattle.reply.specs.Read.{said_reply}
-use Rattle.block.proofs.Reading.{Reads, reads_start, reads_fault, reads_next, reads_fine}
+use Rattle.block.proofs.Reading.{reads_start, reads_fault, reads_next, reads_fine}
 use Rattle.wholefile.proofs.bonds.Goals as goal
 
 pub loop-k-init : goal.loop-k-init

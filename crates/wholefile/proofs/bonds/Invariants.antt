@@ -1,8 +1,5 @@
 use Prim.Native.Nat.{◌-◌, ◌≤◌}
-use mathlib.Core.Path.{sym, ap, ◌∙◌}
-use native.Mathlib.Omega.{arith}
-use Rattle.reply.specs.Read.{said_reply}
-use Rattle.block.proofs.Reading.{Reads, reads_start, reads_fault, reads_next, reads_fine}
+use Rattle.block.proofs.Reading.{Reads}
 use Rattle.wholefile.proofs.bonds.Given as goal
 
 -- `wholefile::bonds` meets its contract. The loop's invariant: the first k bonds have no fault.

@@ -1,6 +1,5 @@
 use mathlib.Core.Bool.{◌||◌}
 use mathlib.Core.Path.{◌∙◌, ap₂}
-use borrow.Author.Rules.{rules}
 use Rattle.graph.specs.Graph.{joins}
 use Rattle.wholefile.proofs.joins.Goals as goal
 

@@ -1,7 +1,6 @@
-use Prim.Native.Nat.{◌-◌, ◌≤◌}
+use Prim.Native.Nat.{◌-◌}
 use native.Mathlib.Omega.{arith}
-use borrow.Author.Rules.{rules}
-use Rattle.wholefile.proofs.Looking.{LookedBack, looked_none, looked_more, looked_all}
+use Rattle.wholefile.proofs.Looking.{looked_none, looked_more, looked_all}
 use Rattle.wholefile.proofs.look_back.Goals as goal
 
 pub loop-i-init : goal.loop-i-init

@@ -1,7 +1,5 @@
 use Prim.Native.Nat.{◌-◌, ◌≤◌}
-use native.Mathlib.Omega.{arith}
-use borrow.Author.Rules.{rules}
-use Rattle.wholefile.proofs.Looking.{LookedBack, looked_none, looked_more, looked_all}
+use Rattle.wholefile.proofs.Looking.{LookedBack}
 use Rattle.wholefile.proofs.look_back.Given as goal
 
 -- `wholefile::look_back` meets its contract. The loop's invariant: what the first i bonds say.

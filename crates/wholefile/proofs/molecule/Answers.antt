@@ -1,7 +1,6 @@
 use mathlib.Core.Path.{◌∙◌}
 use native.Mathlib.Omega.{arith}
 use borrow.Author.Tests.{eq-eqb, ne_eqb}
-use borrow.Author.Rules.{rules}
 use Rattle.wholefile.specs.Whole.{molecule_reply}
 use Rattle.wholefile.proofs.molecule.Goals as goal
 

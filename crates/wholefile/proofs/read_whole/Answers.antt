@@ -6,7 +6,6 @@ use Rattle.molfile.specs.Molfile.{bytes_of}
 use Rattle.molfile.specs.Work.{most}
 use Rattle.molfile.proofs.Fronts.{Front, front, bytes_room, reads_refused, reads_kept, alike}
 use Rattle.wholefile.specs.Whole.{molecule_reply}
-use borrow.Author.Rules.{rules}
 use Rattle.wholefile.proofs.read_whole.Goals as goal
 use Rattle.wholefile.proofs.read_whole.Goals.{In-Of}
 

@@ -1,7 +1,5 @@
-use Prim.Native.Nat.{◌≤◌}
 use native.Mathlib.Nat.{mul-le-mul}
 use native.Mathlib.Omega.{arith}
-use Rattle.balaban.specs.Work.{unit}
 use Rattle.balaban.proofs.Squares.{above_none}
 use Rattle.balaban.proofs.roots.down.Goals as goal
 

@@ -1,8 +1,5 @@
 use Prim.Native.Nat.{◌≤◌}
-use native.Mathlib.Nat.{mul-le-mul}
-use native.Mathlib.Omega.{arith}
 use Rattle.balaban.specs.Work.{unit}
-use Rattle.balaban.proofs.Squares.{above_none}
 use Rattle.balaban.proofs.roots.down.Given as goal
 
 -- `roots::down` meets its contract: the number stays at most 10 ^ 9. Assumes nothing.

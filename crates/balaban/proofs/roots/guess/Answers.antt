@@ -1,5 +1,4 @@
 use native.Mathlib.Nat.{le_trans, div-le_self}
-use borrow.Author.Rules.{rules}
 use Rattle.balaban.proofs.roots.guess.Goals as goal
 
 -- `roots::guess` meets its contract: a fraction of 10 ^ 9, divided. Assumes nothing.

@@ -1,7 +1,6 @@
 use mathlib.Core.Path.{sym, ap, ◌∙◌}
 use native.Mathlib.Nat.{div-le_self}
 use native.Mathlib.Omega.{arith}
-use borrow.Author.Rules.{rules}
 use Rattle.balaban.specs.Balaban.{bound, largest_root}
 use Rattle.balaban.proofs.Squares.{largest_is, largest_none}
 use Rattle.balaban.proofs.roots.largest.Goals as goal

@@ -1,7 +1,6 @@
-use Prim.Native.Nat.{◌+◌, ◌-◌, ◌*◌, ◌≤◌}
+use Prim.Native.Nat.{◌+◌, ◌-◌, ◌≤◌}
 use native.Mathlib.Nat.{mul-le-mul}
 use native.Mathlib.Omega.{arith}
-use Rattle.balaban.specs.Balaban.{bound}
 use Rattle.balaban.specs.Work.{unit}
 use Rattle.balaban.proofs.Squares.{root_fits}
 use Rattle.balaban.proofs.roots.up.Goals as goal

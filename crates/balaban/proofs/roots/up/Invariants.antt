@@ -1,9 +1,6 @@
-use Prim.Native.Nat.{◌+◌, ◌-◌, ◌*◌, ◌≤◌}
-use native.Mathlib.Nat.{mul-le-mul}
-use native.Mathlib.Omega.{arith}
+use Prim.Native.Nat.{◌-◌, ◌*◌, ◌≤◌}
 use Rattle.balaban.specs.Balaban.{bound}
 use Rattle.balaban.specs.Work.{unit}
-use Rattle.balaban.proofs.Squares.{root_fits}
 use Rattle.balaban.proofs.roots.up.Given as goal
 
 -- `roots::up` meets its contract: the square of the number stays at most q, so that the number stays at most 10 ^ 9. Assumes nothing.

@@ -1,10 +1,5 @@
-use Prim.Native.Nat.{◌+◌, ◌-◌, ◌≤◌}
-use mathlib.Core.Path.{◌≡◌}
+use Prim.Native.Nat.{◌-◌}
 use native.Mathlib.Omega.{arith}
-use lib.ListN.{length, drop}
-use borrow.Author.Rules.{rules}
-use Rattle.graph.specs.Graph.{degree}
-use Rattle.block.specs.Block.{bonds_of}
 use Rattle.block.proofs.Reading.{degree_next, degree_over}
 use Rattle.block.proofs.bonding.degree_of.Goals as goal
 

@@ -1,11 +1,8 @@
 use Prim.Native.Nat.{◌+◌, ◌-◌, ◌≤◌}
 use mathlib.Core.Path.{◌≡◌}
-use native.Mathlib.Omega.{arith}
 use lib.ListN.{length, drop}
-use borrow.Author.Rules.{rules}
 use Rattle.graph.specs.Graph.{degree}
 use Rattle.block.specs.Block.{bonds_of}
-use Rattle.block.proofs.Reading.{degree_next, degree_over}
 use Rattle.block.proofs.bonding.degree_of.Given as goal
 
 -- The loop's invariant: the total and the ends among the bytes that are left are all ends.

@@ -1,14 +1,8 @@
-use Prim.Native.Nat.{◌+◌, ◌-◌, ◌≤◌}
-use mathlib.Core.Bool.{◌||◌, not}
-use mathlib.Core.Path.{◌≡◌, refl, sym, ◌∙◌}
-use native.Mathlib.Omega.{arith}
-use lib.Dec.{eqb}
+use Prim.Native.Nat.{◌-◌, ◌≤◌}
+use mathlib.Core.Path.{◌≡◌}
 use lib.ListN.{length, drop}
-use borrow.Author.Rules.{rules}
-use borrow.Author.Tests.{eq-eqb, ne_eqb}
 use Rattle.graph.specs.Graph.{any_joins}
 use Rattle.block.specs.Block.{bonds_of}
-use Rattle.block.proofs.Reading.{listed_next, listed_over}
 use Rattle.block.proofs.bonding.is_listed.Given as goal
 
 -- The loop's invariant: what is left of the bonds gives what all of them give.

@@ -1,8 +1,7 @@
-use Prim.Native.Nat.{◌-◌, ◌≤◌}
+use Prim.Native.Nat.{◌-◌}
 use mathlib.Core.Path.{◌≡◌}
 use native.Mathlib.Numerals.{add-one}
 use native.Mathlib.Omega.{arith}
-use borrow.Author.Rules.{rules}
 use Rattle.block.proofs.Sketching.{Sizing, sizing_start, sizing_next, sizing_other, sizing_same}
 use Rattle.block.proofs.bonding.is_plain.Goals as goal
 use Rattle.block.proofs.bonding.is_plain.Goals.{After-loop-i}

@@ -1,9 +1,5 @@
 use Prim.Native.Nat.{◌-◌, ◌≤◌}
-use mathlib.Core.Path.{◌≡◌}
-use native.Mathlib.Numerals.{add-one}
-use native.Mathlib.Omega.{arith}
-use borrow.Author.Rules.{rules}
-use Rattle.block.proofs.Sketching.{Sizing, sizing_start, sizing_next, sizing_other, sizing_same}
+use Rattle.block.proofs.Sketching.{Sizing}
 use Rattle.block.proofs.bonding.is_plain.Given as goal
 
 abbrev pub invariant-loop-i : goal.invariant-loop-i

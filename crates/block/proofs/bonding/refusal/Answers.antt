@@ -1,10 +1,9 @@
-use Prim.Native.Nat.{◌-◌, ◌*◌, ◌≤◌}
+use Prim.Native.Nat.{◌-◌, ◌*◌}
 use mathlib.Core.Path.{sym, ap, ◌∙◌}
 use native.Mathlib.Omega.{arith}
-use borrow.Author.Rules.{rules}
 use lib.ListN.{length-take}
 use Rattle.block.specs.Sketched.{or_seven}
-use Rattle.block.proofs.Reading.{same_fault, Reads, reads_start, reads_fault, reads_next, reads_fine}
+use Rattle.block.proofs.Reading.{same_fault, reads_start, reads_fault, reads_next, reads_fine}
 use Rattle.block.proofs.bonding.refusal.Goals as goal
 
 pub loop-k-init : goal.loop-k-init

@@ -1,10 +1,5 @@
-use Prim.Native.Nat.{◌-◌, ◌*◌, ◌≤◌}
-use mathlib.Core.Path.{sym, ap, ◌∙◌}
-use native.Mathlib.Omega.{arith}
-use borrow.Author.Rules.{rules}
-use lib.ListN.{length-take}
-use Rattle.block.specs.Sketched.{or_seven}
-use Rattle.block.proofs.Reading.{same_fault, Reads, reads_start, reads_fault, reads_next, reads_fine}
+use Prim.Native.Nat.{◌-◌, ◌≤◌}
+use Rattle.block.proofs.Reading.{Reads}
 use Rattle.block.proofs.bonding.refusal.Given as goal
 
 abbrev pub invariant-loop-k : goal.invariant-loop-k

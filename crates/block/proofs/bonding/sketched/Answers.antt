@@ -4,14 +4,13 @@ use mathlib.Core.Logic.{inl, inr, ⊎_elim}
 use mathlib.Core.Path.{◌≡◌, sym, ap, ◌∙◌}
 use native.Mathlib.Numerals.{add-one}
 use native.Mathlib.Omega.{arith}
-use borrow.Author.Rules.{rules}
 use lib.ListN.{length, length-set}
 use Rattle.graph.specs.Graph.{Within}
 use Rattle.graph.specs.SetLaws.{shifted_one}
 use Rattle.block.specs.Block.{most_atoms}
 use Rattle.block.specs.Faults.{inside}
 use Rattle.block.specs.Numbered.{bond_at}
-use Rattle.block.proofs.Sketching.{Sketching, sketching_start, sketching_next, sketching_shows, end_outside}
+use Rattle.block.proofs.Sketching.{sketching_start, sketching_next, sketching_shows, end_outside}
 use Rattle.block.proofs.bonding.sketched.Goals as goal
 use Rattle.block.proofs.bonding.sketched.Goals.{Else-is_outside-2}
 

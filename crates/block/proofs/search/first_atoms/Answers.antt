@@ -1,5 +1,4 @@
 use mathlib.Core.Path.{sym, ◌∙◌, ap}
-use borrow.Author.Rules.{rules}
 use Rattle.graph.specs.Sets.{firsts}
 use Rattle.graph.specs.SetLaws.{shifted_down}
 use Rattle.block.specs.Block.{most_atoms}

@@ -1,15 +1,12 @@
-use Prim.Native.Nat.{ℕ, ◌≤◌, ◌-◌}
-use mathlib.Core.List.{List}
+use Prim.Native.Nat.{ℕ, ◌-◌}
 use mathlib.Core.Path.{◌≡◌, refl, sym, ap, ◌∙◌}
 use native.Mathlib.Numerals.{add-one}
 use native.Mathlib.Omega.{arith}
-use borrow.Author.Rules.{rules}
 use lib.ListN.{length, length-replicate}
 use Rattle.half.specs.Half.{all_pairs}
-use Rattle.block.specs.Block.{graph_of, most_atoms}
-use Rattle.block.specs.Near.{ReadyBlock}
+use Rattle.block.specs.Block.{graph_of}
 use Rattle.block.specs.Told.{passed}
-use Rattle.block.proofs.Filling.{Rows, rows_start, rows_next, rows_end}
+use Rattle.block.proofs.Filling.{rows_start, rows_next, rows_end}
 use Rattle.block.proofs.search.from_all.Goals as goal
 
 pub loop-i-init : goal.loop-i-init

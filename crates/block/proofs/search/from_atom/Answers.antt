@@ -1,15 +1,13 @@
-use Prim.Native.Nat.{◌+◌, ◌-◌, ◌<◌, min}
+use Prim.Native.Nat.{◌-◌, ◌<◌, min}
 use mathlib.Core.Path.{◌≡◌, ap}
 use native.Mathlib.Omega.{arith}
-use borrow.Author.Rules.{rules}
 use lib.Bits.{bit_or}
 use lib.ListN.{length, get_or}
 use lib.Pow.{pow_pos}
-use Rattle.graph.specs.Graph.{Graph, Within}
+use Rattle.graph.specs.Graph.{Within}
 use Rattle.graph.specs.SetLaws.{shifted_one, taken_some}
 use Rattle.block.specs.Block.{most_atoms}
-use Rattle.block.specs.Found.{SearchTask}
-use Rattle.block.proofs.Meeting.{Running, Over, first, run_start, small, shallow, less, run_looked, looked_at, run_deeper, run_over, run_end}
+use Rattle.block.proofs.Meeting.{first, run_start, small, shallow, less, run_looked, looked_at, run_deeper, run_over, run_end}
 use Rattle.block.proofs.search.from_atom.Goals as goal
 use Rattle.block.proofs.search.from_atom.Goals.{After-slice_known-1, In-loop-level, Start}
 

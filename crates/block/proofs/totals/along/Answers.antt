@@ -1,9 +1,7 @@
-use Prim.Native.Nat.{◌≤◌, ◌-◌}
+use Prim.Native.Nat.{◌-◌}
 use native.Mathlib.Omega.{arith}
-use borrow.Author.Rules.{rules}
 use mathlib.Core.Path.{◌≡◌}
 use lib.Dec.{eqb}
-use Rattle.block.specs.Tally.{Tallied}
 use Rattle.block.proofs.Tallies.{bit_low, tally_none, tally_even, tally_odd}
 use Rattle.block.proofs.totals.along.Goals as goal
 

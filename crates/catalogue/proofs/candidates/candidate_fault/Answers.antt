@@ -8,7 +8,6 @@ use Rattle.reply.specs.Read.{is_outside}
 use Rattle.assembly.specs.Book.{Book, block_graph, book_of}
 use Rattle.catalogue.specs.Library.{candidate_bytes, candidate_number, candidate_atom, is_full_in}
 use Rattle.catalogue.proofs.Turns.{has_is, graph_is, candidate_cut, candidate_none, candidate_outside, core_full, candidate_full, candidate_well}
-use borrow.Author.Rules.{rules}
 use Rattle.catalogue.proofs.candidates.candidate_fault.Goals as goal
 use Rattle.catalogue.proofs.candidates.candidate_fault.Goals.{After-find_block-b, After-is_numbered, After-is_outside, After-is_own_full, Else-is_outside, Else-not-is_numbered, Else-xs-p, Start}
 

@@ -1,8 +1,7 @@
-use Prim.Native.Nat.{ℕ, suc, ◌-◌, ◌≤◌}
+use Prim.Native.Nat.{ℕ, suc, ◌-◌}
 use mathlib.Core.Path.{◌≡◌, refl, sym, ◌∙◌, ap}
 use native.Mathlib.Omega.{arith}
-use lib.ListN.{length, take}
-use borrow.Author.Rules.{rules}
+use lib.ListN.{take}
 use Rattle.graph.specs.Graph.{Graph}
 use Rattle.assembly.specs.Book.{Book, block_graph, book_of}
 use Rattle.catalogue.specs.Library.{is_full_in, candidates_fault}

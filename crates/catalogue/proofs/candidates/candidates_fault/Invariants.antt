@@ -1,13 +1,9 @@
-use Prim.Native.Nat.{ℕ, suc, ◌-◌, ◌≤◌}
-use mathlib.Core.Path.{◌≡◌, refl, sym, ◌∙◌, ap}
-use native.Mathlib.Omega.{arith}
+use Prim.Native.Nat.{ℕ, ◌-◌, ◌≤◌}
+use mathlib.Core.Path.{◌≡◌}
 use lib.ListN.{length, take}
-use borrow.Author.Rules.{rules}
 use Rattle.graph.specs.Graph.{Graph}
-use Rattle.assembly.specs.Book.{Book, block_graph, book_of}
+use Rattle.assembly.specs.Book.{book_of}
 use Rattle.catalogue.specs.Library.{is_full_in, candidates_fault}
-use Rattle.catalogue.specs.Sound.{joins}
-use Rattle.catalogue.proofs.Turns.{no_candidates, wrong_candidate, next_candidate}
 use Rattle.catalogue.proofs.candidates.candidates_fault.Given as goal
 
 -- `catalogue::candidates::candidates_fault` meets its contract. Assumes nothing.

@@ -1,9 +1,7 @@
-use Prim.Native.Nat.{◌+◌, ◌*◌, ◌-◌, ◌/◌, ◌≤◌}
-use mathlib.Core.Path.{◌≡◌, ◌∙◌}
-use native.Mathlib.Omega.{arith}
+use Prim.Native.Nat.{◌+◌, ◌-◌, ◌≤◌}
+use mathlib.Core.Path.{◌≡◌}
 use lib.ListN.{length, drop}
-use borrow.Author.Rules.{rules}
-use Rattle.catalogue.proofs.Turns.{ends_in, ends_next, ends_over, ends_degree}
+use Rattle.catalogue.proofs.Turns.{ends_in}
 use Rattle.catalogue.proofs.candidates.ends_in.Given as goal
 
 -- `catalogue::candidates::ends_in` meets its contract. The loop's invariant: the total and the ends among the bytes that are left are all ends. Assumes nothing.

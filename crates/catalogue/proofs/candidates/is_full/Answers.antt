@@ -4,7 +4,6 @@ use mathlib.Core.Path.{◌∙◌, ap}
 use lib.Dec.{leb}
 use Rattle.graph.specs.Graph.{degree}
 use Rattle.block.specs.Block.{limit, bonds_of}
-use borrow.Author.Rules.{rules}
 use Rattle.catalogue.proofs.candidates.is_full.Goals as goal
 
 -- `catalogue::candidates::is_full` meets its contract. Assumes nothing.

@@ -1,5 +1,4 @@
 use mathlib.Core.Path.{sym}
-use borrow.Author.Rules.{rules}
 use Rattle.catalogue.proofs.candidates.is_own_full.Goals as goal
 
 -- `catalogue::candidates::is_own_full` meets its contract. Assumes nothing.

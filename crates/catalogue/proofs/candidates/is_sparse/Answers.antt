@@ -2,7 +2,6 @@ use Prim.Native.Nat.{ℕ, ◌+◌, ◌*◌, ◌-◌}
 use native.Mathlib.Omega.{arith}
 use borrow.Author.Tests.{ltb-true}
 use Rattle.records.specs.Records.{block_kind}
-use borrow.Author.Rules.{rules}
 use Rattle.catalogue.proofs.Turns.{not_full}
 use Rattle.catalogue.proofs.candidates.is_sparse.Goals as goal
 

@@ -1,11 +1,7 @@
-use Prim.Native.Nat.{ℕ, ◌+◌, ◌*◌, ◌-◌, ◌^◌, ◌≤◌}
-use mathlib.Core.Path.{◌≡◌, sym, ◌∙◌, ap, ap₂}
-use native.Mathlib.Numerals.{add-one}
-use native.Mathlib.Omega.{arith}
-use borrow.Author.Rules.{rules}
+use Prim.Native.Nat.{◌-◌, ◌^◌, ◌≤◌}
+use mathlib.Core.Path.{◌≡◌}
 use Rattle.catalogue.specs.Products.{products}
 use Rattle.catalogue.specs.Table.{sites_in}
-use Rattle.catalogue.proofs.Turns.{products_grow, one_product, byte_more, few_bytes}
 use Rattle.catalogue.proofs.sites.count_of.Given as goal
 
 -- `catalogue::sites::count_of` meets its contract. Assumes nothing.

@@ -1,7 +1,6 @@
-use Prim.Native.Nat.{ℕ, suc, ◌-◌, ◌≤◌}
+use Prim.Native.Nat.{ℕ, suc, ◌-◌}
 use mathlib.Core.Path.{◌≡◌, refl, sym, ◌∙◌, ap}
 use native.Mathlib.Omega.{arith}
-use borrow.Author.Rules.{rules}
 use Rattle.catalogue.specs.Library.{is_taken}
 use Rattle.catalogue.specs.Table.{sites_in}
 use Rattle.catalogue.proofs.Turns.{taken_here, taken_before, none_taken}

@@ -1,10 +1,7 @@
-use Prim.Native.Nat.{ℕ, suc, ◌-◌, ◌≤◌}
-use mathlib.Core.Path.{◌≡◌, refl, sym, ◌∙◌, ap}
-use native.Mathlib.Omega.{arith}
-use borrow.Author.Rules.{rules}
+use Prim.Native.Nat.{◌-◌, ◌≤◌}
+use mathlib.Core.Path.{◌≡◌}
 use Rattle.catalogue.specs.Library.{is_taken}
 use Rattle.catalogue.specs.Table.{sites_in}
-use Rattle.catalogue.proofs.Turns.{taken_here, taken_before, none_taken}
 use Rattle.catalogue.proofs.sites.is_taken.Given as goal
 
 -- `catalogue::sites::is_taken` meets its contract. Assumes nothing.

@@ -4,7 +4,6 @@ use mathlib.Core.List.{[]}
 use mathlib.Core.Path.{◌≡◌, sym, ◌∙◌, ap, ap₂}
 use borrow.Author.Tests.{not-true, not-false}
 use lib.ListN.{take}
-use borrow.Author.Rules.{rules}
 use Rattle.graph.specs.Graph.{Graph}
 use Rattle.reply.specs.Read.{is_outside}
 use Rattle.block.specs.Faults.{inside}

@@ -1,7 +1,6 @@
 use Prim.Native.Nat.{ℕ, ◌+◌}
 use mathlib.Core.Path.{ap₂}
 use Rattle.catalogue.specs.declared.Site.{Site}
-use borrow.Author.Rules.{rules}
 use Rattle.catalogue.proofs.sites.site_at.Goals as goal
 
 -- `catalogue::sites::site_at` meets its contract. Assumes nothing.

@@ -4,7 +4,6 @@ use mathlib.Core.List.{List}
 use mathlib.Core.Path.{◌≡◌, sym, ◌∙◌, ap}
 use native.Mathlib.Omega.{arith}
 use lib.ListN.{length, take}
-use borrow.Author.Rules.{rules}
 use Rattle.graph.specs.Graph.{Graph}
 use Rattle.reply.specs.Read.{is_outside}
 use Rattle.assembly.specs.Book.{Book, block_graph, book_of}

@@ -3,7 +3,6 @@ use mathlib.Core.List.{List, [], ◌∷◌}
 use mathlib.Core.Path.{◌≡◌, refl, sym, ◌∙◌, ap, ap₂}
 use native.Mathlib.Omega.{arith}
 use lib.ListN.{length, take, length-set, replicate}
-use borrow.Author.Rules.{rules}
 use Rattle.graph.specs.Graph.{Graph}
 use Rattle.reply.specs.Read.{refused, refusal}
 use Rattle.assembly.specs.Book.{Book, block_graph, book_of}

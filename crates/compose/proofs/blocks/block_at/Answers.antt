@@ -1,4 +1,3 @@
-use borrow.Author.Rules.{rules}
 use Rattle.compose.proofs.blocks.block_at.Goals as goal
 
 -- `compose::blocks::block_at` meets its contract. Assumes nothing.

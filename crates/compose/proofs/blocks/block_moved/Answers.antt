@@ -1,6 +1,5 @@
 use Prim.Native.Nat.{ℕ}
 use mathlib.Core.Path.{sym, ap, ◌∙◌}
-use borrow.Author.Rules.{rules}
 use Rattle.reply.specs.Read.{refusal}
 use Rattle.reply.specs.declared.Reply.TheVariants.{Refused}
 use Rattle.deck.specs.Deck.{block_place}

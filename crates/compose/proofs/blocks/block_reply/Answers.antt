@@ -48,10 +48,13 @@ returns c =
     let d = c.args.d.now in
     let at = c.args.at in
     let b = block_at d at in
-    let fit = sym (unfit-is (goal.at.returns c).After-is_unfit) ∙ c.if-is_unfit.false in record { reply = c.block_moved.ensures
+    let fit = sym (unfit-is (goal.at.returns c).After-is_unfit) ∙ c.if-is_unfit.false in record {
+      reply = c.block_moved.ensures
           ∙ ap (moved_reply (block_place at)) (told_is (goal.at.returns c).After-fill_at)
           ∙ moved_said (block_place at) (block_reply b.atoms (bond_bytes d b))
-          ∙ ap said_reply (sym (number_fit d at (done (goal.at.returns c).Start) fit)); bytes = c.fill_at.ensures.bytes
+          ∙ ap said_reply (sym (number_fit d at (done (goal.at.returns c).Start) fit));
+      bytes = c.fill_at.ensures.bytes
           ∙ ap (λ (x : BlockAt). filled_book d c.args.book.now c.args.count x) c.requires.1
           ∙ ap (λ (n : ℕ). filled_book d c.args.book.now n b) (sym (counted (goal.at.returns c).Start))
-          ∙ reply_filled d at (done (goal.at.returns c).Start) c.args.book.now fit }
+          ∙ reply_filled d at (done (goal.at.returns c).Start) c.args.book.now fit;
+    }

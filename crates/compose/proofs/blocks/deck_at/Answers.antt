@@ -1,4 +1,3 @@
-use borrow.Author.Rules.{rules}
 use Rattle.compose.proofs.blocks.deck_at.Goals as goal
 
 -- `compose::blocks::deck_at` meets its contract. Assumes nothing.

@@ -1,7 +1,6 @@
 use Prim.Native.Nat.{ℕ}
 use mathlib.Core.List.{List}
 use mathlib.Core.Path.{ap, ◌∙◌}
-use borrow.Author.Rules.{rules}
 use Rattle.reply.specs.Read.{said_reply}
 use Rattle.block.specs.Block.{block_reply}
 use Rattle.deck.proofs.Filled.{no_place, place_reply, place_filled}

@@ -1,5 +1,4 @@
 use mathlib.Core.Path.{sym, ap, ◌∙◌}
-use borrow.Author.Rules.{rules}
 use Rattle.deck.specs.Said.{said_deck}
 use Rattle.deck.proofs.Parts.{open_long, open_short}
 use Rattle.deck.proofs.Filled.{book_long, book_short}

@@ -3,16 +3,15 @@ use mathlib.Core.Bool.{cond}
 use mathlib.Core.List.{List, [], ◌∷◌}
 use mathlib.Core.Path.{◌≡◌, refl, sym, ap, ◌∙◌}
 use native.Mathlib.Omega.{arith}
-use borrow.Author.Rules.{rules}
 use lib.Dec.{eqb}
-use lib.ListN.{length, take, drop, replicate, length-set}
+use lib.ListN.{length, take, length-set}
 use lib.Seq.{length-take-le}
 use Rattle.reply.specs.Read.{read, said_reply}
 use Rattle.reply.specs.Chain.{fine_read, refused_read}
 use Rattle.records.specs.Records.{block_kind, kind_at, end_at, record_reply}
 use Rattle.records.specs.Taken.{taken}
 use Rattle.records.specs.declared.Kind.{Kind}
-use Rattle.assembly.specs.Book.{no_block, most_blocks}
+use Rattle.assembly.specs.Book.{most_blocks}
 use Rattle.assembly.specs.declared.BlockAt.{BlockAt}
 use Rattle.deck.specs.Deck.{kinds_after, block_reply_at, blocks_from, blocks_reply}
 use Rattle.deck.specs.Filled.{book_from, blocks_book}
@@ -143,9 +142,12 @@ shape_of-book-then-le16_at c = c.loop-blocks.invariant.5
 pub returns-then-le16_at : goal.returns-then-le16_at
 returns-then-le16_at c = let t = table_is c.loop-blocks.blocks c.loop-blocks.count (omega arith) c.loop-blocks.invariant.4 in
     let k : (kind_at (deck (goal.at.returns-then-le16_at c).At-loop-blocks) c.loop-blocks.next ≡ 1 → ⊥) = λ e. c.if-le16_at.true (c.le16_at.ensures ∙ e) in
-    let f = record-fine (goal.at.returns-then-le16_at c).In-Fine in record { reply = c.deck_at.ensures
+    let f = record-fine (goal.at.returns-then-le16_at c).In-Fine in record {
+      reply = c.deck_at.ensures
           ∙ said (deck (goal.at.returns-then-le16_at c).At-loop-blocks) c.loop-blocks.blocks (done (goal.at.returns-then-le16_at c).At-loop-blocks) c.loop-blocks.count c.loop-blocks.next t (sym (counted (goal.at.returns-then-le16_at c).At-loop-blocks))
-          ∙ ap said_deck (sym (left (goal.at.returns-then-le16_at c).At-loop-blocks ∙ no_block_lem (most_blocks - c.loop-blocks.count) (last (goal.at.returns-then-le16_at c).At-loop-blocks) (deck (goal.at.returns-then-le16_at c).At-loop-blocks) c.loop-blocks.next (done (goal.at.returns-then-le16_at c).At-loop-blocks) f k)); bytes = sym (book-left (goal.at.returns-then-le16_at c).At-loop-blocks ∙ book_no_block (most_blocks - c.loop-blocks.count) (last (goal.at.returns-then-le16_at c).At-loop-blocks) (deck (goal.at.returns-then-le16_at c).At-loop-blocks) c.loop-blocks.next (done (goal.at.returns-then-le16_at c).At-loop-blocks) c.loop-blocks.book f k) }
+          ∙ ap said_deck (sym (left (goal.at.returns-then-le16_at c).At-loop-blocks ∙ no_block_lem (most_blocks - c.loop-blocks.count) (last (goal.at.returns-then-le16_at c).At-loop-blocks) (deck (goal.at.returns-then-le16_at c).At-loop-blocks) c.loop-blocks.next (done (goal.at.returns-then-le16_at c).At-loop-blocks) f k));
+      bytes = sym (book-left (goal.at.returns-then-le16_at c).At-loop-blocks ∙ book_no_block (most_blocks - c.loop-blocks.count) (last (goal.at.returns-then-le16_at c).At-loop-blocks) (deck (goal.at.returns-then-le16_at c).At-loop-blocks) c.loop-blocks.next (done (goal.at.returns-then-le16_at c).At-loop-blocks) c.loop-blocks.book f k);
+    }
 
 pub block_at-b-requires : goal.block_at-b-requires
 block_at-b-requires c = omega (arith, c.loop-blocks.invariant.0, c.requires)
@@ -161,11 +163,14 @@ pub returns-in_default-s : goal.returns-in_default-s
 returns-in_default-s c = let k = most_blocks - c.loop-blocks.count in
     let e = refused_read _ c.in_default-s.field-0 (sym (block-is (goal.at.returns-in_default-s c).After-block_reply-s) ∙ c.in_default-s.is) in
     let f = record-fine (goal.at.returns-in_default-s c).In-Fine in
-    let g = is_block (goal.at.returns-in_default-s c).Else-le16_at in record { reply = c.deck_refused-in_default-s.ensures
+    let g = is_block (goal.at.returns-in_default-s c).Else-le16_at in record {
+      reply = c.deck_refused-in_default-s.ensures
           ∙ ap refused_deck c.in_default-s.is
-          ∙ ap said_deck (sym (left (goal.at.returns-in_default-s c).At-loop-blocks ∙ bad_block k (last (goal.at.returns-in_default-s c).At-loop-blocks) (deck (goal.at.returns-in_default-s c).At-loop-blocks) c.loop-blocks.next (done (goal.at.returns-in_default-s c).At-loop-blocks) f g c.in_default-s.field-0 e)); bytes = c.block_reply-s.ensures.bytes
+          ∙ ap said_deck (sym (left (goal.at.returns-in_default-s c).At-loop-blocks ∙ bad_block k (last (goal.at.returns-in_default-s c).At-loop-blocks) (deck (goal.at.returns-in_default-s c).At-loop-blocks) c.loop-blocks.next (done (goal.at.returns-in_default-s c).At-loop-blocks) f g c.in_default-s.field-0 e));
+      bytes = c.block_reply-s.ensures.bytes
           ∙ reply_stays (deck (goal.at.returns-in_default-s c).At-loop-blocks) c.loop-blocks.next (done (goal.at.returns-in_default-s c).At-loop-blocks) c.loop-blocks.book c.in_default-s.field-0 e
-          ∙ sym (book-left (goal.at.returns-in_default-s c).At-loop-blocks ∙ book_bad_block k (last (goal.at.returns-in_default-s c).At-loop-blocks) (deck (goal.at.returns-in_default-s c).At-loop-blocks) c.loop-blocks.next (done (goal.at.returns-in_default-s c).At-loop-blocks) c.loop-blocks.book f g c.in_default-s.field-0 e) }
+          ∙ sym (book-left (goal.at.returns-in_default-s c).At-loop-blocks ∙ book_bad_block k (last (goal.at.returns-in_default-s c).At-loop-blocks) (deck (goal.at.returns-in_default-s c).At-loop-blocks) c.loop-blocks.next (done (goal.at.returns-in_default-s c).At-loop-blocks) c.loop-blocks.book f g c.in_default-s.field-0 e);
+    }
 
 pub bounds-blocks-count : goal.bounds-blocks-count
 bounds-blocks-count c = room (goal.at.bounds-blocks-count c).In-Fine-s

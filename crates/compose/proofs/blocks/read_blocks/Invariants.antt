@@ -1,25 +1,9 @@
-use Prim.Native.Nat.{ℕ, suc, ◌+◌, ◌-◌, ◌<◌, ◌≤◌}
-use mathlib.Core.Bool.{cond}
-use mathlib.Core.List.{List, [], ◌∷◌}
-use mathlib.Core.Path.{◌≡◌, refl, sym, ap, ◌∙◌}
-use native.Mathlib.Omega.{arith}
-use borrow.Author.Rules.{rules}
-use lib.Dec.{eqb}
-use lib.ListN.{length, take, drop, replicate, length-set}
-use lib.Seq.{length-take-le}
-use Rattle.reply.specs.Read.{read, said_reply}
-use Rattle.reply.specs.Chain.{fine_read, refused_read}
-use Rattle.records.specs.Records.{block_kind, kind_at, end_at, record_reply}
-use Rattle.records.specs.Taken.{taken}
-use Rattle.records.specs.declared.Kind.{Kind}
+use Prim.Native.Nat.{suc, ◌-◌, ◌≤◌}
+use mathlib.Core.Path.{◌≡◌}
+use lib.ListN.{length, take, drop, replicate}
 use Rattle.assembly.specs.Book.{no_block, most_blocks}
-use Rattle.assembly.specs.declared.BlockAt.{BlockAt}
-use Rattle.deck.specs.Deck.{kinds_after, block_reply_at, blocks_from, blocks_reply}
+use Rattle.deck.specs.Deck.{blocks_from, blocks_reply}
 use Rattle.deck.specs.Filled.{book_from, blocks_book}
-use Rattle.deck.specs.Said.{refused_deck, said_deck}
-use Rattle.deck.specs.Kept.{fit}
-use Rattle.deck.proofs.Turns.{second, no_record, no_block_lem, bad_block, one_block, said, table_is, table_grows, table_next}
-use Rattle.deck.proofs.Filled.{reply_stays, book_no_record, book_no_block, book_bad_block, book_one_block}
 use Rattle.compose.proofs.blocks.read_blocks.Given as goal
 
 -- `compose::blocks::read_blocks` meets its contract. The loop's invariant: the answer and the book from the next record on are the answer and the book, and the places past `count` are empty. Assumes nothing.

@@ -1,5 +1,4 @@
 use native.Mathlib.Omega.{arith}
-use borrow.Author.Rules.{rules}
 use Rattle.block.specs.Lent.{zeros}
 use Rattle.compose.proofs.distance.distance_all.Goals as goal
 

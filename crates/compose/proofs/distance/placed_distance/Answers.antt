@@ -1,5 +1,4 @@
 use native.Mathlib.Omega.{arith}
-use borrow.Author.Rules.{rules}
 use Rattle.compose.proofs.distance.placed_distance.Goals as goal
 
 -- `compose::distance::placed_distance` meets its contract. Assumes nothing.

@@ -1,7 +1,6 @@
 use Prim.Native.Nat.{ℕ}
 use mathlib.Core.List.{List}
 use mathlib.Core.Path.{◌≡◌, sym, ap, ◌∙◌}
-use borrow.Author.Rules.{rules}
 use Rattle.reply.specs.Read.{refusal, said_reply}
 use Rattle.reply.specs.Chain.{refused_read}
 use Rattle.reply.specs.declared.Reply.TheVariants.{Refused}

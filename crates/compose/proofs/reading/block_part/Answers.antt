@@ -1,7 +1,6 @@
 use Prim.Native.Nat.{ℕ}
 use mathlib.Core.List.{List}
 use mathlib.Core.Path.{◌≡◌, sym, ◌∙◌}
-use borrow.Author.Rules.{rules}
 use Rattle.reply.specs.Read.{refused}
 use Rattle.reply.specs.declared.Refusal.{Refusal}
 use Rattle.deck.specs.Deck.{deck_reply}

@@ -1,5 +1,4 @@
 use native.Mathlib.Omega.{arith}
-use borrow.Author.Rules.{rules}
 use Rattle.block.specs.Lent.{zeros}
 use Rattle.assembly.specs.Book.{most_blocks}
 use Rattle.deck.proofs.Few.{heads_most}

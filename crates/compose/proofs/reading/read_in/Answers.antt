@@ -2,7 +2,6 @@ use Prim.Native.Nat.{ℕ}
 use mathlib.Core.List.{List, [], ◌∷◌}
 use mathlib.Core.Path.{◌≡◌, sym, ap, ◌∙◌}
 use native.Mathlib.Omega.{arith}
-use borrow.Author.Rules.{rules}
 use Rattle.reply.specs.Read.{Read, read, said_reply}
 use Rattle.reply.specs.Chain.{fine_read, refused_read}
 use Rattle.records.specs.Records.{payload_at, assembly_kind}

@@ -1,7 +1,6 @@
 use Prim.Native.Nat.{◌-◌}
 use native.Mathlib.Omega.{arith}
-use borrow.Author.Rules.{rules}
-use Rattle.filling.proofs.Putting.{AtomsPut, atoms_start, atoms_next, atoms_end}
+use Rattle.filling.proofs.Putting.{atoms_start, atoms_next, atoms_end}
 use Rattle.filling.proofs.atoms.put_atoms.Goals as goal
 
 pub loop-i-init : goal.loop-i-init

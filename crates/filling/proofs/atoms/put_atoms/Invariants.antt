@@ -1,7 +1,5 @@
 use Prim.Native.Nat.{◌-◌}
-use native.Mathlib.Omega.{arith}
-use borrow.Author.Rules.{rules}
-use Rattle.filling.proofs.Putting.{AtomsPut, atoms_start, atoms_next, atoms_end}
+use Rattle.filling.proofs.Putting.{AtomsPut}
 use Rattle.filling.proofs.atoms.put_atoms.Given as goal
 
 -- `put_atoms` meets its contract. The loop's invariant: what is left to put makes of the bytes what all of it makes of the first ones.

@@ -1,5 +1,4 @@
 use Rattle.filling.proofs.Laws.{first_put}
-use borrow.Author.Rules.{rules}
 use Rattle.filling.proofs.store.put_first.Goals as goal
 
 -- `put_first` meets its contract.

@@ -1,5 +1,4 @@
 use Rattle.filling.proofs.Laws.{head_put}
-use borrow.Author.Rules.{rules}
 use Rattle.filling.proofs.store.put_head.Goals as goal
 
 -- `put_head` meets its contract.

@@ -1,5 +1,4 @@
 use Rattle.filling.proofs.Laws.{totals_put}
-use borrow.Author.Rules.{rules}
 use Rattle.filling.proofs.store.put_totals.Goals as goal
 
 -- `put_totals` meets its contract.

@@ -1,9 +1,7 @@
-use Prim.Native.Nat.{ℕ, suc, ◌-◌, ◌≤◌}
+use Prim.Native.Nat.{ℕ, suc, ◌-◌}
 use mathlib.Core.Path.{◌≡◌, refl, ◌∙◌, subst}
 use native.Mathlib.Omega.{arith}
-use lib.ListN.{length, length-set}
-use borrow.Author.Rules.{rules}
-use Rattle.catalogue.specs.Library.{most_sites}
+use lib.ListN.{length-set}
 use Rattle.library.proofs.Choosing.{Chosen, choose_next, choose_end}
 use Rattle.library.proofs.choice.choose.Goals as goal
 

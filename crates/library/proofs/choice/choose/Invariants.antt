@@ -1,10 +1,8 @@
-use Prim.Native.Nat.{ℕ, suc, ◌-◌, ◌≤◌}
-use mathlib.Core.Path.{◌≡◌, refl, ◌∙◌, subst}
-use native.Mathlib.Omega.{arith}
-use lib.ListN.{length, length-set}
-use borrow.Author.Rules.{rules}
+use Prim.Native.Nat.{◌-◌, ◌≤◌}
+use mathlib.Core.Path.{◌≡◌}
+use lib.ListN.{length}
 use Rattle.catalogue.specs.Library.{most_sites}
-use Rattle.library.proofs.Choosing.{Chosen, choose_next, choose_end}
+use Rattle.library.proofs.Choosing.{Chosen}
 use Rattle.library.proofs.choice.choose.Given as goal
 
 -- `library::choice::choose` meets its contract. Assumes nothing.

@@ -1,4 +1,3 @@
-use borrow.Author.Rules.{rules}
 use Rattle.library.proofs.Filling.{field_said}
 use Rattle.library.proofs.last.field_of.Goals as goal
 

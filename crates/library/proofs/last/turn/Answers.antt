@@ -1,16 +1,14 @@
 use Prim.Native.Nat.{ℕ, zero, suc, ◌+◌, ◌-◌, ◌^◌, ◌≤◌, ◌<◌}
-use mathlib.Core.List.{List, ◌++◌}
+use mathlib.Core.List.{◌++◌}
 use mathlib.Core.Path.{◌≡◌, refl, sym, ◌∙◌, ap, subst}
 use native.Mathlib.Omega.{arith}
 use lib.ListN.{length, take, drop}
 use borrow.Author.Rules.{rules}
 use Rattle.arms.specs.Arms.{joined_to}
 use Rattle.sheets.specs.Sheets.{sheet_bytes}
-use Rattle.catalogue.specs.Library.{Library}
 use Rattle.catalogue.specs.Products.{products, product_at}
 use Rattle.catalogue.specs.Fine.{few_products}
-use Rattle.library.specs.Steps.{Ran}
-use Rattle.library.specs.Turning.{Going, Turns}
+use Rattle.library.specs.Turning.{Going}
 use Rattle.arms.specs.declared.Arm.{Arm}
 use Rattle.library.proofs.Spreading.{going_next, lent_whole, lent_long, some_bytes}
 use Rattle.library.proofs.last.turn.Goals as goal

@@ -1,18 +1,10 @@
-use Prim.Native.Nat.{ℕ, zero, suc, ◌+◌, ◌-◌, ◌^◌, ◌≤◌, ◌<◌}
-use mathlib.Core.List.{List, ◌++◌}
-use mathlib.Core.Path.{◌≡◌, refl, sym, ◌∙◌, ap, subst}
-use native.Mathlib.Omega.{arith}
-use lib.ListN.{length, take, drop}
-use borrow.Author.Rules.{rules}
-use Rattle.arms.specs.Arms.{joined_to}
-use Rattle.sheets.specs.Sheets.{sheet_bytes}
+use Prim.Native.Nat.{ℕ, ◌+◌, ◌-◌, ◌≤◌}
+use mathlib.Core.List.{List}
+use mathlib.Core.Path.{◌≡◌}
+use lib.ListN.{length}
 use Rattle.catalogue.specs.Library.{Library}
-use Rattle.catalogue.specs.Products.{products, product_at}
-use Rattle.catalogue.specs.Fine.{few_products}
 use Rattle.library.specs.Steps.{Ran}
 use Rattle.library.specs.Turning.{Going, Turns}
-use Rattle.arms.specs.declared.Arm.{Arm}
-use Rattle.library.proofs.Spreading.{going_next, lent_whole, lent_long, some_bytes}
 use Rattle.library.proofs.last.turn.Given as goal
 
 -- `library::last::turn` meets its contract. Assumes nothing.

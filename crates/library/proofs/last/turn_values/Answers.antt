@@ -1,13 +1,10 @@
-use Prim.Native.Nat.{ℕ, ◌+◌, ◌*◌, ◌-◌, ◌^◌, ◌≤◌, ◌<◌}
-use mathlib.Core.List.{List}
+use Prim.Native.Nat.{ℕ, ◌+◌, ◌*◌, ◌-◌, ◌^◌, ◌<◌}
 use mathlib.Core.Path.{◌≡◌, refl, ◌∙◌, ap, subst}
 use native.Mathlib.Omega.{arith}
 use lib.ListN.{length, set, length-set}
 use borrow.Author.Rules.{rules}
 use Rattle.arms.specs.Arms.{joined_to}
-use Rattle.catalogue.specs.Library.{Library}
 use Rattle.catalogue.specs.Products.{product_at}
-use Rattle.library.specs.Turning.{Turns}
 use Rattle.library.specs.Values.{values_of}
 use Rattle.library.specs.Filled.{Filled, filled_next}
 use Rattle.arms.specs.declared.Arm.{Arm}

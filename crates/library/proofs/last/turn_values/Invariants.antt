@@ -1,17 +1,11 @@
-use Prim.Native.Nat.{ℕ, ◌+◌, ◌*◌, ◌-◌, ◌^◌, ◌≤◌, ◌<◌}
+use Prim.Native.Nat.{ℕ, ◌+◌, ◌-◌, ◌≤◌}
 use mathlib.Core.List.{List}
-use mathlib.Core.Path.{◌≡◌, refl, ◌∙◌, ap, subst}
-use native.Mathlib.Omega.{arith}
-use lib.ListN.{length, set, length-set}
-use borrow.Author.Rules.{rules}
-use Rattle.arms.specs.Arms.{joined_to}
+use mathlib.Core.Path.{◌≡◌}
+use lib.ListN.{length}
 use Rattle.catalogue.specs.Library.{Library}
-use Rattle.catalogue.specs.Products.{product_at}
 use Rattle.library.specs.Turning.{Turns}
 use Rattle.library.specs.Values.{values_of}
-use Rattle.library.specs.Filled.{Filled, filled_next}
-use Rattle.arms.specs.declared.Arm.{Arm}
-use Rattle.library.proofs.Filling.{value_said}
+use Rattle.library.specs.Filled.{Filled}
 use Rattle.library.proofs.last.turn_values.Given as goal
 
 -- `library::last::turn_values` meets its contract. Assumes nothing.

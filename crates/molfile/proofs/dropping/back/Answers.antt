@@ -1,6 +1,5 @@
 use mathlib.Core.Path.{◌∙◌}
 use borrow.Author.Tests.{eq-eqb, ne_eqb}
-use borrow.Author.Rules.{rules}
 use Rattle.molfile.proofs.dropping.back.Goals as goal
 
 -- `back` meets its contract. Assumes nothing.

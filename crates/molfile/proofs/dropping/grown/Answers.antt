@@ -1,5 +1,4 @@
 use native.Mathlib.Omega.{arith}
-use borrow.Author.Rules.{rules}
 use Rattle.molfile.proofs.dropping.grown.Goals as goal
 
 -- `grown` meets its contract. Assumes nothing.

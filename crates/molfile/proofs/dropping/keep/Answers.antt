@@ -1,11 +1,9 @@
 use Prim.Native.Nat.{suc, ◌-◌, ◌≤◌, ◌<◌}
 use mathlib.Core.Path.{◌≡◌, refl, sym}
 use lib.ListN.{get_or}
-use Rattle.molfile.specs.Work.{most, bond_by, kept_by}
-use Rattle.text.specs.Put.{Puts}
+use Rattle.molfile.specs.Work.{most, bond_by}
 use Rattle.text.proofs.Putting.{none, both, as_word, same_length as put-length}
 use Rattle.molfile.proofs.Keeping.{kept_none, kept_more}
-use borrow.Author.Rules.{rules}
 use native.Mathlib.Omega.{arith}
 use Rattle.molfile.proofs.dropping.keep.Goals as goal
 use Rattle.molfile.proofs.dropping.keep.Goals.{After-wide_two, After-wide_two-in-loop-k}

@@ -1,12 +1,6 @@
-use Prim.Native.Nat.{suc, ◌-◌, ◌≤◌, ◌<◌}
-use mathlib.Core.Path.{◌≡◌, refl, sym}
-use lib.ListN.{get_or}
-use Rattle.molfile.specs.Work.{most, bond_by, kept_by}
+use Prim.Native.Nat.{◌-◌, ◌≤◌}
+use Rattle.molfile.specs.Work.{bond_by, kept_by}
 use Rattle.text.specs.Put.{Puts}
-use Rattle.text.proofs.Putting.{none, both, as_word, same_length as put-length}
-use Rattle.molfile.proofs.Keeping.{kept_none, kept_more}
-use borrow.Author.Rules.{rules}
-use native.Mathlib.Omega.{arith}
 use Rattle.molfile.proofs.dropping.keep.Given as goal
 
 -- `keep` meets its contract. The loop's invariant: the numbers of the first k bonds that are kept are put.

@@ -2,7 +2,6 @@ use mathlib.Core.Path.{refl, ◌∙◌}
 use Rattle.molfile.proofs.Same.{number_is, kept_is, inside_up}
 use Rattle.molfile.proofs.Keeping.{front_is}
 use native.Mathlib.Omega.{arith}
-use borrow.Author.Rules.{rules}
 use Rattle.molfile.proofs.dropping.kept.Goals as goal
 
 -- `kept` meets its contract: weights, numbers and bonds one after the other.

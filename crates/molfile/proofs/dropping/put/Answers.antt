@@ -1,5 +1,4 @@
 use Rattle.text.proofs.Putting.{byte_out}
-use borrow.Author.Rules.{rules}
 use Rattle.molfile.proofs.dropping.put.Goals as goal
 
 -- `put` meets its contract. Assumes nothing.

@@ -5,10 +5,9 @@ use native.Mathlib.Numerals.{add-one}
 use lib.ListN.{get_or, length-set}
 use lib.Seq.{get_or-set_other}
 use Rattle.molfile.specs.Molfile.{new_number}
-use Rattle.molfile.specs.Work.{most, goes, dropped_by, number_by, Numbered}
+use Rattle.molfile.specs.Work.{most, goes, dropped_by, number_by}
 use Rattle.molfile.proofs.Filling.{holds_none, holds_more}
 use Rattle.molfile.proofs.Numbering.{number_none, number_more, number_few}
-use borrow.Author.Rules.{rules}
 use native.Mathlib.Omega.{arith}
 use Rattle.molfile.proofs.dropping.renumber.Goals as goal
 use Rattle.molfile.proofs.dropping.renumber.Goals.{After-goes-gone, After-grown-next, At-loop-i}

@@ -1,15 +1,7 @@
-use Prim.Native.Nat.{ℕ, suc, ◌+◌, ◌-◌, ◌≤◌}
-use mathlib.Core.Bool.{Bool, cond}
-use mathlib.Core.Path.{◌≡◌, refl, sym, ap, ◌∙◌}
-use native.Mathlib.Numerals.{add-one}
-use lib.ListN.{get_or, length-set}
-use lib.Seq.{get_or-set_other}
-use Rattle.molfile.specs.Molfile.{new_number}
-use Rattle.molfile.specs.Work.{most, goes, dropped_by, number_by, Numbered}
-use Rattle.molfile.proofs.Filling.{holds_none, holds_more}
-use Rattle.molfile.proofs.Numbering.{number_none, number_more, number_few}
-use borrow.Author.Rules.{rules}
-use native.Mathlib.Omega.{arith}
+use Prim.Native.Nat.{ℕ, ◌-◌, ◌≤◌}
+use mathlib.Core.Path.{◌≡◌}
+use lib.ListN.{get_or}
+use Rattle.molfile.specs.Work.{dropped_by, Numbered}
 use Rattle.molfile.proofs.dropping.renumber.Given as goal
 
 -- `renumber` meets its contract. The loop's invariant: the first i atoms are numbered, and the weights of the others stand as they were.

@@ -1,4 +1,3 @@
-use borrow.Author.Rules.{rules}
 use borrow.Author.Tests.{eq-eqb, ne_eqb}
 use Rattle.molfile.proofs.Keeping.{store_none, store_both}
 use Rattle.molfile.proofs.dropping.store.Goals as goal

@@ -1,9 +1,8 @@
 use Prim.Native.Nat.{suc, ◌+◌, ◌-◌, ◌*◌, ◌≤◌, ◌<◌}
 use mathlib.Core.Path.{◌≡◌, sym, ap}
 use lib.ListN.{length, get_or, set, length-set}
-use Rattle.molfile.specs.Work.{most, heft, bond_by, Weighed}
+use Rattle.molfile.specs.Work.{most, heft, bond_by}
 use Rattle.molfile.proofs.Weighing.{heft_small, back_small, weight_small, weighed_none, weighed_more, set_below}
-use borrow.Author.Rules.{rules}
 use native.Mathlib.Omega.{arith}
 use Rattle.molfile.proofs.dropping.weigh.Goals as goal
 use Rattle.molfile.proofs.dropping.weigh.Goals.{After-heft, After-wide_two-a, After-wide_two-b}

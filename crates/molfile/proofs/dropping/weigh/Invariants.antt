@@ -1,10 +1,5 @@
-use Prim.Native.Nat.{suc, ◌+◌, ◌-◌, ◌*◌, ◌≤◌, ◌<◌}
-use mathlib.Core.Path.{◌≡◌, sym, ap}
-use lib.ListN.{length, get_or, set, length-set}
-use Rattle.molfile.specs.Work.{most, heft, bond_by, Weighed}
-use Rattle.molfile.proofs.Weighing.{heft_small, back_small, weight_small, weighed_none, weighed_more, set_below}
-use borrow.Author.Rules.{rules}
-use native.Mathlib.Omega.{arith}
+use Prim.Native.Nat.{◌-◌, ◌≤◌}
+use Rattle.molfile.specs.Work.{Weighed}
 use Rattle.molfile.proofs.dropping.weigh.Given as goal
 
 -- `weigh` meets its contract. The loop's invariant: the weights are those by the first k bonds.

@@ -7,7 +7,6 @@ use Rattle.molfile.specs.Work.{most}
 use Rattle.molfile.specs.declared.Numbers.{Numbers}
 use Rattle.molfile.proofs.Turns.{walk-read, walk_refused}
 use Rattle.molfile.proofs.Chains.{lines_go_on, counts_few}
-use borrow.Author.Rules.{rules}
 use Rattle.molfile.proofs.ending.listed_end.Goals as goal
 
 pub lists-passed-requires : goal.lists-passed-requires

@@ -4,7 +4,6 @@ use Rattle.molfile.specs.Molfile.{counts_place, rest_by}
 use Rattle.molfile.specs.Work.{counts_reply}
 use Rattle.molfile.proofs.Turns.{numbers-refused, numbers-read}
 use Rattle.molfile.proofs.Chains.{lines_no_counts}
-use borrow.Author.Rules.{rules}
 use Rattle.molfile.proofs.ending.rest_place.Goals as goal
 
 pub listed_end-requires : goal.listed_end-requires

@@ -1,9 +1,6 @@
-use Prim.Native.Nat.{◌-◌, ◌≤◌}
+use Prim.Native.Nat.{◌-◌}
 use mathlib.Core.Path.{sym, ◌∙◌}
-use lib.ListN.{length}
 use native.Mathlib.Omega.{arith}
-use borrow.Author.Rules.{rules}
-use Rattle.adjacency.specs.Work.{numbers_at, steps_at, Filling}
 use Rattle.adjacency.specs.Filling.{filling_start, filling_end, filling_high, filling_room, filling_next}
 use Rattle.neighbours.proofs.bonds.fill.Goals as goal
 

@@ -1,10 +1,6 @@
 use Prim.Native.Nat.{◌-◌, ◌≤◌}
-use mathlib.Core.Path.{sym, ◌∙◌}
 use lib.ListN.{length}
-use native.Mathlib.Omega.{arith}
-use borrow.Author.Rules.{rules}
 use Rattle.adjacency.specs.Work.{numbers_at, steps_at, Filling}
-use Rattle.adjacency.specs.Filling.{filling_start, filling_end, filling_high, filling_room, filling_next}
 use Rattle.neighbours.proofs.bonds.fill.Given as goal
 
 -- `fill` meets its contract. The loop's invariant: p bytes are put, and what is left to put gives the whole.

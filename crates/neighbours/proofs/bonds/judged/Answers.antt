@@ -3,7 +3,6 @@ use Rattle.reply.specs.Read.{said_reply}
 use Rattle.block.specs.Block.{block_reply}
 use Rattle.reply.specs.Chain.{fine_read, refused_read}
 use Rattle.adjacency.specs.Judging.{no_label, label_alone, label_before, label_after}
-use borrow.Author.Rules.{rules}
 use Rattle.neighbours.proofs.bonds.judged.Goals as goal
 
 -- `judged` meets its contract: the block's reply, or 3 where the block is refused by nothing earlier. Assumes nothing.

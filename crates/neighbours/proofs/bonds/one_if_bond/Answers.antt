@@ -1,5 +1,4 @@
 use mathlib.Core.Path.{sym, ◌∙◌}
-use borrow.Author.Rules.{rules}
 use Rattle.neighbours.proofs.bonds.one_if_bond.Goals as goal
 
 -- `one_if_bond` meets its contract. Assumes nothing.

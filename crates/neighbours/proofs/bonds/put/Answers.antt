@@ -1,7 +1,6 @@
 use mathlib.Core.Path.{sym, ◌∙◌}
 use native.Mathlib.Omega.{arith}
 use lib.ListN.{length-set}
-use borrow.Author.Rules.{rules}
 use Rattle.neighbours.proofs.bonds.put.Goals as goal
 
 -- `put` meets its contract. Assumes nothing.

@@ -1,12 +1,8 @@
 use Prim.Native.Nat.{◌-◌, ◌<◌, ◌≤◌}
-use mathlib.Core.Path.{◌≡◌, sym, ◌∙◌}
+use mathlib.Core.Path.{◌≡◌}
 use lib.ListN.{length, drop}
-use native.Mathlib.Omega.{arith}
-use borrow.Author.Rules.{rules}
-use borrow.Author.Tests.{not-true, not-false}
 use Rattle.adjacency.specs.Neighbours.{text_number, run, numbers_from, too_much}
 use Rattle.adjacency.specs.Work.{numbers_at}
-use Rattle.adjacency.specs.Scanning.{numbers_first, run_past, run_more, run_stop}
 use Rattle.neighbours.proofs.scan.digits.Given as goal
 
 -- `digits` meets its contract. The loop's invariant: the numbers are those that go on with the digits so far.

@@ -1,5 +1,4 @@
 use mathlib.Core.Path.{sym, ◌∙◌}
-use borrow.Author.Rules.{rules}
 use Rattle.neighbours.proofs.scan.is_good.Goals as goal
 
 -- `is_good` meets its contract. Assumes nothing.

@@ -1,4 +1,3 @@
-use borrow.Author.Rules.{rules}
 use Rattle.neighbours.proofs.scan.last.Goals as goal
 
 -- `last` meets its contract. Assumes nothing.

@@ -1,6 +1,5 @@
 use mathlib.Core.Path.{◌∙◌}
 use native.Mathlib.Omega.{arith}
-use borrow.Author.Rules.{rules}
 use Rattle.adjacency.specs.Scanning.{numbers_past}
 use Rattle.neighbours.proofs.scan.number.Goals as goal
 

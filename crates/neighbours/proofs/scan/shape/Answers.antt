@@ -1,9 +1,8 @@
-use Prim.Native.Nat.{◌-◌, ◌≤◌}
-use mathlib.Core.Path.{◌≡◌, refl, sym, ◌∙◌, ap}
+use Prim.Native.Nat.{◌-◌}
+use mathlib.Core.Path.{refl, sym, ◌∙◌, ap}
 use lib.ListN.{length}
 use native.Mathlib.Omega.{arith}
-use borrow.Author.Rules.{rules}
-use Rattle.adjacency.specs.Work.{numbers_at, is_bond, shaped_from}
+use Rattle.adjacency.specs.Work.{is_bond}
 use Rattle.adjacency.specs.Turns.{one_at_most, shaped_none, shaped_last, shaped_more}
 use Rattle.neighbours.specs.Said.{said_shape}
 use Rattle.neighbours.proofs.scan.shape.Goals as goal

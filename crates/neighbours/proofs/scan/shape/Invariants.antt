@@ -1,11 +1,7 @@
 use Prim.Native.Nat.{◌-◌, ◌≤◌}
-use mathlib.Core.Path.{◌≡◌, refl, sym, ◌∙◌, ap}
+use mathlib.Core.Path.{◌≡◌}
 use lib.ListN.{length}
-use native.Mathlib.Omega.{arith}
-use borrow.Author.Rules.{rules}
-use Rattle.adjacency.specs.Work.{numbers_at, is_bond, shaped_from}
-use Rattle.adjacency.specs.Turns.{one_at_most, shaped_none, shaped_last, shaped_more}
-use Rattle.neighbours.specs.Said.{said_shape}
+use Rattle.adjacency.specs.Work.{numbers_at, shaped_from}
 use Rattle.neighbours.proofs.scan.shape.Given as goal
 
 -- `shape` meets its contract. The loop's invariant: the answer from `at` on, after k bonds, is the answer.

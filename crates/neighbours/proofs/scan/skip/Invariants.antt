@@ -1,10 +1,7 @@
 use Prim.Native.Nat.{◌-◌, ◌≤◌}
-use mathlib.Core.Path.{◌≡◌, refl, sym, ◌∙◌}
+use mathlib.Core.Path.{◌≡◌}
 use lib.ListN.{length}
-use native.Mathlib.Omega.{arith}
-use borrow.Author.Rules.{rules}
 use Rattle.adjacency.specs.Work.{numbers_at}
-use Rattle.adjacency.specs.Scanning.{numbers_skip}
 use Rattle.neighbours.proofs.scan.skip.Given as goal
 
 -- `skip` meets its contract. The loop's invariant: the numbers from i on are those from `at` on.

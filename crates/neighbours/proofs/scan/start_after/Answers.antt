@@ -1,5 +1,4 @@
 use mathlib.Core.Path.{sym, ◌∙◌}
-use borrow.Author.Rules.{rules}
 use Rattle.neighbours.proofs.scan.start_after.Goals as goal
 
 -- `start_after` meets its contract. Assumes nothing.

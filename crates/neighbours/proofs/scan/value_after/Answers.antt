@@ -1,5 +1,4 @@
 use mathlib.Core.Path.{sym, ◌∙◌}
-use borrow.Author.Rules.{rules}
 use Rattle.neighbours.proofs.scan.value_after.Goals as goal
 
 -- `value_after` meets its contract. Assumes nothing.

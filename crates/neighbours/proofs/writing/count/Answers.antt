@@ -1,8 +1,6 @@
-use Prim.Native.Nat.{◌-◌, ◌+◌, ◌≤◌}
+use Prim.Native.Nat.{◌-◌, ◌+◌}
 use mathlib.Core.Path.{◌≡◌, refl}
 use native.Mathlib.Omega.{arith}
-use borrow.Author.Rules.{rules}
-use lib.ListN.{length}
 use Rattle.adjacency.specs.Written.{up_to, is_greater, greater}
 use Rattle.adjacency.specs.Work.{joined_in}
 use Rattle.adjacency.specs.Putting.{up_count, up_short}

@@ -1,11 +1,8 @@
-use Prim.Native.Nat.{◌-◌, ◌+◌, ◌≤◌}
-use mathlib.Core.Path.{◌≡◌, refl}
-use native.Mathlib.Omega.{arith}
-use borrow.Author.Rules.{rules}
+use Prim.Native.Nat.{◌-◌, ◌≤◌}
+use mathlib.Core.Path.{◌≡◌}
 use lib.ListN.{length}
-use Rattle.adjacency.specs.Written.{up_to, is_greater, greater}
+use Rattle.adjacency.specs.Written.{up_to, is_greater}
 use Rattle.adjacency.specs.Work.{joined_in}
-use Rattle.adjacency.specs.Putting.{up_count, up_short}
 use Rattle.neighbours.proofs.writing.count.Given as goal
 
 -- `count` meets its contract. The loop's invariant: k of the atoms 1 to j are greater neighbours.

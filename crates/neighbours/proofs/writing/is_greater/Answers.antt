@@ -1,5 +1,4 @@
 use borrow.Author.Tests.{lt-ltb, le-ltb}
-use borrow.Author.Rules.{rules}
 use Rattle.graph.specs.Sets.{has}
 use Rattle.neighbours.proofs.writing.is_greater.Goals as goal
 

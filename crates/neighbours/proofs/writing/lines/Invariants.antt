@@ -1,12 +1,8 @@
 use Prim.Native.Nat.{◌-◌, ◌≤◌}
-use mathlib.Core.Path.{◌≡◌}
-use native.Mathlib.Omega.{arith}
-use borrow.Author.Rules.{rules}
 use Rattle.text.specs.Put.{Puts}
 use Rattle.text.proofs.Putting as putting
 use Rattle.adjacency.specs.Written.{lines}
 use Rattle.adjacency.specs.Work.{joined_in}
-use Rattle.adjacency.specs.Putting.{lines_next}
 use Rattle.neighbours.proofs.writing.lines.Given as goal
 
 -- `lines` meets its contract. The loop's invariant: the lines of the atoms 1 to i are put.

@@ -1,8 +1,6 @@
-use Prim.Native.Nat.{◌-◌, ◌≤◌}
+use Prim.Native.Nat.{◌-◌}
 use mathlib.Core.Path.{◌≡◌}
 use native.Mathlib.Omega.{arith}
-use borrow.Author.Rules.{rules}
-use Rattle.text.specs.Put.{Puts}
 use Rattle.text.proofs.Putting as putting
 use Rattle.adjacency.specs.Written.{up_to, is_greater, greater, listed}
 use Rattle.adjacency.specs.Work.{joined_in}

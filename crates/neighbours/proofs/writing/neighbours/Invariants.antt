@@ -1,12 +1,8 @@
 use Prim.Native.Nat.{◌-◌, ◌≤◌}
-use mathlib.Core.Path.{◌≡◌}
-use native.Mathlib.Omega.{arith}
-use borrow.Author.Rules.{rules}
 use Rattle.text.specs.Put.{Puts}
 use Rattle.text.proofs.Putting as putting
-use Rattle.adjacency.specs.Written.{up_to, is_greater, greater, listed}
+use Rattle.adjacency.specs.Written.{up_to, is_greater, listed}
 use Rattle.adjacency.specs.Work.{joined_in}
-use Rattle.adjacency.specs.Putting.{listed_next}
 use Rattle.neighbours.proofs.writing.neighbours.Given as goal
 
 -- `neighbours` meets its contract. The loop's invariant: the greater neighbours among the atoms 1 to j are put.

@@ -1,5 +1,4 @@
 use mathlib.Core.Path.{sym, ◌∙◌}
-use borrow.Author.Rules.{rules}
 use Rattle.neighbours.proofs.writing.one_if_greater.Goals as goal
 
 -- `one_if_greater` meets its contract. Assumes nothing.

@@ -1,6 +1,5 @@
 use Rattle.text.proofs.Putting.{both}
 use Rattle.adjacency.specs.Written.{text_by}
-use borrow.Author.Rules.{rules}
 use Rattle.neighbours.proofs.writing.text.Goals as goal
 
 -- `text` meets its contract: its parts are put one after the other.

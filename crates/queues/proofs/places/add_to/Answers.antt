@@ -5,7 +5,6 @@ use Rattle.reply.specs.Chain.{fine_read, refused_read}
 use Rattle.queues.specs.Shelf.{room_reply}
 use Rattle.summary.specs.Layout.{summary_bytes}
 use Rattle.queues.proofs.Answers.{add_unroomed, added_unroomed, add_roomed, added_roomed, room_place}
-use borrow.Author.Rules.{rules}
 use Rattle.queues.proofs.places.add_to.Goals as goal
 
 -- `add_to` meets its contract.

@@ -1,12 +1,10 @@
-use Prim.Native.Nat.{◌-◌, ◌≤◌}
-use mathlib.Core.Path.{◌≡◌, refl, sym, ◌∙◌}
+use Prim.Native.Nat.{◌-◌}
+use mathlib.Core.Path.{refl, sym, ◌∙◌}
 use native.Mathlib.Omega.{arith}
-use lib.ListN.{length, length-set, replicate}
-use lib.Seq.{sets}
+use lib.ListN.{length-set}
 use Rattle.queues.proofs.Steps.{clear_start, clear_one, clear_none}
 use Rattle.queues.specs.Table.{table_bytes, zeroed}
 use Rattle.summary.specs.Layout.{summary_bytes}
-use borrow.Author.Rules.{rules}
 use Rattle.queues.proofs.places.clear.Goals as goal
 
 pub loop-k-init : goal.loop-k-init

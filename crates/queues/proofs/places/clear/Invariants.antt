@@ -1,12 +1,9 @@
 use Prim.Native.Nat.{◌-◌, ◌≤◌}
-use mathlib.Core.Path.{◌≡◌, refl, sym, ◌∙◌}
-use native.Mathlib.Omega.{arith}
-use lib.ListN.{length, length-set, replicate}
+use mathlib.Core.Path.{◌≡◌}
+use lib.ListN.{length, replicate}
 use lib.Seq.{sets}
-use Rattle.queues.proofs.Steps.{clear_start, clear_one, clear_none}
-use Rattle.queues.specs.Table.{table_bytes, zeroed}
+use Rattle.queues.specs.Table.{table_bytes}
 use Rattle.summary.specs.Layout.{summary_bytes}
-use borrow.Author.Rules.{rules}
 use Rattle.queues.proofs.places.clear.Given as goal
 
 -- `clear` meets its contract. The loop's invariant: what is left to store makes of the bytes what all of it makes of the first ones.

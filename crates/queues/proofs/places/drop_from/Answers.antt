@@ -7,7 +7,6 @@ use Rattle.queues.specs.Shelf.{number_in, zero_number}
 use Rattle.queues.specs.Storage.{held_place}
 use Rattle.summary.specs.Layout.{summary_bytes}
 use Rattle.queues.proofs.Answers.{held_is, drop_none, drop_held, dropped_none, dropped_held}
-use borrow.Author.Rules.{rules}
 use borrow.Author.Tests.{not-true, not-false}
 use Rattle.queues.proofs.places.drop_from.Goals as goal
 

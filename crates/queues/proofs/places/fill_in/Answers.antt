@@ -1,5 +1,4 @@
 use Rattle.queues.proofs.Answers.{lent_reply, lent_bytes}
-use borrow.Author.Rules.{rules}
 use Rattle.queues.proofs.places.fill_in.Goals as goal
 
 -- `fill_in` meets its contract.

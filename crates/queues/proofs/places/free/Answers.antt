@@ -1,7 +1,6 @@
 use native.Mathlib.Numerals.{add-one}
 use native.Mathlib.Omega.{arith}
 use lib.ListN.{length-set}
-use borrow.Author.Rules.{rules}
 use Rattle.queues.proofs.places.free.Goals as goal
 
 -- `free` meets its contract.

@@ -6,7 +6,6 @@ use Rattle.queues.specs.Shelf.{number_in}
 use Rattle.queues.specs.Storage.{held_place}
 use Rattle.summary.specs.Layout.{summary_bytes, stored_fields}
 use Rattle.queues.proofs.Answers.{held_is, look_none, look_held}
-use borrow.Author.Rules.{rules}
 use borrow.Author.Tests.{not-true, not-false}
 use Rattle.queues.proofs.places.look_in.Goals as goal
 

@@ -3,7 +3,6 @@ use Rattle.reply.specs.Read.{said_reply}
 use Rattle.reply.specs.Chain.{fine_read, refused_read}
 use Rattle.block.specs.Block.{block_reply}
 use Rattle.queues.proofs.Answers.{first_refused, first_fine}
-use borrow.Author.Rules.{rules}
 use Rattle.queues.proofs.places.not_added.Goals as goal
 
 -- `not_added` meets its contract.

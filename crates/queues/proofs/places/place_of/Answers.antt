@@ -1,10 +1,9 @@
-use Prim.Native.Nat.{◌-◌, ◌≤◌}
+use Prim.Native.Nat.{◌-◌}
 use mathlib.Core.Path.{◌≡◌, refl, sym, ◌∙◌}
 use native.Mathlib.Omega.{arith}
-use Rattle.queues.specs.Shelf.{places, number_in, place_holding, seek}
+use Rattle.queues.specs.Shelf.{places, number_in}
 use Rattle.summary.specs.Layout.{summary_bytes}
 use Rattle.queues.proofs.Steps.{seek_here, seek_on, seek_over}
-use borrow.Author.Rules.{rules}
 use Rattle.queues.proofs.places.place_of.Goals as goal
 
 pub loop-k-init : goal.loop-k-init

@@ -1,10 +1,7 @@
 use Prim.Native.Nat.{◌-◌, ◌≤◌}
-use mathlib.Core.Path.{◌≡◌, refl, sym, ◌∙◌}
-use native.Mathlib.Omega.{arith}
+use mathlib.Core.Path.{◌≡◌}
 use Rattle.queues.specs.Shelf.{places, number_in, place_holding, seek}
 use Rattle.summary.specs.Layout.{summary_bytes}
-use Rattle.queues.proofs.Steps.{seek_here, seek_on, seek_over}
-use borrow.Author.Rules.{rules}
 use Rattle.queues.proofs.places.place_of.Given as goal
 
 -- `place_of` meets its contract. The loop's invariant: the search from place k on finds what the search from the first finds.

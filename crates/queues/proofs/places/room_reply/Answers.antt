@@ -2,7 +2,6 @@ use mathlib.Core.Path.{sym, ◌∙◌, ap}
 use native.Mathlib.Omega.{arith}
 use Rattle.reply.specs.Read.{said_reply}
 use Rattle.queues.proofs.Answers.{held_is, room_zero, room_held, room_fine, room_none}
-use borrow.Author.Rules.{rules}
 use Rattle.queues.proofs.places.room_reply.Goals as goal
 
 -- `room_reply` meets its contract.

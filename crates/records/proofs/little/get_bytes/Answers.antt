@@ -1,9 +1,7 @@
-use Prim.Native.Nat.{◌<◌, min}
+use Prim.Native.Nat.{min}
 use mathlib.Core.Path.{◌≡◌, sym, ◌∙◌}
 use native.Mathlib.Omega.{arith}
-use borrow.Author.Rules.{rules}
-use lib.ListN.{length}
-use Rattle.records.proofs.Numbers.{Last, past, none_yet, room, one_before, all_read}
+use Rattle.records.proofs.Numbers.{past, none_yet, room, one_before, all_read}
 use Rattle.records.proofs.little.get_bytes.Goals as goal
 
 pub returns-then-d-at : goal.returns-then-d-at

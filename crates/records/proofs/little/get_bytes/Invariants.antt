@@ -1,9 +1,6 @@
 use Prim.Native.Nat.{◌<◌, min}
-use mathlib.Core.Path.{◌≡◌, sym, ◌∙◌}
-use native.Mathlib.Omega.{arith}
-use borrow.Author.Rules.{rules}
 use lib.ListN.{length}
-use Rattle.records.proofs.Numbers.{Last, past, none_yet, room, one_before, all_read}
+use Rattle.records.proofs.Numbers.{Last}
 use Rattle.records.proofs.little.get_bytes.Given as goal
 
 -- `get_bytes` meets its contract. The loop's invariant: n is the number of the bytes from k on.

@@ -1,5 +1,4 @@
 use mathlib.Core.Path.{sym, ◌∙◌}
-use borrow.Author.Rules.{rules}
 use Rattle.records.specs.Words.{four_sum, eight_sum}
 use Rattle.records.proofs.little.little_at.Goals as goal
 

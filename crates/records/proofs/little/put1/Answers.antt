@@ -1,5 +1,4 @@
 use mathlib.Core.Path.{refl}
-use borrow.Author.Rules.{rules}
 use Rattle.records.proofs.little.put1.Goals as goal
 
 -- `records::little::put1` meets its contract. Assumes nothing.

@@ -1,5 +1,4 @@
 use Rattle.records.proofs.Putting.{two}
-use borrow.Author.Rules.{rules}
 use Rattle.records.proofs.little.put2.Goals as goal
 
 -- `records::little::put2` meets its contract. Assumes nothing.

@@ -1,5 +1,4 @@
 use Rattle.records.proofs.Putting.{four}
-use borrow.Author.Rules.{rules}
 use Rattle.records.proofs.little.put4.Goals as goal
 
 -- `records::little::put4` meets its contract. Assumes nothing.

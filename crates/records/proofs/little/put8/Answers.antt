@@ -1,5 +1,4 @@
 use Rattle.records.proofs.Putting.{eight}
-use borrow.Author.Rules.{rules}
 use Rattle.records.proofs.little.put8.Goals as goal
 
 -- `records::little::put8` meets its contract. Assumes nothing.

@@ -1,9 +1,8 @@
 use Prim.Native.Nat.{◌<◌}
-use mathlib.Core.Path.{◌≡◌, refl, sym, ◌∙◌}
+use mathlib.Core.Path.{refl, sym, ◌∙◌}
 use native.Mathlib.Omega.{arith}
 use borrow.Author.Tests.{ltb-true, ltb-false}
 use lib.ListN.{length, length-set}
-use lib.Seq.{sets}
 use Rattle.records.specs.Bytes.{little_bytes}
 use Rattle.records.proofs.Putting.{one_byte, no_byte, sets_past}
 use Rattle.records.proofs.little.put_bytes.Goals as goal

@@ -1,11 +1,7 @@
-use Prim.Native.Nat.{◌<◌}
-use mathlib.Core.Path.{◌≡◌, refl, sym, ◌∙◌}
-use native.Mathlib.Omega.{arith}
-use borrow.Author.Tests.{ltb-true, ltb-false}
-use lib.ListN.{length, length-set}
+use mathlib.Core.Path.{◌≡◌}
+use lib.ListN.{length}
 use lib.Seq.{sets}
 use Rattle.records.specs.Bytes.{little_bytes}
-use Rattle.records.proofs.Putting.{one_byte, no_byte, sets_past}
 use Rattle.records.proofs.little.put_bytes.Given as goal
 
 -- `put_bytes` meets its contract. The loop's invariant: what is left to store makes of the buffer what all of it makes of the first one.

@@ -1,4 +1,3 @@
-use borrow.Author.Rules.{rules}
 use Rattle.records.proofs.little.put_little.Goals as goal
 
 -- `put_little` meets its contract.

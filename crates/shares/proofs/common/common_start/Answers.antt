@@ -1,8 +1,6 @@
-use Prim.Native.Nat.{ℕ, ◌+◌, ◌-◌, min, ◌≤◌}
+use Prim.Native.Nat.{◌-◌}
 use mathlib.Core.Path.{◌≡◌}
 use native.Mathlib.Omega.{arith}
-use Rattle.graph.specs.Paths.{lcm_over}
-use Rattle.shares.specs.Work.{cap, Tally}
 use Rattle.shares.proofs.Tallying.{none_yet, taken_fits, taken_in}
 use Rattle.shares.proofs.common.common_start.Goals as goal
 

@@ -1,9 +1,7 @@
 use Prim.Native.Nat.{ℕ, ◌+◌, ◌-◌, min, ◌≤◌}
 use mathlib.Core.Path.{◌≡◌}
-use native.Mathlib.Omega.{arith}
 use Rattle.graph.specs.Paths.{lcm_over}
 use Rattle.shares.specs.Work.{cap, Tally}
-use Rattle.shares.proofs.Tallying.{none_yet, taken_fits, taken_in}
 use Rattle.shares.proofs.common.common_start.Given as goal
 
 -- `common_start` meets its contract: the counts passed are taken in.

@@ -1,8 +1,5 @@
 use Prim.Native.Nat.{ℕ}
-use native.Mathlib.Nat.{mod-lt}
-use native.Mathlib.Omega.{arith}
 use Rattle.graph.specs.Notions.{Gcd}
-use Rattle.graph.specs.Lcm.{gcd_step, gcd_end}
 use Rattle.shares.proofs.common.gcd.Given as goal
 
 -- `gcd` meets its contract: what divides the two numbers at hand are the divisors of a and b.

@@ -5,7 +5,7 @@ use native.Mathlib.Omega.{arith}
 use lib.ListN.{length, get_or}
 use Rattle.block.specs.Block.{graph_of}
 use Rattle.block.specs.Numbered.{bond_at}
-use Rattle.block.specs.Lent.{EntriesFilled, filled_none, filled_store}
+use Rattle.block.specs.Lent.{filled_none, filled_store}
 use Rattle.shares.specs.Work.{full, at, carried, StartRows}
 use Rattle.shares.proofs.Flowing.{carried_low, there_fits, back_fits, flows}
 use Rattle.shares.proofs.flows.add_flows.Goals as goal

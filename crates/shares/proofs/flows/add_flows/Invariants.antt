@@ -1,13 +1,9 @@
-use Prim.Native.Nat.{ℕ, ◌+◌, ◌-◌, ◌/◌, ◌≤◌}
-use mathlib.Core.Path.{◌≡◌}
-use native.Mathlib.Nat.{le_refl}
-use native.Mathlib.Omega.{arith}
-use lib.ListN.{length, get_or}
+use Prim.Native.Nat.{ℕ, ◌+◌, ◌-◌, ◌≤◌}
+use lib.ListN.{get_or}
 use Rattle.block.specs.Block.{graph_of}
 use Rattle.block.specs.Numbered.{bond_at}
-use Rattle.block.specs.Lent.{EntriesFilled, filled_none, filled_store}
-use Rattle.shares.specs.Work.{full, at, carried, StartRows}
-use Rattle.shares.proofs.Flowing.{carried_low, there_fits, back_fits, flows}
+use Rattle.block.specs.Lent.{EntriesFilled}
+use Rattle.shares.specs.Work.{carried, StartRows}
 use Rattle.shares.proofs.flows.add_flows.Given as goal
 
 -- `add_flows` meets its contract: the bonds passed have what they carry added.

@@ -97,8 +97,7 @@ rows c h =
 
 pub add_flows-requires : goal.add_flows-requires
 add_flows-requires c =
-    let p = c.requires in
-    (
+    let p = c.requires in (
       (_, _, _, rows (goal.at.add_flows-requires c).After-onward (c.onward.ensures _ _ _ _ _ p.0 (weighed (goal.at.add_flows-requires c).After-onward))),
       sofar_room (next (goal.at.add_flows-requires c).Else-d-gt-MOST) c.args.i (few (goal.at.add_flows-requires c).Else-d-gt-MOST) (raised p.1 (next (goal.at.add_flows-requires c).Else-d-gt-MOST) (few (goal.at.add_flows-requires c).Else-d-gt-MOST) p.2 c.raise.ensures),
     )
@@ -110,8 +109,7 @@ shape_of-out c =
 
 pub returns : goal.returns
 returns c =
-    let p = c.requires in
-    (
+    let p = c.requires in (
       found (goal.at.returns c).After-common_start-d,
       λ l. added (raised p.1 (next (goal.at.returns c).Else-d-gt-MOST) (few (goal.at.returns c).Else-d-gt-MOST) p.2 c.raise.ensures) (c.add_flows.ensures _ _ _ (rows (goal.at.returns c).After-onward (c.onward.ensures _ _ _ _ _ p.0 (weighed (goal.at.returns c).After-onward)))),
     )

@@ -1,13 +1,8 @@
-use Prim.Native.Nat.{◌-◌, min, ◌≤◌}
-use mathlib.Core.Path.{◌≡◌, refl}
+use Prim.Native.Nat.{◌-◌, ◌≤◌}
+use mathlib.Core.Path.{refl}
 use native.Mathlib.Omega.{arith}
 use borrow.Author.Rules.{rules}
-use lib.ListN.{length}
-use Rattle.graph.specs.Paths.{path_count}
-use Rattle.graph.specs.Notions.{lcm_starts}
-use Rattle.block.specs.Block.{graph_of}
 use Rattle.shares.specs.Reply.{most_denominator}
-use Rattle.shares.specs.Work.{cap, Sofar}
 use Rattle.shares.proofs.Tallying.{start_below, start_of, stops_early, starts_done}
 use Rattle.shares.proofs.Starting.{whole_at, sofar_all}
 use Rattle.shares.proofs.flows.fill.Goals as goal

@@ -1,8 +1,7 @@
-use Prim.Native.Nat.{◌-◌, ◌≤◌}
+use Prim.Native.Nat.{◌-◌}
 use mathlib.Core.Path.{◌≡◌, refl}
 use native.Mathlib.Omega.{arith}
-use lib.ListN.{get_or}
-use Rattle.block.specs.Lent.{EntriesFilled, filled_none, filled_store}
+use Rattle.block.specs.Lent.{filled_none, filled_store}
 use Rattle.shares.proofs.flows.put.Goals as goal
 
 pub loop-j-init : goal.loop-j-init

@@ -1,9 +1,9 @@
-use Prim.Native.Nat.{ℕ, ◌*◌, ◌-◌, ◌≤◌}
+use Prim.Native.Nat.{ℕ, ◌*◌, ◌-◌}
 use mathlib.Core.Path.{◌≡◌, ap}
 use native.Mathlib.Nat.{le_refl}
 use native.Mathlib.Omega.{arith}
 use lib.ListN.{get_or}
-use Rattle.block.specs.Lent.{EntriesFilled, filled_none, filled_same, filled_store}
+use Rattle.block.specs.Lent.{filled_none, filled_same, filled_store}
 use Rattle.shares.proofs.flows.raise.Goals as goal
 use Rattle.shares.proofs.flows.raise.Goals.{In-loop-k}
 

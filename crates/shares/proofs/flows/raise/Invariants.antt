@@ -1,9 +1,6 @@
-use Prim.Native.Nat.{ℕ, ◌*◌, ◌-◌, ◌≤◌}
-use mathlib.Core.Path.{◌≡◌, ap}
-use native.Mathlib.Nat.{le_refl}
-use native.Mathlib.Omega.{arith}
+use Prim.Native.Nat.{◌*◌, ◌-◌, ◌≤◌}
 use lib.ListN.{get_or}
-use Rattle.block.specs.Lent.{EntriesFilled, filled_none, filled_same, filled_store}
+use Rattle.block.specs.Lent.{EntriesFilled}
 use Rattle.shares.proofs.flows.raise.Given as goal
 
 -- `raise` meets its contract: the entries passed are multiplied.

@@ -1,17 +1,11 @@
-use Prim.Native.Nat.{ℕ, suc, ◌+◌, ◌-◌, ◌/◌, ◌≤◌}
-use mathlib.Core.Bool.{Bool, cond}
-use mathlib.Core.Path.{◌≡◌, refl, sym, ◌∙◌, ap}
-use native.Mathlib.Nat.{div-le_self}
-use native.Mathlib.Omega.{arith}
-use borrow.Author.Rules.{rules}
-use borrow.Author.Tests.{lt-ltb, le-ltb}
+use Prim.Native.Nat.{ℕ, suc, ◌-◌, ◌/◌, ◌≤◌}
+use mathlib.Core.Bool.{cond}
+use mathlib.Core.Path.{◌≡◌}
 use lib.Dec.{ltb}
 use lib.ListN.{length}
 use Rattle.graph.specs.Graph.{Within}
 use Rattle.block.specs.Block.{most_atoms}
 use Rattle.shares.specs.Work.{at}
-use Rattle.block.specs.Lent.{zeros}
-use Rattle.shares.proofs.Rows.{store_low, seated_next}
 use Rattle.shares.proofs.flows.weights.Given as goal
 
 -- `weights` meets its contract: the atoms passed after start have their part, the others none.

@@ -1,11 +1,11 @@
-use Prim.Native.Nat.{suc, ◌-◌, ◌≤◌, ◌<◌}
+use Prim.Native.Nat.{suc, ◌-◌, ◌<◌}
 use mathlib.Core.Path.{◌≡◌, refl}
 use native.Mathlib.Numerals.{add-one}
 use native.Mathlib.Omega.{arith}
 use Rattle.graph.specs.SetLaws.{shifted_one}
 use Rattle.block.specs.Block.{most_atoms}
 use Rattle.block.specs.Lent.{zeros}
-use Rattle.shares.proofs.Layering.{Layered, layered_start, layered_next, layered_end}
+use Rattle.shares.proofs.Layering.{layered_start, layered_next, layered_end}
 use Rattle.shares.proofs.sweeps.by_level.Goals as goal
 use Rattle.shares.proofs.sweeps.by_level.Goals.{After-wide_byte-d}
 

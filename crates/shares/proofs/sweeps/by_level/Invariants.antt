@@ -1,11 +1,5 @@
-use Prim.Native.Nat.{suc, ◌-◌, ◌≤◌, ◌<◌}
-use mathlib.Core.Path.{◌≡◌, refl}
-use native.Mathlib.Numerals.{add-one}
-use native.Mathlib.Omega.{arith}
-use Rattle.graph.specs.SetLaws.{shifted_one}
-use Rattle.block.specs.Block.{most_atoms}
-use Rattle.block.specs.Lent.{zeros}
-use Rattle.shares.proofs.Layering.{Layered, layered_start, layered_next, layered_end}
+use Prim.Native.Nat.{◌-◌, ◌≤◌}
+use Rattle.shares.proofs.Layering.{Layered}
 use Rattle.shares.proofs.sweeps.by_level.Given as goal
 
 -- `by_level` meets its contract: the atoms passed stand in their levels.

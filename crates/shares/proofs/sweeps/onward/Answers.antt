@@ -1,5 +1,4 @@
 use native.Mathlib.Omega.{arith}
-use borrow.Author.Rules.{rules}
 use Rattle.shares.proofs.Counting.{rule_gathered}
 use Rattle.shares.proofs.sweeps.onward.Goals as goal
 

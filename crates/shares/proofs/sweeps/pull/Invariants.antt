@@ -1,14 +1,7 @@
-use Prim.Native.Nat.{ℕ, ◌+◌, ◌*◌, ◌^◌, ◌≤◌, ◌<◌}
-use mathlib.Core.List.{List}
-use mathlib.Core.Path.{◌≡◌, ap}
-use mathlib.Core.Bool.{Bool, true, false, cond}
-use native.Mathlib.Omega.{arith}
-use Rattle.graph.specs.Lowest.{lowest_in, rest_less}
-use Rattle.graph.specs.Sets.{has}
-use Rattle.graph.specs.Sums.{sum_le}
+use Prim.Native.Nat.{◌+◌, ◌^◌, ◌<◌}
+use mathlib.Core.Path.{◌≡◌}
 use Rattle.block.specs.Block.{most_atoms}
-use Rattle.shares.specs.Work.{full, at, over_set}
-use Rattle.shares.proofs.Sweeping.{first, less, over_less, over_none}
+use Rattle.shares.specs.Work.{at, over_set}
 use Rattle.shares.proofs.sweeps.pull.Given as goal
 
 -- `pull` meets its contract: what was taken and what the rest has are what the set has.

@@ -1,13 +1,8 @@
 use Prim.Native.Nat.{ℕ, suc, ◌+◌, ◌-◌, ◌≤◌, ◌<◌}
-use mathlib.Core.Path.{◌≡◌, refl, ◌∙◌}
-use native.Mathlib.Omega.{arith}
-use lib.ListN.{length, length-set}
-use lib.Seq.{get_or-set_other}
+use mathlib.Core.Path.{◌≡◌}
+use lib.ListN.{length}
 use Rattle.block.specs.Block.{most_atoms}
 use Rattle.shares.specs.Work.{at}
-use Rattle.block.specs.Lent.{zeros}
-use Rattle.shares.proofs.Rows.{placed}
-use Rattle.shares.proofs.Layering.{turned}
 use Rattle.shares.proofs.sweeps.reversed.Given as goal
 
 -- `reversed` meets its contract: the levels passed stand from the top down.

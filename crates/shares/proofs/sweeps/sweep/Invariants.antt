@@ -1,13 +1,10 @@
 use Prim.Native.Nat.{ℕ, suc, ◌+◌, ◌*◌, ◌-◌, ◌^◌, ◌≤◌, ◌<◌}
 use mathlib.Core.Bool.{Bool}
-use mathlib.Core.Path.{◌≡◌, refl, ◌∙◌}
-use native.Mathlib.Omega.{arith}
-use lib.ListN.{length, length-set}
-use Rattle.graph.specs.Lowest.{lowest_in, rest_less}
+use mathlib.Core.Path.{◌≡◌}
+use lib.ListN.{length}
 use Rattle.block.specs.Block.{most_atoms}
 use Rattle.shares.specs.Work.{at, NearSets, Levels, Rule}
-use Rattle.shares.proofs.Rows.{store_low}
-use Rattle.shares.proofs.Sweeping.{first, less, wide_set, taken, asked_fits, Sweeping, sweeping_start, sweeping_level, sweeping_take, sweeping_done}
+use Rattle.shares.proofs.Sweeping.{Sweeping}
 use Rattle.shares.proofs.sweeps.sweep.Given as goal
 
 -- `sweep` meets its contract: the row is right for the atoms passed.

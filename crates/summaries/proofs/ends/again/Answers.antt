@@ -1,8 +1,5 @@
-use Prim.Native.Nat.{◌+◌, ◌-◌, ◌≤◌}
-use mathlib.Core.Path.{◌≡◌}
+use Prim.Native.Nat.{◌-◌}
 use native.Mathlib.Omega.{arith}
-use borrow.Author.Rules.{rules}
-use Rattle.summaries.specs.Ends.{Nowhere}
 use Rattle.summaries.proofs.Storing.{nowhere_more}
 use Rattle.summaries.proofs.ends.again.Goals as goal
 

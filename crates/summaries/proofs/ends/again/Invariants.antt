@@ -1,9 +1,6 @@
 use Prim.Native.Nat.{◌+◌, ◌-◌, ◌≤◌}
 use mathlib.Core.Path.{◌≡◌}
-use native.Mathlib.Omega.{arith}
-use borrow.Author.Rules.{rules}
 use Rattle.summaries.specs.Ends.{Nowhere}
-use Rattle.summaries.proofs.Storing.{nowhere_more}
 use Rattle.summaries.proofs.ends.again.Given as goal
 
 -- `summaries::ends::again` meets its contract. The loop's invariant: where none was counted, none of the ends from e to g is x. Assumes nothing.

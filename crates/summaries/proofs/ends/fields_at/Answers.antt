@@ -1,7 +1,6 @@
 use mathlib.Core.Path.{◌∙◌, ap}
 use Rattle.summary.specs.Layout.{stored_fields}
 use Rattle.shelf.specs.Shelf.{summary_at}
-use borrow.Author.Rules.{rules}
 use Rattle.summaries.proofs.ends.fields_at.Goals as goal
 
 -- `summaries::ends::fields_at` meets its contract. Assumes nothing.

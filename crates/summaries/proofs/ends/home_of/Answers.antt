@@ -1,6 +1,5 @@
 use mathlib.Core.Path.{sym, ◌∙◌}
 use native.Mathlib.Omega.{arith}
-use borrow.Author.Rules.{rules}
 use Rattle.summaries.proofs.Storing.{own_home, site_home}
 use Rattle.summaries.proofs.ends.home_of.Goals as goal
 

@@ -2,7 +2,6 @@ use Prim.Native.Nat.{ℕ, ◌/◌, ◌<◌}
 use mathlib.Core.List.{[]}
 use mathlib.Core.Path.{◌≡◌, sym, ◌∙◌, subst}
 use native.Mathlib.Omega.{arith}
-use borrow.Author.Rules.{rules}
 use lib.ListN.{length, get_or}
 use Rattle.summaries.specs.Ends.{Stepped}
 use Rattle.summaries.proofs.Storing.{put_other, put_here, has_home}

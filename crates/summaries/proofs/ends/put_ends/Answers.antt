@@ -1,7 +1,6 @@
-use Prim.Native.Nat.{ℕ, ◌-◌, ◌≤◌}
+use Prim.Native.Nat.{ℕ, ◌-◌}
 use mathlib.Core.Path.{◌≡◌, refl, ◌∙◌, subst}
 use native.Mathlib.Omega.{arith}
-use lib.ListN.{length}
 use Rattle.summaries.specs.Ends.{Put}
 use Rattle.summaries.proofs.Storing.{put_none, put_more}
 use Rattle.summaries.proofs.ends.put_ends.Goals as goal

@@ -1,9 +1,7 @@
-use Prim.Native.Nat.{ℕ, ◌-◌, ◌≤◌}
-use mathlib.Core.Path.{◌≡◌, refl, ◌∙◌, subst}
-use native.Mathlib.Omega.{arith}
+use Prim.Native.Nat.{◌-◌, ◌≤◌}
+use mathlib.Core.Path.{◌≡◌}
 use lib.ListN.{length}
 use Rattle.summaries.specs.Ends.{Put}
-use Rattle.summaries.proofs.Storing.{put_none, put_more}
 use Rattle.summaries.proofs.ends.put_ends.Given as goal
 
 -- `summaries::ends::put_ends` meets its contract. The loop's invariant: what is seen from x is put for the ends from e to f. Assumes nothing.

@@ -1,6 +1,5 @@
 use mathlib.Core.Path.{◌∙◌, ap, subst⁻¹}
 use native.Mathlib.Omega.{arith}
-use borrow.Author.Rules.{rules}
 use lib.Dec.{lit<}
 use Rattle.joining.specs.Small.{SmallCounts}
 use Rattle.sighted.specs.declared.Seen.{Seen}

@@ -1,7 +1,6 @@
-use Prim.Native.Nat.{◌*◌, ◌-◌, ◌≤◌}
+use Prim.Native.Nat.{◌*◌, ◌-◌}
 use mathlib.Core.Path.{◌≡◌, refl, ◌∙◌, subst}
 use native.Mathlib.Omega.{arith}
-use lib.ListN.{length}
 use Rattle.summaries.specs.Ends.{Known}
 use Rattle.summaries.proofs.Storing.{known_none, steps_known, counts_known}
 use Rattle.summaries.proofs.ends.see_ends.Goals as goal

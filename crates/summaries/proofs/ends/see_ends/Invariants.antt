@@ -1,9 +1,7 @@
 use Prim.Native.Nat.{◌*◌, ◌-◌, ◌≤◌}
-use mathlib.Core.Path.{◌≡◌, refl, ◌∙◌, subst}
-use native.Mathlib.Omega.{arith}
+use mathlib.Core.Path.{◌≡◌}
 use lib.ListN.{length}
 use Rattle.summaries.specs.Ends.{Known}
-use Rattle.summaries.proofs.Storing.{known_none, steps_known, counts_known}
 use Rattle.summaries.proofs.ends.see_ends.Given as goal
 
 -- `summaries::ends::see_ends` meets its contract. The loop's invariant: the ends before e are stored, and those that count an atom. Assumes nothing.

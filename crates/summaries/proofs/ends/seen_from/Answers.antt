@@ -3,7 +3,6 @@ use mathlib.Core.List.{List}
 use mathlib.Core.Path.{◌∙◌, ap}
 use Rattle.summary.specs.Layout.{seen_at}
 use Rattle.shelf.specs.Shelf.{summary_at}
-use borrow.Author.Rules.{rules}
 use Rattle.summaries.proofs.ends.seen_from.Goals as goal
 
 -- `summaries::ends::seen_from` meets its contract. Assumes nothing.

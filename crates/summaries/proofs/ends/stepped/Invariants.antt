@@ -1,17 +1,8 @@
-use Prim.Native.Nat.{ℕ, ◌+◌, ◌-◌, ◌%◌, ◌≤◌, ◌<◌}
-use mathlib.Core.List.{List}
-use mathlib.Core.Logic.{⊎_elim}
-use mathlib.Core.Path.{◌≡◌, sym, ◌∙◌, ap, subst⁻¹}
-use native.Mathlib.Omega.{arith}
-use borrow.Author.Rules.{rules}
-use lib.ListN.{length, get_or, length-set}
-use Rattle.graph.specs.Graph.{Within}
-use Rattle.block.specs.Block.{most_atoms}
+use Prim.Native.Nat.{◌-◌, ◌≤◌}
+use mathlib.Core.Path.{◌≡◌}
+use lib.ListN.{length}
 use Rattle.assembly.specs.Placements.{most_placements}
-use Rattle.summaries.specs.Ready.{joins_in}
 use Rattle.summaries.specs.Ends.{Stepped}
-use Rattle.summaries.proofs.Ports.{fit}
-use Rattle.summaries.proofs.Storing.{step_none, step_past, step_put, steps_at}
 use Rattle.summaries.proofs.ends.stepped.Given as goal
 
 -- `summaries::ends::stepped` meets its contract. The loop's invariant: the row is filled up to index z. Assumes nothing.

@@ -1,11 +1,7 @@
-use Prim.Native.Nat.{ℕ, ◌+◌, ◌-◌, ◌^◌, ◌<◌}
-use mathlib.Core.List.{List, []}
-use mathlib.Core.Path.{◌≡◌, sym, ◌∙◌, ap}
-use native.Mathlib.Omega.{arith}
-use lib.ListN.{length, get_or}
+use Prim.Native.Nat.{◌+◌, ◌-◌}
+use mathlib.Core.Path.{◌≡◌}
 use Rattle.graph.specs.Graph.{Within}
 use Rattle.summaries.specs.Ready.{joins_in, between}
-use Rattle.summaries.proofs.Ports.{small, earlier, above, between_small, between_same, between_first, between_second, step_own}
 use Rattle.summaries.proofs.joins.apart.Given as goal
 
 -- `summaries::joins::apart` meets its contract. The loop's invariant: what was climbed and what is left make what was asked for. The measure is the

@@ -8,7 +8,6 @@ use Rattle.joining.specs.Small.{grown_small}
 use lib.ListN.{get_or}
 use Rattle.summaries.specs.Ready.{place_in, joins_in, core_at, site_seen}
 use Rattle.summaries.proofs.Ports.{small, earlier, above, own_small, from_small, far_small, step_own, begun_first, begun_later}
-use borrow.Author.Rules.{rules}
 use Rattle.summaries.proofs.joins.begun.Goals as goal
 use Rattle.summaries.proofs.joins.begun.Goals.{After-core_at-v, Else-above-eq0}
 

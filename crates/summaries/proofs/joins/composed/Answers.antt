@@ -1,7 +1,6 @@
-use Prim.Native.Nat.{ℕ, ◌+◌, ◌*◌, ◌-◌, ◌/◌, ◌≤◌, ◌<◌}
+use Prim.Native.Nat.{ℕ, ◌+◌, ◌*◌, ◌-◌, ◌/◌, ◌<◌}
 use mathlib.Core.List.{List}
 use mathlib.Core.Path.{◌≡◌, refl, ◌∙◌, ap, subst⁻¹}
-use borrow.Author.Rules.{rules}
 use native.Mathlib.Omega.{arith}
 use lib.Dec.{lit<}
 use lib.ListN.{length, length-set}
@@ -12,7 +11,7 @@ use Rattle.joining.specs.Parts.{six_in}
 use Rattle.joining.specs.Small.{SmallCounts, joined_small}
 use Rattle.summary.specs.Layout.{stored_fields}
 use Rattle.shelf.specs.Shelf.{summary_at, place_of}
-use Rattle.summaries.specs.Ready.{place_in, kept_in, joins_in, sight_of_row, Counted}
+use Rattle.summaries.specs.Ready.{place_in, kept_in, joins_in, sight_of_row}
 use Rattle.summaries.proofs.Ports.{small, own_small, block_room, six_room, from_small, six_next}
 use Rattle.summaries.proofs.Storing.{made_more}
 use Rattle.summaries.proofs.joins.composed.Goals as goal

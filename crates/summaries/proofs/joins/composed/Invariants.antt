@@ -1,20 +1,8 @@
-use Prim.Native.Nat.{ℕ, ◌+◌, ◌*◌, ◌-◌, ◌/◌, ◌≤◌, ◌<◌}
-use mathlib.Core.List.{List}
-use mathlib.Core.Path.{◌≡◌, refl, ◌∙◌, ap, subst⁻¹}
-use borrow.Author.Rules.{rules}
-use native.Mathlib.Omega.{arith}
-use lib.Dec.{lit<}
-use lib.ListN.{length, length-set}
-use Rattle.graph.specs.Graph.{Within}
-use Rattle.assembly.specs.Placements.{most_placements}
-use Rattle.block.specs.declared.Indices.{Indices}
+use Prim.Native.Nat.{◌-◌, ◌≤◌}
+use mathlib.Core.Path.{◌≡◌}
+use lib.ListN.{length}
 use Rattle.joining.specs.Parts.{six_in}
-use Rattle.joining.specs.Small.{SmallCounts, joined_small}
-use Rattle.summary.specs.Layout.{stored_fields}
-use Rattle.shelf.specs.Shelf.{summary_at, place_of}
-use Rattle.summaries.specs.Ready.{place_in, kept_in, joins_in, sight_of_row, Counted}
-use Rattle.summaries.proofs.Ports.{small, own_small, block_room, six_room, from_small, six_next}
-use Rattle.summaries.proofs.Storing.{made_more}
+use Rattle.summaries.specs.Ready.{kept_in, joins_in, Counted}
 use Rattle.summaries.proofs.joins.composed.Given as goal
 
 abbrev pub invariant-loop-k : goal.invariant-loop-k

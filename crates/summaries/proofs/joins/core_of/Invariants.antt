@@ -1,14 +1,7 @@
-use Prim.Native.Nat.{ℕ, ◌-◌, ◌≤◌, ◌<◌}
-use mathlib.Core.Path.{◌≡◌, refl, sym, ◌∙◌, ap}
-use native.Mathlib.Omega.{arith}
-use borrow.Author.Rules.{rules}
-use lib.ListN.{length, length-set}
-use Rattle.joining.specs.Small.{grown_small}
-use Rattle.graph.specs.Graph.{Within}
-use Rattle.assembly.specs.Placements.{most_placements}
-use Rattle.summaries.specs.Ready.{place_in, joins_in, sight_from, Kept}
-use Rattle.summaries.proofs.Ports.{small, earlier, own_small, from_small, between_small, from_next}
-use Rattle.summaries.proofs.Storing.{kept_more}
+use Prim.Native.Nat.{◌-◌, ◌≤◌}
+use mathlib.Core.Path.{◌≡◌}
+use lib.ListN.{length}
+use Rattle.summaries.specs.Ready.{joins_in, sight_from, Kept}
 use Rattle.summaries.proofs.joins.core_of.Given as goal
 
 -- `summaries::joins::core_of` meets its contract. The loop's invariant: v is counted from the parent's atom in the first m placements, and the

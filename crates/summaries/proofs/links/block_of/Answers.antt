@@ -1,7 +1,6 @@
 use Prim.Native.Nat.{◌-◌}
 use mathlib.Core.Path.{◌≡◌, ◌∙◌, ap}
 use native.Mathlib.Omega.{arith}
-use borrow.Author.Rules.{rules}
 use Rattle.assembly.specs.Placements.{placement_at}
 use Rattle.assembly.specs.declared.Placement.{Placement}
 use Rattle.summaries.proofs.links.block_of.Goals as goal

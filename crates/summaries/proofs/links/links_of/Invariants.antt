@@ -1,11 +1,5 @@
-use Prim.Native.Nat.{ℕ, ◌-◌, ◌≤◌, ◌<◌}
-use mathlib.Core.Path.{◌≡◌, ◌∙◌, ap, subst}
-use native.Mathlib.Omega.{arith}
-use borrow.Author.Rules.{rules}
-use Rattle.assembly.specs.Placements.{most_placements, placement_at}
-use Rattle.assembly.specs.declared.Placement.{Placement}
+use Prim.Native.Nat.{◌-◌, ◌≤◌}
 use Rattle.summaries.specs.Ready.{LinkedUpTo}
-use Rattle.summaries.proofs.Linking.{linked_more}
 use Rattle.summaries.proofs.links.links_of.Given as goal
 
 -- `summaries::links::links_of` meets its contract. The loop's invariant: the first k placements stand in the table. Assumes nothing.

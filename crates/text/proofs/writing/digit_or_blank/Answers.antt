@@ -1,6 +1,5 @@
 use mathlib.Core.Path.{◌∙◌}
 use borrow.Author.Tests.{lt-ltb, le-ltb}
-use borrow.Author.Rules.{rules}
 use Rattle.text.proofs.writing.digit_or_blank.Goals as goal
 
 -- `text::digit_or_blank` meets its contract. Assumes nothing.

@@ -1,9 +1,7 @@
-use Prim.Native.Nat.{◌+◌, ◌-◌, ◌≤◌, ◌<◌}
-use mathlib.Core.Path.{◌≡◌, refl, ◌∙◌}
+use Prim.Native.Nat.{◌-◌, ◌<◌}
+use mathlib.Core.Path.{refl, ◌∙◌}
 use native.Mathlib.Omega.{arith}
-use lib.ListN.{length, get_or, take, length-set}
-use lib.Seq.{sets}
-use borrow.Author.Rules.{rules}
+use lib.ListN.{length, get_or, length-set}
 use borrow.Author.Tests.{ltb-true, ltb-false}
 use Rattle.text.proofs.Putting.{one_more, all_put, no_room}
 use Rattle.text.proofs.writing.put.Goals as goal

@@ -1,5 +1,4 @@
 use Rattle.text.proofs.Putting.{byte_out}
-use borrow.Author.Rules.{rules}
 use Rattle.text.proofs.writing.put_byte.Goals as goal
 
 -- `text::put_byte` meets its contract. Assumes nothing.

@@ -1,7 +1,6 @@
 use native.Mathlib.Omega.{arith}
 use Rattle.text.proofs.Putting.{as_word}
 use Rattle.text.proofs.Written.{one_digit, two_digits, three_digits}
-use borrow.Author.Rules.{rules}
 use Rattle.text.proofs.writing.put_decimal.Goals as goal
 
 -- `text::put_decimal` meets its contract: one, two or three digits. Assumes nothing.

@@ -1,6 +1,5 @@
 use Rattle.text.proofs.Putting.{as_word}
 use Rattle.text.proofs.Written.{three_is}
-use borrow.Author.Rules.{rules}
 use Rattle.text.proofs.writing.put_three.Goals as goal
 
 -- `text::put_three` meets its contract. Assumes nothing.
