@@ -36,6 +36,7 @@ impl Tally {
         })
     }
 
+    // The only error is that of a write.
     pub fn print<R: Print>(self, rt: &R) -> io::Result<()> {
         let right = self.right;
         let wrong = self.wrong;

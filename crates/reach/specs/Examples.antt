@@ -10,7 +10,7 @@ use Rattle.block.specs.Opened.{neighbours_of, drawn_near}
 use Rattle.block.specs.Rows.{no_row}
 use Rattle.block.specs.declared.IndicesReply.TheVariants.{Of, Refused}
 
--- a path of three: 𝓛 is 4; atom 2 is next to atoms 1 and 3
+-- a path of three: W is 4; atom 2 is next to atoms 1 and 3
 pub path : (said_indices (indices_reply 3 (1 ∷ 2 ∷ 2 ∷ 3 ∷ [])) ≡ Of (record { atoms = 3; w = 4; even = 2; odd = 2; polarity = 0; largest = 2 }))
     × (get_or (drawn_near 3 (1 ∷ 2 ∷ 2 ∷ 3 ∷ [])) 1 0 ≡ 5)
 unfolding drawn_reply drawn_near indices_reply indices_of neighbours_of table block_reply bonds_reply bond_fault bonds_of joins any_joins bonded any_atom reaches first_from distance all_atoms connected degree sum sum_pairs even_of odd_of is_at total most most_pairs largest

@@ -110,7 +110,7 @@ pub ringed_terms :
 unfolding ringed ringed_again joins any_joins bonded any_atom reaches first_from distance all_atoms connected degree sum bonds_of bond_fault bonds_reply block_reply closer nearer szeged_term sum_bonds szeged_reply szeged.filled_terms
 ringed_terms = (refl, refl, refl)
 
--- Each bond of a path of three is one of a ring of three, but not back: no numbering makes them the same, since 𝓛 is 4 and 3.
+-- Each bond of a path of three is one of a ring of three, but not back: no numbering makes them the same, since W is 4 and 3.
 abbrev path : Graph
 path = graph_of 3 (1 ∷ 2 ∷ 2 ∷ 3 ∷ [])
 

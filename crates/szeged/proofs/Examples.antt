@@ -31,7 +31,7 @@ pub of_ring : szeged_entries 5 (1 ∷ 2 ∷ 2 ∷ 3 ∷ 3 ∷ 4 ∷ 4 ∷ 5 ∷ 
 unfolding joins any_joins bonded any_atom reaches first_from distance all_atoms connected degree sum bonds_of bond_fault bonds_reply block_reply closer nearer szeged_term sum_bonds szeged_reply filled_terms
 of_ring = refl
 
--- a path of 4: 𝓛 is 10 too
+-- a path of 4: W is 10 too
 pub of_path : szeged_reply 4 (1 ∷ 2 ∷ 2 ∷ 3 ∷ 3 ∷ 4 ∷ []) 3 ≡ read 10
 unfolding joins any_joins bonded any_atom reaches first_from distance all_atoms connected degree sum bonds_of bond_fault bonds_reply block_reply closer nearer szeged_term sum_bonds szeged_reply
 of_path = refl

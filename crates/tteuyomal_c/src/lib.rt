@@ -1,4 +1,6 @@
 // The exports of the archive: the functions of the crate `tteuyomal`, each with the same clauses and one call. Written by docs/exports.
+#![tactic(auto)]
+
 mod blocks;
 mod claims_printed;
 mod decks;
