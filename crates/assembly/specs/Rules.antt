@@ -1,41 +1,17 @@
--- Laws. What is wrong with a placement, in the rules' words: refusal 19 counts earlier joins at both atoms of a join. The reply is the same, since no earlier join
--- is on a placement that is being joined. Assumes nothing.
-use Rattle.std.specs.Prelude.{ℕ, zero, suc, ◌+◌, ◌-◌, ◌<◌, ◌||◌, not, cond, List, ◌≡◌, eqb}
-use Rattle.std.proofs.Common.{arith}
-use Rattle.reply.specs.Read.{◌then◌, refuse_if, is_outside}
-use Rattle.assembly.specs.Placements.{most_placements, placement_count, placement_at, Shelf, join_of, join_on, joins_on, is_full, first_fault, parent_fault, join_fault, sites_on, later_fault, fault, placements_reply, shelf_reply}
-use Rattle.assembly.specs.Degrees.{joins_zero, joins_none}
-use Rattle.assembly.specs.Sound.{wrong_same, well}
+-- What is wrong with a placement, in the rules' words: refusal 19 counts earlier joins at both atoms of a join.
+use Rattle.std.specs.Prelude.{ℕ, suc, ◌-◌, ◌||◌, not, cond, eqb}
+use Rattle.reply.specs.Read.{is_outside}
+use Rattle.assembly.specs.Placements.{Shelf, join_on, is_full, first_fault, parent_fault, sites_on}
 use Rattle.assembly.specs.declared.Placement.{Placement}
 
-module _ (shelf : Shelf) (placed : ℕ → Placement) where
-  -- 16; of the first placement 17; of a later one 23 or 24, 18, 19; or 0
-  unfoldable pub ruled_fault : ℕ → ℕ
-  ruled_fault k =
-      let q = placed k in
-      let there = sites_on shelf placed (q.parent - 1) in
-      let here = sites_on shelf placed k in
-      cond (not (shelf.has q.block)) 16
-      (cond (eqb k 0) (first_fault q)
-      (cond (is_outside k q.parent) (parent_fault q.parent)
-      (cond (is_outside there.atoms q.site || is_outside here.atoms q.own) 18
-      (cond (is_full (there.ends q.site) (join_on placed) k q.parent q.site || is_full (here.ends q.own) (join_on placed) k (suc k) q.own) 19 0))))
-
-  -- none of the earlier joins is on a placement that is being joined
-  none_earlier : (k a : ℕ) → ((m : ℕ) → m < k → fault shelf placed m ≡ 0) → joins_on (join_on placed) (k - 1) (suc k) a ≡ 0
-  none_earlier zero a before = joins_zero (join_on placed) 1 a
-  none_earlier (suc k) a before =
-      let e : suc k - 1 ≡ k = omega arith in
-      rw e (joins_none (join_on placed) k (suc (suc k)) a (λ i l h. ((well shelf placed i (before i (omega arith))).1 l).parent) (omega arith))
-
-  ruled : (k : ℕ) → ((m : ℕ) → m < k → fault shelf placed m ≡ 0) → ruled_fault k ≡ fault shelf placed k
-  unfolding ruled_fault fault later_fault join_fault join_of
-  ruled k before =
-      let ends = (sites_on shelf placed k).ends (placed k).own in
-      let e : ends + joins_on (join_on placed) (k - 1) (suc k) (placed k).own ≡ ends = omega (arith, none_earlier k (placed k).own before) in
-      rw e
-
--- whatever the shelf and the bytes
-pub in_the_rules_words : (shelf : Shelf) (xs : List ℕ) → shelf_reply shelf xs
-    ≡ (refuse_if (is_outside most_placements (placement_count xs)) 15 0 then λ _. placements_reply (ruled_fault shelf (placement_at xs)) 0 (placement_count xs))
-in_the_rules_words shelf xs = rw (wrong_same _ _ (ruled shelf (placement_at xs)) (placement_count xs) 0 (λ m h. absurd (omega arith)))
+-- 16; of the first placement 17; of a later one 23 or 24, 18, 19; or 0
+unfoldable pub ruled_fault : (shelf : Shelf) (placed : ℕ → Placement) → ℕ → ℕ
+ruled_fault shelf placed k =
+    let q = placed k in
+    let there = sites_on shelf placed (q.parent - 1) in
+    let here = sites_on shelf placed k in
+    cond (not (shelf.has q.block)) 16
+    (cond (eqb k 0) (first_fault q)
+    (cond (is_outside k q.parent) (parent_fault q.parent)
+    (cond (is_outside there.atoms q.site || is_outside here.atoms q.own) 18
+    (cond (is_full (there.ends q.site) (join_on placed) k q.parent q.site || is_full (here.ends q.own) (join_on placed) k (suc k) q.own) 19 0))))
