@@ -7,7 +7,7 @@ use Rattle.graph.specs.Assembly.{Join}
 use Rattle.block.specs.declared.Indices.{Indices}
 use Rattle.block.specs.declared.Vertex.{Vertex}
 use Rattle.joining.specs.Parts.{Part, grow, join_six, far_in, sight_in, six_in}
-use Rattle.joining.specs.Whole.{far_old, sight_old}
+use Rattle.joining.proofs.Whole.{far_old, sight_old}
 use Rattle.joining.specs.Bounds.{SmallPart, SixBytes, sight_held, six_held}
 use Rattle.joining.specs.Joining.{grown_of, joined_of}
 use Rattle.joining.specs.Small.{SmallCounts, grown_small, joined_small}

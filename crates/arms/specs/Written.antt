@@ -25,7 +25,7 @@ use Rattle.assembly.specs.Sound.{whole, assembled}
 use Rattle.assembly.specs.declared.BlockAt.{BlockAt}
 use Rattle.joining.specs.Bounds.{SixBytes}
 use Rattle.joining.specs.Table.{table_of, Told}
-use Rattle.joining.specs.Written.{fields_written}
+use Rattle.joining.proofs.Written.{fields_written}
 use Rattle.summary.specs.Layout.{summary_bytes, stored_fields, vertex_at, far_at, kept_of}
 use Rattle.summary.specs.Summary.{summary_of}
 use Rattle.summary.specs.Back.{summary_fits, fields_told, summary_told}

@@ -10,8 +10,8 @@ use Rattle.graph.specs.Assembly.{Join}
 use Rattle.assembly.specs.Placements.{most_placements, placement_at, join_of, join_on}
 use Rattle.assembly.specs.declared.Placement.{Placement}
 use Rattle.joining.specs.Parts.{Part, far_in}
-use Rattle.joining.specs.Whole.{far_on, far_off}
-use Rattle.joining.specs.Climb.{far_keeps, far_same}
+use Rattle.joining.proofs.Whole.{far_on, far_off}
+use Rattle.joining.proofs.Climb.{far_keeps, far_same}
 use Rattle.summaries.specs.Composing.{kept_on}
 use Rattle.climb.specs.Far.{far_of, far_by, earlier_of}
 

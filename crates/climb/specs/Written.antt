@@ -10,9 +10,9 @@ use Rattle.assembly.specs.Placements.{most_placements, placement_count, placemen
 use Rattle.assembly.specs.Sound as assembly
 use Rattle.joining.specs.Parts.{Part, far_in}
 use Rattle.joining.specs.Table.{Table, table_of, start_by, Told}
-use Rattle.joining.specs.Whole.{whole}
-use Rattle.joining.specs.Climb.{far_keeps}
-use Rattle.joining.specs.Written.{agrees_self, written_agrees}
+use Rattle.joining.proofs.Whole.{whole}
+use Rattle.joining.proofs.Climb.{far_keeps}
+use Rattle.joining.proofs.Written.{agrees_self, written_agrees}
 use Rattle.summaries.specs.Composing.{kept_on}
 use Rattle.summaries.specs.Written.{HonestBook}
 use Rattle.climb.specs.Far.{placed_far}

@@ -15,9 +15,6 @@ pub mod Examples
 pub mod Small
 pub mod Rules
 pub mod Grow
-pub mod Whole
-pub mod Written
-pub mod Climb
 pub mod Bounds
 pub mod Same
 pub mod Unique

@@ -14,7 +14,7 @@ use Rattle.block.specs.declared.Indices.{Indices}
 use Rattle.block.specs.declared.Vertex.{Vertex}
 use Rattle.joining.specs.Parts.{sight_in, six_in, grow, join_six}
 use Rattle.joining.specs.Table.{Fits}
-use Rattle.joining.specs.Climb.{far_same, far_later, far_earlier, sight_here, sight_there, six_here}
+use Rattle.joining.proofs.Climb.{far_same, far_later, far_earlier, sight_here, sight_there, six_here}
 use Rattle.joining.specs.Bounds.{SmallSight, SixHeld, SixBytes, SmallPart, far_most, sight_held, six_held}
 use Rattle.joining.specs.Small.{SmallCounts, SmallFields}
 use Rattle.summary.specs.Layout.{summary_bytes, stored_atoms, stored_fields, vertex_at, far_at, kept_of}

@@ -19,7 +19,7 @@ use Rattle.assembly.specs.Sound.{WholeAssembly, wrong_same, well, whole, assembl
 use Rattle.assembly.specs.declared.Placement.{Placement}
 use Rattle.joining.specs.Parts.{six_in}
 use Rattle.joining.specs.Table.{table_of, six_of, Told}
-use Rattle.joining.specs.Written.{fields_written}
+use Rattle.joining.proofs.Written.{fields_written}
 use Rattle.summary.specs.Layout.{stored_fields, stored_degree, kept_of}
 use Rattle.summary.specs.Summary.{summary_of}
 use Rattle.summary.specs.Back.{summary_told, ends_told}

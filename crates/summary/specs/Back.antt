@@ -32,7 +32,7 @@ use Rattle.sighted.specs.Blocks.{steps_distance, counts_vertex}
 use Rattle.sighted.specs.Unique.{seen_steps}
 use Rattle.joining.specs.Table.{table_of, total_by, Told}
 use Rattle.joining.specs.Grow.{same_six, total_parts}
-use Rattle.joining.specs.Written.{six_is, sight_is, alone_molecule}
+use Rattle.joining.proofs.Written.{six_is, sight_is, alone_molecule}
 use Rattle.summary.specs.Layout.{summary_head, atom_bytes, summary_bytes, stored_number, stored_atoms, stored_fields, near_in, set_in, seen_at, vertex_at, stored_degree, far_at, kept_of}
 use Rattle.summary.specs.Summary.{head_of, atoms_from, summary_of}
 

@@ -18,7 +18,7 @@ use Rattle.joining.specs.Parts.{Part, grow, join_six, six_in}
 use Rattle.joining.specs.Table.{Table, table_of, total_by, seen_by, largest_by, farthest_by, six_of, sight_of, far_joined, joined_by, start_by, written_by, Told}
 use Rattle.joining.specs.Rules.{far_first, far_cross, far_back, far_second}
 use Rattle.joining.specs.Grow.{same_six, same_sight, sight_first, sight_second, six_joined}
-use Rattle.joining.specs.Whole.{whole}
+use Rattle.joining.proofs.Whole.{whole}
 
 -- the six fields of a graph's table are the graph's, and so is what is counted from an atom
 pub six_is : (g : Graph) → six_of (table_of g) ≡ indices_of g

@@ -8,7 +8,7 @@ use native.Mathlib.Omega.{arith}
 use Rattle.graph.specs.Graph.{Within}
 use Rattle.graph.specs.Assembly.{Join}
 use Rattle.joining.specs.Parts.{Part, far_in, sight_in, six_in, grow, join_six}
-use Rattle.joining.specs.Whole.{far_old, far_on, far_off, far_new, sight_old, sight_new}
+use Rattle.joining.proofs.Whole.{far_old, far_on, far_off, far_new, sight_old, sight_new}
 
 module _ (parts : ℕ → Part) (joins : ℕ → Join) where
   pub far_keeps : (n m k i l j : ℕ) → m ≤ n → k ≤ m → l ≤ m → far_in parts joins n k i l j ≡ far_in parts joins m k i l j
