@@ -18,7 +18,7 @@ use Rattle.deck.specs.Kept.{kept, open_read}
 use Rattle.deck.specs.Said.{block_table}
 use Rattle.catalogue.specs.Library.{most_sites, library_kind, sites_reply, Library, after_blocks, library_reply}
 use Rattle.catalogue.specs.Products.{products, count_reply}
-use Rattle.catalogue.specs.Sound.{listed}
+use Rattle.catalogue.proofs.Sound.{listed}
 use Rattle.catalogue.specs.declared.Site.{Site}
 use Rattle.catalogue.specs.Said.{site_table, said_sites, tabled, tabled_library, said_library}
 use Rattle.catalogue.specs.Table.{sites_in, sites_back}

@@ -13,14 +13,10 @@
 -- Definitions
 pub mod Library
 pub mod Products
+pub mod Written
 pub mod Said
 -- Work
 pub mod Examples
 pub mod Table
 -- Laws
-pub mod Choices
-pub mod Sound
-pub mod First
-pub mod Fine
-pub mod Written
 pub mod Unique

@@ -14,10 +14,10 @@ use Rattle.assembly.specs.Book.{most_blocks, no_block}
 use Rattle.deck.specs.Deck.{block_at}
 use Rattle.deck.specs.Filled.{open_book}
 use Rattle.deck.specs.Said.{block_table}
-use Rattle.catalogue.specs.First.{one_place, first_block, first_opened}
+use Rattle.catalogue.proofs.First.{one_place, first_block, first_opened}
 use Rattle.catalogue.specs.Library.{most_sites, library_kind, Library, library_reply}
 use Rattle.catalogue.specs.Products.{products, product_at, product_reply}
-use Rattle.catalogue.specs.Sound.{whole}
+use Rattle.catalogue.proofs.Sound.{whole}
 use Rattle.catalogue.specs.Said.{said_library}
 use Rattle.catalogue.specs.Table.{sites_back, table_empty}
 use Rattle.catalogue.specs.declared.LibraryRead.{LibraryRead}

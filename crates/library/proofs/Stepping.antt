@@ -11,7 +11,7 @@ use Rattle.reply.specs.Chain.{then-read}
 use Rattle.block.specs.declared.Indices.{Indices}
 use Rattle.catalogue.specs.Library.{Library, library_reply}
 use Rattle.catalogue.specs.Products.{products, product_at, Product, done, made, product_reply}
-use Rattle.catalogue.specs.Fine.{few_products}
+use Rattle.catalogue.proofs.Fine.{few_products}
 use Rattle.library.specs.Said.{said_product}
 use Rattle.library.specs.declared.ProductReply.{ProductReply}
 use Rattle.library.specs.declared.ProductReply.TheVariants as product

@@ -7,7 +7,7 @@ use Rattle.assembly.specs.Book.{no_block}
 use Rattle.assembly.specs.declared.BlockAt.{BlockAt}
 use Rattle.catalogue.specs.Library.{most_sites, most_candidates, candidate_at, Library, library_reply}
 use Rattle.catalogue.specs.Products.{products, choice_at, product_at}
-use Rattle.catalogue.specs.Sound.{whole}
+use Rattle.catalogue.proofs.Sound.{whole}
 use Rattle.catalogue.specs.declared.Site.{Site}
 use Rattle.catalogue.specs.Said.{no_site}
 use Rattle.catalogue.specs.Table.{sites_in, sites_length}

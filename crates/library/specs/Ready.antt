@@ -22,9 +22,9 @@ use Rattle.arms.specs.declared.Arm.{Arm}
 use Rattle.arms.specs.declared.Core.{Core}
 use Rattle.catalogue.specs.Library.{most_sites, library_kind, core_number, candidate_number, candidate_atom, candidate_at, Library, library_reply}
 use Rattle.catalogue.specs.Products.{join_bytes, placed_bytes, product_bytes, products, choice_at, assembly_at, molecule_over, product_at}
-use Rattle.catalogue.specs.Choices.{IsChoice, is_choice}
-use Rattle.catalogue.specs.Sound.{SiteStands, SitesApart, whole}
-use Rattle.catalogue.specs.Fine.{placed_in, joined, behind_count, placed_before, core_said, length_placed, last_said, count_is, product_fine}
+use Rattle.catalogue.proofs.Choices.{IsChoice, is_choice}
+use Rattle.catalogue.proofs.Sound.{SiteStands, SitesApart, whole}
+use Rattle.catalogue.proofs.Fine.{placed_in, joined, behind_count, placed_before, core_said, length_placed, last_said, count_is, product_fine}
 use Rattle.catalogue.specs.declared.Site.{Site}
 use Rattle.catalogue.specs.Said.{no_site}
 use Rattle.catalogue.specs.Table.{sites_in, sites_length}

@@ -10,7 +10,7 @@ use Rattle.deck.specs.Deck.{longest_deck}
 use Rattle.sheets.specs.Sheets.{fields_of, sheet_record, sheet_bytes}
 use Rattle.catalogue.specs.Library.{Library, library_reply}
 use Rattle.catalogue.specs.Products.{products, product_at, done, made, product_reply}
-use Rattle.catalogue.specs.Sound.{whole}
+use Rattle.catalogue.proofs.Sound.{whole}
 use Rattle.library.specs.Steps.{step_reply, behind, steps_from}
 
 module _ (s : Sheet) (d : List ℕ) (position n : ℕ) where

@@ -17,8 +17,9 @@ use Rattle.judging.specs.Theorems.{written_accepted}
 use Rattle.judging.specs.declared.Verdict.TheVariants as verdict
 use Rattle.catalogue.specs.Library.{Library, library_reply}
 use Rattle.catalogue.specs.Products.{products, product_at}
-use Rattle.catalogue.specs.Sound.{whole}
-use Rattle.catalogue.specs.Written.{product_deck, product_deck_lem}
+use Rattle.catalogue.proofs.Sound.{whole}
+use Rattle.catalogue.specs.Written.{product_deck}
+use Rattle.catalogue.proofs.Written.{product_deck_lem}
 use Rattle.library.specs.Steps.{step_reply, step_out}
 use Rattle.library.specs.Running.{step_short, made_step}
 

@@ -3,7 +3,7 @@ use mathlib.Core.Path.{◌≡◌, refl, subst}
 use native.Mathlib.Omega.{arith}
 use borrow.Author.Rules.{rules}
 use Rattle.catalogue.specs.Products.{products}
-use Rattle.catalogue.specs.Fine.{few_products}
+use Rattle.catalogue.proofs.Fine.{few_products}
 use Rattle.library.specs.Values.{values_of}
 use Rattle.library.specs.Filled.{Filled, filled_start}
 use Rattle.library.proofs.values_over.Goals as goal

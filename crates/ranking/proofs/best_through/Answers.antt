@@ -4,7 +4,7 @@ use mathlib.Core.Path.{◌≡◌, sym, ◌∙◌, ap}
 use native.Mathlib.Omega.{arith}
 use lib.ListN.{length, take}
 use lib.Seq.{length-take-le, get_or-take}
-use Rattle.catalogue.specs.Fine.{few_products}
+use Rattle.catalogue.proofs.Fine.{few_products}
 use Rattle.reply.specs.declared.NumberReply.TheVariants as counted
 use Rattle.library.specs.Values.{value_at}
 use Rattle.placing.specs.Ranked.{Entry, coming}

@@ -5,7 +5,7 @@ use lib.ListN.{take}
 use Rattle.graph.specs.Graph.{Graph}
 use Rattle.assembly.specs.Book.{Book, block_graph, book_of}
 use Rattle.catalogue.specs.Library.{is_full_in, candidates_fault}
-use Rattle.catalogue.specs.Sound.{joins}
+use Rattle.catalogue.proofs.Sound.{joins}
 use Rattle.catalogue.proofs.Turns.{no_candidates, wrong_candidate, next_candidate}
 use Rattle.catalogue.proofs.candidates.candidates_fault.Goals as goal
 use Rattle.catalogue.proofs.candidates.candidates_fault.Goals.{At-loop-left, In-loop-left, Start}

@@ -9,7 +9,7 @@ use Rattle.assembly.specs.Book.{Book, block_graph, book_of}
 use Rattle.catalogue.specs.Library.{most_sites, library_kind, site_at, site_end, site_fault, sites_from}
 use Rattle.catalogue.specs.Said.{no_site, site_table, said_sites}
 use Rattle.catalogue.specs.Table.{sites_in, sites_grow, table_none, table_grow}
-use Rattle.catalogue.specs.Sound.{stands}
+use Rattle.catalogue.proofs.Sound.{stands}
 use Rattle.catalogue.specs.declared.Site.{Site}
 use Rattle.catalogue.proofs.Turns.{left_over, none_over, wrong_site, next_site, sites_said}
 use Rattle.catalogue.proofs.sites.sites_from.Goals as goal

@@ -7,7 +7,7 @@ use borrow.Author.Rules.{rules}
 use Rattle.arms.specs.Arms.{joined_to}
 use Rattle.sheets.specs.Sheets.{sheet_bytes}
 use Rattle.catalogue.specs.Products.{products, product_at}
-use Rattle.catalogue.specs.Fine.{few_products}
+use Rattle.catalogue.proofs.Fine.{few_products}
 use Rattle.library.specs.Turning.{Going}
 use Rattle.arms.specs.declared.Arm.{Arm}
 use Rattle.library.proofs.Spreading.{going_next, lent_whole, lent_long, some_bytes}

@@ -11,7 +11,7 @@ use Rattle.deck.specs.Deck.{block_at}
 use Rattle.deck.specs.Filled.{open_book}
 use Rattle.deck.specs.First as deck
 use Rattle.catalogue.specs.Library.{library_kind, Library, library_reply}
-use Rattle.catalogue.specs.Sound.{whole}
+use Rattle.catalogue.proofs.Sound.{whole}
 
 -- an empty book of one place
 abbrev pub one_place : List ℕ

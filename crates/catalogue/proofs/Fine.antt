@@ -21,8 +21,8 @@ use Rattle.assembly.specs.declared.Placement.{Placement}
 use Rattle.assembly.proofs.Faults.{first_fine, joins_well, has_parent, is_first, is_later, faultless, none_left, count_within}
 use Rattle.catalogue.specs.Library.{most_sites, most_candidates, core_number, candidate_number, candidate_atom, candidate_at, is_taken, is_full_in, candidate_fault, Library, library_reply}
 use Rattle.catalogue.specs.Products.{join_bytes, placed_bytes, product_bytes, products, choice_at, assembly_at}
-use Rattle.catalogue.specs.Choices.{IsChoice, is_choice}
-use Rattle.catalogue.specs.Sound.{joins, SitesApart, CandidatesListed, whole}
+use Rattle.catalogue.proofs.Choices.{IsChoice, is_choice}
+use Rattle.catalogue.proofs.Sound.{joins, SitesApart, CandidatesListed, whole}
 use Rattle.catalogue.specs.declared.Site.{Site}
 
 -- the placement at an index, in bytes without the count before them
