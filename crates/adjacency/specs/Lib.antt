@@ -14,6 +14,7 @@
 pub mod Neighbours
 pub mod Written
 pub mod Canonical
+pub mod RoundTrip
 -- Work
 pub mod Work
 pub mod Examples
@@ -23,16 +24,6 @@ pub mod Scanning
 pub mod Turns
 pub mod Filling
 pub mod Judging
-pub mod Blocks
-pub mod Taken
-pub mod Putting
 pub mod Writing
-pub mod Values
-pub mod Shapes
-pub mod Again
-pub mod Degrees
-pub mod Order
-pub mod RoundTrip
-pub mod Rearranged
 pub mod Ends
 pub mod Roomy

@@ -8,7 +8,7 @@ use Rattle.reply.specs.Read.{read, ◌then◌}
 use Rattle.block.specs.Block.{most_bytes}
 use Rattle.block.specs.Index.{indices_reply}
 use Rattle.adjacency.specs.Neighbours.{bond_list_bytes, neighbours_reply, bytes_after}
-use Rattle.adjacency.specs.Blocks.{bytes_length}
+use Rattle.adjacency.proofs.Blocks.{bytes_length}
 use Rattle.measuring.specs.Texts.{measured_text_reply}
 use Rattle.measuring.proofs.Fits.{front_cut}
 

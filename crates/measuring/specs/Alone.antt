@@ -7,8 +7,8 @@ use Rattle.block.specs.Block.{most_bytes}
 use Rattle.block.specs.Index.{indices_of, indices_reply}
 use Rattle.block.specs.declared.Indices.{Indices}
 use Rattle.adjacency.specs.Neighbours.{bond_list_bytes, neighbours_reply}
-use Rattle.adjacency.specs.Blocks.{bytes_bonds}
-use Rattle.adjacency.specs.Taken.{read_fine}
+use Rattle.adjacency.proofs.Blocks.{bytes_bonds}
+use Rattle.adjacency.proofs.Taken.{read_fine}
 use Rattle.adjacency.specs.Roomy.{text_alone, text_alone_lem}
 use Rattle.measuring.specs.Texts.{measured_text_reply}
 

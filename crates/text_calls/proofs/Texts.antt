@@ -11,7 +11,7 @@ use Rattle.reply.specs.declared.NumberReply.{NumberReply}
 use Rattle.block.specs.Block.{most_atoms, most_bytes, bonds_of, block_reply}
 use Rattle.adjacency.specs.Neighbours.{bond_list_bytes, numbers, bytes_reply, atom_count_reply, steps, bonds_in, steps_reply, bonds_length, molecule, block_of, neighbours_reply, bytes_after}
 use Rattle.adjacency.specs.Written.{written_text, neighbours_write_reply, text_after}
-use Rattle.adjacency.specs.Blocks.{bytes_length}
+use Rattle.adjacency.proofs.Blocks.{bytes_length}
 use Rattle.neighbours.specs.Said.{said_neighbours_written}
 use Rattle.calls.specs.Convention.{coded, out_after, number_list, Lent, then_nine}
 use Rattle.calls.specs.Blocks.{unlent_reply}

@@ -12,9 +12,10 @@ use Rattle.molwriter.specs.Written.{molfile_text, molfile_write_reply}
 use Rattle.molwriter.specs.RoundTrip.{ReadsBack, reads_back}
 use Rattle.adjacency.specs.Neighbours.{bonds_length, bond_list_bytes}
 use Rattle.adjacency.specs.Canonical.{canonical}
-use Rattle.adjacency.specs.Blocks.{bytes_length}
+use Rattle.adjacency.proofs.Blocks.{bytes_length}
 use Rattle.adjacency.specs.Written.{neighbours_write_reply, text_after}
-use Rattle.adjacency.specs.RoundTrip as texts
+use Rattle.adjacency.specs.RoundTrip.{RoundTrip}
+use Rattle.adjacency.proofs.RoundTrip as texts
 use Rattle.calls.specs.Convention.{coded, out_after, over}
 use Rattle.calls.specs.Beside.{with_room}
 use Rattle.text_calls.specs.Molfiles.{read_reply, MolfileRead, written_reply, MolfileWritten}
@@ -109,7 +110,7 @@ module _ (n : ℕ) (xs text told text' told' : List ℕ) (w : TextWritten n xs t
       let s = take (get_or told' 0 0) text' in
       let is : take (length t) (text_after (neighbours_write_reply n xs (length text)) text) ≡ s = ap₂ (λ (j : ℕ) (l : List ℕ). take j l) (sym long_is) (sym left_is) in
       let g : Graph = record { atoms = n; bonds = cs } in
-      let R = subst (λ (l : List ℕ). texts.RoundTrip n xs l bonds) is (texts.round_trip n xs text bonds t done h) in
+      let R = subst (λ (l : List ℕ). RoundTrip n xs l bonds) is (texts.round_trip n xs text bonds t done h) in
       let a : text_reply s (length bonds) (length counts) ≡ read g = ap (with_room (length counts) 2) R.reply ∙ room_there (length counts) 2 g c in (
         m.replied ∙ ap coded a,
         ap (take (bonds_length (bonds_of xs))) (m.first ∙ ap (λ (v : Read Graph). out_after (v then λ g. read (bond_list_bytes g.bonds)) bonds) a) ∙ take_at (bond_list_bytes cs) (drop (length (bond_list_bytes cs)) bonds) (bonds_length (bonds_of xs)) size,

@@ -2,7 +2,7 @@ use mathlib.Core.Path.{sym, ◌∙◌, ap}
 use native.Mathlib.Omega.{arith}
 use lib.ListN.{length}
 use Rattle.adjacency.specs.Work.{steps_at}
-use Rattle.adjacency.specs.Blocks.{too_few, too_many, too_long, stays}
+use Rattle.adjacency.proofs.Blocks.{too_few, too_many, too_long, stays}
 use Rattle.block.specs.Block.{said_molecule}
 use Rattle.neighbours.proofs.block_of.Goals as goal
 

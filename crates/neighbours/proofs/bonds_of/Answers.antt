@@ -3,7 +3,7 @@ use native.Mathlib.Omega.{arith}
 use lib.ListN.{length, take}
 use Rattle.adjacency.specs.Neighbours.{bond_list_bytes}
 use Rattle.adjacency.specs.Work.{steps_at, until}
-use Rattle.adjacency.specs.Blocks.{bytes_length, front, fits, in_size, kept_is}
+use Rattle.adjacency.proofs.Blocks.{bytes_length, front, fits, in_size, kept_is}
 use Rattle.block.specs.Block.{said_molecule}
 use Rattle.neighbours.proofs.bonds_of.Goals as goal
 use Rattle.neighbours.proofs.bonds_of.Goals.{After-fill-reach}

@@ -4,7 +4,7 @@ use native.Mathlib.Omega.{arith}
 use lib.ListN.{length}
 use Rattle.reply.specs.Chain.{fine_read, refused_read}
 use Rattle.text.proofs.Putting.{at_front}
-use Rattle.adjacency.specs.Blocks.{kept_bad, kept_short, kept_all, stays, half, put_in}
+use Rattle.adjacency.proofs.Blocks.{kept_bad, kept_short, kept_all, stays, half, put_in}
 use Rattle.block.specs.Block.{said_molecule}
 use Rattle.reply.specs.declared.CountsReply.TheVariants.{Of}
 use Rattle.neighbours.proofs.kept.Goals as goal

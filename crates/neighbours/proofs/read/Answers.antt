@@ -4,7 +4,7 @@ use lib.ListN.{length}
 use Rattle.adjacency.specs.Turns.{shaped_refused, shaped_read}
 use Rattle.neighbours.proofs.Shapes.{shape_refused, shape_bonds}
 use Rattle.block.specs.Block.{said_molecule}
-use Rattle.adjacency.specs.Blocks.{stays, reply_fault, reply_none, reply_shape, reply_block}
+use Rattle.adjacency.proofs.Blocks.{stays, reply_fault, reply_none, reply_shape, reply_block}
 use Rattle.neighbours.proofs.read.Goals as goal
 
 -- `read` meets its contract: each return is one way through the definition.

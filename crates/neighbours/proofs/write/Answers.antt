@@ -5,7 +5,7 @@ use Rattle.reply.specs.Chain.{fine_read, refused_read}
 use Rattle.block.specs.Block.{block_reply}
 use Rattle.block.specs.Told.{few_atoms}
 use Rattle.adjacency.specs.Writing.{by_sets, write_given, write_refused, text_stays}
-use Rattle.adjacency.specs.RoundTrip.{text_fits}
+use Rattle.adjacency.proofs.RoundTrip.{text_fits}
 use Rattle.neighbours.specs.Said.{said_neighbours_written}
 use Rattle.neighbours.proofs.write.Goals as goal
 use Rattle.neighbours.proofs.write.Goals.{In-Fine}

@@ -3,7 +3,7 @@ use mathlib.Core.Path.{◌≡◌, refl}
 use native.Mathlib.Omega.{arith}
 use Rattle.adjacency.specs.Written.{up_to, is_greater, greater}
 use Rattle.adjacency.specs.Work.{joined_in}
-use Rattle.adjacency.specs.Putting.{up_count, up_short}
+use Rattle.adjacency.proofs.Putting.{up_count, up_short}
 use Rattle.neighbours.proofs.writing.count.Goals as goal
 
 pub loop-j-init : goal.loop-j-init

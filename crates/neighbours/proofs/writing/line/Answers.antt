@@ -2,7 +2,7 @@ use mathlib.Core.Path.{sym, ◌∙◌}
 use Rattle.text.proofs.Putting.{none, both}
 use Rattle.adjacency.specs.Written.{greater}
 use Rattle.adjacency.specs.Work.{joined_in}
-use Rattle.adjacency.specs.Putting.{line_none, line_some}
+use Rattle.adjacency.proofs.Putting.{line_none, line_some}
 use Rattle.neighbours.proofs.writing.line.Goals as goal
 
 -- `line` meets its contract. Assumes nothing.

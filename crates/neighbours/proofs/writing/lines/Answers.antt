@@ -4,7 +4,7 @@ use native.Mathlib.Omega.{arith}
 use Rattle.text.proofs.Putting as putting
 use Rattle.adjacency.specs.Written.{lines}
 use Rattle.adjacency.specs.Work.{joined_in}
-use Rattle.adjacency.specs.Putting.{lines_next}
+use Rattle.adjacency.proofs.Putting.{lines_next}
 use Rattle.neighbours.proofs.writing.lines.Goals as goal
 
 pub loop-i-init : goal.loop-i-init

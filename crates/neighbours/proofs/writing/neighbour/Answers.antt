@@ -1,6 +1,6 @@
 use mathlib.Core.Path.{sym, ◌∙◌}
 use Rattle.text.proofs.Putting.{none, both}
-use Rattle.adjacency.specs.Putting.{listed_none, listed_one}
+use Rattle.adjacency.proofs.Putting.{listed_none, listed_one}
 use Rattle.neighbours.proofs.writing.neighbour.Goals as goal
 
 -- `neighbour` meets its contract. Assumes nothing.

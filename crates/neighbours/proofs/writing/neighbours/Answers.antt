@@ -4,7 +4,7 @@ use native.Mathlib.Omega.{arith}
 use Rattle.text.proofs.Putting as putting
 use Rattle.adjacency.specs.Written.{up_to, is_greater, greater, listed}
 use Rattle.adjacency.specs.Work.{joined_in}
-use Rattle.adjacency.specs.Putting.{listed_next}
+use Rattle.adjacency.proofs.Putting.{listed_next}
 use Rattle.neighbours.proofs.writing.neighbours.Goals as goal
 
 pub loop-j-init : goal.loop-j-init

@@ -9,8 +9,8 @@ use Rattle.block.specs.Block.{bonds_of, block_reply}
 use Rattle.block.specs.Told.{each_bond}
 use Rattle.adjacency.specs.Neighbours.{bond_list_bytes}
 use Rattle.adjacency.specs.Canonical.{canonical, times_joined, Rearranged}
-use Rattle.adjacency.specs.Blocks.{bytes_bonds}
-use Rattle.adjacency.specs.RoundTrip.{same_joins, same_count, fine_again}
+use Rattle.adjacency.proofs.Blocks.{bytes_bonds}
+use Rattle.adjacency.proofs.RoundTrip.{same_joins, same_count, fine_again}
 
 one_at_most : (t : Bool) → cond t 1 0 ≤ 1
 one_at_most true = omega arith

@@ -16,7 +16,7 @@ use Rattle.reply.specs.Chain.{not_read}
 use Rattle.block.specs.Block.{limit, bond_fault, bonds_reply}
 use Rattle.adjacency.specs.Written.{up_to, is_greater, greater}
 use Rattle.adjacency.specs.Canonical.{bonds_up_to}
-use Rattle.adjacency.specs.Degrees.{map_append}
+use Rattle.adjacency.proofs.Degrees.{map_append}
 
 -- one of the atoms 1 to k that pass
 record Passing (p : ℕ → Bool) (k w : ℕ) : Type 0 where

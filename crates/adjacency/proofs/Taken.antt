@@ -11,7 +11,7 @@ use Rattle.reply.specs.Chain.{then-read, if_read}
 use Rattle.block.specs.Block.{most_atoms, most_bytes, bonds_reply, block_reply}
 use Rattle.adjacency.specs.Neighbours.{numbers, bytes_reply, atom_count_reply, Step, steps, bonds_in, steps_reply, bonds_length, bond_list_bytes, molecule, block_of, neighbours_reply}
 use Rattle.adjacency.specs.Work.{until, any_high}
-use Rattle.adjacency.specs.Blocks.{bytes_length, bytes_bonds, until_all, steps_until}
+use Rattle.adjacency.proofs.Blocks.{bytes_length, bytes_bonds, until_all, steps_until}
 
 module _ (n : ℕ) (ss : List Step) where
   bonds_read : steps_reply n [] ss ≡ read tt → bonds_reply n [] (bonds_in ss) ≡ read tt

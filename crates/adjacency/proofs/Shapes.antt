@@ -12,7 +12,7 @@ use Rattle.adjacency.specs.Neighbours.{TextNumber, label_after, is_last, last_re
 use Rattle.adjacency.specs.Written.{up_to, is_greater, greater}
 use Rattle.adjacency.specs.Canonical.{bonds_up_to}
 use Rattle.adjacency.specs.Work.{any_high}
-use Rattle.adjacency.specs.Values.{values_of, line_values, lines_values}
+use Rattle.adjacency.proofs.Values.{values_of, line_values, lines_values}
 
 -- shape, steps and too large numbers by the values alone
 unfoldable steps_by : ℕ → List ℕ → List Step

@@ -12,7 +12,7 @@ use Rattle.reply.specs.Read.{if_else}
 use Rattle.text.specs.Text.{ascii, decimal, is_digit}
 use Rattle.adjacency.specs.Neighbours.{TextNumber, grown, Run, none, run, longer, numbers_from}
 use Rattle.adjacency.specs.Written.{greater, listed, line, lines, text_by}
-use Rattle.adjacency.specs.Putting.{one_digit, two_digits, BelowHundred, greater_below}
+use Rattle.adjacency.proofs.Putting.{one_digit, two_digits, BelowHundred, greater_below}
 
 -- the values alone, whatever the places
 unfoldable pub values_of : List TextNumber → List ℕ

@@ -10,10 +10,10 @@ use Rattle.adjacency.specs.Neighbours.{TextNumber, most_value, numbers, is_good,
 use Rattle.adjacency.specs.Written.{greater, listed, line, lines, text_by}
 use Rattle.adjacency.specs.Canonical.{bonds_up_to}
 use Rattle.adjacency.specs.Work.{any_high}
-use Rattle.adjacency.specs.Putting.{one_digit, two_digits, BelowHundred, below_append, greater_below}
-use Rattle.adjacency.specs.Values.{values_of, values_are, line_values, lines_values, text_says}
-use Rattle.adjacency.specs.Shapes.{shape_fine, bonds_are, none_high}
-use Rattle.adjacency.specs.Blocks.{reply_block}
+use Rattle.adjacency.proofs.Putting.{one_digit, two_digits, BelowHundred, below_append, greater_below}
+use Rattle.adjacency.proofs.Values.{values_of, values_are, line_values, lines_values, text_says}
+use Rattle.adjacency.proofs.Shapes.{shape_fine, bonds_are, none_high}
+use Rattle.adjacency.proofs.Blocks.{reply_block}
 
 -- every byte is good
 unfoldable Good : List ℕ → Type 0
