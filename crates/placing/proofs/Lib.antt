@@ -1,3 +1,8 @@
+-- The laws of rankings.
+pub mod SortingLaws
+pub mod PartsLaws
+pub mod LaidLaws
+pub mod MergingLaws
 -- The laws behind the proofs of putting a row.
 pub mod Moving
 pub mod Rows

@@ -12,13 +12,13 @@
 -- Definitions
 pub mod Ranked
 pub mod Entries
+pub mod Sorting
+pub mod Parts
 -- Work
 pub mod Examples
 pub mod Way
--- Laws
-pub mod Order
-pub mod Sorting
-pub mod Parts
 pub mod Laid
 pub mod Merging
+-- Laws
+pub mod Order
 pub mod Unique
