@@ -11,11 +11,7 @@
 -- | `is_renumbered`                 | a numbering that is handed in, tried by computing                  | `renumbered_by`                                                                   |
 pub mod Renumbered
 pub mod Decided
-pub mod Distances
 pub mod Bonds
-pub mod Shares
-pub mod Blocks
 pub mod Shorter
 pub mod Decks
 pub mod Ways
-pub mod Examples

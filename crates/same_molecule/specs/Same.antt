@@ -28,8 +28,8 @@ use Rattle.sheets.specs.Sheets.{fields_of, widths, fields_at, sheet_of}
 use Rattle.judging.specs.Judging.{judge_reply, said_verdict}
 use Rattle.judging.specs.declared.Verdict.TheVariants.{Accepted}
 use Rattle.renumbered.specs.Renumbered.{Renumbered}
-use Rattle.renumbered.specs.Distances.{reversed, walk_to, same_indices}
-use Rattle.renumbered.specs.Decks.{behind_exactly}
+use Rattle.renumbered.proofs.Distances.{reversed, walk_to, same_indices}
+use Rattle.renumbered.proofs.DecksLaws.{behind_exactly}
 use Rattle.matched.specs.Matched.{partners, partner, is_lost, is_loose, is_unlisted, first_atom, first_bond, Answer, yes, no, match_reply}
 use Rattle.matched.specs.Said.{said_match}
 use Rattle.matched.specs.declared.MatchReply.TheVariants as told

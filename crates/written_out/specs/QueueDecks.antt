@@ -36,7 +36,7 @@ use Rattle.gathered.specs.Orders.{Order, Handed, record_blocks, table_left, bloc
 use Rattle.gathered.specs.Stacked.{HeldBlocks, block_records}
 use Rattle.gathered.specs.Alone.{tells_orders, held, own_told}
 use Rattle.gathered.specs.Accepted.{same_sheet}
-use Rattle.renumbered.specs.Decks.{behind_exactly}
+use Rattle.renumbered.proofs.DecksLaws.{behind_exactly}
 use Rattle.written_out.specs.Histories.{next_told, room_exactly_eight, room_after_drop}
 
 -- what an answer says of a call that is done, and of one that reads

@@ -14,7 +14,7 @@ use Rattle.graph.specs.Backwards.{power, walks-power, without, uses-power, count
 use Rattle.graph.specs.Matching.{Matching}
 use Rattle.renumbered.specs.Renumbered.{Renumbered, Partners}
 use Rattle.graph.specs.Matched.{eqb-to, sum_same, pairs_same}
-use Rattle.renumbered.specs.Distances.{reversed, same_bonded, same_distance}
+use Rattle.renumbered.proofs.Distances.{reversed, same_bonded, same_distance}
 
 -- how many ways lead from i to j in k steps
 power-to : {n m : ℕ} (p : Matching n m) (s t : ℕ → ℕ → Bool) → ((u v : ℕ) → Within n u → Within n v → s u v ≡ t (p.to u) (p.to v))

@@ -23,9 +23,9 @@ use Rattle.szeged.specs.Reply.{szeged_reply, szeged_entries}
 use Rattle.szeged.specs.Reply as szeged
 use Rattle.balaban.specs.Balaban.{balaban_reply}
 use Rattle.renumbered.specs.Renumbered.{Partners, RelistedBlocks}
-use Rattle.renumbered.specs.Distances.{same_total, same_indices}
-use Rattle.renumbered.specs.Bonds.{follows, same_bonds, alike_szeged, same_szeged, same_balaban}
-use Rattle.renumbered.specs.Shares.{same_denominator, same_share}
+use Rattle.renumbered.proofs.Distances.{same_total, same_indices}
+use Rattle.renumbered.proofs.BondsLaws.{follows, same_bonds, alike_szeged, same_szeged, same_balaban}
+use Rattle.renumbered.proofs.Shares.{same_denominator, same_share}
 
 -- a pair that a list of bonds joins is joined by the bond at some place
 place_of : (xs : List ℕ) (u v : ℕ) → any_joins (bonds_of xs) u v ≡ true → (k : ℕ) × (k < length xs / 2) × (joins (bond_at xs k) u v ≡ true)

@@ -28,10 +28,10 @@ use Rattle.sheets.specs.Sheets.{all_fields, fields_of, sheet_of, sheet_bytes}
 use Rattle.judging.specs.Judging.{judge_reply, said_verdict, sheet_write_reply, sheet_out}
 use Rattle.judging.specs.declared.Verdict.TheVariants.{Accepted}
 use Rattle.renumbered.specs.Renumbered.{Renumbered, RelistedBlocks, RelistedDecks}
-use Rattle.renumbered.specs.Distances.{same_total}
+use Rattle.renumbered.proofs.Distances.{same_total}
 use Rattle.graph.specs.Matched.{same_size}
 use Rattle.renumbered.specs.Decided.{leads_home, all_carried, is_renumbered, listed, renumbered_by}
-use Rattle.renumbered.specs.Decks.{same_sheet, exchanged}
+use Rattle.renumbered.proofs.DecksLaws.{same_sheet, exchanged}
 
 -- Document 01's deck: a ring of six, placed twice and joined at its first atoms. And the same molecule as one block of twelve atoms, drawn from one end to the other.
 unfoldable pub drawn : List ℕ
