@@ -14,10 +14,10 @@ use Rattle.queues.specs.Calls.{Sent, compose, sheet, own, table_answer, answers_
 use Rattle.queues.specs.Model.{Entry, told_all}
 use Rattle.queues.specs.Seeks.{taken_most}
 use Rattle.queues.specs.Keeps.{AllProper, KeepsQueue, HonestTrade}
-use Rattle.queues.specs.OwnCalls.{own_calls_only, keeps_own}
+use Rattle.queues.proofs.OwnCalls.{own_calls_only, keeps_own}
 use Rattle.queues.specs.declared.Queue.{Queue}
 use Rattle.queues.specs.Blocks.{Block, book_in, summary_table, blocks}
-use Rattle.queues.specs.Alone.{tells_blocks}
+use Rattle.queues.proofs.Alone.{tells_blocks}
 use Rattle.gathered.specs.Gathered.{over_output, sheet_told}
 use Rattle.gathered.specs.Orders.{Order, handed, ordered, record_table, record_blocks, table_left, blocks_left}
 use Rattle.gathered.specs.Stacked.{HeldBlocks}

@@ -27,9 +27,6 @@ pub mod Seeks
 pub mod Entries
 pub mod Storage
 pub mod Room
-pub mod Kept
-pub mod OwnCalls
 pub mod Examples
 pub mod Told
-pub mod Alone
 pub mod Unique

@@ -15,8 +15,8 @@ use Rattle.queues.specs.Seeks.{taken_less}
 use Rattle.queues.specs.Entries.{has_positive, has-number, without-length}
 use Rattle.queues.specs.Room.{same_place_again}
 use Rattle.queues.specs.Keeps.{HonestTrade}
-use Rattle.queues.specs.Kept.{KeptPlaces, at_most_eight, same_answer, same_left}
-use Rattle.queues.specs.OwnCalls.{table_answer_lem, own_after, left_length, keeps_own}
+use Rattle.queues.proofs.Kept.{KeptPlaces, at_most_eight, same_answer, same_left}
+use Rattle.queues.proofs.OwnCalls.{table_answer_lem, own_after, left_length, keeps_own}
 use Rattle.queues.specs.declared.Queue.{Queue}
 
 emptied-length : (w : ℕ) (t : List ℕ) → table_bytes w ≤ length t → length (emptied w t) ≡ length t

@@ -23,8 +23,8 @@ use Rattle.queues.specs.Calls.{Sent, own, answers_to, table_all}
 use Rattle.queues.specs.Model.{Entry, has, told_look, told_all, left_all}
 use Rattle.queues.specs.Entries.{has_positive}
 use Rattle.queues.specs.Keeps.{KeepsQueue, HonestTrade}
-use Rattle.queues.specs.Kept.{proper_at, stands, same_look}
-use Rattle.queues.specs.OwnCalls.{own_calls_only, keeps_own}
+use Rattle.queues.proofs.Kept.{proper_at, stands, same_look}
+use Rattle.queues.proofs.OwnCalls.{own_calls_only, keeps_own}
 use Rattle.queues.specs.declared.Queue.{Queue}
 use Rattle.queues.specs.Queues.{stored_block}
 use Rattle.queues.specs.Blocks.{Block, no_block, block_in, book_in, summary_table, blocks}

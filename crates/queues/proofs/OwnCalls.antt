@@ -16,7 +16,7 @@ use Rattle.queues.specs.Calls.{Trade, Call, add, look, drop as remove, compose, 
 use Rattle.queues.specs.Model.{Entry, Meaning, left, told_all, left_all}
 use Rattle.records.specs.Stored.{byte_put}
 use Rattle.queues.specs.Keeps.{HonestTrade}
-use Rattle.queues.specs.Kept.{KeptPlaces, keeps_empty, same_answer, same_left}
+use Rattle.queues.proofs.Kept.{KeptPlaces, keeps_empty, same_answer, same_left}
 use Rattle.queues.specs.declared.Queue.{Queue}
 use Rattle.queues.specs.declared.Queue.TheVariants.{Day, Night}
 
