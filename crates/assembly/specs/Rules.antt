@@ -1,4 +1,4 @@
--- What is wrong with a placement, in the rules' words: refusal 19 counts earlier joins at both atoms of a join.
+-- Work. What is wrong with a placement, in the rules' words: refusal 19 counts earlier joins at both atoms of a join.
 use Rattle.std.specs.Prelude.{ℕ, suc, ◌-◌, ◌||◌, not, cond, eqb}
 use Rattle.reply.specs.Read.{is_outside}
 use Rattle.assembly.specs.Placements.{Shelf, join_on, is_full, first_fault, parent_fault, sites_on}

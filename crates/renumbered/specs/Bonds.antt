@@ -1,4 +1,4 @@
--- Definitions. What is said of two bonds, and gives the same for partners.
+-- Work. What is said of two bonds, and gives the same for partners.
 use Prim.Native.Nat.{ℕ}
 use Rattle.std.specs.Prelude.{◌≡◌}
 use Rattle.graph.specs.Graph.{Graph, Bond, bond, Within}

@@ -10,8 +10,8 @@
 -- | `relisted`, `renaming`, `after` | ways to list a molecule again                                      | each is a `Renumbered`                                                            |
 -- | `is_renumbered`                 | a numbering that is handed in, tried by computing                  | `renumbered_by`                                                                   |
 pub mod Renumbered
+pub mod Decks
 pub mod Decided
 pub mod Bonds
 pub mod Shorter
-pub mod Decks
 pub mod Ways
