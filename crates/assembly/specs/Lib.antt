@@ -10,7 +10,7 @@
 pub mod Book
 pub mod Placements
 pub mod Work
+pub mod Rules
 pub mod Degrees
 pub mod Sound
-pub mod Rules
 pub mod Unique
