@@ -1,5 +1,4 @@
--- Laws. An assembly written out is one molecule. The distance of two placed atoms climbs from the later placement to its
--- parent. Assumes nothing.
+-- Laws. An assembly written out is one molecule; distances stay as more is placed. Across joining bonds: ClimbLaws. Assumes nothing.
 use Prim.Native.Nat.{ℕ, zero, suc, ◌+◌, ◌-◌, ◌≤◌, ◌<◌}
 use Rattle.std.proofs.Math.Logic.{⊎_elim}
 use Rattle.std.specs.Prelude.{◌≡◌}
@@ -9,8 +8,7 @@ use Rattle.std.proofs.Math.Nat.{le-suc_iff, le_of_eq}
 use native.Mathlib.Omega.{arith}
 use Rattle.graph.specs.Graph.{Graph, Within, Molecule, distance}
 use Rattle.graph.specs.Assembly.{Join, joined, start_at, atom_of, written, Assembled, Placed}
-use Rattle.graph.specs.Distance.{distance_sym}
-use Rattle.graph.specs.Join.{joined_molecule, distance_first, distance_second, distance_cross}
+use Rattle.graph.specs.Join.{joined_molecule, distance_first, distance_second}
 
 -- the atom of the whole molecule that the placement at index k is joined to
 abbrev pub site_of : (ℕ → Graph) → (ℕ → Join) → ℕ → ℕ
@@ -64,27 +62,27 @@ module _ {blocks : ℕ → Graph} {joins : ℕ → Join} where
 
 -- One placement more, at index m + 1: its number is m + 2.
 module _ {blocks : ℕ → Graph} {joins : ℕ → Join} (m : ℕ) (a : Assembled blocks joins (suc m)) where
-  core : Molecule (written blocks joins m)
+  pub core : Molecule (written blocks joins m)
   core = written_molecule m (sooner m (omega arith) a)
 
-  block : Molecule (blocks (suc m))
+  pub block : Molecule (blocks (suc m))
   block = a.molecules (suc m) (omega arith)
 
-  site : Within (written blocks joins m).atoms (site_of blocks joins (suc m))
+  pub site : Within (written blocks joins m).atoms (site_of blocks joins (suc m))
   site = placed_within blocks joins (site_placed m a (omega arith))
 
-  own : Within (blocks (suc m)).atoms (joins (suc m)).own
+  pub own : Within (blocks (suc m)).atoms (joins (suc m)).own
   own = (a.stands (suc m) (omega arith) (omega arith)).own
 
   -- an atom of the new placement, in its block and in the whole
-  here : {k i : ℕ} → k ≡ suc (suc m) → Placed blocks (suc m) k i → Within (blocks (suc m)).atoms i
+  pub here : {k i : ℕ} → k ≡ suc (suc m) → Placed blocks (suc m) k i → Within (blocks (suc m)).atoms i
   here {k} {i} e p = subst (λ (n : ℕ). Within (blocks n).atoms i) (omega arith) p.atom
 
-  behind : {k : ℕ} (i : ℕ) → k ≡ suc (suc m) → atom_of blocks k i ≡ (written blocks joins m).atoms + i
+  pub behind : {k : ℕ} (i : ℕ) → k ≡ suc (suc m) → atom_of blocks k i ≡ (written blocks joins m).atoms + i
   behind {k} i e = let n : k - 1 ≡ suc m = omega arith in ap (λ (x : ℕ). x + i) (ap (start_at blocks) n ∙ size_written blocks joins m)
 
   -- distances: of two earlier atoms, of two of its atoms, and of one of each
-  apart_old : {k i l j : ℕ} → Placed blocks m k i → Placed blocks m l j → apart blocks joins (suc m) k i l j ≡ apart blocks joins m k i l j
+  pub apart_old : {k i l j : ℕ} → Placed blocks m k i → Placed blocks m l j → apart blocks joins (suc m) k i l j ≡ apart blocks joins m k i l j
   unfolding written
   apart_old p q = distance_first core block site own (placed_within blocks joins p) (placed_within blocks joins q)
 
@@ -92,11 +90,6 @@ module _ {blocks : ℕ → Graph} {joins : ℕ → Join} (m : ℕ) (a : Assemble
       → apart blocks joins (suc m) k i l j ≡ distance (blocks (suc m)) i j
   unfolding written
   apart_new {i = i} {j = j} e p f q = rw (behind i e, behind j f) (distance_second core block site own (here e p) (here f q))
-
-  apart_on : {k i l j : ℕ} → Placed blocks m k i → l ≡ suc (suc m) → Placed blocks (suc m) l j
-      → apart blocks joins (suc m) k i l j ≡ apart blocks joins m k i (joins (suc m)).parent (joins (suc m)).site + 1 + distance (blocks (suc m)) (joins (suc m)).own j
-  unfolding written
-  apart_on {j = j} p f q = rw (behind j f) (distance_cross core block site own (placed_within blocks joins p) (here f q))
 
 -- distances stay as they are with every placement more
 pub apart_keeps : {blocks : ℕ → Graph} {joins : ℕ → Join} {m k i l j : ℕ} (last : ℕ) → m ≤ last → Assembled blocks joins last → Placed blocks m k i → Placed blocks m l j
@@ -108,8 +101,7 @@ apart_keeps {blocks} {joins} {m} {k} {i} {l} {j} (suc n) h a p q =
     (λ s. ap (λ (n : ℕ). apart blocks joins n k i l j) (sym s))
     (le-suc_iff.0 h)
 
--- THE CLIMBING RULE: two atoms of one placement are as far apart as in its block; those of two are joined by way of the later one's own atom and
--- the atom of its parent.
+-- THE CLIMBING RULE, in one placement: two atoms of it are as far apart as in its block.
 module _ {blocks : ℕ → Graph} {joins : ℕ → Join} where
   -- the parent's atom of a later placement is placed in the whole
   pub climbed : {last l : ℕ} → Assembled blocks joins last → 1 < l → l ≤ suc last → Placed blocks last (joins (l - 1)).parent (joins (l - 1)).site
@@ -129,25 +121,3 @@ module _ {blocks : ℕ → Graph} {joins : ℕ → Join} where
       apart_old m a o r ∙ apart_same m (sooner m (omega arith) a) o r e)
       (λ s. let n : k - 1 ≡ suc m = omega arith in apart_new m a s p (sym e ∙ s) q ∙ ap (λ (x : ℕ). distance (blocks x) i j) (sym n))
       (le-suc_iff.0 p.number.high)
-
-  pub apart_later : (last : ℕ) {k i l j : ℕ} → Assembled blocks joins last → Placed blocks last k i → Placed blocks last l j → k < l
-      → apart blocks joins last k i l j ≡ apart blocks joins last k i (joins (l - 1)).parent (joins (l - 1)).site + 1 + distance (blocks (l - 1)) (joins (l - 1)).own j
-  apart_later zero a p q h = absurd (omega (arith, p.number, q.number))
-  apart_later (suc m) {k} {i} {l} {j} a p q h =
-      let o : Placed blocks m k i = placed_sooner m (omega (arith, q.number)) p in
-      ⊎_elim
-      (λ s. let b = sooner m (omega arith) a in
-      let above : 1 < l = omega (arith, p.number) in
-      rw (apart_old m a o (climbed b above s)) (apart_old m a o (placed_sooner m s q) ∙ apart_later m b o (placed_sooner m s q) h))
-      (λ s. let n : l - 1 ≡ suc m = omega arith in apart_on m a o s q ∙ rw (n, apart_old m a o (site_placed m a (omega arith))))
-      (le-suc_iff.0 q.number.high)
-
-  pub apart_earlier : (last : ℕ) {k i l j : ℕ} → Assembled blocks joins last → Placed blocks last k i → Placed blocks last l j → l < k
-      → apart blocks joins last k i l j ≡ distance (blocks (k - 1)) i (joins (k - 1)).own + 1 + apart blocks joins last (joins (k - 1)).parent (joins (k - 1)).site l j
-  apart_earlier last {k} {i} {l} {j} a p q h =
-      let m = written_molecule last a in
-      let b = (a.stands (k - 1) (omega (arith, q.number)) (omega (arith, p.number))).own in
-      let r = placed_within blocks joins (climbed a (omega (arith, q.number)) p.number.high) in
-      distance_sym m (placed_within blocks joins p) (placed_within blocks joins q)
-      ∙ apart_later last a q p h
-      ∙ omega (arith, distance_sym m (placed_within blocks joins q) r, distance_sym (a.molecules (k - 1) (omega (arith, p.number))) b p.atom)

@@ -11,7 +11,7 @@ use Rattle.graph.specs.Assembly.{shifted, joined}
 use Rattle.graph.specs.Graph.Walk.{stay, step}
 use Rattle.graph.specs.Bonds.{any_out, any_head, any_none, append_out, append_left, append_right, shifted_out, shifted_in}
 use Rattle.graph.specs.Walk.{far_end, concat, reverse}
-use Rattle.graph.specs.Distance.{distance_by, distance_shortest, distance_self, distance_bond, distance_sym}
+use Rattle.graph.specs.Distance.{distance_by, distance_shortest, distance_self, distance_bond}
 
 -- where a bond of the joined graph comes from
 data Source (g h : Graph) (a b u v : ℕ) : Type 0 where
@@ -116,11 +116,11 @@ module _ {g h : Graph} {a b : ℕ} (mg : Molecule g) (mh : Molecule h) (ha : Wit
       go (there s t) = omega (arith, ap (sides n p q) s, at_first a ha, at_second v b hb t)
       go (back s t) = omega (arith, ap (sides n p q) t, at_first a ha, at_second u b hb s)
 
-  first_within : {i : ℕ} → Within g.atoms i → Within (joined g h a b).atoms i
+  pub first_within : {i : ℕ} → Within g.atoms i → Within (joined g h a b).atoms i
   unfolding joined
   first_within w = omega arith
 
-  second_within : {j : ℕ} → Within h.atoms j → Within (joined g h a b).atoms (g.atoms + j)
+  pub second_within : {j : ℕ} → Within h.atoms j → Within (joined g h a b).atoms (g.atoms + j)
   unfolding joined
   second_within w = omega arith
 
@@ -185,8 +185,3 @@ module _ {g h : Graph} {a b : ℕ} (mg : Molecule g) (mh : Molecule h) (ha : Wit
       new i j p q =
           let r = mh.linked p.0 q.0 p.1 q.1 in
           (r.0, subst₂ (λ (x y : ℕ). Walk (joined g h a b) x y r.0) (sym p.2) (sym q.2) (second_walk r.1))
-
-  pub distance_back : {i j : ℕ} → Within h.atoms i → Within g.atoms j → distance (joined g h a b) (g.atoms + i) j ≡ distance h i b + 1 + distance g a j
-  distance_back hi hj =
-      distance_sym joined_molecule (second_within hi) (first_within hj) ∙ distance_cross hj hi
-      ∙ omega (arith, distance_sym mg hj ha, distance_sym mh hb hi)

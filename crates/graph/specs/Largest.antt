@@ -1,4 +1,4 @@
--- Laws. The largest distance: it is met by some atom and exceeded by none, and how it grows when two molecules are joined. Assumes nothing.
+-- Laws. The largest distance: it is met by some atom and exceeded by none, and that of two parts taken together. Assumes nothing.
 use Prim.Native.Nat.{ℕ, zero, suc, ◌+◌, ◌≤◌, ◌<◌, max}
 use Rattle.std.proofs.Common.{⊎_elim, ◌∙◌, add-zero, add-suc}
 use Rattle.std.specs.Prelude.{◌≡◌, refl}
@@ -8,10 +8,8 @@ use native.Mathlib.Omega.{arith}
 use Rattle.std.proofs.Math.Decide.{dec_lt}
 use Rattle.graph.specs.Graph.{Graph, Within, Molecule, distance}
 use Rattle.graph.specs.Farthest.{most, most_pairs, farthest, largest}
-use Rattle.graph.specs.Assembly.{joined}
 use Rattle.graph.specs.Distance.{distance_sym, distance_self, distance_below}
 use Rattle.graph.specs.Sums.{wider, last}
-use Rattle.graph.specs.Join.{distance_first, distance_second, distance_cross, distance_back}
 
 -- none of some numbers is larger than the largest, and one of them is as large
 pub most_over : (n : ℕ) (f : ℕ → ℕ) (v : ℕ) → Within n v → f v ≤ most n f
@@ -161,44 +159,3 @@ most_pairs_split n (suc m) f =
     ∙ ap₂ max (most_pairs_split n m f) (most_split n m (λ i. f i (suc (n + m))) ∙ ap₂ max (ap (λ (k : ℕ). most n (λ i. f i k)) (sym e)) (ap (λ (k : ℕ). most m (λ i. f (n + i) k)) (sym e)))
     ∙ apart (max P Q) C X Y
     ∙ ap₂ max (right P Q Y) (sym (most-max n (λ i. most m (λ j. f i (n + j))) (λ i. f i (n + suc m))))
-
--- Two molecules joined by a bond between atom a of g and atom b of h.
-module _ {g h : Graph} {a b : ℕ} (mg : Molecule g) (mh : Molecule h) (ha : Within g.atoms a) (hb : Within h.atoms b) where
-  some_first : 1 ≤ g.atoms
-  some_first = omega (arith, ha.low, ha.high)
-
-  some_second : 1 ≤ h.atoms
-  some_second = omega (arith, hb.low, hb.high)
-
-  across : (i j : ℕ) → Within g.atoms i → Within h.atoms j → distance (joined g h a b) i (g.atoms + j) ≡ distance g a i + 1 + distance h b j
-  across i j w v = distance_cross mg mh ha hb w v ∙ ap (λ (x : ℕ). x + 1 + distance h b j) (distance_sym mg w ha)
-
-  back : (i j : ℕ) → Within h.atoms i → Within g.atoms j → distance (joined g h a b) (g.atoms + i) j ≡ distance h b i + 1 + distance g a j
-  back i j w v = distance_back mg mh ha hb w v ∙ ap (λ (x : ℕ). x + 1 + distance g a j) (distance_sym mh w hb)
-
-  -- the farthest from an atom of g: in g, or beyond the joining bond; and from an atom of h
-  pub farthest_first : {c : ℕ} → Within g.atoms c → farthest (joined g h a b) c ≡ max (farthest g c) (distance g a c + 1 + farthest h b)
-  unfolding joined farthest
-  farthest_first {c} hc =
-      most_split g.atoms h.atoms (distance (joined g h a b) c)
-      ∙ ap₂ max (most_cong g.atoms (λ j w. distance_first mg mh ha hb hc w)) (most_cong h.atoms (λ j w. across c j hc w) ∙ most_add h.atoms (distance h b) (distance g a c + 1) some_second)
-
-  pub farthest_second : {c : ℕ} → Within h.atoms c → farthest (joined g h a b) (g.atoms + c) ≡ max (farthest h c) (distance h b c + 1 + farthest g a)
-  unfolding joined farthest
-  farthest_second {c} hc =
-      most_split g.atoms h.atoms (distance (joined g h a b) (g.atoms + c))
-      ∙ ap₂ max (most_cong g.atoms (λ j w. back c j hc w) ∙ most_add g.atoms (distance g a) (distance h b c + 1) some_first) (most_cong h.atoms (λ j w. distance_second mg mh ha hb hc w))
-      ∙ omega arith
-
-  -- of the joined molecule: within either part, or from the farthest atom of one through the bond to that of the other
-  pub largest-joined : largest (joined g h a b) ≡ max (max (largest g) (largest h)) (farthest g a + 1 + farthest h b)
-  unfolding joined largest farthest
-  largest-joined =
-      most_pairs_split g.atoms h.atoms (distance (joined g h a b))
-      ∙ ap₂ max (ap₂ max (most_pairs_cong g.atoms (λ i j w v. distance_first mg mh ha hb w v)) (most_pairs_cong h.atoms (λ i j w v. distance_second mg mh ha hb w v)))
-      (most_cong g.atoms (λ i w. most_cong h.atoms (λ j v. across i j w v) ∙ most_add h.atoms (distance h b) (distance g a i + 1) some_second ∙ turn (distance g a i) (most h.atoms (distance h b)))
-      ∙ most_add g.atoms (distance g a) (1 + most h.atoms (distance h b)) some_first
-      ∙ sym (turn (most g.atoms (distance g a)) (most h.atoms (distance h b))))
-    where
-      turn : (x y : ℕ) → x + 1 + y ≡ 1 + y + x
-      turn x y = omega arith

@@ -4,12 +4,12 @@ use Rattle.std.proofs.Math.Bool.{true, false, cond}
 use Rattle.std.proofs.Math.Logic.{⊎_elim}
 use Rattle.std.proofs.Math.Path.{refl, sym, ap, subst}
 use Rattle.std.proofs.Common.{◌∙◌, eq-zero-or-pos, arith}
-use borrow.Author.Tests.{eqb-true, eqb-false, eq-eqb, ne_eqb}
+use borrow.Author.Tests.{eqb-true, eqb-false, eq-eqb}
 use Rattle.std.proofs.Math.Dec.{eqb}
 use Rattle.std.proofs.Math.ListN.{length}
 use Rattle.graph.specs.Graph.{Graph, Bond, Walk, Within, Sound, Molecule, joins, bonded, distance, sum}
 use Rattle.graph.specs.Graph.Walk.{stay, step}
-use Rattle.graph.specs.Distance.{distance_shortest, distance_self, distance_zero, distance_bond}
+use Rattle.graph.specs.Distance.{distance_shortest, distance_self, distance_bond}
 use Rattle.graph.specs.Sums.{sum_cong, sum_none, sum_at, sum_some}
 use Rattle.graph.specs.Paths.{gather, walks, shortest_paths, uses, passing_paths, path_count, paths_using}
 use Rattle.graph.specs.Notions.{near, OnTheWay}
@@ -189,24 +189,3 @@ module _ {g : Graph} (m : Molecule g) {i : ℕ} (hi : Within g.atoms i) where
   pub count_pos : {j : ℕ} → Within g.atoms j → 0 < path_count g i j
   unfolding path_count shortest_paths
   count_pos hj = walks_of_walk m.sound (distance_shortest m hi hj).walk
-
-  -- the counts as one rule, the start included
-  pub count_rule : {j : ℕ} → Within g.atoms j → path_count g i j ≡ cond (eqb i j) 1 0 + sum g.atoms (λ v. cond (near g i v j) (path_count g i v) 0)
-  count_rule {j} hj = go (distance g i j) refl
-    where
-      go : (k : ℕ) → distance g i j ≡ k → path_count g i j ≡ cond (eqb i j) 1 0 + sum g.atoms (λ v. cond (near g i v j) (path_count g i v) 0)
-      go zero d =
-          let e : i ≡ j = distance_zero m hi hj d in
-          omega (
-            arith,
-            ap (path_count g i) e,
-            count_self,
-            ap {B = ℕ} (λ (t : Bool). cond t 1 0) (eq-eqb i j e),
-            near_none g i j {f = path_count g i} (λ v w y. absurd (omega (arith, y.one))),
-          )
-      go (suc k) d =
-          omega (
-            arith,
-            count_step k j d,
-            ap {B = ℕ} (λ (t : Bool). cond t 1 0) (ne_eqb i j (λ e. omega (arith, ap (distance g i) e, distance_self m.sound hi))),
-          )

@@ -8,7 +8,8 @@ use Rattle.graph.specs.Graph.{Graph, Within, Molecule, distance, itself, even_of
 use Rattle.graph.specs.Farthest.{farthest, largest}
 use Rattle.graph.specs.Assembly.{Join, joined, start_at, written, Assembled}
 use Rattle.graph.specs.Distance.{distance_sym}
-use Rattle.graph.specs.Join.{distance_first, distance_second, distance_cross, distance_back}
+use Rattle.graph.specs.Join.{distance_first, distance_second, distance_cross}
+use Rattle.graph.proofs.JoinLaws.{distance_back}
 use Rattle.graph.specs.Climb.{sooner, site_placed, placed_within, written_molecule}
 use Rattle.graph.specs.Sums.{sum_cong, sum_pairs_cong}
 use Rattle.graph.specs.Largest.{most_cong, most_pairs_cong}

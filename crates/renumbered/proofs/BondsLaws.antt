@@ -11,7 +11,7 @@ use Rattle.graph.specs.Notions.{Plain}
 use Rattle.szeged.specs.Szeged.{closer, nearer, szeged_term, szeged}
 use Rattle.balaban.specs.Balaban.{bound, largest_root, term, divisor, reckoned}
 use Rattle.renumbered.specs.Renumbered.{Renumbered, Partners}
-use Rattle.graph.specs.Matched.{sum_same, pairs_same}
+use Rattle.graph.proofs.MatchedLaws.{sum_same, pairs_same}
 use Rattle.graph.specs.BondPairs.{of_ends, over_pairs}
 use Rattle.renumbered.proofs.Distances.{same_bonded, same_atoms, same_distance, same_vertex}
 use Rattle.renumbered.specs.Bonds.{Alike}

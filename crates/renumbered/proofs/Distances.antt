@@ -9,7 +9,7 @@ use Rattle.graph.specs.Bonds.{same_test}
 use Rattle.graph.specs.Distance.{distance_shortest, distance_sym}
 use Rattle.graph.specs.Largest.{largest_is}
 use Rattle.block.specs.Index.{indices_of}
-use Rattle.graph.specs.Matched.{turned, same_size, sum_same, pairs_same, most_same}
+use Rattle.graph.proofs.MatchedLaws.{turned, same_size, sum_same, pairs_same, most_same}
 use Rattle.renumbered.specs.Renumbered.{Renumbered}
 
 -- it may be read the other way

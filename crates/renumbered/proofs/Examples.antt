@@ -29,7 +29,7 @@ use Rattle.judging.specs.Judging.{judge_reply, said_verdict, sheet_write_reply, 
 use Rattle.judging.specs.declared.Verdict.TheVariants.{Accepted}
 use Rattle.renumbered.specs.Renumbered.{Renumbered, RelistedBlocks, RelistedDecks}
 use Rattle.renumbered.proofs.Distances.{same_total}
-use Rattle.graph.specs.Matched.{same_size}
+use Rattle.graph.proofs.MatchedLaws.{same_size}
 use Rattle.renumbered.specs.Decided.{leads_home, all_carried, is_renumbered, listed, renumbered_by}
 use Rattle.renumbered.proofs.DecksLaws.{same_sheet, exchanged}
 

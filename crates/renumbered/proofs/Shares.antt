@@ -13,7 +13,7 @@ use Rattle.graph.specs.Paths.{walks, shortest_paths, uses, passing_paths, path_c
 use Rattle.graph.specs.Backwards.{power, walks-power, without, uses-power, count_sym, using_sym, count_dvd, denominator_dvd}
 use Rattle.graph.specs.Matching.{Matching}
 use Rattle.renumbered.specs.Renumbered.{Renumbered, Partners}
-use Rattle.graph.specs.Matched.{eqb-to, sum_same, pairs_same}
+use Rattle.graph.proofs.MatchedLaws.{eqb-to, sum_same, pairs_same}
 use Rattle.renumbered.proofs.Distances.{reversed, same_bonded, same_distance}
 
 -- how many ways lead from i to j in k steps

@@ -15,7 +15,7 @@ use Rattle.deck.specs.Deck.{Deck, deck_reply}
 use Rattle.deck.specs.Molecule.{molecule_of}
 use Rattle.deck.specs.Sized.{one_molecule}
 use Rattle.deck.specs.declared.Form.TheVariants.{Composed}
-use Rattle.graph.specs.Matched.{same_size}
+use Rattle.graph.proofs.MatchedLaws.{same_size}
 use Rattle.renumbered.specs.Renumbered.{Renumbered}
 use Rattle.matched.specs.Matched.{partners, partner, is_lost, is_loose, carried, is_unlisted, first_atom, first_bond, match_place, yes, match_answer, match_reply}
 use Rattle.matched.specs.Laws.{first_no}

@@ -13,7 +13,7 @@ use Rattle.graph.specs.Distance.{distance_below}
 use Rattle.graph.specs.Sums.{sum_cong}
 use Rattle.graph.specs.Paths.{path_count}
 use Rattle.graph.specs.Notions.{near, gathered}
-use Rattle.graph.specs.Steps.{count_rule}
+use Rattle.graph.proofs.StepsLaws.{count_rule}
 use Rattle.graph.specs.Flow.{gathered_step}
 use Rattle.block.specs.Block.{most_atoms}
 use Rattle.block.specs.Sums.{entry}

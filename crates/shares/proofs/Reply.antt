@@ -10,7 +10,7 @@ use lib.Seq.{take_at}
 use Rattle.graph.specs.Graph.{wiener}
 use Rattle.graph.specs.BondSums.{added, added-map}
 use Rattle.graph.specs.Paths.{denominator, share}
-use Rattle.graph.specs.Uses.{shares_total}
+use Rattle.graph.proofs.UsesLaws.{shares_total}
 use Rattle.reply.specs.Read.{refused, read, refuse_if, refusal, said_number}
 use Rattle.reply.specs.Chain.{then-read}
 use Rattle.block.specs.Block.{bonds_of, graph_of, block_reply}
