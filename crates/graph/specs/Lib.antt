@@ -22,6 +22,7 @@ pub mod Assembly
 pub mod Sets
 pub mod Paths
 pub mod Notions
+pub mod Rules
 pub mod Examples
 pub mod Bonds
 pub mod SetLaws
@@ -35,7 +36,6 @@ pub mod Connected
 pub mod Tree
 pub mod Splits
 pub mod Join
-pub mod Rules
 pub mod Largest
 pub mod Matched
 pub mod Climb

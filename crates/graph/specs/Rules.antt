@@ -1,4 +1,4 @@
--- How what an atom counts grows at a join.
+-- Work. How what an atom counts grows at a join.
 use Prim.Native.Nat.{ℕ, ◌+◌, ◌*◌}
 use Rattle.std.specs.Prelude.{◌≡◌}
 use Rattle.graph.specs.Graph.{itself, each, even_of, odd_of, even_one, odd_one, is_at}
