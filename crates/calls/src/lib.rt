@@ -4,7 +4,7 @@
 //   unlent                 what a function over a block says that lacks an output
 //   sheet_for              the sheet that a caller's number means
 // A promise is `r ≡ coded answer`, `Lent answer out r out'` for one output, `Beside answer one two out more r out' more'` for two (specs/Convention, Beside).
-// What a C function does stands in a crate above this one, with its whole promise; its export in `tteuyomal` is one line, since only that crate's exports reach the archive.
+// What a C function does stands in a crate above this one, with its whole promise; `tteuyomal` has it again in one line, and `tteuyomal_c` exports that.
 #![tactic(auto)]
 
 ghost use Rattle.std.specs.Prelude.{◌≡◌, ◌≤◌, length};

@@ -5,7 +5,7 @@
 -- | `add_reply`, `added`             | what adding is told, and the shelf's bytes after it                 | `room_exactly`: 28 exactly when eight are held                                                              |
 -- | `drop_reply`, `dropped`          | the same for dropping                                               | `same_place_again`: a dropped place is used again                                                           |
 -- | `look_reply`                     | what looking up is told                                             | `same_look`: the fields of what was added                                                                   |
--- | `shelf`, `table_after`           | a queue's half of the table; the table after a call                 | `other_After`: no call changes the other queue's places                                                     |
+-- | `shelf`, `table_after`           | a queue's half of the table; the table after a call                 | `other_after`: no call changes the other queue's places                                                     |
 -- | `Trade`, `Call`, `answers_to`    | what is stored, the calls, and what a queue is told while both call | `alone`: on any bytes, what its own calls are told by its half                                              |
 -- | `Meaning`, `told_all`            | a queue with no bytes, and what its calls are told                  | `own_calls_only`                                                                                            |
 -- | `HonestTrade`                    | the bytes say what the goods mean                                   | `own_calls_only`, `keeps_own`                                                                               |

@@ -1,5 +1,5 @@
 // The functions of the library as C calls them, under the convention of include/tteuyomal.h. Each is one line: what it calls stands in a crate below, with the
-// same promise. Only what is exported here reaches the archive.
+// same promise. What the archive exports is in `tteuyomal_c`, which calls these.
 #![tactic(auto)]
 
 pub mod blocks;
