@@ -3,7 +3,7 @@
 //   give, give_number, give_counts, give_indices   numbers, the number, the counts or the fields of a reply at the front of a lent output; 9 where they do not fit
 //   unlent                 what a function over a block says that lacks an output
 //   sheet_for              the sheet that a caller's number means
-// A promise is `r ≡ coded answer`, `Lent answer out r out'` for one output, `Beside answer one two out more r out' more'` for two (specs/Convention, Beside).
+// A promise is `result ≡ coded answer`, `Lent answer out.old result out.new` for one output, `Beside answer one two out.old more.old result out.new more.new` for two (specs/Convention, Beside).
 // What a C function does stands in a crate above this one, with its whole promise; `tteuyomal` has it again in one line, and `tteuyomal_c` exports that.
 #![tactic(auto)]
 
