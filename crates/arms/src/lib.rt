@@ -25,7 +25,7 @@ const NO_FIELDS: Indices = Indices {
 };
 
 // What is kept of a block as an arm: its fields, and what is counted from the atom where it joins.
-#[derive(Clone, Copy)]
+#[derive(Clone, Copy, Debug, PartialEq, Eq)]
 pub struct Arm {
     pub six: Indices,
     pub end: Vertex,
@@ -75,7 +75,7 @@ pub fn row_arm(row: ArmRow) -> Arm
 }
 
 // What is kept of an atom of the core where an arm joins: what is counted from it, and the number of steps to the atom of each arm.
-#[derive(Clone, Copy)]
+#[derive(Clone, Copy, Debug, PartialEq, Eq)]
 pub struct Port {
     pub counts: Vertex,
     pub near: [u8; ARMS],
@@ -87,14 +87,14 @@ const NO_PORT: Port = Port {
 };
 
 // What is kept of a block as the core: its fields, and the atoms where arms join.
-#[derive(Clone, Copy)]
+#[derive(Clone, Copy, Debug, PartialEq, Eq)]
 pub struct Core {
     pub six: Indices,
     pub ends: [Port; ARMS],
 }
 
 // The running summary of a core with its first arms: the fields, and what is counted from the atom where the next arm joins.
-#[derive(Clone, Copy)]
+#[derive(Clone, Copy, Debug, PartialEq, Eq)]
 pub struct Stem {
     pub six: Indices,
     pub from: Vertex,
@@ -114,7 +114,7 @@ pub fn open_in(number: u16, n: usize, bonds: &[u8], place: &mut [u8; SUMMARY])
     ensures { place.new ≡ opened number n bonds.now }
 {
     *place = [0u8; SUMMARY];
-    fill(number, n, bonds, place);
+    let _ = fill(number, n, bonds, place);
 }
 
 // What is kept of the block that is opened in a place, and joins at atom a: 0 in all where the place is empty.
@@ -131,10 +131,8 @@ fn near_in(row: &DistanceRow, atoms: [u8; ARMS]) -> [u8; ARMS]
     ensures { result ≡ ports_near row.now atoms }
 {
     let mut near = [0u8; ARMS];
-    let mut j: usize = 0;
-    while j < ARMS {
+    for j in 0..ARMS {
         near[j] = steps(row, atoms[j] as usize);
-        j += 1;
     }
     near
 }
@@ -156,10 +154,8 @@ pub fn core_in(s: &[u8], atoms: [u8; ARMS]) -> Core
 {
     let six = fields(s);
     let mut ends = [NO_PORT; ARMS];
-    let mut k: usize = 0;
-    while k < ARMS {
+    for k in 0..ARMS {
         ends[k] = port_in(s, atoms, atoms[k] as usize);
-        k += 1;
     }
     Core { six, ends }
 }
@@ -171,15 +167,12 @@ fn sight(ends: [Port; ARMS], arms: [Arm; ARMS], k: usize) -> Vertex
 {
     let own = ends[k];
     let mut v = own.counts;
-    let mut m: usize = 0;
-    while m < k {
+    for m in 0..k {
         let end = ends[m];
         let arm = arms[m];
         let near = end.near;
         let d = wide(near[k]);
-        let next = grown(v, d, arm.end);
-        v = next;
-        m += 1;
+        v = grown(v, d, arm.end);
     }
     v
 }
@@ -202,14 +195,10 @@ pub fn stem_of(core: Core, arms: [Arm; ARMS], m: usize) -> Stem
     let first = ends[0];
     let mut from = first.counts;
     let mut six = core.six;
-    let mut k: usize = 0;
-    while k < n {
+    for k in 0..n {
         let arm = arms[k];
-        let next = joining::joined(six, arm.six, from, arm.end);
-        six = next;
-        k += 1;
-        let turned = sight(ends, arms, k);
-        from = turned;
+        six = joining::joined(six, arm.six, from, arm.end);
+        from = sight(ends, arms, k + 1);
     }
     Stem { six, from }
 }

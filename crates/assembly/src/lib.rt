@@ -30,7 +30,7 @@ pub const PLACEMENT_BYTES: usize = ASSEMBLY.item as usize;
 const LARGEST_NUMBER: usize = u16::MAX as usize;
 
 // Where a block stands: its number, the first byte of its payload, its atoms and its bonds.
-#[derive(Clone, Copy)]
+#[derive(Clone, Copy, Debug, PartialEq, Eq)]
 pub struct BlockAt {
     pub number: u16,
     pub start: u16,
@@ -50,7 +50,7 @@ pub const NO_BLOCK: BlockAt = BlockAt {
 pub type BlockTable = [BlockAt; BLOCKS];
 
 // A placement: the number of its block, the placement that it joins (from 1), that one's atom, and its own atom.
-#[derive(Drop)]
+#[derive(Clone, Copy, Debug, PartialEq, Eq)]
 pub struct Placement {
     pub block: u16,
     pub parent: u16,
@@ -59,7 +59,7 @@ pub struct Placement {
 }
 
 // What an assembly asks of a block at one of its atoms: how many atoms the block has, and how many of its bonds are at this one.
-#[derive(Drop)]
+#[derive(Clone, Copy, Debug, PartialEq, Eq)]
 pub struct JoinSite {
     pub atoms: usize,
     pub ends: usize,
@@ -79,8 +79,7 @@ fn same_number(x: u16, number: usize) -> bool
 pub fn find_block(blocks: BlockTable, count: usize, number: usize) -> BlockAt
     ensures { result ≡ find (take count blocks) number }
 {
-    let mut i = 0;
-    while i < BLOCKS {
+    for i in 0..BLOCKS {
         if count <= i {
             return NO_BLOCK;
         }
@@ -88,7 +87,6 @@ pub fn find_block(blocks: BlockTable, count: usize, number: usize) -> BlockAt
         if same_number(b.number, number) {
             return b;
         }
-        i += 1;
     }
     NO_BLOCK
 }
@@ -202,12 +200,8 @@ fn joins_on(xs: &[u8], last: usize, p: u16, a: u8) -> usize
     ensures { (result ≡ joins_on (join_on (placement_at xs.now)) last p a) × (result ≤ last + 1) }
 {
     let mut total = own_on(xs, last, p, a);
-    let mut at = ASSEMBLY_HEAD;
-    let mut k = 0;
-    while k < last {
-        k += 1;
-        at += PLACEMENT_BYTES;
-        if is_on(xs, at, p, a) {
+    for k in 0..last {
+        if is_on(xs, ASSEMBLY_HEAD + PLACEMENT_BYTES * (k + 1), p, a) {
             total += 1;
         }
     }

@@ -9,29 +9,28 @@ use Rattle.graph.specs.Graph.{bond, bonded, vertex_sum}
 use Rattle.graph.specs.Walk.{far_end}
 use Rattle.graph.specs.Bounds.{vertex_sum_positive}
 use Rattle.graph.specs.Tree.{enough_bonds}
-use Rattle.reply.specs.Read.{refused, read, said_number}
+use Rattle.reply.specs.Read.{refused, read, as_result}
 use Rattle.reply.specs.Chain.{then-read}
 use Rattle.block.specs.Block.{graph_of, bonds_of, block_reply}
 use Rattle.block.specs.Told.{fine_drawn, molecule, each_bond}
 use Rattle.block.specs.Numbered.{ends_apart}
 use Rattle.reply.specs.declared.Refusal.{Refusal}
 use Rattle.balaban.specs.Balaban.{Largest, bound, term, bond_count, divisor, reckoned, balaban_reply, Fine}
-use Rattle.reply.specs.declared.NumberReply.{NumberReply}
-use Rattle.reply.specs.declared.NumberReply.TheVariants as answer
 use Rattle.balaban.proofs.Squares.{largest_root_lem}
 use Rattle.balaban.proofs.Fineness.{fine_molecule}
+use Rattle.std.specs.Prelude.{Result, Ok, Err}
 
 -- two replies that satisfy the promise are equal
-pub one_reply : (n : ℕ) (xs : List ℕ) (r s : NumberReply) → r ≡ said_number (balaban_reply n xs) → s ≡ said_number (balaban_reply n xs) → r ≡ s
+pub one_reply : (n : ℕ) (xs : List ℕ) (r s : Result ℕ Refusal) → r ≡ as_result (balaban_reply n xs) → s ≡ as_result (balaban_reply n xs) → r ≡ s
 one_reply n xs r s p q = p ∙ sym q
 
 module _ (n : ℕ) (xs : List ℕ) where
-  pub refused_reply : (r : Refusal) → block_reply n xs ≡ refused r → answer.Refused r ≡ said_number (balaban_reply n xs)
+  pub refused_reply : (r : Refusal) → block_reply n xs ≡ refused r → Err r ≡ as_result (balaban_reply n xs)
   unfolding balaban_reply
   refused_reply r e = rw e
 
   module _ (fine : block_reply n xs ≡ read tt) where
-    pub fine_reply : (j : ℕ) → j ≡ reckoned 1 (graph_of n xs) → answer.Of j ≡ said_number (balaban_reply n xs)
+    pub fine_reply : (j : ℕ) → j ≡ reckoned 1 (graph_of n xs) → Ok j ≡ as_result (balaban_reply n xs)
     unfolding balaban_reply
     fine_reply j e = rw (fine, e)
 

@@ -3,14 +3,14 @@
 
 ghost use Rattle.std.specs.Prelude.{◌≡◌, ◌+◌, ◌-◌, ◌*◌, ◌/◌, ◌≤◌};
 ghost use Rattle.graph.specs.Graph.{Within};
-ghost use Rattle.reply.specs.Read.{said_number};
 ghost use Rattle.block.specs.Block.{most_atoms, most_bytes, graph_of};
 ghost use Rattle.block.specs.Sums.{entry};
 ghost use Rattle.balaban.specs.Balaban.{bound, largest_root, reckoned, balaban_reply};
 ghost use Rattle.balaban.specs.Work.{unit, most_sum, RootsTask};
+ghost use Rattle.reply.specs.Read.{as_result};
 
 use block::ATOMS;
-use reply::{NumberReply, Reply};
+use reply::Refusal;
 
 mod roots;
 
@@ -49,25 +49,17 @@ fn reckon(n: usize, bonds: &[u8], sums: &[u64; ATOMS]) -> u64
 {
     let m = bonds.len() / 2;
     let mut total: u64 = 0;
-    let mut k = 0;
-    while k < m {
+    for k in 0..m {
         total += brings(sums, bonds[2 * k], bonds[2 * k + 1]);
-        k += 1;
     }
     divided(m, total, n)
 }
 
 // Balaban's J of a block, times 10^9 and in whole numbers, or the block's refusal.
-pub fn index(n: usize, bonds: &[u8]) -> NumberReply
-    ensures { result ≡ said_number (balaban_reply n bonds.now) }
+pub fn index(n: usize, bonds: &[u8]) -> Result<u64, Refusal>
+    ensures { result ≡ as_result (balaban_reply n bonds.now) }
 {
     let mut sums = [0u64; ATOMS];
-    let reply = reach::vertex_sums(n, bonds, &mut sums);
-    match reply {
-        Reply::Refused(refusal) => NumberReply::Refused(refusal),
-        Reply::Fine => {
-            let j = reckon(n, bonds, &sums);
-            NumberReply::Of(j)
-        }
-    }
+    reach::vertex_sums(n, bonds, &mut sums)?;
+    Ok(reckon(n, bonds, &sums))
 }

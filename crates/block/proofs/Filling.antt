@@ -22,8 +22,8 @@ use Rattle.block.specs.Told.{row_read}
 use Rattle.block.specs.Halved.{table_end}
 use Rattle.block.specs.Lent.{zeros}
 use Rattle.reply.specs.declared.Refusal.{Refusal}
-use Rattle.reply.specs.declared.Reply.TheVariants.{Fine, Refused}
 use Rattle.block.specs.declared.OneRow.{OneRow}
+use Rattle.std.specs.Prelude.{Ok, Err}
 
 -- of a table the first i entries are F's, and the others are none
 pub record Filled {A : Type 0} (F : ℕ → A) (none d : A) (all : List A) (i : ℕ) : Type 0 where
@@ -120,14 +120,14 @@ module _ (n : ℕ) (xs : List ℕ) where
   stored e old new now p = rw e p
 
   module _ (i : ℕ) (v : OneRow) where
-    pub row-refused : (r : Refusal) → block_reply n xs ≡ refused r → v.reply ≡ Refused r → v.row ≡ no_row → v.largest ≡ 0 → v ≡ said_row (row_reply n xs i)
+    pub row-refused : (r : Refusal) → block_reply n xs ≡ refused r → v.reply ≡ Err r → v.row ≡ no_row → v.largest ≡ 0 → v ≡ said_row (row_reply n xs i)
     unfolding row_reply
     row-refused r b p q l = rw b (λ j. record { reply = p j; row = q j; largest = l j })
 
     module _ (fine : block_reply n xs ≡ read tt) where
-      pub row_outside : is_outside n i ≡ true → v.reply ≡ Refused (refusal 18 0) → v.row ≡ no_row → v.largest ≡ 0 → v ≡ said_row (row_reply n xs i)
+      pub row_outside : is_outside n i ≡ true → v.reply ≡ Err (refusal 18 0) → v.row ≡ no_row → v.largest ≡ 0 → v ≡ said_row (row_reply n xs i)
       unfolding row_reply
       row_outside o p q l = rw (fine, o) (λ j. record { reply = p j; row = q j; largest = l j })
 
-      pub row_fine : Within n i → v.reply ≡ Fine → v.row ≡ row_of (graph_of n xs) i → v.largest ≡ farthest (graph_of n xs) i → v ≡ said_row (row_reply n xs i)
+      pub row_fine : Within n i → v.reply ≡ Ok tt → v.row ≡ row_of (graph_of n xs) i → v.largest ≡ farthest (graph_of n xs) i → v ≡ said_row (row_reply n xs i)
       row_fine w p q l = rw (row_read n xs fine w) (λ j. record { reply = p j; row = q j; largest = l j })

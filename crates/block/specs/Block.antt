@@ -1,10 +1,10 @@
 -- Definitions. A block: what its bytes say, and its refusals 1 to 7 in the order of docs/RULES.md. A place is the bond's number from 1, or 0.
-use Rattle.std.specs.Prelude.{ℕ, suc, ◌*◌, ◌%◌, ◌||◌, not, cond, List, [], ◌∷◌, eqb, leb, ltb, length}
+use Rattle.std.specs.Prelude.{ℕ, suc, ◌*◌, ◌%◌, ◌||◌, not, cond, List, [], ◌∷◌, eqb, leb, ltb, length, Result}
 use Rattle.graph.specs.Graph.{Graph, Bond, bond, any_joins, connected, degree}
 pub use Rattle.half.specs.Half.{most_atoms}
-use Rattle.reply.specs.Read.{Read, read, ◌then◌, refuse_if, refuse_for, is_outside, said_counts}
+use Rattle.reply.specs.declared.Refusal.{Refusal}
+use Rattle.reply.specs.Read.{Read, read, ◌then◌, refuse_if, refuse_for, is_outside, as_result}
 use Rattle.reply.specs.declared.Counts.{Counts}
-use Rattle.reply.specs.declared.CountsReply.{CountsReply}
 
 -- the most bonds of an atom, and the most bytes that the bonds take: two bytes a bond, which is one of the bonds of two atoms
 abbrev pub limit : ℕ
@@ -53,5 +53,5 @@ drawn_reply n xs =
 abbrev pub counts_of : Graph → Counts
 counts_of g = record { atoms = g.atoms; bonds = length g.bonds }
 
-abbrev pub said_molecule : Read Graph → CountsReply
-said_molecule answer = said_counts (answer then λ g. read (counts_of g))
+abbrev pub said_molecule : Read Graph → Result Counts Refusal
+said_molecule answer = as_result (answer then λ g. read (counts_of g))

@@ -1,17 +1,12 @@
 -- Definitions. The indices of a block, its distances and vertex sums, and how many pairs lie at each distance, or its refusal.
-use Rattle.std.specs.Prelude.{ℕ, List}
+use Rattle.std.specs.Prelude.{ℕ, List, Ok, Err}
 use Rattle.graph.specs.Graph.{Graph, distance, wiener, even_part, odd_part, polarity, pairs_at, vertex_sum, vertex_even, vertex_odd, even_count, odd_count, count_at}
 use Rattle.graph.specs.Farthest.{farthest, largest}
 use Rattle.reply.specs.Read.{Read, refused, read, ◌then◌, refuse_if, is_outside}
 use Rattle.block.specs.Block.{most_atoms, graph_of, block_reply}
 use Rattle.block.specs.Rows.{table, no_row}
-use Rattle.reply.specs.declared.Reply.TheVariants as reply
 use Rattle.block.specs.declared.Indices.{Indices}
-use Rattle.block.specs.declared.IndicesReply.{IndicesReply}
-use Rattle.block.specs.declared.IndicesReply.TheVariants as measured
 use Rattle.block.specs.declared.Vertex.{Vertex}
-use Rattle.block.specs.declared.VertexReply.{VertexReply}
-use Rattle.block.specs.declared.VertexReply.TheVariants as around
 use Rattle.block.specs.declared.Pairs.{Pairs}
 
 unfoldable pub indices_of : Graph → Indices
@@ -19,14 +14,6 @@ indices_of g = record { atoms = g.atoms; w = wiener g; even = even_part g; odd =
 
 unfoldable pub indices_reply : ℕ → List ℕ → Read Indices
 indices_reply n xs = block_reply n xs then λ _. read (indices_of (graph_of n xs))
-
-abbrev pub said_indices : Read Indices → IndicesReply
-said_indices (refused r) = measured.Refused r
-said_indices (read x) = measured.Of x
-
-abbrev pub told_indices : IndicesReply → Read Indices
-told_indices (measured.Refused r) = refused r
-told_indices (measured.Of x) = read x
 
 -- the even count includes the atom itself, at distance 0
 unfoldable pub vertex_of : Graph → ℕ → Vertex
@@ -45,10 +32,6 @@ vertex_of g a = record {
 unfoldable pub vertex_reply : ℕ → List ℕ → ℕ → Read Vertex
 vertex_reply n xs a = block_reply n xs then λ _. refuse_if (is_outside n a) 18 0 then λ _. read (vertex_of (graph_of n xs) a)
 
-abbrev pub said_vertex : Read Vertex → VertexReply
-said_vertex (refused r) = around.Refused r
-said_vertex (read v) = around.Of v
-
 unfoldable pub distance_reply : ℕ → List ℕ → ℕ → ℕ → Read ℕ
 distance_reply n xs i j =
     block_reply n xs then λ _.
@@ -64,5 +47,5 @@ unfoldable pub pairs_reply : ℕ → List ℕ → Read (List ℕ)
 pairs_reply n xs = block_reply n xs then λ _. read (pairs_of (graph_of n xs))
 
 abbrev pub said_pairs : Read (List ℕ) → Pairs
-said_pairs (refused r) = record { reply = reply.Refused r; at = no_row }
-said_pairs (read ns) = record { reply = reply.Fine; at = ns }
+said_pairs (refused r) = record { reply = Err r; at = no_row }
+said_pairs (read ns) = record { reply = Ok tt; at = ns }

@@ -1,5 +1,5 @@
 -- Definitions. The distances of a block: 64 rows of 64, half of them, and the largest of each row; 0 beyond its atoms and where it is refused.
-use Rattle.std.specs.Prelude.{ℕ, suc, ◌-◌, ◌||◌, cond, List, [], ltb, get_or, replicate}
+use Rattle.std.specs.Prelude.{ℕ, suc, ◌-◌, ◌||◌, cond, List, [], ltb, get_or, replicate, Ok, Err}
 use Rattle.graph.specs.Graph.{Graph, distance}
 use Rattle.graph.specs.Farthest.{farthest}
 unfoldable pub use Rattle.half.specs.Half.{table}
@@ -7,7 +7,6 @@ use Rattle.half.specs.Half.{half_of}
 use Rattle.reply.specs.Read.{Read, refused, read, ◌then◌, refuse_if, is_outside}
 use Rattle.block.specs.Block.{most_atoms, graph_of, block_reply}
 use Rattle.block.specs.declared.OneRow.{OneRow}
-use Rattle.reply.specs.declared.Reply.TheVariants.{Fine, Refused}
 
 -- the distances from atom i, that of atom j at place j - 1
 unfoldable pub row_of : Graph → ℕ → List ℕ
@@ -29,8 +28,8 @@ row_reply n xs i =
     read (row_of (graph_of n xs) i, farthest (graph_of n xs) i)
 
 abbrev pub said_row : Read (List ℕ × ℕ) → OneRow
-said_row (refused r) = record { reply = Refused r; row = no_row; largest = 0 }
-said_row (read x) = record { reply = Fine; row = x.0; largest = x.1 }
+said_row (refused r) = record { reply = Err r; row = no_row; largest = 0 }
+said_row (read x) = record { reply = Ok tt; row = x.0; largest = x.1 }
 
 -- the row of atom i at place i - 1
 unfoldable pub rows_of : ℕ → List ℕ → List (List ℕ)

@@ -2,12 +2,13 @@
 ghost use Rattle.std.specs.Prelude.{◌≡◌, ◌&&◌, cond, [], ◌≤◌, length};
 ghost use Rattle.std.specs.Int.Count.{ones};
 ghost use Rattle.graph.specs.Graph.{bond, any_joins, degree};
+ghost use Rattle.reply.specs.Rules.{number_if};
 ghost use Rattle.block.specs.Block.{most_atoms, bonds_of, bond_fault, bonds_reply};
 ghost use Rattle.block.specs.Rows.{no_row};
 ghost use Rattle.block.specs.Sketched.{Joined, Sketched, Sized, or_seven};
 
 use super::LIMIT;
-use reply::{Refusal, is_outside};
+use reply::{Refusal, Rule, is_outside};
 
 // 1 where both hold.
 fn one_if(x: bool, y: bool) -> usize
@@ -52,23 +53,23 @@ fn is_listed(bonds: &[u8], a: u8, b: u8) -> bool
     false
 }
 
-// The refusal number of the bond a-b after others, or 0.
-fn fault(n: usize, before: &[u8], a: u8, b: u8) -> usize
-    ensures { result ≡ bond_fault n (bonds_of before.now) (bond a b) }
+// The rule that refuses the bond a-b after others.
+fn fault(n: usize, before: &[u8], a: u8, b: u8) -> Option<Rule>
+    ensures { number_if result ≡ bond_fault n (bonds_of before.now) (bond a b) }
 {
     if is_outside(n, a as usize) || is_outside(n, b as usize) {
-        return 3;
+        return Some(Rule::BondEnd);
     }
     if a == b {
-        return 4;
+        return Some(Rule::SelfBond);
     }
     if is_listed(before, a, b) {
-        return 5;
+        return Some(Rule::ListedBefore);
     }
     if degree_of(before, a) >= LIMIT || degree_of(before, b) >= LIMIT {
-        return 6;
+        return Some(Rule::SeventhBond);
     }
-    0
+    None
 }
 
 // The first refusal of the bonds, 3 to 6, or 7.
@@ -76,25 +77,16 @@ pub(crate) fn refusal(n: usize, bonds: &[u8]) -> Refusal
     ensures { result ≡ or_seven (bonds_reply n [] (bonds_of bonds.now)) }
 {
     let m = bonds.len() / 2;
-    let mut k = 0;
-    while k < m {
-        let number = fault(n, &bonds[..2 * k], bonds[2 * k], bonds[2 * k + 1]);
-        if number != 0 {
-            return Refusal {
-                number,
-                place: k + 1,
-            };
+    for k in 0..m {
+        if let Some(rule) = fault(n, &bonds[..2 * k], bonds[2 * k], bonds[2 * k + 1]) {
+            return rule.at(k + 1);
         }
-        k += 1;
     }
-    Refusal {
-        number: 7,
-        place: 0,
-    }
+    Rule::NoPath.at(0)
 }
 
 // What drawing tells: whether the bonds are fine, and some atoms that a walk leads to from atom 1.
-#[derive(Drop)]
+#[derive(Clone, Copy)]
 pub(crate) struct Sketch {
     pub(crate) fine: bool,
     pub(crate) reached: u64,
@@ -118,8 +110,7 @@ pub(crate) fn sketched(n: usize, bonds: &[u8], near: &mut [u64]) -> Sketch
 {
     let m = bonds.len() / 2;
     let mut reached: u64 = 1;
-    let mut k = 0;
-    while k < m {
+    for k in 0..m {
         let a = bonds[2 * k] as usize;
         let b = bonds[2 * k + 1] as usize;
         if is_outside(n, a) || is_outside(n, b) {
@@ -135,7 +126,6 @@ pub(crate) fn sketched(n: usize, bonds: &[u8], near: &mut [u64]) -> Sketch
         near[u] = near[u] | two;
         near[v] = near[v] | one;
         reached = reached_by(reached, one | two);
-        k += 1;
     }
     Sketch {
         fine: true,
@@ -158,12 +148,10 @@ pub(crate) fn is_plain(n: usize, ends: u64, near: &[u64]) -> bool
 {
     let mut sum: u64 = 0;
     let mut high: u64 = 0;
-    let mut i = 0;
-    while i < n {
+    for i in 0..n {
         let k = size(near[i]);
         sum = sum + k;
         high = high | (k + 1);
-        i += 1;
     }
     if sum != ends {
         return false;

@@ -2,10 +2,10 @@
 #![tactic(auto)]
 
 ghost use Rattle.std.specs.Prelude.{true, ◌≡◌, min};
-ghost use Rattle.reply.specs.Read.{read, said_reply, said_number};
+ghost use Rattle.reply.specs.Read.{read, as_result};
 ghost use Rattle.block.specs.Block.{most_atoms, drawn_reply, block_reply};
 ghost use Rattle.block.specs.Rows.{no_row, half_after, far_after, row_reply, said_row};
-ghost use Rattle.block.specs.Index.{vertex_reply, said_vertex, distance_reply, pairs_reply, said_pairs};
+ghost use Rattle.block.specs.Index.{vertex_reply, distance_reply, pairs_reply, said_pairs};
 ghost use Rattle.block.specs.Sums.{entry, vertex_by};
 ghost use Rattle.block.specs.Opened.{drawn_near, opened_near};
 ghost use Rattle.block.specs.Near.{Admitted};
@@ -18,7 +18,7 @@ mod totals;
 use bonding::Sketch;
 pub use bonding::{degree_of, size};
 use half::{Half, PAIRS, get, within};
-use reply::{NumberReply, Refusal, Reply, is_outside, refused, wide};
+use reply::{Refusal, Rule, is_outside, wide};
 pub use search::first_atoms;
 
 // The most atoms of a block, the most bonds of an atom, and the most bytes that a block's bonds take.
@@ -35,15 +35,15 @@ pub type DistanceRow = [u8; ATOMS];
 pub type Farthest = [u8; ATOMS];
 
 // The distances from one atom, that to atom j at j - 1, and the largest of them; all 0 where the reply is a refusal.
-#[derive(Drop)]
+#[derive(Clone, Copy, Debug, PartialEq, Eq)]
 pub struct OneRow {
-    pub reply: Reply,
+    pub reply: Result<(), Refusal>,
     pub row: DistanceRow,
     pub largest: u8,
 }
 
 // The atom count, W, its even and odd parts, the polarity and the largest distance.
-#[derive(Clone, Copy)]
+#[derive(Clone, Copy, Debug, PartialEq, Eq)]
 pub struct Indices {
     pub atoms: u64,
     pub w: u64,
@@ -53,14 +53,8 @@ pub struct Indices {
     pub largest: u64,
 }
 
-#[derive(Drop)]
-pub enum IndicesReply {
-    Refused(Refusal),
-    Of(Indices),
-}
-
 // The vertex sum of an atom, its even and odd parts, its even and odd counts, how many atoms lie at distance 1 and 2, and how far the farthest is.
-#[derive(Clone, Copy)]
+#[derive(Clone, Copy, Debug, PartialEq, Eq)]
 pub struct Vertex {
     pub sum: u64,
     pub even: u64,
@@ -72,16 +66,10 @@ pub struct Vertex {
     pub farthest: u64,
 }
 
-#[derive(Drop)]
-pub enum VertexReply {
-    Refused(Refusal),
-    Of(Vertex),
-}
-
 // How many pairs of atoms lie at each distance; all 0 where the block is refused.
-#[derive(Drop)]
+#[derive(Clone, Copy, Debug, PartialEq, Eq)]
 pub struct Pairs {
-    pub reply: Reply,
+    pub reply: Result<(), Refusal>,
     pub at: [u16; ATOMS],
 }
 
@@ -89,7 +77,7 @@ pub struct Pairs {
 pub type Neighbours = [u64; ATOMS];
 
 // What some distances add up to: the even ones and the odd ones, how many there are of each, and how many are 1 and 2.
-#[derive(Drop)]
+#[derive(Clone, Copy)]
 struct Tally {
     pub even: u64,
     pub odd: u64,
@@ -104,16 +92,10 @@ fn refusal(n: usize, bonds: &[u8]) -> Refusal
     ensures { result ≡ or_seven (drawn_reply n bonds.now) }
 {
     if is_outside(ATOMS, n) {
-        return Refusal {
-            number: 1,
-            place: 0,
-        };
+        return Rule::AtomCount.at(0);
     }
     if bonds.len() % 2 != 0 || bonds.len() > BYTES {
-        return Refusal {
-            number: 2,
-            place: 0,
-        };
+        return Rule::BondBytes.at(0);
     }
     bonding::refusal(n, bonds)
 }
@@ -139,17 +121,17 @@ fn draw(n: usize, bonds: &[u8], near: &mut [u64]) -> Sketch
 }
 
 // Refusals 1 to 6 of a block, and in what is lent its neighbours; all sets are empty where it is refused.
-pub fn drawn(n: usize, bonds: &[u8], near: &mut Neighbours) -> Reply
-    ensures reply { result ≡ said_reply (drawn_reply n bonds.now) }
+pub fn drawn(n: usize, bonds: &[u8], near: &mut Neighbours) -> Result<(), Refusal>
+    ensures reply { result ≡ as_result (drawn_reply n bonds.now) }
     ensures near { near.new ≡ drawn_near n bonds.now }
 {
     *near = [0u64; ATOMS];
     let s = draw(n, bonds, near);
     if !s.fine {
         *near = [0u64; ATOMS];
-        return Reply::Refused(refusal(n, bonds));
+        return Err(refusal(n, bonds));
     }
-    Reply::Fine
+    Ok(())
 }
 
 // Whether a block is fine; then its neighbours are in what is lent, empty before.
@@ -168,27 +150,27 @@ fn admit(n: usize, bonds: &[u8], near: &mut [u64]) -> bool
 }
 
 // The reply to a block, and in what is lent its neighbours; all sets are empty where it is refused.
-pub fn neighbours(n: usize, bonds: &[u8], near: &mut Neighbours) -> Reply
-    ensures reply { result ≡ said_reply (block_reply n bonds.now) }
+pub fn neighbours(n: usize, bonds: &[u8], near: &mut Neighbours) -> Result<(), Refusal>
+    ensures reply { result ≡ as_result (block_reply n bonds.now) }
     ensures near { near.new ≡ opened_near n bonds.now }
 {
     *near = [0u64; ATOMS];
     if admit(n, bonds, near) {
-        return Reply::Fine;
+        return Ok(());
     }
     *near = [0u64; ATOMS];
-    Reply::Refused(refusal(n, bonds))
+    Err(refusal(n, bonds))
 }
 
 // Whether a block is refused, with which number and where: the bond's number from 1, or 0.
-pub fn check(n: usize, bonds: &[u8]) -> Reply
-    ensures { result ≡ said_reply (block_reply n bonds.now) }
+pub fn check(n: usize, bonds: &[u8]) -> Result<(), Refusal>
+    ensures { result ≡ as_result (block_reply n bonds.now) }
 {
     let mut near = [0u64; ATOMS];
     if admit(n, bonds, &mut near) {
-        return Reply::Fine;
+        return Ok(());
     }
-    Reply::Refused(refusal(n, bonds))
+    Err(refusal(n, bonds))
 }
 
 // The reply to a block, and in what is lent its neighbours, half of its distances, and how far the farthest is from each atom, all 0 beyond the atoms.
@@ -199,8 +181,8 @@ pub fn table(
     near: &mut Neighbours,
     half: &mut Half,
     far: &mut Farthest,
-) -> Reply
-    ensures reply { result ≡ said_reply (block_reply n bonds.now) }
+) -> Result<(), Refusal>
+    ensures reply { result ≡ as_result (block_reply n bonds.now) }
     ensures near { near.new ≡ opened_near n bonds.now }
     ensures half { half.new ≡ half_after n bonds.now half.old }
     ensures far { far.new ≡ far_after n bonds.now far.old }
@@ -208,26 +190,26 @@ pub fn table(
     *near = [0u64; ATOMS];
     if !admit(n, bonds, near) {
         *near = [0u64; ATOMS];
-        return Reply::Refused(refusal(n, bonds));
+        return Err(refusal(n, bonds));
     }
     *half = [0u8; PAIRS];
     search::from_all(near, n, half, far);
-    Reply::Fine
+    Ok(())
 }
 
 // The reply to a block, and in what is lent half of its distances, all 0 beyond the atoms. A refused block changes nothing that is lent.
-pub fn halved(n: usize, bonds: &[u8], half: &mut Half) -> Reply
-    ensures reply { result ≡ said_reply (block_reply n bonds.now) }
+pub fn halved(n: usize, bonds: &[u8], half: &mut Half) -> Result<(), Refusal>
+    ensures reply { result ≡ as_result (block_reply n bonds.now) }
     ensures half { half.new ≡ half_after n bonds.now half.old }
 {
     let mut near = [0u64; ATOMS];
     if !admit(n, bonds, &mut near) {
-        return Reply::Refused(refusal(n, bonds));
+        return Err(refusal(n, bonds));
     }
     let mut far = [0u8; ATOMS];
     *half = [0u8; PAIRS];
     search::from_all(&near, n, half, &mut far);
-    Reply::Fine
+    Ok(())
 }
 
 // The distances from atom i of a block and the largest of them, or its refusal; 18 at place 0 where there is no such atom.
@@ -237,17 +219,14 @@ pub fn row(n: usize, bonds: &[u8], i: usize) -> OneRow
     let mut near = [0u64; ATOMS];
     if !admit(n, bonds, &mut near) {
         return OneRow {
-            reply: Reply::Refused(refusal(n, bonds)),
+            reply: Err(refusal(n, bonds)),
             row: [0u8; ATOMS],
             largest: 0,
         };
     }
     if is_outside(n, i) {
         return OneRow {
-            reply: Reply::Refused(Refusal {
-                number: 18,
-                place: 0,
-            }),
+            reply: Err(Rule::JoinAtom.at(0)),
             row: [0u8; ATOMS],
             largest: 0,
         };
@@ -255,7 +234,7 @@ pub fn row(n: usize, bonds: &[u8], i: usize) -> OneRow
     let mut row = [0u8; ATOMS];
     let ended = search::from_atom(&near, n, i, &mut row);
     OneRow {
-        reply: Reply::Fine,
+        reply: Ok(()),
         row,
         largest: ended.last,
     }
@@ -280,40 +259,24 @@ fn around_row(row: &DistanceRow, n: usize, farthest: u8) -> Vertex
 }
 
 // The distance of two atoms of a block, or its refusal; 18 at place 0 where there is no such atom.
-pub fn distance(n: usize, bonds: &[u8], i: usize, j: usize) -> NumberReply
-    ensures { result ≡ said_number (distance_reply n bonds.now i j) }
+pub fn distance(n: usize, bonds: &[u8], i: usize, j: usize) -> Result<u64, Refusal>
+    ensures { result ≡ as_result (distance_reply n bonds.now i j) }
 {
     let mut half = [0u8; PAIRS];
-    let reply = halved(n, bonds, &mut half);
-    match reply {
-        Reply::Refused(refusal) => NumberReply::Refused(refusal),
-        Reply::Fine => {
-            if is_outside(n, i) || is_outside(n, j) {
-                return NumberReply::Refused(Refusal {
-                    number: 18,
-                    place: 0,
-                });
-            }
-            let d = wide(get(&half, i, j));
-            NumberReply::Of(d)
-        }
+    halved(n, bonds, &mut half)?;
+    if is_outside(n, i) || is_outside(n, j) {
+        return Err(Rule::JoinAtom.at(0));
     }
+    Ok(wide(get(&half, i, j)))
 }
 
 // The vertex sum of atom a of a block and what goes with it, or its refusal; 18 at place 0 where there is no such atom.
-pub fn vertex_sums(n: usize, bonds: &[u8], a: usize) -> VertexReply
-    ensures { result ≡ said_vertex (vertex_reply n bonds.now a) }
+pub fn vertex_sums(n: usize, bonds: &[u8], a: usize) -> Result<Vertex, Refusal>
+    ensures { result ≡ as_result (vertex_reply n bonds.now a) }
 {
     let seen = row(n, bonds, a);
-    let reply = seen.reply;
-    match reply {
-        Reply::Refused(refusal) => VertexReply::Refused(refusal),
-        Reply::Fine => {
-            let row = seen.row;
-            let vertex = around_row(&row, n, seen.largest);
-            VertexReply::Of(vertex)
-        }
-    }
+    seen.reply?;
+    Ok(around_row(&seen.row, n, seen.largest))
 }
 
 // How many pairs of atoms of a block lie at each distance; all 0 where it is refused.
@@ -322,7 +285,7 @@ pub fn pair_counts(n: usize, bonds: &[u8]) -> Pairs
 {
     let mut half = [0u8; PAIRS];
     let reply = halved(n, bonds, &mut half);
-    let Reply::Fine = reply else {
+    let Ok(()) = reply else {
         return Pairs {
             reply,
             at: [0u16; ATOMS],

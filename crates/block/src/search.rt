@@ -19,7 +19,7 @@ pub fn first_atoms(n: usize) -> u64
 }
 
 // How a search ended: the set of the atoms that were not met, and the last level, which is how far the farthest atom is.
-#[derive(Drop)]
+#[derive(Clone, Copy)]
 pub(crate) struct Ended {
     pub(crate) rest: u64,
     pub(crate) last: u8,
@@ -67,12 +67,10 @@ pub(crate) fn from_all(near: &[u64], n: usize, half: &mut [u8], far: &mut Farthe
     ensures far { (xs : List ℕ) → ReadyBlock n xs near.now → far.new ≡ far_of n xs }
 {
     *far = [0u8; ATOMS];
-    let mut i = 0;
-    while i < n {
+    for i in 0..n {
         let mut row = [0u8; ATOMS];
         let ended = from_atom(near, n, i + 1, &mut row);
         put_row(half, i + 1, &row, n);
         far[i] = ended.last;
-        i += 1;
     }
 }

@@ -20,12 +20,10 @@ pub(crate) fn along(row: &DistanceRow, k: usize) -> Tally
     let mut odds: u64 = 0;
     let mut ones: u64 = 0;
     let mut twos: u64 = 0;
-    let mut j = 0;
-    while j < k {
+    for j in 0..k {
         let d = wide(row[j]);
         ones += (d == 1) as u64;
         twos += (d == 2) as u64;
-        j += 1;
         if d % 2 == 0 {
             even += d;
             evens += 1;
@@ -50,10 +48,8 @@ fn count_run(at: [u16; ATOMS], half: &Half, from: usize, k: usize) -> [u16; ATOM
     ensures { CountsAdded at (run_at half.now from) k result }
 {
     let mut counts = at;
-    let mut j = 0;
-    while j < k {
+    for j in 0..k {
         let d = wide(half[from + j]) as usize;
-        j += 1;
         if d < ATOMS {
             counts[d] = counts[d] + 1;
         }
@@ -68,12 +64,10 @@ pub(crate) fn count_pairs(half: &Half, n: usize) -> [u16; ATOMS]
     let m = within(n);
     let mut at = [0u16; ATOMS];
     let mut from = 0;
-    let mut i = 0;
-    while i < m {
+    for i in 0..m {
         let next = count_run(at, half, from, m - 1 - i);
         at = next;
         from = from + (ATOMS - 1 - i);
-        i += 1;
     }
     at
 }

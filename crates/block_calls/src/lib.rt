@@ -7,12 +7,10 @@ ghost use Rattle.block.specs.Block.{block_reply};
 ghost use Rattle.calls.specs.Convention.{coded, Lent};
 ghost use Rattle.block_calls.specs.Replies.{indices_list, vertex_list, farthest_list, values_list, polynomial_list, balaban_list, sets_list, Contributed, SzegedLent};
 
-use block::VertexReply;
 use calls::{code_of, give, give_indices, give_number, reply_code, unlent};
-use poly::{Values, ValuesReply};
+use poly::Values;
 use records::Sheet;
-use reply::{Reply, wide};
-use sets::SetsReply;
+use reply::wide;
 
 pub fn check_block(atoms: usize, bonds: &[u8]) -> u64
     ensures { result ≡ coded (block_reply atoms bonds.now) }
@@ -33,8 +31,8 @@ pub fn vertex(atoms: usize, bonds: &[u8], atom: usize, sums: &mut [u64]) -> u64
 {
     let answer = block::vertex_sums(atoms, bonds, atom);
     match answer {
-        VertexReply::Refused(r) => code_of(r),
-        VertexReply::Of(v) => {
+        Err(r) => code_of(r),
+        Ok(v) => {
             let numbers = [v.sum, v.even, v.odd, v.evens, v.odds, v.ones, v.twos];
             give(sums, &numbers)
         }
@@ -47,8 +45,8 @@ pub fn farthest(atoms: usize, bonds: &[u8], atom: usize, largest: &mut [u64]) ->
     let seen = block::row(atoms, bonds, atom);
     let reply = seen.reply;
     match reply {
-        Reply::Refused(r) => code_of(r),
-        Reply::Fine => {
+        Err(r) => code_of(r),
+        Ok(()) => {
             let numbers = [wide(seen.largest)];
             give(largest, &numbers)
         }
@@ -72,8 +70,8 @@ pub fn polynomial(atoms: usize, bonds: &[u8], x: f64, values: &mut [f64]) -> u64
 {
     let answer = poly::polynomial(atoms, bonds, x);
     match answer {
-        ValuesReply::Refused(r) => code_of(r),
-        ValuesReply::Values(v) => give_values(values, v),
+        Err(r) => code_of(r),
+        Ok(v) => give_values(values, v),
     }
 }
 
@@ -113,8 +111,8 @@ pub fn count_sets(atoms: usize, bonds: &[u8], counts: &mut [u64]) -> u64
 {
     let answer = sets::count(atoms, bonds);
     match answer {
-        SetsReply::Refused(r) => code_of(r),
-        SetsReply::Of(x) => {
+        Err(r) => code_of(r),
+        Ok(x) => {
             let numbers = [x.bonds, x.atoms];
             give(counts, &numbers)
         }

@@ -11,7 +11,6 @@ use lib.Seq.{sets, take_all, take_at, length-take-le, length-sets}
 use Rattle.graph.specs.Graph.{Bond, Within}
 use Rattle.reply.specs.Read.{refused, read, refusal, is_outside}
 use Rattle.reply.specs.Chain.{neither}
-use Rattle.reply.specs.declared.CountsReply.{CountsReply}
 use Rattle.block.specs.Block.{most_atoms, most_bytes, block_reply}
 use Rattle.text.proofs.Putting.{one_more, at_front}
 use Rattle.molfile.specs.Molfile.{atom_line_count, bond_line_count, bond_of_line, dropped_in, new_number, is_kept, kept_bytes, lines_reply, kept_atoms, bytes_of}
@@ -20,6 +19,9 @@ use Rattle.molfile.proofs.Chains.{lines_parts}
 use Rattle.molfile.proofs.Files.{ends_within}
 use Rattle.molfile.proofs.Fronts.{Answers, alike, refused_alike}
 use Rattle.blockfile.specs.Bytes.{low}
+use Rattle.reply.specs.declared.Refusal.{Refusal}
+use Rattle.reply.specs.declared.Counts.{Counts}
+use Rattle.std.specs.Prelude.{Result}
 
 -- number by number
 pub narrow_more : (xs out₀ out : List ℕ) (i v : ℕ) → i < length xs → v ≡ low (get_or xs i 0) → out ≡ sets out₀ 0 (take i (map low xs))
@@ -68,7 +70,7 @@ module _ (n : ℕ) (xs : List ℕ) where
   long o l = rw (o, lt-ltb most_bytes (length xs) l, or-true (not (eqb (length xs % 2) 0)))
 
 -- the same answer for the bytes of a file's bonds, one more than a block may have at most
-pub cut_same : (d out : List ℕ) {after : List ℕ} {r : CountsReply} → lines_reply d ≡ read tt → Answers block_reply (kept_atoms d) (map low (take (most_bytes + 1) (bytes_of d))) out r after
+pub cut_same : (d out : List ℕ) {after : List ℕ} {r : Result Counts Refusal} → lines_reply d ≡ read tt → Answers block_reply (kept_atoms d) (map low (take (most_bytes + 1) (bytes_of d))) out r after
     → Answers block_reply (kept_atoms d) (bytes_of d) out r after
 cut_same d out {after} {r} fine a = go (is_outside most_atoms (kept_atoms d)) (ltb most_bytes (length (bytes_of d))) refl refl
   where

@@ -6,17 +6,15 @@ use mathlib.Core.Path.{◌≡◌, refl, ◌∙◌, ap, subst}
 use native.Mathlib.Omega.{arith}
 use borrow.Author.Tests.{lt-ltb, le-ltb}
 use lib.ListN.{length, set}
-use Rattle.reply.specs.Read.{Read, refused, read, said_reply, said_number, told_number, said_counts, told_counts, ◌then◌, refuse_if, refusal}
-use Rattle.reply.specs.Chain.{number_told, counts_told}
+use Rattle.reply.specs.Read.{Read, refused, read, ◌then◌, refuse_if, refusal, as_result, as_read}
 use Rattle.reply.specs.declared.Refusal.{Refusal}
-use Rattle.reply.specs.declared.Reply.{Reply}
-use Rattle.reply.specs.declared.NumberReply.{NumberReply}
 use Rattle.reply.specs.declared.Counts.{Counts}
-use Rattle.reply.specs.declared.CountsReply.{CountsReply}
 use Rattle.calls.specs.Convention.{code, coded, reply_code, over, out_after, number_list, counts_list, Lent, then_nine}
 use Rattle.calls.specs.Beside.{with_room, Beside}
+use Rattle.reply.specs.Chain.{read_back}
+use Rattle.std.specs.Prelude.{Result}
 
-pub reply_coded : (a : Reply) (R : Read (Unit {0})) → a ≡ said_reply R → reply_code a ≡ coded R
+pub reply_coded : (a : Result (Unit {0}) Refusal) (R : Read (Unit {0})) → a ≡ as_result R → reply_code a ≡ coded R
 reply_coded a (refused r) e = ap reply_code e
 reply_coded a (read tt) e = ap reply_code e
 
@@ -34,11 +32,11 @@ pub lent_read : {A : Type 0} {answer : Read (List A)} (xs old : List A) (x : ℕ
 lent_read xs old x new e l = rw e l
 
 -- ONE NUMBER, or how many atoms and bonds there are, by the reply that says it; and a number where there is an entry for it
-pub lent_number : {old new : List ℕ} {x : ℕ} (a : NumberReply) (R : Read ℕ) → a ≡ said_number R → Lent (number_list (told_number a)) old x new → Lent (number_list R) old x new
-lent_number {old} {new} {x} a R e l = subst (λ (Q : Read ℕ). Lent (number_list Q) old x new) (number_told a R e) l
+pub lent_number : {old new : List ℕ} {x : ℕ} (a : Result ℕ Refusal) (R : Read ℕ) → a ≡ as_result R → Lent (number_list (as_read a)) old x new → Lent (number_list R) old x new
+lent_number {old} {new} {x} a R e l = subst (λ (Q : Read ℕ). Lent (number_list Q) old x new) (read_back a R e) l
 
-pub lent_counts : {old new : List ℕ} {x : ℕ} (a : CountsReply) (R : Read Counts) → a ≡ said_counts R → Lent (counts_list (told_counts a)) old x new → Lent (counts_list R) old x new
-lent_counts {old} {new} {x} a R e l = subst (λ (Q : Read Counts). Lent (counts_list Q) old x new) (counts_told a R e) l
+pub lent_counts : {old new : List ℕ} {x : ℕ} (a : Result Counts Refusal) (R : Read Counts) → a ≡ as_result R → Lent (counts_list (as_read a)) old x new → Lent (counts_list R) old x new
+lent_counts {old} {new} {x} a R e l = subst (λ (Q : Read Counts). Lent (counts_list Q) old x new) (read_back a R e) l
 
 pub number_fits : {old new : List ℕ} {x : ℕ} (R : Read ℕ) → 1 ≤ length old → Lent (number_list R) old x new → (x ≡ coded R) × (new ≡ out_after (number_list R) old)
 number_fits (refused r) h l = (l.replied, l.lent)
@@ -113,18 +111,18 @@ module _ {A B X : Type 0} (R : Read A) (one : A → List B) (f : A → X) (list 
           (rw e at l.replied, rw e at l.lent)
 
 -- such as one number, which a reply says
-pub beside_number : {A B : Type 0} (R : Read A) (one : A → List B) (beside : A → ℕ) (old : List B) (more : List ℕ) {new : List B} {also : List ℕ} {x : ℕ} (a : NumberReply) → 1 ≤ length more
-    → a ≡ said_number (R then λ v. read (beside v)) → new ≡ out_after (R then λ v. read (one v)) old → Lent (number_list (told_number a)) more x also
+pub beside_number : {A B : Type 0} (R : Read A) (one : A → List B) (beside : A → ℕ) (old : List B) (more : List ℕ) {new : List B} {also : List ℕ} {x : ℕ} (a : Result ℕ Refusal) → 1 ≤ length more
+    → a ≡ as_result (R then λ v. read (beside v)) → new ≡ out_after (R then λ v. read (one v)) old → Lent (number_list (as_read a)) more x also
     → Beside (with_room (length more) 1 R) one (λ v. beside v ∷ []) old more x new also
 beside_number R one beside old more a h e s l = beside_lent R one beside (λ n. n ∷ []) 1 (λ n. refl) old more h s (lent_number a (R then λ v. read (beside v)) e l)
 
 -- or how many atoms and bonds there are
-module _ {A B : Type 0} (R : Read A) (one : A → List B) (counts : A → Counts) (old : List B) (more : List ℕ) {also : List ℕ} {x : ℕ} (a : CountsReply) (l : Lent (counts_list (told_counts a)) more x also) where
+module _ {A B : Type 0} (R : Read A) (one : A → List B) (counts : A → Counts) (old : List B) (more : List ℕ) {also : List ℕ} {x : ℕ} (a : Result Counts Refusal) (l : Lent (counts_list (as_read a)) more x also) where
   abbrev pub Counted : List B → Type 0
   Counted new = Beside (with_room (length more) 2 R) one (λ v. (counts v).atoms ∷ (counts v).bonds ∷ []) old more x new also
 
-  pub counts_beside : {new : List B} → 2 ≤ length more → a ≡ said_counts (R then λ v. read (counts v)) → new ≡ out_after (R then λ v. read (one v)) old → Counted new
+  pub counts_beside : {new : List B} → 2 ≤ length more → a ≡ as_result (R then λ v. read (counts v)) → new ≡ out_after (R then λ v. read (one v)) old → Counted new
   counts_beside h e s = beside_lent R one counts (λ c. c.atoms ∷ c.bonds ∷ []) 2 (λ c. refl) old more h s (lent_counts a (R then λ v. read (counts v)) e l)
 
-  pub counts_short : (Q : Read A) → length more < 2 → then_nine Q ≡ then_nine R → a ≡ said_counts (Q then λ v. read (counts v)) → Counted old
+  pub counts_short : (Q : Read A) → length more < 2 → then_nine Q ≡ then_nine R → a ≡ as_result (Q then λ v. read (counts v)) → Counted old
   counts_short Q h n e = beside_short R one counts (λ c. c.atoms ∷ c.bonds ∷ []) 2 (λ c. refl) old more Q h n (lent_counts a (Q then λ v. read (counts v)) e l)

@@ -3,7 +3,6 @@ use Rattle.std.specs.Prelude.{ℕ, cond, List, eqb}
 use Rattle.reply.specs.Read.{Read, read, ◌then◌}
 use Rattle.block.specs.Block.{block_reply}
 use Rattle.block.specs.declared.Indices.{Indices}
-use Rattle.block.specs.declared.IndicesReply.TheVariants as measured
 use Rattle.records.specs.declared.Sheet.{Sheet}
 use Rattle.records.specs.declared.Sheet.TheVariants.{Five, Six}
 use Rattle.sheets.specs.Sheets.{fields_of}

@@ -1,11 +1,9 @@
 -- Definitions. How a C function replies. The reply is one number of 64 bits: the remainder by 256 is 0 for fine, a refusal's number, or 255 for "differs"; the
 -- quotient is the refusal's place, or the first wrong field. What is answered besides goes to the front of a lent output.
-use Rattle.std.specs.Prelude.{◌≡◌, ℕ, ◌+◌, ◌*◌, ◌%◌, ◌^◌, List, [], ◌∷◌, ◌++◌, ltb, length, drop}
+use Rattle.std.specs.Prelude.{◌≡◌, ℕ, ◌+◌, ◌*◌, ◌%◌, ◌^◌, List, [], ◌∷◌, ◌++◌, ltb, length, drop, Result, Ok, Err}
 use Rattle.reply.specs.Read.{Read, refused, read, ◌then◌, refuse_if, refusal}
 use Rattle.reply.specs.declared.Counts.{Counts}
 use Rattle.reply.specs.declared.Refusal.{Refusal}
-use Rattle.reply.specs.declared.Reply.{Reply}
-use Rattle.reply.specs.declared.Reply.TheVariants as reply
 
 -- the most that is kept of a place
 abbrev pub most_place : ℕ
@@ -19,9 +17,9 @@ coded (refused r) = code r
 coded (read x) = 0
 
 -- a reply that tells nothing but fine
-abbrev pub reply_code : Reply → ℕ
-reply_code (reply.Refused r) = code r
-reply_code reply.Fine = 0
+abbrev pub reply_code : Result (Unit {0}) Refusal → ℕ
+reply_code (Err r) = code r
+reply_code (Ok tt) = 0
 
 -- 9 at place 0 where the answer has more entries than are lent
 abbrev pub fitting : {A : Type 0} → ℕ → Read (List A) → Read (List A)

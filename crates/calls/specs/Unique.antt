@@ -1,9 +1,8 @@
 -- Laws. Each promise leaves one reply, and each lent output as one list.
-use Rattle.std.specs.Prelude.{ℕ, List, ◌≡◌}
+use Rattle.std.specs.Prelude.{ℕ, List, ◌≡◌, Result}
 use Rattle.std.proofs.Common.{sym, ◌∙◌}
 use Rattle.reply.specs.Read.{Read}
 use Rattle.reply.specs.declared.Refusal.{Refusal}
-use Rattle.reply.specs.declared.Reply.{Reply}
 use Rattle.records.specs.declared.Sheet.{Sheet}
 use Rattle.calls.specs.Convention.{code, coded, reply_code, Lent}
 use Rattle.calls.specs.Beside.{Beside}
@@ -12,7 +11,7 @@ use Rattle.calls.specs.Blocks.{sheet_for}
 pub unique-code_of : (r : Refusal) {x y : ℕ} → x ≡ code r → y ≡ code r → x ≡ y
 unique-code_of r p q = p ∙ sym q
 
-pub unique-reply_code : (a : Reply) {x y : ℕ} → x ≡ reply_code a → y ≡ reply_code a → x ≡ y
+pub unique-reply_code : (a : Result (Unit {0}) Refusal) {x y : ℕ} → x ≡ reply_code a → y ≡ reply_code a → x ≡ y
 unique-reply_code a p q = p ∙ sym q
 
 pub unique-sheet_for : (kind : ℕ) {s t : Sheet} → s ≡ sheet_for kind → t ≡ sheet_for kind → s ≡ t

@@ -8,15 +8,14 @@
 #![tactic(auto)]
 
 ghost use Rattle.std.specs.Prelude.{◌≡◌, ◌≤◌, length};
-ghost use Rattle.reply.specs.Read.{read, told_number, told_counts};
+ghost use Rattle.reply.specs.Read.{read, as_read};
 ghost use Rattle.sheets.specs.Sheets.{fields_of};
 ghost use Rattle.calls.specs.Convention.{code, coded, reply_code, over, number_list, counts_list, Lent};
-ghost use Rattle.block.specs.Index.{told_indices};
 ghost use Rattle.calls.specs.Blocks.{fields_list, unlent_reply, sheet_for};
 
-use block::{Indices, IndicesReply};
+use block::Indices;
 use records::Sheet;
-use reply::{CountsReply, NumberReply, Refusal, Reply};
+use reply::{Counts, Refusal};
 use sheets::{field_count, fields_of};
 
 const PLACES: usize = 72_057_594_037_927_936;
@@ -29,12 +28,12 @@ pub fn code_of(r: Refusal) -> u64
 }
 
 // A reply as one number.
-pub fn reply_code(reply: Reply) -> u64
+pub fn reply_code(reply: Result<(), Refusal>) -> u64
     ensures { result ≡ reply_code reply }
 {
     match reply {
-        Reply::Fine => 0,
-        Reply::Refused(r) => code_of(r),
+        Ok(()) => 0,
+        Err(r) => code_of(r),
     }
 }
 
@@ -43,10 +42,8 @@ fn put(out: &mut [u64], numbers: &[u64])
     requires { length numbers.now ≤ length out.old }
     ensures { out.new ≡ over numbers.now out.old }
 {
-    let mut i = 0;
-    while i < numbers.len() {
+    for i in 0..numbers.len() {
         out[i] = numbers[i];
-        i += 1;
     }
 }
 
@@ -62,12 +59,12 @@ pub fn give(out: &mut [u64], numbers: &[u64]) -> u64
 }
 
 // The same with the number of a reply.
-pub fn give_number(out: &mut [u64], reply: NumberReply) -> u64
-    ensures { Lent (number_list (told_number reply)) out.old result out.new }
+pub fn give_number(out: &mut [u64], reply: Result<u64, Refusal>) -> u64
+    ensures { Lent (number_list (as_read reply)) out.old result out.new }
 {
     match reply {
-        NumberReply::Refused(r) => code_of(r),
-        NumberReply::Of(n) => {
+        Err(r) => code_of(r),
+        Ok(n) => {
             let numbers = [n];
             give(out, &numbers)
         }
@@ -75,12 +72,12 @@ pub fn give_number(out: &mut [u64], reply: NumberReply) -> u64
 }
 
 // The same with how many atoms and bonds a reply tells.
-pub fn give_counts(out: &mut [u64], reply: CountsReply) -> u64
-    ensures { Lent (counts_list (told_counts reply)) out.old result out.new }
+pub fn give_counts(out: &mut [u64], reply: Result<Counts, Refusal>) -> u64
+    ensures { Lent (counts_list (as_read reply)) out.old result out.new }
 {
     match reply {
-        CountsReply::Refused(r) => code_of(r),
-        CountsReply::Of(x) => {
+        Err(r) => code_of(r),
+        Ok(x) => {
             let numbers = [x.atoms as u64, x.bonds as u64];
             give(out, &numbers)
         }
@@ -97,12 +94,12 @@ fn give_fields(out: &mut [u64], sheet: Sheet, x: Indices) -> u64
 }
 
 // The same with those of a reply.
-pub fn give_indices(out: &mut [u64], sheet: Sheet, reply: IndicesReply) -> u64
-    ensures { Lent (fields_list sheet (told_indices reply)) out.old result out.new }
+pub fn give_indices(out: &mut [u64], sheet: Sheet, reply: Result<Indices, Refusal>) -> u64
+    ensures { Lent (fields_list sheet (as_read reply)) out.old result out.new }
 {
     match reply {
-        IndicesReply::Refused(r) => code_of(r),
-        IndicesReply::Of(x) => give_fields(out, sheet, x),
+        Err(r) => code_of(r),
+        Ok(x) => give_fields(out, sheet, x),
     }
 }
 
@@ -110,10 +107,9 @@ pub fn give_indices(out: &mut [u64], sheet: Sheet, reply: IndicesReply) -> u64
 pub fn unlent(atoms: usize, bonds: &[u8]) -> u64
     ensures { result ≡ coded (unlent_reply atoms bonds.now) }
 {
-    let reply = block::check(atoms, bonds);
-    match reply {
-        Reply::Fine => 9,
-        Reply::Refused(r) => code_of(r),
+    match block::check(atoms, bonds) {
+        Ok(()) => 9,
+        Err(r) => code_of(r),
     }
 }
 

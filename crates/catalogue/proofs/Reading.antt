@@ -5,9 +5,8 @@ use mathlib.Core.Path.{◌≡◌, refl, sym, ◌∙◌, ap}
 use native.Mathlib.Omega.{arith}
 use borrow.Author.Tests.{eq-eqb, lt-ltb, le-ltb}
 use lib.ListN.{length, drop, length-take, length-drop}
-use Rattle.reply.specs.Read.{Read, refused, read, ◌then◌, refusal, said_number}
+use Rattle.reply.specs.Read.{Read, refused, read, ◌then◌, refusal, as_result}
 use Rattle.reply.specs.declared.Refusal.{Refusal}
-use Rattle.reply.specs.declared.Reply.TheVariants as reply
 use Rattle.records.specs.Records.{head_bytes, length_at, kind_at, payload_at, kind_reply}
 use Rattle.records.specs.Taken.{taken, of_one, of_least}
 use Rattle.records.specs.declared.Kind.{Kind}
@@ -22,17 +21,17 @@ use Rattle.catalogue.proofs.Sound.{listed}
 use Rattle.catalogue.specs.declared.Site.{Site}
 use Rattle.catalogue.specs.Said.{site_table, said_sites, tabled, tabled_library, said_library}
 use Rattle.catalogue.specs.Table.{sites_in, sites_back}
-use Rattle.reply.specs.declared.NumberReply.TheVariants as counted
 use Rattle.catalogue.specs.declared.LibraryRead.{LibraryRead}
 use Rattle.catalogue.specs.declared.sites.SitesRead.{SitesRead}
+use Rattle.std.specs.Prelude.{Ok, Err}
 
 -- what the code's answer says of the sites
-pub sites_stopped : (x : Read (List Site)) (s : SitesRead) (q : Refusal) → s ≡ said_sites x → s.reply ≡ reply.Refused q → x ≡ refused q
-sites_stopped (refused r) s q e f = let g : reply.Refused r ≡ reply.Refused q = sym (ap (λ (y : SitesRead). y.reply) e) ∙ f in cc
-sites_stopped (read ss) s q e f = let g : reply.Fine ≡ reply.Refused q = sym (ap (λ (y : SitesRead). y.reply) e) ∙ f in absurd (let z : ◌≡◌ {A = ℕ} 0 1 = cc in omega arith)
+pub sites_stopped : (x : Read (List Site)) (s : SitesRead) (q : Refusal) → s ≡ said_sites x → s.reply ≡ Err q → x ≡ refused q
+sites_stopped (refused r) s q e f = let g : Err r ≡ Err q = sym (ap (λ (y : SitesRead). y.reply) e) ∙ f in cc
+sites_stopped (read ss) s q e f = let g : Ok tt ≡ Err q = sym (ap (λ (y : SitesRead). y.reply) e) ∙ f in absurd (let z : ◌≡◌ {A = ℕ} 0 1 = cc in omega arith)
 
-pub sites_ended : (x : Read (List Site)) (s : SitesRead) → s ≡ said_sites x → s.reply ≡ reply.Fine → (ss : List Site) × (x ≡ read ss) × (s.n ≡ length ss) × (s.sites ≡ site_table ss)
-sites_ended (refused r) s e f = let g : reply.Refused r ≡ reply.Fine = sym (ap (λ (y : SitesRead). y.reply) e) ∙ f in absurd (let z : ◌≡◌ {A = ℕ} 0 1 = cc in omega arith)
+pub sites_ended : (x : Read (List Site)) (s : SitesRead) → s ≡ said_sites x → s.reply ≡ Ok tt → (ss : List Site) × (x ≡ read ss) × (s.n ≡ length ss) × (s.sites ≡ site_table ss)
+sites_ended (refused r) s e f = let g : Err r ≡ Ok tt = sym (ap (λ (y : SitesRead). y.reply) e) ∙ f in absurd (let z : ◌≡◌ {A = ℕ} 0 1 = cc in omega arith)
 sites_ended (read ss) s e f = (ss, refl, ap (λ (y : SitesRead). y.n) e, ap (λ (y : SitesRead). y.sites) e)
 
 -- the record and its end
@@ -90,24 +89,24 @@ module _ (d : List ℕ) where
       omega (arith, t.whole, of_least d at t.kind t.suits, ap (λ (y : Kind). y.fixed) same, length-take (length_at d at) (drop (at + head_bytes) d), length-drop (at + head_bytes) d)
 
   -- how the code says the number of products
-  pub count_refused : (q : Refusal) → library_reply d ≡ refused q → counted.Refused q ≡ said_number (count_reply d)
+  pub count_refused : (q : Refusal) → library_reply d ≡ refused q → Err q ≡ as_result (count_reply d)
   unfolding count_reply
   count_refused q e = rw e
 
-  pub count_fine : (l : Library) (n : ℕ) → library_reply d ≡ read l → n ≡ products l.sites → counted.Of n ≡ said_number (count_reply d)
+  pub count_fine : (l : Library) (n : ℕ) → library_reply d ≡ read l → n ≡ products l.sites → Ok n ≡ as_result (count_reply d)
   unfolding count_reply
   count_fine l n e h = rw (e, h)
 
 -- a library whose sites stand in a table
 pub tabled_is : (table : List BlockAt) (count : ℕ) (l : Library) (n c : ℕ) (sites : List Site) → n ≡ length l.sites → sites ≡ site_table l.sites → c ≡ products l.sites
-    → ◌≡◌ {A = LibraryRead} (record { reply = reply.Fine; count = count; blocks = table; at = l.at; n = n; sites = sites; products = c }) (tabled table count l)
+    → ◌≡◌ {A = LibraryRead} (record { reply = Ok tt; count = count; blocks = table; at = l.at; n = n; sites = sites; products = c }) (tabled table count l)
 tabled_is table count l n c sites e f g = rw (e, f, g)
 
 -- what the code's answer says of a library deck
-pub library_stops : (x : Read Library) (s : LibraryRead) (q : Refusal) → s ≡ said_library x → s.reply ≡ reply.Refused q → x ≡ refused q
-library_stops (refused r) s q e f = let g : reply.Refused r ≡ reply.Refused q = sym (ap (λ (y : LibraryRead). y.reply) e) ∙ f in cc
-library_stops (read l) s q e f = let g : reply.Fine ≡ reply.Refused q = sym (ap (λ (y : LibraryRead). y.reply) e) ∙ f in absurd (let z : ◌≡◌ {A = ℕ} 0 1 = cc in omega arith)
+pub library_stops : (x : Read Library) (s : LibraryRead) (q : Refusal) → s ≡ said_library x → s.reply ≡ Err q → x ≡ refused q
+library_stops (refused r) s q e f = let g : Err r ≡ Err q = sym (ap (λ (y : LibraryRead). y.reply) e) ∙ f in cc
+library_stops (read l) s q e f = let g : Ok tt ≡ Err q = sym (ap (λ (y : LibraryRead). y.reply) e) ∙ f in absurd (let z : ◌≡◌ {A = ℕ} 0 1 = cc in omega arith)
 
-pub library_ends : (x : Read Library) (s : LibraryRead) → s ≡ said_library x → s.reply ≡ reply.Fine → (l : Library) × (x ≡ read l) × (s ≡ said_library (read l))
-library_ends (refused r) s e f = let g : reply.Refused r ≡ reply.Fine = sym (ap (λ (y : LibraryRead). y.reply) e) ∙ f in absurd (let z : ◌≡◌ {A = ℕ} 0 1 = cc in omega arith)
+pub library_ends : (x : Read Library) (s : LibraryRead) → s ≡ said_library x → s.reply ≡ Ok tt → (l : Library) × (x ≡ read l) × (s ≡ said_library (read l))
+library_ends (refused r) s e f = let g : Err r ≡ Ok tt = sym (ap (λ (y : LibraryRead). y.reply) e) ∙ f in absurd (let z : ◌≡◌ {A = ℕ} 0 1 = cc in omega arith)
 library_ends (read l) s e f = (l, refl, e)

@@ -17,11 +17,11 @@ use Rattle.assembly.specs.Book.{Book, find, is_numbered, block_graph, book_of}
 use Rattle.assembly.specs.declared.BlockAt.{BlockAt}
 use Rattle.catalogue.specs.Library.{most_sites, most_candidates, library_kind, core_number, site_count, site_head, site_at, candidate_bytes, candidate_number, candidate_atom, site_end, is_taken, is_full_in, or_else, candidate_fault, candidates_fault, site_fault, sites_from, sites_reply}
 use Rattle.catalogue.specs.Products.{products}
-use Rattle.reply.specs.declared.Reply.TheVariants.{Fine}
 use Rattle.catalogue.specs.Said.{no_site, site_table, said_sites}
 use Rattle.catalogue.specs.Table.{sites_in, sites_length}
 use Rattle.catalogue.specs.declared.sites.SitesRead.{SitesRead}
 use Rattle.catalogue.specs.declared.Site.{Site}
+use Rattle.std.specs.Prelude.{Ok}
 
 -- a block that was looked for
 module _ (d : List ℕ) (bs : List BlockAt) (number n : ℕ) (b : BlockAt) (e : n ≡ number) (f : b ≡ find bs n) where
@@ -202,7 +202,7 @@ unfolding sites_in products
 one_product table = refl
 
 -- a table that has nothing but its first n sites, as the code says it
-pub sites_said : (table : List Site) (n : ℕ) → site_table (sites_in table n) ≡ table → ◌≡◌ {A = SitesRead} (record { reply = Fine; n = n; sites = table }) (said_sites (read (sites_in table n)))
+pub sites_said : (table : List Site) (n : ℕ) → site_table (sites_in table n) ≡ table → ◌≡◌ {A = SitesRead} (record { reply = Ok tt; n = n; sites = table }) (said_sites (read (sites_in table n)))
 sites_said table n e = rw (sites_length table n, e)
 
 -- a number of k bytes, times one byte more

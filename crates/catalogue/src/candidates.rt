@@ -28,10 +28,8 @@ fn ends_in(bonds: &[u8], a: u8) -> u8
     ensures { result ≡ degree (bonds_of bonds.now) a }
 {
     let mut total: u8 = 0;
-    let mut i = 0;
-    while i < bonds.len() {
+    for i in 0..bonds.len() {
         total = total + one_if(bonds[i] == a);
-        i += 1;
     }
     total
 }

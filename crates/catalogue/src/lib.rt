@@ -5,18 +5,18 @@ mod candidates;
 mod sites;
 
 ghost use Rattle.std.specs.Prelude.{◌≡◌, ◌≤◌, length, take};
-ghost use Rattle.reply.specs.Read.{said_number};
 ghost use Rattle.records.specs.Records.{payload_at};
 ghost use Rattle.deck.specs.Filled.{open_book};
 ghost use Rattle.catalogue.specs.Library.{library_kind, after_blocks, library_reply};
 ghost use Rattle.catalogue.specs.Products.{count_reply};
 ghost use Rattle.catalogue.specs.Said.{refused_library, tabled_library, said_library};
+ghost use Rattle.reply.specs.Read.{as_result};
 
 use assembly::{BLOCKS, BlockTable, NO_BLOCK};
 pub use candidates::CANDIDATE;
 use compose::open_deck;
 use records::{Kind, payload_at};
-use reply::{NumberReply, Refusal, Reply};
+use reply::{Refusal, Rule};
 use sites::{count_of, read_sites};
 
 // Kind 5, library: the core's block number (2), site count (2), then the sites, each with candidates of its own number.
@@ -34,7 +34,7 @@ pub const SITES: usize = 4;
 pub const CANDIDATES: usize = 8;
 
 // A site: the core's atom, how many candidates it has, and where in the record's payload the first of them stands.
-#[derive(Clone, Copy)]
+#[derive(Clone, Copy, Debug, PartialEq, Eq)]
 pub struct Site {
     pub atom: u8,
     pub many: u8,
@@ -49,9 +49,9 @@ pub const NO_SITE: Site = Site {
 };
 
 // A library deck is fine or refused. Where it is fine: its blocks, the first byte of the library's record, its sites in order, and the number of its products.
-#[derive(Drop)]
+#[derive(Clone, Copy, Debug, PartialEq, Eq)]
 pub struct LibraryRead {
-    pub reply: Reply,
+    pub reply: Result<(), Refusal>,
     pub count: usize,
     pub blocks: BlockTable,
     pub at: usize,
@@ -60,7 +60,7 @@ pub struct LibraryRead {
     pub products: usize,
 }
 
-fn library_refused(reply: Reply) -> LibraryRead
+fn library_refused(reply: Result<(), Refusal>) -> LibraryRead
     ensures { result ≡ refused_library reply }
 {
     let blocks = [NO_BLOCK; BLOCKS];
@@ -84,19 +84,16 @@ fn read_record(d: &[u8], blocks: BlockTable, count: usize, at: usize, end: usize
     let xs = payload_at(d, at);
     let s = read_sites(d, blocks, count, xs, at);
     let reply = s.reply;
-    let Reply::Fine = reply else {
+    let Ok(()) = reply else {
         return library_refused(reply);
     };
     if end < d.len() {
-        return library_refused(Reply::Refused(Refusal {
-            number: 11,
-            place: end,
-        }));
+        return library_refused(Err(Rule::RecordCut.at(end)));
     }
     let sites = s.sites;
     let products = count_of(sites, s.n);
     LibraryRead {
-        reply: Reply::Fine,
+        reply: Ok(()),
         count,
         blocks,
         at,
@@ -113,7 +110,7 @@ pub fn read_library(d: &[u8], book: &mut [u8]) -> LibraryRead
 {
     let k = open_deck(d, LIBRARY, book);
     let reply = k.reply;
-    let Reply::Fine = reply else {
+    let Ok(()) = reply else {
         return library_refused(reply);
     };
     let layout = k.layout;
@@ -122,13 +119,10 @@ pub fn read_library(d: &[u8], book: &mut [u8]) -> LibraryRead
 }
 
 // How many products a library deck has, or its refusal.
-pub fn count(d: &[u8]) -> NumberReply
-    ensures { result ≡ said_number (count_reply d.now) }
+pub fn count(d: &[u8]) -> Result<u64, Refusal>
+    ensures { result ≡ as_result (count_reply d.now) }
 {
     let l = read_library(d, &mut [0u8; 1]);
-    let reply = l.reply;
-    match reply {
-        Reply::Refused(refusal) => NumberReply::Refused(refusal),
-        Reply::Fine => NumberReply::Of(l.products as u64),
-    }
+    l.reply?;
+    Ok(l.products as u64)
 }

@@ -11,7 +11,7 @@ use super::candidates::{CANDIDATE, candidates_fault};
 use super::{CANDIDATES, LIBRARY, NO_SITE, SITES, Site};
 use assembly::{BlockAt, BlockTable, find_block, is_numbered};
 use records::{byte_at, le16_at};
-use reply::{Refusal, Reply, is_outside, wide_byte};
+use reply::{Refusal, is_outside, wide_byte};
 
 // The bytes before a site's candidates, and those before the sites.
 const SITE_HEAD: usize = 2;
@@ -21,9 +21,9 @@ const RECORD_HEAD: usize = LIBRARY.fixed as usize;
 const SITE_COUNT: usize = LIBRARY.count as usize;
 
 // The sites of a record, or its refusal.
-#[derive(Drop)]
+#[derive(Clone, Copy)]
 pub(crate) struct SitesRead {
-    pub(crate) reply: Reply,
+    pub(crate) reply: Result<(), Refusal>,
     pub(crate) n: usize,
     pub(crate) sites: [Site; SITES],
 }
@@ -33,7 +33,7 @@ fn sites_refused(number: usize, place: usize) -> SitesRead
 {
     let sites = [NO_SITE; SITES];
     SitesRead {
-        reply: Reply::Refused(Refusal { number, place }),
+        reply: Err(Refusal { number, place }),
         n: 0,
         sites,
     }
@@ -45,11 +45,9 @@ pub(crate) fn count_of(sites: [Site; SITES], n: usize) -> usize
     ensures { result ≡ products (sites_in sites n) }
 {
     let mut total = 1;
-    let mut k = 0;
-    while k < n {
+    for k in 0..n {
         let s = sites[k];
         total = total * wide_byte(s.many);
-        k += 1;
     }
     total
 }
@@ -144,7 +142,7 @@ fn sites_from(
         return sites_refused(13, at);
     }
     SitesRead {
-        reply: Reply::Fine,
+        reply: Ok(()),
         n,
         sites,
     }

@@ -10,7 +10,6 @@ ghost use Rattle.claim_calls.specs.Spans.{record_list, item_list};
 
 use calls::{code_of, give};
 use deck_calls::verdict_code;
-use sdfile::{Step, Value};
 
 // What C says for done: no refusal has that number.
 const DONE: u64 = 254;
@@ -34,8 +33,8 @@ pub fn sdf_record(text: &[u8], from: usize, span: &mut [u64]) -> u64
 {
     let answer = sdfile::record(text, from);
     match answer {
-        Step::Done => DONE,
-        Step::Next(p) => {
+        None => DONE,
+        Some(p) => {
             let numbers = [p.start as u64, p.len as u64, p.next as u64];
             give(span, &numbers)
         }
@@ -47,8 +46,8 @@ pub fn sdf_item(text: &[u8], name: &[u8], span: &mut [u64]) -> u64
 {
     let answer = sdfile::item(text, name);
     match answer {
-        Value::Refused(r) => code_of(r),
-        Value::At(s) => {
+        Err(r) => code_of(r),
+        Ok(s) => {
             let numbers = [s.start as u64, s.len as u64];
             give(span, &numbers)
         }

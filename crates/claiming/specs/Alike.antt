@@ -1,6 +1,6 @@
 -- Laws. No field matters that some claims do not ask for. Assumes nothing.
 use Prim.Native.Nat.{ℕ, zero, suc, ◌+◌, ◌≤◌, ◌<◌}
-use Rattle.std.specs.Prelude.{Bool, ◌≡◌, eqb}
+use Rattle.std.specs.Prelude.{Bool, ◌≡◌, eqb, Option, Some, None}
 use Rattle.std.proofs.Math.Bool.{true, false}
 use mathlib.Core.List.{List, [], ◌∷◌}
 use Rattle.std.proofs.Math.Path.{refl}
@@ -11,11 +11,10 @@ use Rattle.std.proofs.Math.ListN.{length}
 use Rattle.reply.specs.Read.{Read, refused, read, ◌then◌, refuse_if, if_else}
 use Rattle.reply.specs.Chain.{not_read, then-read, unique}
 use Rattle.records.specs.Bytes.{byte_at, part}
-use Rattle.printed.specs.declared.Printed.{Printed}
-use Rattle.printed.specs.declared.Printed.TheVariants.{Unread, Of}
 use Rattle.claiming.specs.Claims.{printed_of, claim_of, said_reading, size_at, claim_reply, claims_from, claims_in, truth, field_of, is_right, first_wrong_claim, any_sets, claims_end, claims_reply}
 use Rattle.claiming.specs.Asked.{asks_from, asks}
 use Rattle.claiming.specs.Going.{claim_read}
+use Rattle.printed.specs.declared.Number.{Number}
 use Rattle.claiming.specs.declared.Claim.{Claim}
 
 -- Place by place.
@@ -63,9 +62,9 @@ module _ (f : ℕ) (cs : List ℕ) where
   asks_later at h e = asks_lasts (length cs) (suc (length cs)) at (omega arith) (omega arith) ∙ asks_next (length cs) at h e
 
 -- a claim that is read is of the field that its first byte says
-said_field : (f k : ℕ) (p : Printed) (c : Claim) → claim_of f k p ≡ read c → c.field ≡ f
-said_field f k Unread c e = absurd (not_read e)
-said_field f k (Of x) c e = let same : record { field = f; value = x.value; unit = x.unit } ≡ c = cc in sym (ap (λ (y : Claim). y.field) same)
+said_field : (f k : ℕ) (p : Option Number) (c : Claim) → claim_of f k p ≡ read c → c.field ≡ f
+said_field f k None c e = absurd (not_read e)
+said_field f k (Some x) c e = let same : record { field = f; value = x.value; unit = x.unit } ≡ c = cc in sym (ap (λ (y : Claim). y.field) same)
 
 claim_field : (most : ℕ) (cs : List ℕ) (at k : ℕ) (c : Claim) → claim_reply most cs at k ≡ read c → c.field ≡ byte_at cs at
 unfolding said_reading

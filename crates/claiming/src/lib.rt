@@ -2,41 +2,29 @@
 #![tactic(auto)]
 
 ghost use Rattle.std.specs.Prelude.{◌≡◌, true, false, ◌||◌, ◌+◌, ◌-◌, ◌≤◌, ◌<◌, length};
-ghost use Rattle.reply.specs.Read.{read, refusal};
+ghost use Rattle.reply.specs.Read.{read, as_result};
 ghost use Rattle.judging.specs.Judging.{said_verdict};
 ghost use Rattle.claiming.specs.Claims.{printed_of, field_of, size_at, said_reading, claim_reply, near, is_right, is_of_sets, truth, claims_end, claims_reply};
 ghost use Rattle.claiming.specs.Asked.{asks};
-ghost use Rattle.claiming.specs.Work.{earlier, said_claim, said_gone, gone_through};
+ghost use Rattle.claiming.specs.Work.{earlier, gone_through};
 
 use judging::Verdict;
-use printed::Printed;
-use reply::{Refusal, is_outside};
+use printed::Number;
+use reply::{Refusal, Rule, is_outside};
 
 // One claim: its field, the number that it says, and what the last digit of that is worth.
-#[derive(Drop)]
+#[derive(Clone, Copy, Debug, PartialEq, Eq)]
 pub struct Claim {
     pub field: usize,
     pub value: u64,
     pub unit: u64,
 }
 
-#[derive(Drop)]
-enum ClaimReply {
-    Refused(Refusal),
-    Of(Claim),
-}
-
 // What was met in all claims: the number of the first wrong one, or 0, and whether one is of the sets that are counted in trees.
-#[derive(Drop)]
+#[derive(Clone, Copy)]
 struct Met {
     pub wrong: usize,
     pub sets: bool,
-}
-
-#[derive(Drop)]
-enum Gone {
-    Refused(Refusal),
-    Of(Met),
 }
 
 // Balaban's J.
@@ -46,7 +34,7 @@ const FINE: usize = 10;
 const HEAD: usize = 2;
 
 // What a text says of a field.
-fn number(field: usize, text: &[u8]) -> Printed
+fn number(field: usize, text: &[u8]) -> Option<Number>
     ensures { result ≡ printed_of field text.now }
 {
     if field == FINE {
@@ -63,39 +51,32 @@ fn size_at(claims: &[u8], at: usize) -> usize
     HEAD + reply::wide(records::byte_at(claims, at + 1)) as usize
 }
 
-fn refused(number: usize, place: usize) -> ClaimReply
-    ensures { result ≡ ClaimReply.Refused (refusal number place) }
-{
-    ClaimReply::Refused(Refusal { number, place })
-}
-
 // What a claim says that lies within the bytes, the k-th.
-fn said(field: usize, text: &[u8], k: usize) -> ClaimReply
-    ensures { result ≡ said_claim (said_reading field text.now k) }
+fn said(field: usize, text: &[u8], k: usize) -> Result<Claim, Refusal>
+    ensures { result ≡ as_result (said_reading field text.now k) }
 {
-    let told = number(field, text);
-    match told {
-        Printed::Unread => refused(37, k),
-        Printed::Of(x) => ClaimReply::Of(Claim {
-            field,
-            value: x.value,
-            unit: x.unit,
-        }),
-    }
+    let Some(x) = number(field, text) else {
+        return Err(Rule::ClaimText.at(k));
+    };
+    Ok(Claim {
+        field,
+        value: x.value,
+        unit: x.unit,
+    })
 }
 
 // The claim at a place, the k-th, of a field from 1 to most.
-fn claim_at(claims: &[u8], at: usize, k: usize, most: usize) -> ClaimReply
+fn claim_at(claims: &[u8], at: usize, k: usize, most: usize) -> Result<Claim, Refusal>
     requires { at < length claims.now }
-    ensures { result ≡ said_claim (claim_reply most claims.now at k) }
+    ensures { result ≡ as_result (claim_reply most claims.now at k) }
 {
     let field = reply::wide(records::byte_at(claims, at)) as usize;
     if is_outside(most, field) {
-        return refused(35, k);
+        return Err(Rule::ClaimField.at(k));
     }
     let size = size_at(claims, at);
     if claims.len() - at < size {
-        return refused(35, k);
+        return Err(Rule::ClaimField.at(k));
     }
     said(field, records::part(claims, at + HEAD, size - HEAD), k)
 }
@@ -181,31 +162,24 @@ fn is_of_sets(before: bool, field: usize) -> bool
 }
 
 // All claims are read, and each is compared.
-fn through(claims: &[u8], own: &[u64], above: u64) -> Gone
-    ensures { result ≡ said_gone (gone_through own.now above claims.now 0 0 0 false) }
+fn through(claims: &[u8], own: &[u64], above: u64) -> Result<Met, Refusal>
+    ensures { result ≡ as_result (gone_through own.now above claims.now 0 0 0 false) }
 {
     let mut at = 0;
     let mut k: usize = 0;
     let mut wrong: usize = 0;
     let mut sets = false;
     while at < claims.len() {
-        let told = claim_at(claims, at, k + 1, own.len());
-        match told {
-            ClaimReply::Refused(refusal) => {
-                return Gone::Refused(refusal);
-            }
-            ClaimReply::Of(c) => {
-                let right = is_right(c.field, c.value, c.unit, own, above);
-                let next = first_of(wrong, right, k + 1);
-                let more = is_of_sets(sets, c.field);
-                wrong = next;
-                sets = more;
-                at += size_at(claims, at);
-                k += 1;
-            }
-        }
+        let c = claim_at(claims, at, k + 1, own.len())?;
+        let right = is_right(c.field, c.value, c.unit, own, above);
+        let next = first_of(wrong, right, k + 1);
+        let more = is_of_sets(sets, c.field);
+        wrong = next;
+        sets = more;
+        at += size_at(claims, at);
+        k += 1;
     }
-    Gone::Of(Met { wrong, sets })
+    Ok(Met { wrong, sets })
 }
 
 // The verdict by the first wrong claim, 0 for none.
@@ -226,10 +200,7 @@ fn ended(wrong: usize, sets: bool, tree: bool) -> Verdict
         return compared(wrong);
     }
     if !tree {
-        return Verdict::Refused(Refusal {
-            number: 34,
-            place: 0,
-        });
+        return Verdict::Refused(Rule::NoTree.at(0));
     }
     compared(wrong)
 }
@@ -239,14 +210,10 @@ pub fn judged(claims: &[u8], own: &[u64], above: u64, tree: bool) -> Verdict
     ensures { result ≡ said_verdict (claims_reply (truth own.now above tree) claims.now) }
 {
     if claims.len() == 0 {
-        return Verdict::Refused(Refusal {
-            number: 36,
-            place: 0,
-        });
+        return Verdict::Refused(Rule::NoClaim.at(0));
     }
-    let gone = through(claims, own, above);
-    match gone {
-        Gone::Refused(refusal) => Verdict::Refused(refusal),
-        Gone::Of(met) => ended(met.wrong, met.sets, tree),
+    match through(claims, own, above) {
+        Err(refusal) => Verdict::Refused(refusal),
+        Ok(met) => ended(met.wrong, met.sets, tree),
     }
 }

@@ -9,16 +9,13 @@ use borrow.Author.Tests.{le-ltb}
 use lib.Dec.{eqb}
 use lib.ListN.{length}
 use Rattle.graph.specs.Graph.{Graph}
-use Rattle.reply.specs.Read.{Read, read, ◌then◌, refuse_if, said_number}
-use Rattle.reply.specs.Chain.{not_read, number_told, made_refused, made_read}
+use Rattle.reply.specs.Read.{Read, read, ◌then◌, refuse_if, as_result}
+use Rattle.reply.specs.Chain.{not_read, made_refused, made_read, read_back}
 use Rattle.reply.specs.declared.Refusal.{Refusal}
-use Rattle.reply.specs.declared.NumberReply.TheVariants as number
 use Rattle.block.specs.Block.{most_bytes, bonds_of, graph_of, block_reply}
-use Rattle.block.specs.Index.{indices_of, indices_reply, said_indices}
+use Rattle.block.specs.Index.{indices_of, indices_reply}
 use Rattle.block.specs.Numbered.{bonds_length, few_bytes, least_bonds}
-use Rattle.block.specs.Said.{indices_told}
 use Rattle.block.specs.declared.Indices.{Indices}
-use Rattle.block.specs.declared.IndicesReply.TheVariants as measured
 use Rattle.deck.specs.Deck.{Deck, deck_reply}
 use Rattle.deck.specs.Molecule.{molecule_of}
 use Rattle.deck.specs.declared.Form.TheVariants.{Composed}
@@ -31,32 +28,32 @@ use Rattle.reach.specs.Told.{indices_refused}
 use Rattle.szeged.specs.Szeged.{szeged}
 use Rattle.szeged.specs.Reply.{szeged_reply}
 use Rattle.sets.specs.Sets.{hosoya, merrifield_simmons}
-use Rattle.sets.specs.Reply.{sets_of, tree_reply, sets_reply, said_sets}
+use Rattle.sets.specs.Reply.{sets_of, tree_reply, sets_reply}
 use Rattle.sets.specs.declared.Sets.{Sets}
-use Rattle.sets.specs.declared.SetsReply.TheVariants as sets_answer
 use Rattle.balaban.specs.Balaban.{reckoned, balaban_reply}
 use Rattle.claiming.specs.Claims.{truth, field_of, claims_reply}
 use Rattle.claiming.specs.Asked.{asks}
 use Rattle.claiming.specs.Alike.{AlikeIn, told_alike}
 use Rattle.claims.specs.Molecules.{deck_truth, deck_claims_reply, is_tree, of_tree, block_fields, fine_above, block_truth, block_claims_reply}
+use Rattle.std.specs.Prelude.{Ok, Err}
 
 -- of a deck
 module _ (d cs : List ℕ) where
-  pub deck_refused : {r : Refusal} → measured.Refused r ≡ said_indices (fields_reply Composed d) → verdict.Refused r ≡ said_verdict (deck_claims_reply d cs)
+  pub deck_refused : {r : Refusal} → Err r ≡ as_result (fields_reply Composed d) → verdict.Refused r ≡ said_verdict (deck_claims_reply d cs)
   unfolding fields_reply deck_claims_reply
-  deck_refused e = let f = made_refused (deck_reply Composed d) _ (sym (indices_told _ _ e)) in rw f
+  deck_refused e = let f = made_refused (deck_reply Composed d) _ (sym (read_back _ _ e)) in rw f
 
-  pub deck-read : {x : Indices} (own : List ℕ) {v : Verdict} → measured.Of x ≡ said_indices (fields_reply Composed d) → own ≡ all_fields x → v ≡ said_verdict (claims_reply (truth own 0 true) cs)
+  pub deck-read : {x : Indices} (own : List ℕ) {v : Verdict} → Ok x ≡ as_result (fields_reply Composed d) → own ≡ all_fields x → v ≡ said_verdict (claims_reply (truth own 0 true) cs)
       → v ≡ said_verdict (deck_claims_reply d cs)
   unfolding fields_reply deck_claims_reply deck_truth
   deck-read own e o q =
-      let (k, f, same) = made_read (deck_reply Composed d) _ (sym (indices_told _ _ e)) in
+      let (k, f, same) = made_read (deck_reply Composed d) _ (sym (read_back _ _ e)) in
       q ∙ ap (λ (l : List ℕ). said_verdict (claims_reply (truth l 0 true) cs)) (o ∙ ap all_fields (sym same))
       ∙ ap (λ (m : Read Deck). said_verdict (m then λ k. claims_reply (deck_truth (molecule_of d k)) cs)) (sym f)
 
 -- of a block
 module _ (n : ℕ) (xs cs : List ℕ) where
-  pub block_refused : {r : Refusal} → measured.Refused r ≡ said_indices (indices_reply n xs) → verdict.Refused r ≡ said_verdict (block_claims_reply n xs cs)
+  pub block_refused : {r : Refusal} → Err r ≡ as_result (indices_reply n xs) → verdict.Refused r ≡ said_verdict (block_claims_reply n xs cs)
   unfolding block_claims_reply
   block_refused e = rw (indices_refused n xs _ (sym e))
 
@@ -67,21 +64,21 @@ module _ (n : ℕ) (xs : List ℕ) (fine : block_reply n xs ≡ read tt) where
   unfolding szeged_reply
   szeged-read = rw (fine, le-ltb 192 (length (bonds_of xs)) (omega (arith, bonds_length xs, few_bytes n xs fine)))
 
-  pub szeged_none : {r : Refusal} → number.Refused r ≡ said_number (szeged_reply n xs 192) → 0 ≡ szeged (graph_of n xs)
-  szeged_none {r} e = absurd (not_read (number_told (number.Refused r) (szeged_reply n xs 192) e ∙ szeged-read))
+  pub szeged_none : {r : Refusal} → Err r ≡ as_result (szeged_reply n xs 192) → 0 ≡ szeged (graph_of n xs)
+  szeged_none {r} e = absurd (not_read (read_back (Err r) (szeged_reply n xs 192) e ∙ szeged-read))
 
-  pub szeged_is : {s : ℕ} → number.Of s ≡ said_number (szeged_reply n xs 192) → s ≡ szeged (graph_of n xs)
-  szeged_is {s} e = let f : read s ≡ read (szeged (graph_of n xs)) = number_told (number.Of s) (szeged_reply n xs 192) e ∙ szeged-read in cc
+  pub szeged_is : {s : ℕ} → Ok s ≡ as_result (szeged_reply n xs 192) → s ≡ szeged (graph_of n xs)
+  szeged_is {s} e = let f : read s ≡ read (szeged (graph_of n xs)) = read_back (Ok s) (szeged_reply n xs 192) e ∙ szeged-read in cc
 
   fine_read : balaban_reply n xs ≡ read (reckoned 1 (graph_of n xs))
   unfolding balaban_reply
   fine_read = rw fine
 
-  pub fine_none : {r : Refusal} → number.Refused r ≡ said_number (balaban_reply n xs) → 0 ≡ reckoned 1 (graph_of n xs)
-  fine_none {r} e = absurd (not_read (number_told (number.Refused r) (balaban_reply n xs) e ∙ fine_read))
+  pub fine_none : {r : Refusal} → Err r ≡ as_result (balaban_reply n xs) → 0 ≡ reckoned 1 (graph_of n xs)
+  fine_none {r} e = absurd (not_read (read_back (Err r) (balaban_reply n xs) e ∙ fine_read))
 
-  pub fine_is : {j : ℕ} → number.Of j ≡ said_number (balaban_reply n xs) → j ≡ reckoned 1 (graph_of n xs)
-  fine_is {j} e = let f : read j ≡ read (reckoned 1 (graph_of n xs)) = number_told (number.Of j) (balaban_reply n xs) e ∙ fine_read in cc
+  pub fine_is : {j : ℕ} → Ok j ≡ as_result (balaban_reply n xs) → j ≡ reckoned 1 (graph_of n xs)
+  fine_is {j} e = let f : read j ≡ read (reckoned 1 (graph_of n xs)) = read_back (Ok j) (balaban_reply n xs) e ∙ fine_read in cc
 
   -- a tree has the two numbers, another block is told 0
   abbrev tree_or : Bool → Read Sets
@@ -91,20 +88,20 @@ module _ (n : ℕ) (xs : List ℕ) (fine : block_reply n xs ≡ read tt) where
   unfolding sets_reply tree_reply
   sets_read = rw fine
 
-  pub sets_none : {r : Refusal} → sets_answer.Refused r ≡ said_sets (sets_reply n xs)
+  pub sets_none : {r : Refusal} → Err r ≡ as_result (sets_reply n xs)
       → (0 ≡ of_tree (is_tree (graph_of n xs)) (hosoya (graph_of n xs))) × (0 ≡ of_tree (is_tree (graph_of n xs)) (merrifield_simmons (graph_of n xs)))
-  sets_none {r} e = go (is_tree (graph_of n xs)) (e ∙ ap said_sets sets_read)
+  sets_none {r} e = go (is_tree (graph_of n xs)) (e ∙ ap as_result sets_read)
     where
-      go : (t : Bool) → sets_answer.Refused r ≡ said_sets (tree_or t) → (0 ≡ of_tree t (hosoya (graph_of n xs))) × (0 ≡ of_tree t (merrifield_simmons (graph_of n xs)))
+      go : (t : Bool) → Err r ≡ as_result (tree_or t) → (0 ≡ of_tree t (hosoya (graph_of n xs))) × (0 ≡ of_tree t (merrifield_simmons (graph_of n xs)))
       go true f = absurd (let z : ◌≡◌ {A = ℕ} 0 1 = cc in omega arith)
       go false f = (refl, refl)
 
-  pub sets_is : {s : Sets} → sets_answer.Of s ≡ said_sets (sets_reply n xs)
+  pub sets_is : {s : Sets} → Ok s ≡ as_result (sets_reply n xs)
       → (s.bonds ≡ of_tree (is_tree (graph_of n xs)) (hosoya (graph_of n xs))) × (s.atoms ≡ of_tree (is_tree (graph_of n xs)) (merrifield_simmons (graph_of n xs)))
   unfolding sets_of
-  sets_is {s} e = go (is_tree (graph_of n xs)) (e ∙ ap said_sets sets_read)
+  sets_is {s} e = go (is_tree (graph_of n xs)) (e ∙ ap as_result sets_read)
     where
-      go : (t : Bool) → sets_answer.Of s ≡ said_sets (tree_or t) → (s.bonds ≡ of_tree t (hosoya (graph_of n xs))) × (s.atoms ≡ of_tree t (merrifield_simmons (graph_of n xs)))
+      go : (t : Bool) → Ok s ≡ as_result (tree_or t) → (s.bonds ≡ of_tree t (hosoya (graph_of n xs))) × (s.atoms ≡ of_tree t (merrifield_simmons (graph_of n xs)))
       go true f = let same : s ≡ sets_of (graph_of n xs) = cc in (ap (λ (x : Sets). x.bonds) same, ap (λ (x : Sets). x.atoms) same)
       go false f = absurd (let z : ◌≡◌ {A = ℕ} 0 1 = cc in omega arith)
 

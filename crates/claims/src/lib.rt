@@ -13,11 +13,10 @@ ghost use Rattle.sets.specs.Sets.{hosoya, merrifield_simmons};
 ghost use Rattle.balaban.specs.Balaban.{reckoned};
 ghost use Rattle.claims.specs.Molecules.{deck_claims_reply, is_tree, of_tree, block_fields, block_claims_reply};
 
-use block::{Indices, IndicesReply};
+use block::Indices;
 use claiming::{is_asked, judged};
 use judging::Verdict;
-use reply::NumberReply;
-use sets::{Sets, SetsReply};
+use sets::Sets;
 use sheets::fields_of;
 
 // The most bonds of a block.
@@ -27,10 +26,9 @@ const BONDS: usize = 192;
 pub fn of_deck(d: &[u8], claims: &[u8]) -> Verdict
     ensures { result ≡ said_verdict (deck_claims_reply d.now claims.now) }
 {
-    let told = judging::compose(d);
-    match told {
-        IndicesReply::Refused(refusal) => Verdict::Refused(refusal),
-        IndicesReply::Of(x) => {
+    match judging::compose(d) {
+        Err(refusal) => Verdict::Refused(refusal),
+        Ok(x) => {
             let own = fields_of(x);
             judged(claims, &own, 0, true)
         }
@@ -43,10 +41,9 @@ fn szeged_of(n: usize, bonds: &[u8]) -> u64
     ensures { result ≡ szeged (graph_of n bonds.now) }
 {
     let mut entries = [0u64; BONDS];
-    let told = szeged::terms(n, bonds, &mut entries);
-    match told {
-        NumberReply::Refused(_) => 0,
-        NumberReply::Of(s) => s,
+    match szeged::terms(n, bonds, &mut entries) {
+        Err(_) => 0,
+        Ok(s) => s,
     }
 }
 
@@ -56,10 +53,9 @@ fn sets_of(n: usize, bonds: &[u8]) -> Sets
     ensures bonds { result.bonds ≡ of_tree (is_tree (graph_of n bonds.now)) (hosoya (graph_of n bonds.now)) }
     ensures atoms { result.atoms ≡ of_tree (is_tree (graph_of n bonds.now)) (merrifield_simmons (graph_of n bonds.now)) }
 {
-    let told = sets::count(n, bonds);
-    match told {
-        SetsReply::Refused(_) => Sets { bonds: 0, atoms: 0 },
-        SetsReply::Of(s) => s,
+    match sets::count(n, bonds) {
+        Err(_) => Sets { bonds: 0, atoms: 0 },
+        Ok(s) => s,
     }
 }
 
@@ -68,10 +64,9 @@ fn fine_of(n: usize, bonds: &[u8]) -> u64
     requires { block_reply n bonds.now ≡ read tt }
     ensures { result ≡ reckoned 1 (graph_of n bonds.now) }
 {
-    let told = balaban::index(n, bonds);
-    match told {
-        NumberReply::Refused(_) => 0,
-        NumberReply::Of(j) => j,
+    match balaban::index(n, bonds) {
+        Err(_) => 0,
+        Ok(j) => j,
     }
 }
 
@@ -136,10 +131,9 @@ fn above(n: usize, m: usize) -> u64
 pub fn of_block(n: usize, bonds: &[u8], claims: &[u8]) -> Verdict
     ensures { result ≡ said_verdict (block_claims_reply n bonds.now claims.now) }
 {
-    let told = reach::measure(n, bonds);
-    match told {
-        IndicesReply::Refused(refusal) => Verdict::Refused(refusal),
-        IndicesReply::Of(x) => {
+    match reach::measure(n, bonds) {
+        Err(refusal) => Verdict::Refused(refusal),
+        Ok(x) => {
             let own = block_fields(n, bonds, claims, x);
             let m = bonds.len() / 2;
             let most = above(n, m);

@@ -31,7 +31,7 @@ fn earlier(parent: u16, k: usize) -> usize
 }
 
 // The first part of the way between two placed atoms: its bonds, and the placement's index and the atom that it leads to.
-#[derive(Drop)]
+#[derive(Clone, Copy)]
 struct Leg {
     bonds: u64,
     onto: usize,

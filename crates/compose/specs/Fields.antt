@@ -7,8 +7,6 @@ use Rattle.deck.specs.Deck.{sheet_reply, deck_reply}
 use Rattle.deck.specs.Molecule.{molecule_of}
 use Rattle.deck.specs.declared.Form.{Form}
 use Rattle.compose.specs.declared.Composed.{Composed}
-use Rattle.compose.specs.declared.ComposeReply.{ComposeReply}
-use Rattle.compose.specs.declared.ComposeReply.TheVariants as reply
 
 -- with the first byte after its assembly, where the sheet of a judged deck stands
 unfoldable pub compose_reply : Form → List ℕ → Read Composed
@@ -17,11 +15,6 @@ compose_reply form d = deck_reply form d then λ k. read (record { fields = indi
 -- behind the assembly
 unfoldable pub behind_reply : Form → List ℕ → Indices → ℕ → Read Composed
 behind_reply form d fields sheet = sheet_reply form d sheet then λ _. read (record { fields = fields; sheet = sheet })
-
--- how the code says it
-abbrev pub said_composed : Read Composed → ComposeReply
-said_composed (refused r) = reply.Refused r
-said_composed (read x) = reply.Composed x
 
 -- the fields alone
 unfoldable pub fields_reply : Form → List ℕ → Read Indices

@@ -1,19 +1,18 @@
 // The blocks of a deck, record by record, and their summaries in a lent book. A refusal leaves there what was filled before.
-ghost use Rattle.std.specs.Prelude.{◌≡◌, ◌≤◌, length, take};
-ghost use Rattle.reply.specs.Read.{said_reply};
+ghost use Rattle.std.specs.Prelude.{◌≡◌, ◌≤◌, length, take, Err};
 ghost use Rattle.reply.specs.declared.Refusal.{Refusal};
-ghost use Rattle.reply.specs.declared.Reply.TheVariants.{Refused};
 ghost use Rattle.block.specs.Block.{block_reply};
 ghost use Rattle.assembly.specs.Book.{bond_bytes, most_blocks};
 ghost use Rattle.deck.specs.Deck.{longest_deck, block_at, block_place, block_reply_at, blocks_reply, open_reply};
 ghost use Rattle.deck.specs.Said.{tabled_deck, said_deck, moved_reply};
 ghost use Rattle.deck.specs.Filled.{blocks_book, open_book};
 ghost use Rattle.deck.specs.Filling.{filled_book, reply_book};
+ghost use Rattle.reply.specs.Read.{as_result};
 
 use assembly::{BLOCK_HEAD, BLOCKS, BOND_BYTES, BlockAt, BlockTable, NO_BLOCK};
 use deck::{DeckRead, LONGEST, Layout, deck_refused, is_unfit, second_kind};
 use records::{BLOCK, HEAD, Kind, le16_at, payload_at, record_at};
-use reply::{Refusal, Reply};
+use reply::{Refusal, Rule};
 use summary::SUMMARY;
 
 // Where in a block's payload its bond count stands.
@@ -46,9 +45,9 @@ fn block_at(d: &[u8], at: usize) -> BlockAt
 }
 
 // The summary of a block put at place i of a book, or the block's refusal. Where the book has no such place the block is only checked.
-fn fill_at(d: &[u8], b: BlockAt, book: &mut [u8], i: usize) -> Reply
+fn fill_at(d: &[u8], b: BlockAt, book: &mut [u8], i: usize) -> Result<(), Refusal>
     requires { i ≤ most_blocks }
-    ensures reply { result ≡ said_reply (block_reply b.atoms (bond_bytes d.now b)) }
+    ensures reply { result ≡ as_result (block_reply b.atoms (bond_bytes d.now b)) }
     ensures bytes { book.new ≡ filled_book d.now book.old i b }
 {
     let bonds = assembly::bonds_part(d, b);
@@ -61,13 +60,13 @@ fn fill_at(d: &[u8], b: BlockAt, book: &mut [u8], i: usize) -> Reply
 }
 
 // A block's reply at its place in the deck.
-fn block_moved(at: usize, reply: Reply) -> Reply
-    requires { (at ≤ longest_deck) × ((r : Refusal) → reply ≡ Refused r → r.place ≤ longest_deck) }
+fn block_moved(at: usize, reply: Result<(), Refusal>) -> Result<(), Refusal>
+    requires { (at ≤ longest_deck) × ((r : Refusal) → reply ≡ Err r → r.place ≤ longest_deck) }
     ensures { result ≡ moved_reply (block_place at) reply }
 {
     match reply {
-        Reply::Fine => Reply::Fine,
-        Reply::Refused(r) => Reply::Refused(Refusal {
+        Ok(()) => Ok(()),
+        Err(r) => Err(Refusal {
             number: r.number,
             place: block_place(at, r),
         }),
@@ -82,16 +81,13 @@ fn block_reply(
     blocks: BlockTable,
     count: usize,
     book: &mut [u8],
-) -> Reply
+) -> Result<(), Refusal>
     requires { (count ≤ most_blocks) × (b ≡ block_at d.now at) × (at ≤ longest_deck) × (length d.now ≤ longest_deck) }
-    ensures reply { result ≡ said_reply (block_reply_at d.now at (take count blocks)) }
+    ensures reply { result ≡ as_result (block_reply_at d.now at (take count blocks)) }
     ensures bytes { book.new ≡ reply_book d.now at (take count blocks) book.old }
 {
     if is_unfit(blocks, count, b.number as usize) {
-        return Reply::Refused(Refusal {
-            number: 14,
-            place: at,
-        });
+        return Err(Rule::BlockNumber.at(at));
     }
     block_moved(at, fill_at(d, b, book, count))
 }
@@ -110,7 +106,7 @@ fn deck_at(d: &[u8], blocks: BlockTable, count: usize, at: usize) -> DeckRead
         sheet: at + HEAD + (le16_at(d, at) as usize),
     };
     DeckRead {
-        reply: Reply::Fine,
+        reply: Ok(()),
         layout,
     }
 }
@@ -126,7 +122,7 @@ fn read_blocks(d: &[u8], last: Kind, book: &mut [u8]) -> DeckRead
     let mut next = 0;
     loop {
         let r = record_at(d, next, BLOCK, second_kind(count, last));
-        let Reply::Fine = r else {
+        let Ok(()) = r else {
             return deck_refused(r);
         };
         if le16_at(d, next + 2) != BLOCK.number {
@@ -134,7 +130,7 @@ fn read_blocks(d: &[u8], last: Kind, book: &mut [u8]) -> DeckRead
         }
         let b = block_at(d, next);
         let s = block_reply(d, next, b, blocks, count, book);
-        let Reply::Fine = s else {
+        let Ok(()) = s else {
             return deck_refused(s);
         };
         blocks[count] = b;
@@ -150,10 +146,7 @@ pub fn open_deck(d: &[u8], last: Kind, book: &mut [u8]) -> DeckRead
     ensures bytes { book.new ≡ open_book last d.now book.old }
 {
     if LONGEST < d.len() {
-        return deck_refused(Reply::Refused(Refusal {
-            number: 20,
-            place: 0,
-        }));
+        return deck_refused(Err(Rule::DeckLength.at(0)));
     }
     read_blocks(d, last, book)
 }

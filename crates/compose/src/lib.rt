@@ -6,21 +6,21 @@ mod distance;
 mod reading;
 
 ghost use Rattle.std.specs.Prelude.{◌≡◌, ◌≤◌};
-ghost use Rattle.reply.specs.Read.{refused, refusal};
+ghost use Rattle.reply.specs.Read.{refused, refusal, as_result};
 ghost use Rattle.assembly.specs.Book.{most_blocks};
 ghost use Rattle.assembly.specs.Placements.{most_placements};
 ghost use Rattle.deck.specs.Deck.{longest_deck, placement_place};
 ghost use Rattle.deck.specs.Unfilled.{heads_from, Unfilled};
-ghost use Rattle.compose.specs.Fields.{compose_reply, behind_reply, said_composed};
+ghost use Rattle.compose.specs.Fields.{compose_reply, behind_reply};
 
 use assembly::{BLOCKS, PLACEMENT_BYTES};
-use block::{Indices, IndicesReply};
+use block::Indices;
 pub use blocks::open_deck;
 use deck::{Form, heads, sheet_reply};
 pub use distance::placed_distance;
 pub use reading::{block_part, read_deck};
 use records::{ASSEMBLY, payload_at};
-use reply::{Refusal, Reply};
+use reply::Refusal;
 use summaries::compose;
 use summary::SUMMARY;
 
@@ -30,87 +30,73 @@ const FEW: usize = 2;
 const SOME: usize = 6;
 
 // The six fields of a deck's molecule, and the first byte after its assembly.
-#[derive(Clone, Copy)]
+#[derive(Clone, Copy, Debug, PartialEq, Eq)]
 pub struct Composed {
     pub fields: Indices,
     pub sheet: usize,
 }
 
-// The same, or the deck's refusal.
-#[derive(Drop)]
-pub enum ComposeReply {
-    Refused(Refusal),
-    Composed(Composed),
-}
-
 // A refusal of the assembly at a place.
-fn refused_at(at: usize, r: Refusal) -> ComposeReply
+fn refused_at(at: usize, r: Refusal) -> Result<Composed, Refusal>
     requires { (at ≤ longest_deck) × (r.place ≤ most_placements) }
-    ensures { result ≡ said_composed (refused (refusal r.number (placement_place at r))) }
+    ensures { result ≡ as_result (refused (refusal r.number (placement_place at r))) }
 {
-    ComposeReply::Refused(Refusal {
+    Err(Refusal {
         number: r.number,
         place: at + PLACEMENT_BYTES * r.place,
     })
 }
 
 // What follows the assembly, and then the fields.
-fn behind(d: &[u8], form: Form, fields: Indices, sheet: usize) -> ComposeReply
-    ensures { result ≡ said_composed (behind_reply form d.now fields sheet) }
+fn behind(d: &[u8], form: Form, fields: Indices, sheet: usize) -> Result<Composed, Refusal>
+    ensures { result ≡ as_result (behind_reply form d.now fields sheet) }
 {
-    let reply = sheet_reply(form, d, sheet);
-    match reply {
-        Reply::Refused(refusal) => ComposeReply::Refused(refusal),
-        Reply::Fine => ComposeReply::Composed(Composed { fields, sheet }),
-    }
+    sheet_reply(form, d, sheet)?;
+    Ok(Composed { fields, sheet })
 }
 
 // The fields of a deck, by a lent book that is all 0 and has a place for each of its blocks.
-fn in_book(d: &[u8], form: Form, book: &mut [u8]) -> ComposeReply
+fn in_book(d: &[u8], form: Form, book: &mut [u8]) -> Result<Composed, Refusal>
     requires { Unfilled d.now book.old }
-    ensures { result ≡ said_composed (compose_reply form d.now) }
+    ensures { result ≡ as_result (compose_reply form d.now) }
 {
     let k = open_deck(d, ASSEMBLY, book);
-    let reply = k.reply;
-    if let Reply::Refused(refusal) = reply {
-        return ComposeReply::Refused(refusal);
-    }
+    k.reply?;
     let layout = k.layout;
     let at = layout.assembly;
     let sheet = layout.sheet;
-    let answer = compose(book, payload_at(d, at));
-    match answer {
-        IndicesReply::Refused(refusal) => refused_at(at, refusal),
-        IndicesReply::Of(fields) => behind(d, form, fields, sheet),
+    match compose(book, payload_at(d, at)) {
+        Err(refusal) => refused_at(at, refusal),
+        Ok(fields) => behind(d, form, fields, sheet),
     }
 }
 
 // The same, by a book just as large as so many blocks need: each size in a function of its own, so that the stack holds one of them.
-fn by_few(d: &[u8], form: Form) -> ComposeReply
+fn by_few(d: &[u8], form: Form) -> Result<Composed, Refusal>
     requires { heads_from most_blocks d.now 0 ≤ 2 }
-    ensures { result ≡ said_composed (compose_reply form d.now) }
+    ensures { result ≡ as_result (compose_reply form d.now) }
 {
     in_book(d, form, &mut [0u8; SUMMARY * FEW])
 }
 
-fn by_some(d: &[u8], form: Form) -> ComposeReply
+fn by_some(d: &[u8], form: Form) -> Result<Composed, Refusal>
     requires { heads_from most_blocks d.now 0 ≤ 6 }
-    ensures { result ≡ said_composed (compose_reply form d.now) }
+    ensures { result ≡ as_result (compose_reply form d.now) }
 {
     in_book(d, form, &mut [0u8; SUMMARY * SOME])
 }
 
-fn by_all(d: &[u8], form: Form) -> ComposeReply
+fn by_all(d: &[u8], form: Form) -> Result<Composed, Refusal>
     requires { heads_from most_blocks d.now 0 ≤ most_blocks }
-    ensures { result ≡ said_composed (compose_reply form d.now) }
+    ensures { result ≡ as_result (compose_reply form d.now) }
 {
     in_book(d, form, &mut [0u8; SUMMARY * BLOCKS])
 }
 
 // The six fields of a deck in a form: atom count, W, even part, odd part, polarity and largest distance of its molecule, and where a sheet stands
 // behind its assembly; or the deck's refusal.
-pub fn fields(d: &[u8], form: Form) -> ComposeReply
-    ensures { result ≡ said_composed (compose_reply form d.now) }
+pub fn fields(d: &[u8], form: Form) -> Result<Composed, Refusal>
+    ensures { result ≡ as_result (compose_reply form d.now) }
 {
     let many = heads(d);
     if many <= FEW {

@@ -1,6 +1,5 @@
 // What a deck says, over a book that is filled while its blocks are read.
 ghost use Rattle.std.specs.Prelude.{◌≡◌, ◌≤◌};
-ghost use Rattle.reply.specs.Read.{said_reply};
 ghost use Rattle.records.specs.Records.{payload_at, assembly_kind};
 ghost use Rattle.assembly.specs.Placements.{most_placements, shelf_reply};
 ghost use Rattle.shelf.specs.Shelf.{shelf_in};
@@ -9,12 +8,13 @@ ghost use Rattle.deck.specs.Deck.{longest_deck, placement_place, moved, deck_rep
 ghost use Rattle.deck.specs.Filled.{open_book};
 ghost use Rattle.deck.specs.Said.{said_deck};
 ghost use Rattle.deck.specs.Unfilled.{Unfilled};
+ghost use Rattle.reply.specs.Read.{as_result};
 
 use super::blocks::open_deck;
 use assembly::{BLOCKS, PLACEMENT_BYTES};
 use deck::{DeckRead, Form, deck_refused, payload_of, sheet_reply};
 use records::{ASSEMBLY, part, payload_at};
-use reply::{Refusal, Reply};
+use reply::Refusal;
 use summary::SUMMARY;
 
 // The place of an assembly's refusal in a deck: the placement's first byte, or the record's.
@@ -26,14 +26,13 @@ fn placement_place(at: usize, r: Refusal) -> usize
 }
 
 // Refusals 15 to 19, 23 and 24 of the assembly record at a place, over a book.
-fn assembly_reply(d: &[u8], at: usize, book: &[u8]) -> Reply
+fn assembly_reply(d: &[u8], at: usize, book: &[u8]) -> Result<(), Refusal>
     requires { at ≤ longest_deck }
-    ensures { result ≡ said_reply (moved (placement_place at) (shelf_reply (shelf_in book.now) (payload_at d.now at))) }
+    ensures { result ≡ as_result (moved (placement_place at) (shelf_reply (shelf_in book.now) (payload_at d.now at))) }
 {
-    let reply = shelf::check(book, payload_at(d, at));
-    match reply {
-        Reply::Fine => Reply::Fine,
-        Reply::Refused(r) => Reply::Refused(Refusal {
+    match shelf::check(book, payload_at(d, at)) {
+        Ok(()) => Ok(()),
+        Err(r) => Err(Refusal {
             number: r.number,
             place: placement_place(at, r),
         }),
@@ -48,16 +47,16 @@ pub(super) fn read_in(d: &[u8], form: Form, book: &mut [u8]) -> DeckRead
 {
     let k = open_deck(d, ASSEMBLY, book);
     let first = k.reply;
-    let Reply::Fine = first else {
+    let Ok(()) = first else {
         return k;
     };
     let layout = k.layout;
     let a = assembly_reply(d, layout.assembly, book);
-    let Reply::Fine = a else {
+    let Ok(()) = a else {
         return deck_refused(a);
     };
     let s = sheet_reply(form, d, layout.sheet);
-    let Reply::Fine = s else {
+    let Ok(()) = s else {
         return deck_refused(s);
     };
     k
@@ -76,10 +75,10 @@ pub fn block_part(d: &[u8], number: usize) -> &[u8]
 {
     let k = read_deck(d, Form::Composed);
     let composed = k.reply;
-    let Reply::Fine = composed else {
+    let Ok(()) = composed else {
         let j = read_deck(d, Form::Judged);
         let judged = j.reply;
-        let Reply::Fine = judged else {
+        let Ok(()) = judged else {
             return part(d, 0, 0);
         };
         let layout = j.layout;

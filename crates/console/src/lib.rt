@@ -4,9 +4,10 @@
 ghost use Rattle.std.specs.Prelude.{◌≡◌, ◌≤◌, length, IfOk, IfSome};
 ghost use Rattle.io.specs.Counts.{IsPrefixLen};
 
-use block::IndicesReply;
+use block::Indices;
 use deck::Form;
 use line::Line;
+use reply::Refusal;
 use std::env::FillError;
 use std::io::Read;
 use std::rt::{Env, Files};
@@ -31,13 +32,6 @@ const WORD: usize = 10;
 enum Asked {
     Deck(Form),
     Text(Kind),
-}
-
-// What a first word asks for.
-#[derive(Clone, Copy)]
-enum Word {
-    Known(Asked),
-    Other,
 }
 
 // What a text that is measured is.
@@ -96,7 +90,7 @@ fn deck_line<F: Read>(form: Form, from: &mut F) -> Line
 }
 
 // What is measured of a text.
-fn measured(kind: Kind, text: &[u8]) -> IndicesReply {
+fn measured(kind: Kind, text: &[u8]) -> Result<Indices, Refusal> {
     match kind {
         Kind::Molfile => measuring::measure(text),
         Kind::Neighbours => measuring::measure_neighbours(text),
@@ -209,26 +203,24 @@ fn is(word: &[u8], name: &[u8]) -> bool {
     word.len() == name.len() && text::starts_with(word, name)
 }
 
-fn asked_by(word: &[u8]) -> Word {
+fn asked_by(word: &[u8]) -> Option<Asked> {
     if is(word, b"judge") {
-        return Word::Known(Asked::Deck(Form::Judged));
+        return Some(Asked::Deck(Form::Judged));
     }
     if is(word, b"measure") {
-        return Word::Known(Asked::Text(Kind::Molfile));
+        return Some(Asked::Text(Kind::Molfile));
     }
     if is(word, b"neighbours") {
-        return Word::Known(Asked::Text(Kind::Neighbours));
+        return Some(Asked::Text(Kind::Neighbours));
     }
-    Word::Other
+    None
 }
 
 // What the first argument asks for.
-fn first_word<R: Env>(rt: &R) -> Word {
+fn first_word<R: Env>(rt: &R) -> Option<Asked> {
     let mut room = [0u8; WORD];
-    match argument(rt, 1, &mut room) {
-        None => Word::Other,
-        Some(n) => asked_by(&room[..n]),
-    }
+    let n = argument(rt, 1, &mut room)?;
+    asked_by(&room[..n])
 }
 
 // The program `sheet`: the sheet of each deck that has none. What is read and written no promise can say; the only error is that of a write.
@@ -243,7 +235,7 @@ pub fn serve_by_word<R: Env + Files + Input + Print>(rt: &R) -> io::Result<()>
     ensures { IfOk result (λ v. v ≡ tt) }
 {
     match first_word(rt) {
-        Word::Known(asked) => serve(rt, asked, 2),
-        Word::Other => rt.write_all(b"the first word is judge, measure or neighbours\n"),
+        Some(asked) => serve(rt, asked, 2),
+        None => rt.write_all(b"the first word is judge, measure or neighbours\n"),
     }
 }

@@ -10,7 +10,6 @@ use lib.ListN.{length, take}
 use lib.Seq.{take-append_seam}
 use Rattle.reply.specs.Read.{Read, refused, read, ◌then◌, refuse_if, refusal}
 use Rattle.reply.specs.declared.Refusal.{Refusal}
-use Rattle.reply.specs.declared.Reply.TheVariants.{Fine, Refused}
 use denote.Ref.{Bor}
 use Rattle.records.specs.Bytes.{PartOf}
 use Rattle.records.specs.Records.{block_kind, assembly_kind, end_at, record_reply}
@@ -22,6 +21,7 @@ use Rattle.deck.specs.Said.{said_deck}
 use Rattle.deck.specs.declared.DeckRead.{DeckRead}
 use Rattle.deck.specs.declared.Form.{Form}
 use Rattle.deck.specs.declared.Form.TheVariants.{Composed, Judged}
+use Rattle.std.specs.Prelude.{Ok, Err}
 
 -- after the last record
 module _ (d : List ℕ) (at : ℕ) where
@@ -82,14 +82,14 @@ module _ (form : Form) (d : List ℕ) where
       whole_deck g = opened ∙ rw (e, f, g) refl
 
 -- what the code's answer says
-pub deck_stopped : (x : Read Deck) (r : DeckRead) (q : Refusal) → r ≡ said_deck x → r.reply ≡ Refused q → x ≡ refused q
+pub deck_stopped : (x : Read Deck) (r : DeckRead) (q : Refusal) → r ≡ said_deck x → r.reply ≡ Err q → x ≡ refused q
 deck_stopped (refused p) r q h o =
-    let f : Refused q ≡ Refused p = sym o ∙ ap (λ (s : DeckRead). s.reply) h in
+    let f : Err q ≡ Err p = sym o ∙ ap (λ (s : DeckRead). s.reply) h in
     let g : q ≡ p = cc in
     ap refused (sym g)
 deck_stopped (read k) r q h o = let z : ◌≡◌ {A = ℕ} 0 1 = cc (ap (λ (s : DeckRead). s.reply) h) in absurd (omega arith)
 
-pub deck_ended : (x : Read Deck) (r : DeckRead) → r ≡ said_deck x → r.reply ≡ Fine → (k : Deck) × (x ≡ read k) × (r ≡ said_deck (read k))
+pub deck_ended : (x : Read Deck) (r : DeckRead) → r ≡ said_deck x → r.reply ≡ Ok tt → (k : Deck) × (x ≡ read k) × (r ≡ said_deck (read k))
 deck_ended (refused q) r h o = let z : ◌≡◌ {A = ℕ} 0 1 = cc (ap (λ (s : DeckRead). s.reply) h) in absurd (omega arith)
 deck_ended (read k) r h o = (k, refl, h)
 
@@ -121,7 +121,7 @@ module _ (d : List ℕ) (x : ℕ) where
   in_neither r q e f = rw (e, f)
 
   -- the blocks that the code looks in, of a deck that is read
-  pub held : (form : Form) (r : DeckRead) → r ≡ said_deck (deck_reply form d) → r.reply ≡ Fine
+  pub held : (form : Form) (r : DeckRead) → r ≡ said_deck (deck_reply form d) → r.reply ≡ Ok tt
       → (k : Deck) × (deck_reply form d ≡ read k) × (payload (take r.layout.count r.layout.blocks) x ≡ payload k.blocks x)
   held form r e f =
       let (k, g, h) = deck_ended (deck_reply form d) r e f in

@@ -4,7 +4,6 @@ use mathlib.Core.List.{List}
 use mathlib.Core.Path.{◌≡◌, sym, ap}
 use native.Mathlib.Omega.{arith}
 use Rattle.reply.specs.Read.{Read, refused, read}
-use Rattle.reply.specs.declared.Reply.TheVariants.{Fine}
 use Rattle.assembly.specs.Book.{find, book_of}
 use Rattle.assembly.specs.declared.BlockAt.{BlockAt}
 use Rattle.deck.specs.Deck.{Deck}
@@ -13,9 +12,10 @@ use Rattle.deck.specs.Placed.{deck_of}
 use Rattle.deck.specs.Present.{laid_out}
 use Rattle.deck.specs.Said.{said_deck}
 use Rattle.deck.specs.declared.DeckRead.{DeckRead}
+use Rattle.std.specs.Prelude.{Ok}
 
 -- a deck that is fine is read
-pub deck-read : (x : Read Deck) (r : DeckRead) → r ≡ said_deck x → r.reply ≡ Fine → x ≡ read (deck_of r.layout)
+pub deck-read : (x : Read Deck) (r : DeckRead) → r ≡ said_deck x → r.reply ≡ Ok tt → x ≡ read (deck_of r.layout)
 deck-read (refused q) r e f = let z : ◌≡◌ {A = ℕ} 0 1 = cc in absurd (omega arith)
 deck-read (read k) r e f = rw e (ap read (sym (laid_out k)))
 

@@ -9,7 +9,7 @@ use borrow.Author.Tests.{eq-eqb, ne_eqb}
 use lib.Dec.{eqb}
 use lib.ListN.{length, take, drop, set, replicate, take-append-drop, length-take, length-drop}
 use lib.Seq.{length-take-le, take-suc-set, drop-set-lt, drop-drop}
-use Rattle.reply.specs.Read.{Read, refused, read, refusal, said_reply}
+use Rattle.reply.specs.Read.{Read, refused, read, refusal, as_result}
 use Rattle.block.specs.Block.{bonds_of, block_reply}
 use Rattle.block.specs.Told.{place_within}
 use Rattle.reply.specs.declared.Refusal.{Refusal}
@@ -35,7 +35,7 @@ pub second : (done : List BlockAt) (last : Kind) (d : List ℕ) (at : ℕ)
 second [] last d at = once block_kind d at
 second (b ∷ bs) last d at = rw (ne_eqb (length (b ∷ bs)) 0 (omega arith))
 
-pub moved_said : (place : Refusal → ℕ) (x : Read (Unit {0})) → moved_reply place (said_reply x) ≡ said_reply (moved place x)
+pub moved_said : (place : Refusal → ℕ) (x : Read (Unit {0})) → moved_reply place (as_result x) ≡ as_result (moved place x)
 moved_said place (refused r) = refl
 moved_said place (read u) = refl
 

@@ -1,5 +1,5 @@
 -- Laws. Each promise determines the reply: two replies that satisfy it are equal. Assumes nothing.
-use Rattle.std.specs.Prelude.{ℕ, Bool, cond, List, ◌≡◌, eqb}
+use Rattle.std.specs.Prelude.{ℕ, Bool, cond, List, ◌≡◌, eqb, Result}
 use Rattle.std.specs.Borrow.{Bor}
 use Rattle.records.specs.Bytes.{PartOf}
 use Rattle.records.specs.Unique.{unique-part}
@@ -7,9 +7,7 @@ use Rattle.records.specs.declared.Kind.{Kind}
 use Rattle.assembly.specs.Book.{find, most_blocks}
 use Rattle.assembly.specs.declared.BlockAt.{BlockAt}
 use Rattle.records.specs.Records.{block_kind, payload_at}
-use Rattle.reply.specs.Read.{said_reply}
 use Rattle.reply.specs.Chain.{unique}
-use Rattle.reply.specs.declared.Reply.{Reply}
 use Rattle.assembly.specs.Placements.{placement_at}
 use Rattle.assembly.specs.declared.Placement.{Placement}
 use Rattle.deck.specs.Deck.{Deck, sheet_reply, payload, unfit_after}
@@ -19,9 +17,11 @@ use Rattle.deck.specs.Said.{refused_deck}
 use Rattle.deck.specs.Unfilled.{heads_from}
 use Rattle.deck.specs.declared.DeckRead.{DeckRead}
 use Rattle.deck.specs.declared.Form.{Form}
+use Rattle.reply.specs.Read.{as_result}
+use Rattle.reply.specs.declared.Refusal.{Refusal}
 
 module _ (d : List ℕ) where
-  pub unique-sheet_reply : (form : Form) (at : ℕ) (r s : Reply) → r ≡ said_reply (sheet_reply form d at) → s ≡ said_reply (sheet_reply form d at) → r ≡ s
+  pub unique-sheet_reply : (form : Form) (at : ℕ) (r s : Result (Unit {0}) Refusal) → r ≡ as_result (sheet_reply form d at) → s ≡ as_result (sheet_reply form d at) → r ≡ s
   unique-sheet_reply form at r s = unique
 
   pub unique-placement : (at k : ℕ) (r s : Placement) → r ≡ placement_at (payload_at d at) k → s ≡ placement_at (payload_at d at) k → r ≡ s
@@ -45,5 +45,5 @@ unique-is_unfit bs x r s = unique
 pub unique-second_kind : (count : ℕ) (last r s : Kind) → r ≡ cond (eqb count 0) block_kind last → s ≡ cond (eqb count 0) block_kind last → r ≡ s
 unique-second_kind count last r s = unique
 
-pub unique-deck_refused : (reply : Reply) (r s : DeckRead) → r ≡ refused_deck reply → s ≡ refused_deck reply → r ≡ s
+pub unique-deck_refused : (reply : Result (Unit {0}) Refusal) (r s : DeckRead) → r ≡ refused_deck reply → s ≡ refused_deck reply → r ≡ s
 unique-deck_refused reply r s = unique

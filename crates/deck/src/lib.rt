@@ -2,7 +2,6 @@
 #![tactic(auto)]
 
 ghost use Rattle.std.specs.Prelude.{◌≡◌, cond, ◌≤◌, eqb, take};
-ghost use Rattle.reply.specs.Read.{said_reply};
 ghost use Rattle.records.specs.Bytes.{PartOf};
 ghost use Rattle.records.specs.Records.{block_kind, payload_at};
 ghost use Rattle.assembly.specs.Book.{find, most_blocks};
@@ -12,6 +11,7 @@ ghost use Rattle.deck.specs.Molecule.{placed_in};
 ghost use Rattle.deck.specs.Placed.{deck_of, is_missing};
 ghost use Rattle.deck.specs.Said.{refused_deck};
 ghost use Rattle.deck.specs.Unfilled.{heads_from};
+ghost use Rattle.reply.specs.Read.{as_result};
 
 use assembly::{
     BLOCK_HEAD, BLOCKS, BOND_BYTES, BlockAt, BlockTable, NO_BLOCK, Placement, find_block,
@@ -20,20 +20,20 @@ use assembly::{
 use records::{
     BLOCK, HEAD, Kind, SHEET_OF_FIVE, SHEET_OF_SIX, le16_at, part, payload_at, record_at,
 };
-use reply::{Refusal, Reply, is_outside};
+use reply::{Refusal, Rule, is_outside};
 
 // The most bytes of a deck.
 pub const LONGEST: usize = 32768;
 
 // A deck to be composed has no sheet, a deck to be judged has one.
-#[derive(Clone, Copy)]
+#[derive(Clone, Copy, Debug, PartialEq, Eq)]
 pub enum Form {
     Composed,
     Judged,
 }
 
 // What stands where: the blocks, the assembly's first byte, how many placements it has, and the first byte after it.
-#[derive(Clone, Copy)]
+#[derive(Clone, Copy, Debug, PartialEq, Eq)]
 pub struct Layout {
     pub count: usize,
     pub blocks: BlockTable,
@@ -43,14 +43,14 @@ pub struct Layout {
 }
 
 // A deck is fine or refused; where it is refused, the layout is empty.
-#[derive(Drop)]
+#[derive(Clone, Copy, Debug, PartialEq, Eq)]
 pub struct DeckRead {
-    pub reply: Reply,
+    pub reply: Result<(), Refusal>,
     pub layout: Layout,
 }
 
 // A refusal, with an empty layout.
-pub fn deck_refused(reply: Reply) -> DeckRead
+pub fn deck_refused(reply: Result<(), Refusal>) -> DeckRead
     ensures { result ≡ refused_deck reply }
 {
     let blocks = [NO_BLOCK; BLOCKS];
@@ -68,16 +68,14 @@ pub fn deck_refused(reply: Reply) -> DeckRead
 pub fn heads(d: &[u8]) -> usize
     ensures { (result ≡ heads_from most_blocks d.now 0) × (result ≤ most_blocks) }
 {
-    let mut i: usize = 0;
-    let mut at: usize = 0;
-    while i < BLOCKS {
+    let mut at = 0;
+    for i in 0..BLOCKS {
         if le16_at(d, at + 2) != BLOCK.number {
             return i;
         }
         at = at + HEAD + (le16_at(d, at) as usize);
-        i += 1;
     }
-    i
+    BLOCKS
 }
 
 // Whether a block's number is 0 or was used before, or there is no room for a block.
@@ -104,29 +102,23 @@ pub fn second_kind(count: usize, last: Kind) -> Kind
 }
 
 // After the last record nothing follows.
-fn end_reply(d: &[u8], at: usize) -> Reply
-    ensures { result ≡ said_reply (end_reply d.now at) }
+fn end_reply(d: &[u8], at: usize) -> Result<(), Refusal>
+    ensures { result ≡ as_result (end_reply d.now at) }
 {
     if at < d.len() {
-        return Reply::Refused(Refusal {
-            number: 11,
-            place: at,
-        });
+        return Err(Rule::RecordCut.at(at));
     }
-    Reply::Fine
+    Ok(())
 }
 
 // What follows the assembly: in a deck to be judged a sheet of either kind, and then nothing.
-pub fn sheet_reply(form: Form, d: &[u8], at: usize) -> Reply
-    ensures { result ≡ said_reply (sheet_reply form d.now at) }
+pub fn sheet_reply(form: Form, d: &[u8], at: usize) -> Result<(), Refusal>
+    ensures { result ≡ as_result (sheet_reply form d.now at) }
 {
     let Form::Judged = form else {
         return end_reply(d, at);
     };
-    let r = record_at(d, at, SHEET_OF_FIVE, SHEET_OF_SIX);
-    let Reply::Fine = r else {
-        return r;
-    };
+    record_at(d, at, SHEET_OF_FIVE, SHEET_OF_SIX)?;
     end_reply(d, at + HEAD + (le16_at(d, at) as usize))
 }
 

@@ -7,8 +7,9 @@ ghost use Rattle.calls.specs.Convention.{most_place, coded, Lent};
 ghost use Rattle.deck_calls.specs.Replies.{written_code, verdict_code, composed_list, placed_list};
 
 use calls::{code_of, give_indices, give_number};
-use judging::{SheetWritten, Verdict};
+use judging::Verdict;
 use records::Sheet;
+use reply::Refusal;
 
 const PLACES: usize = 72_057_594_037_927_936;
 
@@ -38,12 +39,12 @@ pub fn judge(deck: &[u8]) -> u64
 }
 
 // The reply about a sheet that is to be written, as one number.
-pub fn written_code(written: SheetWritten) -> u64
+pub fn written_code(written: Result<(), Refusal>) -> u64
     ensures { result ≡ written_code written }
 {
     match written {
-        SheetWritten::Refused(r) => code_of(r),
-        SheetWritten::Sheet => 0,
+        Err(r) => code_of(r),
+        Ok(()) => 0,
     }
 }
 

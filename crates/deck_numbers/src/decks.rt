@@ -2,11 +2,11 @@
 ghost use Rattle.std.specs.Prelude.{◌≤◌, length};
 
 use crate::{libraries, typed};
-use judging::SheetWritten;
 use lines::row::{FAR, Row};
 use lines::{row, told};
-use matched::MatchReply;
+use matched::Match;
 use records::Sheet;
+use reply::Refusal;
 
 // What stands in a lent buffer before it is written to.
 const STAYS: u8 = row::STAYS as u8;
@@ -21,7 +21,7 @@ fn apart(deck: &[u8], row: Row) -> Row {
 }
 
 // The first bytes of a buffer are lent.
-fn sheet_in(deck: &[u8], sheet: Sheet, out: &mut [u8], lent: usize) -> SheetWritten
+fn sheet_in(deck: &[u8], sheet: Sheet, out: &mut [u8], lent: usize) -> Result<(), Refusal>
     requires { lent ≤ length out.old }
 {
     judging::write_sheet(deck, sheet, &mut out[..lent])
@@ -37,8 +37,8 @@ fn written(deck: &[u8], sheet: Sheet, bytes: bool, lent: usize) -> Row
         return told::bytes(&out);
     }
     match reply {
-        SheetWritten::Refused(r) => told::refusal(r),
-        SheetWritten::Sheet => told::nothing(),
+        Err(r) => told::refusal(r),
+        Ok(()) => told::nothing(),
     }
 }
 
@@ -48,8 +48,7 @@ const SMALL: usize = 64;
 // The numbers of atoms and bonds of a deck's molecule written out.
 fn written_out(deck: &[u8]) -> Row {
     let mut out = [0u16; SMALL];
-    let reply = whole::bonds(deck, &mut out);
-    told::counts(reply)
+    told::counts(whole::bonds(deck, &mut out))
 }
 
 // Whether a deck is the molecule of so many atoms whose atoms 1 and 2 are bonded, by the matching of these to the first atoms of the first two placements: nothing
@@ -57,11 +56,10 @@ fn written_out(deck: &[u8]) -> Row {
 fn pair(deck: &[u8], atoms: usize) -> Row {
     let bonds = [1u16, 2];
     let matching = [1u16, 1, 2, 1];
-    let reply = matched::check(deck, atoms, &bonds, &matching);
-    match reply {
-        MatchReply::Refused(r) => told::refusal(r),
-        MatchReply::Yes => told::nothing(),
-        MatchReply::No(place) => told::one(place as u64),
+    match matched::check(deck, atoms, &bonds, &matching) {
+        Err(r) => told::refusal(r),
+        Ok(Match::Same) => told::nothing(),
+        Ok(Match::Differs(place)) => told::one(place as u64),
     }
 }
 

@@ -1,28 +1,27 @@
 // What is asked of a library deck.
-use block::IndicesReply;
-use library::{ProductReply, StepReply};
+use block::Indices;
 use lines::row::{FAR, Row, STAYS};
 use lines::told;
 use records::Sheet;
-use reply::NumberReply;
+use reply::Refusal;
 
 // The bytes of a sheet of kind 4.
 const SHEET: usize = 44;
 
 // The six fields of a product, or nothing where all are done.
-fn product(letter: u8, reply: ProductReply) -> Row {
+fn product(letter: u8, reply: Result<Option<Indices>, Refusal>) -> Row {
     match reply {
-        ProductReply::Refused(r) => told::refusal(r),
-        ProductReply::Done => told::nothing(),
-        ProductReply::Of(x) => told::indices(letter, IndicesReply::Of(x)),
+        Err(r) => told::refusal(r),
+        Ok(None) => told::nothing(),
+        Ok(Some(x)) => told::indices(letter, Ok(x)),
     }
 }
 
-fn stepped(reply: StepReply) -> Row {
+fn stepped(reply: Result<Option<usize>, Refusal>) -> Row {
     match reply {
-        StepReply::Refused(r) => told::refusal(r),
-        StepReply::Done => told::nothing(),
-        StepReply::Next(n) => told::one(n as u64),
+        Err(r) => told::refusal(r),
+        Ok(None) => told::nothing(),
+        Ok(Some(n)) => told::one(n as u64),
     }
 }
 
@@ -31,7 +30,7 @@ fn run(deck: &[u8], position: usize) -> Row {
     let mut ran = [0u8; 2 * SHEET];
     let mut step = [0u8; SHEET];
     let next = library::run(deck, Sheet::Six, position, &mut ran);
-    library::step(deck, Sheet::Six, position, &mut step);
+    let _ = library::step(deck, Sheet::Six, position, &mut step);
     if told::bytes(&step).says(told::bytes(records::part(&ran, 0, SHEET))) {
         return stepped(next);
     }
@@ -41,10 +40,9 @@ fn run(deck: &[u8], position: usize) -> Row {
 // The two best by a field: value, tag (always 9) and position each.
 fn extremes(deck: &[u8], field: usize, greatest: bool) -> Row {
     let mut out = [STAYS; 6];
-    let reply = ranking::best(deck, field, greatest, 9, &mut out, 0);
-    match reply {
-        NumberReply::Refused(r) => told::refusal(r),
-        NumberReply::Of(_) => told::entries(&out),
+    match ranking::best(deck, field, greatest, 9, &mut out, 0) {
+        Err(r) => told::refusal(r),
+        Ok(_) => told::entries(&out),
     }
 }
 

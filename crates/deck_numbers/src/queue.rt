@@ -1,15 +1,15 @@
 // A block in a queue.
-use block::IndicesReply;
+use block::Indices;
 use lines::row::{FAR, Row, STAYS};
 use lines::told;
 use queues::{Queue, TABLE};
-use reply::Reply;
+use reply::Refusal;
 
 // Whether a reply is refusal 30: nothing is held under that number.
-fn is_missing(reply: IndicesReply) -> bool {
+fn is_missing(reply: Result<Indices, Refusal>) -> bool {
     match reply {
-        IndicesReply::Refused(r) => r.number == 30,
-        IndicesReply::Of(_) => false,
+        Err(r) => r.number == 30,
+        Ok(_) => false,
     }
 }
 
@@ -29,7 +29,7 @@ fn held(table: &[u8], number: u16, row: Row) -> bool {
 // The other queue holds nothing under that number, and this one nothing once the block is dropped.
 fn gone(table: &mut [u8], number: u16) -> bool {
     let other = queues::look(table, Queue::Night, number);
-    queues::drop(table, Queue::Day, number);
+    let _ = queues::drop(table, Queue::Day, number);
     is_missing(other) && is_missing(queues::look(table, Queue::Day, number))
 }
 
@@ -37,10 +37,9 @@ fn gone(table: &mut [u8], number: u16) -> bool {
 pub(crate) fn right(n: usize, bonds: &[u8], row: Row) -> bool {
     let mut table = [STAYS as u8; TABLE];
     let number = row.first(0, FAR) as u16;
-    queues::empty(&mut table);
-    let added = queues::add(&mut table, Queue::Day, number, n, bonds);
-    match added {
-        Reply::Refused(r) => row.says(told::refusal(r)),
-        Reply::Fine => held(&table, number, row) && gone(&mut table, number),
+    let _ = queues::empty(&mut table);
+    match queues::add(&mut table, Queue::Day, number, n, bonds) {
+        Err(r) => row.says(told::refusal(r)),
+        Ok(()) => held(&table, number, row) && gone(&mut table, number),
     }
 }

@@ -14,9 +14,7 @@ pub(crate) fn put_atoms(out: &mut [u8], near: &Neighbours, n: usize)
     requires { n ≤ most_atoms }
     ensures { out.new ≡ sets out.old summary_head (near_bytes near.now 0 n) }
 {
-    let mut i = 0;
-    while i < n {
+    for i in 0..n {
         put_little(out, HEAD + ATOM * i, ATOM, near[i]);
-        i += 1;
     }
 }

@@ -7,13 +7,9 @@ use native.Mathlib.Omega.{arith}
 use borrow.Author.Tests.{lt-ltb, le-ltb}
 use lib.Dec.{ltb}
 use lib.ListN.{length}
-use Rattle.reply.specs.Read.{Read, refused, read, refusal, ◌then◌, refuse_if, refuse_for}
+use Rattle.reply.specs.Read.{Read, refused, read, refusal, ◌then◌, refuse_if, refuse_for, as_result, as_read}
 use Rattle.reply.specs.declared.Refusal.{Refusal}
-use Rattle.block.specs.Index.{said_indices, told_indices}
-use Rattle.block.specs.Said.{indices_told}
 use Rattle.block.specs.declared.Indices.{Indices}
-use Rattle.block.specs.declared.IndicesReply.{IndicesReply}
-use Rattle.block.specs.declared.IndicesReply.TheVariants as measured
 use Rattle.records.specs.Records.{assembly_kind, payload_at, end_at, record_reply}
 use Rattle.records.specs.declared.Sheet.{Sheet}
 use Rattle.summary.specs.Layout.{summary_bytes}
@@ -25,12 +21,14 @@ use Rattle.queues.proofs.Answers.{short_reply, long_reply}
 use Rattle.deck.specs.Deck.{longest_deck, moved, placement_place, end_reply}
 use Rattle.sheets.specs.Sheets.{sheet_bytes}
 use Rattle.gathered.specs.Gathered.{behind_head, over_record, over_output, sheet_told}
+use Rattle.reply.specs.Chain.{read_back}
+use Rattle.std.specs.Prelude.{Result, Ok, Err}
 
 -- the placement's first byte
-pub placed_refused : (m : Read Indices) (r : Refusal) → m ≡ refused r → measured.Refused (refusal r.number (6 * r.place)) ≡ said_indices (moved (placement_place 0) m)
-placed_refused m r e = rw e (let z : 6 * r.place ≡ placement_place 0 r = omega arith in ap (λ (p : ℕ). measured.Refused (refusal r.number p)) z)
+pub placed_refused : (m : Read Indices) (r : Refusal) → m ≡ refused r → Err (refusal r.number (6 * r.place)) ≡ as_result (moved (placement_place 0) m)
+placed_refused m r e = rw e (let z : 6 * r.place ≡ placement_place 0 r = omega arith in ap (λ (p : ℕ). Err (refusal r.number p)) z)
 
-pub placed_read : (m : Read Indices) (x : Indices) → m ≡ read x → measured.Of x ≡ said_indices (moved (placement_place 0) m)
+pub placed_read : (m : Read Indices) (x : Indices) → m ≡ read x → Ok x ≡ as_result (moved (placement_place 0) m)
 placed_read m x e = rw e
 
 -- behind the record
@@ -102,5 +100,5 @@ module _ (t : List ℕ) (q : Queue) (s : Sheet) (d : List ℕ) (n : ℕ) where
           go zero z = absurd (z refl)
           go (suc k) z = refl
 
-      pub record_told : (a : IndicesReply) → f ≡ 0 → a ≡ said_indices (over_record (compose_told t q (payload_at d 0)) d) → sheet_told t q s d n ≡ told_indices a
-      record_told a z h = faults ∙ rw (sym e ∙ z) (sym (indices_told a _ h))
+      pub record_told : (a : Result Indices Refusal) → f ≡ 0 → a ≡ as_result (over_record (compose_told t q (payload_at d 0)) d) → sheet_told t q s d n ≡ as_read a
+      record_told a z h = faults ∙ rw (sym e ∙ z) (sym (read_back a _ h))

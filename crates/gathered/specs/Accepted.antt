@@ -1,5 +1,5 @@
 -- Laws. The sheet that a queue is handed is the one that writing gives for the deck of its blocks and the record, and is accepted behind that deck. Assumes nothing.
-use Rattle.std.specs.Prelude.{ℕ, ◌+◌, ◌*◌, ◌≤◌, true, List, [], ◌∷◌, ◌++◌, ◌≡◌, refl, ltb, length, take}
+use Rattle.std.specs.Prelude.{ℕ, ◌+◌, ◌*◌, ◌≤◌, true, List, [], ◌∷◌, ◌++◌, ◌≡◌, refl, ltb, length, take, Ok}
 use Rattle.std.proofs.Common.{sym, ◌∙◌, ap, arith, length-append}
 use borrow.Author.Tests.{le-ltb, ltb-false}
 use Rattle.reply.specs.Read.{Read, refused, read, ◌then◌, refuse_if}
@@ -31,7 +31,6 @@ use Rattle.compose.specs.Fields.{fields_reply}
 use Rattle.judging.specs.Judging.{judge_reply, said_verdict, sheet_write_reply, said_sheet_written, sheet_out}
 use Rattle.judging.specs.Theorems.{sheet_made, written_accepted}
 use Rattle.judging.specs.declared.Verdict.TheVariants as verdict
-use Rattle.judging.specs.declared.SheetWritten.TheVariants as written
 use Rattle.gathered.specs.Gathered.{behind_head, over_record, over_output, sheet_told}
 use Rattle.gathered.specs.Orders.{Order, record_table, record_blocks, table_left, blocks_left}
 use Rattle.gathered.specs.Stacked.{HeldBlocks, block_record, block_records, further}
@@ -110,7 +109,7 @@ module _ (q : Queue) (t : List ℕ) (long : table_bytes summary_bytes ≤ length
       as_deck (blocks_left q cs) (held q t long cs) some d other short
       ∙ ap (λ (m : Read Indices). further (length records) (over_record m d)) (sym (own_composed q t long cs (payload_at d 0)))
 
-  module _ (s : Sheet) (out : List ℕ) (made : said_sheet_written (sheet_told (table_left t cs) q s d (length out)) ≡ written.Sheet) where
+  module _ (s : Sheet) (out : List ℕ) (made : said_sheet_written (sheet_told (table_left t cs) q s d (length out)) ≡ Ok tt) where
     -- A SHEET THAT IS HANDED OUT is byte for byte what writing gives for that deck
     pub queue_sheet : sheet_told (table_left t cs) q s d (length out) ≡ sheet_write_reply s (records ++ d) (length out)
     queue_sheet =

@@ -1,5 +1,5 @@
 -- Definitions. The table of the calls where composing goes by a whole record and hands a sheet out; and what its calls mean with no bytes.
-use Rattle.std.specs.Prelude.{ℕ, List, [], length}
+use Rattle.std.specs.Prelude.{ℕ, List, [], length, Result}
 use Rattle.reply.specs.Read.{Read}
 use Rattle.block.specs.declared.Indices.{Indices}
 use Rattle.records.specs.Records.{payload_at}
@@ -13,8 +13,8 @@ use Rattle.queues.specs.Model.{Entry, Meaning, left_all}
 use Rattle.queues.specs.declared.Queue.{Queue}
 use Rattle.queues.specs.Blocks.{Block, book_in, summary_table, blocks}
 use Rattle.judging.specs.Judging.{said_sheet_written, sheet_out}
-use Rattle.judging.specs.declared.SheetWritten.{SheetWritten}
 use Rattle.gathered.specs.Gathered.{over_output}
+use Rattle.reply.specs.declared.Refusal.{Refusal}
 
 -- what is asked: a sheet of a kind, from a record, into an output; and what is handed back, the reply and the output's bytes
 pub record Order : Type 0 where
@@ -23,7 +23,7 @@ pub record Order : Type 0 where
   pub output : List ℕ
 
 pub record Handed : Type 0 where
-  pub reply : SheetWritten
+  pub reply : Result (Unit {0}) Refusal
   pub bytes : List ℕ
 
 abbrev pub handed : Order → Read Indices → Handed

@@ -2,8 +2,7 @@
 #![tactic(auto)]
 
 ghost use Rattle.std.specs.Prelude.{◌≡◌, cond, ltb, length};
-ghost use Rattle.reply.specs.Read.{refused, refusal, read, ◌then◌};
-ghost use Rattle.block.specs.Index.{said_indices};
+ghost use Rattle.reply.specs.Read.{refused, refusal, read, ◌then◌, as_result};
 ghost use Rattle.records.specs.Records.{payload_at, end_at};
 ghost use Rattle.queues.specs.Queues.{compose_told};
 ghost use Rattle.deck.specs.Deck.{longest_deck, moved, placement_place, end_reply};
@@ -12,19 +11,18 @@ ghost use Rattle.judging.specs.Judging.{said_sheet_written, sheet_out};
 ghost use Rattle.gathered.specs.Gathered.{over_record, behind_head, sheet_told};
 
 use assembly::PLACEMENT_BYTES;
-use block::{Indices, IndicesReply};
+use block::Indices;
 use deck::LONGEST;
-use judging::SheetWritten;
 use queues::{Queue, TABLE};
 use records::{ASSEMBLY, HEAD, Sheet, le16_at, payload_at, record_at};
-use reply::{Refusal, Reply};
+use reply::{Refusal, Rule};
 use sheets::{bytes_of, put_sheet};
 
 // A refusal at place 0.
-fn refused(number: usize) -> SheetWritten
+fn refused(number: usize) -> Result<(), Refusal>
     ensures { result ≡ said_sheet_written (refused (refusal number 0)) }
 {
-    SheetWritten::Refused(Refusal { number, place: 0 })
+    Err(Refusal { number, place: 0 })
 }
 
 // What is wrong before the record is read: 20 where it is too long, 9 where the output is too short for the sheet, or 0.
@@ -42,79 +40,69 @@ fn fault(sheet: Sheet, long: usize, output: usize) -> usize
 }
 
 // The fields that the payload of the record at the front makes of a queue's blocks; a refusal stands at the placement's first byte.
-fn placed(table: &[u8], queue: Queue, d: &[u8]) -> IndicesReply
-    ensures { result ≡ said_indices (moved (placement_place 0)
+fn placed(table: &[u8], queue: Queue, d: &[u8]) -> Result<Indices, Refusal>
+    ensures { result ≡ as_result (moved (placement_place 0)
         (compose_told table.now queue (payload_at d.now 0))) }
 {
-    let xs = payload_at(d, 0);
-    let told = queues::compose(table, queue, xs);
-    match told {
-        IndicesReply::Refused(r) => IndicesReply::Refused(Refusal {
+    match queues::compose(table, queue, payload_at(d, 0)) {
+        Err(r) => Err(Refusal {
             number: r.number,
             place: PLACEMENT_BYTES * r.place,
         }),
-        IndicesReply::Of(all) => IndicesReply::Of(all),
+        Ok(all) => Ok(all),
     }
 }
 
 // The fields, where nothing follows the record at the front.
-fn ended(d: &[u8], all: Indices) -> IndicesReply
-    ensures { result ≡ said_indices (end_reply d.now (end_at d.now 0) then λ _. read all) }
+fn ended(d: &[u8], all: Indices) -> Result<Indices, Refusal>
+    ensures { result ≡ as_result (end_reply d.now (end_at d.now 0) then λ _. read all) }
 {
     let end = HEAD + (le16_at(d, 0) as usize);
     if end < d.len() {
-        return IndicesReply::Refused(Refusal {
-            number: 11,
-            place: end,
-        });
+        return Err(Rule::RecordCut.at(end));
     }
-    IndicesReply::Of(all)
+    Ok(all)
 }
 
 // What the payload is told, and then what follows the record.
-fn behind_head(table: &[u8], queue: Queue, d: &[u8]) -> IndicesReply
-    ensures { result ≡ said_indices (behind_head
+fn behind_head(table: &[u8], queue: Queue, d: &[u8]) -> Result<Indices, Refusal>
+    ensures { result ≡ as_result (behind_head
         (compose_told table.now queue (payload_at d.now 0)) d.now) }
 {
-    let told = placed(table, queue, d);
-    match told {
-        IndicesReply::Refused(r) => IndicesReply::Refused(r),
-        IndicesReply::Of(all) => ended(d, all),
-    }
+    let all = placed(table, queue, d)?;
+    ended(d, all)
 }
 
 // The fields that a record makes of a queue's blocks, or its refusal.
-fn composed(table: &[u8], queue: Queue, d: &[u8]) -> IndicesReply
-    ensures { result ≡ said_indices (over_record
+fn composed(table: &[u8], queue: Queue, d: &[u8]) -> Result<Indices, Refusal>
+    ensures { result ≡ as_result (over_record
         (compose_told table.now queue (payload_at d.now 0)) d.now) }
 {
-    let reply = record_at(d, 0, ASSEMBLY, ASSEMBLY);
-    match reply {
-        Reply::Refused(r) => IndicesReply::Refused(r),
-        Reply::Fine => behind_head(table, queue, d),
-    }
+    record_at(d, 0, ASSEMBLY, ASSEMBLY)?;
+    behind_head(table, queue, d)
 }
 
 // Composes a record over a queue's blocks and puts the sheet, a whole record of 40 or 44 bytes, into the first bytes of an output. A
 // refusal writes nothing.
-pub fn compose(table: &[u8], queue: Queue, sheet: Sheet, d: &[u8], out: &mut [u8]) -> SheetWritten
+pub fn compose(
+    table: &[u8],
+    queue: Queue,
+    sheet: Sheet,
+    d: &[u8],
+    out: &mut [u8],
+) -> Result<(), Refusal>
     ensures reply { result ≡ said_sheet_written (sheet_told table.now queue sheet d.now (length out.old)) }
     ensures bytes { out.new ≡ sheet_out sheet out.old
         (sheet_told table.now queue sheet d.now (length out.old)) }
 {
     if table.len() < TABLE {
-        return refused(9);
+        return Err(Rule::ShortOutput.at(0));
     }
     let f = fault(sheet, d.len(), out.len());
     if f != 0 {
         return refused(f);
     }
-    let told = composed(table, queue, d);
-    match told {
-        IndicesReply::Refused(r) => SheetWritten::Refused(r),
-        IndicesReply::Of(all) => {
-            put_sheet(out, sheet, all);
-            SheetWritten::Sheet
-        }
-    }
+    let all = composed(table, queue, d)?;
+    put_sheet(out, sheet, all);
+    Ok(())
 }

@@ -85,11 +85,9 @@ fn column(half: &Half, i: usize) -> Line
 {
     let mut line = [0u8; ATOMS];
     let mut p = i;
-    let mut j = 1;
-    while j < i {
+    for j in 1..i {
         line[j - 1] = half[p - 2];
         p = p + (ATOMS - 1 - j);
-        j += 1;
     }
     line
 }
@@ -101,10 +99,8 @@ fn along(half: &Half, i: usize, first: Line) -> Line
 {
     let mut line = first;
     let from = start(i);
-    let mut j = i;
-    while j < ATOMS {
+    for j in i..ATOMS {
         line[j] = half[from + (j - i)];
-        j += 1;
     }
     line
 }
@@ -139,10 +135,8 @@ pub fn put_row(half: &mut [u8], i: usize, line: &Line, n: usize)
     }
     let m = within(n);
     let mut p = start(i);
-    let mut j = i;
-    while j < m {
+    for j in i..m {
         half[p] = line[j];
         p += 1;
-        j += 1;
     }
 }

@@ -5,12 +5,10 @@ use mathlib.Core.Path.{◌≡◌, refl, sym, ◌∙◌}
 use native.Mathlib.Omega.{arith}
 use borrow.Author.Tests.{lt-ltb, le-ltb}
 use lib.ListN.{length}
-use Rattle.reply.specs.Read.{Read, refused, read, ◌then◌, refusal}
-use Rattle.block.specs.Index.{indices_of, said_indices}
-use Rattle.block.specs.Said.{indices_told}
+use Rattle.reply.specs.Read.{Read, refused, read, ◌then◌, refusal, as_result}
+use Rattle.block.specs.Index.{indices_of}
 use Rattle.block.specs.declared.Indices.{Indices}
 use Rattle.reply.specs.declared.Refusal.{Refusal}
-use Rattle.block.specs.declared.IndicesReply.TheVariants as measured
 use Rattle.records.specs.Records.{sheet_at}
 use Rattle.records.specs.declared.Sheet.{Sheet}
 use Rattle.deck.specs.Deck.{longest_deck, Deck, deck_reply}
@@ -18,38 +16,39 @@ use Rattle.deck.specs.Molecule.{molecule_of}
 use Rattle.deck.specs.declared.Form.{Form}
 use Rattle.deck.specs.declared.Form.TheVariants.{Composed, Judged}
 use Rattle.sheets.specs.Sheets.{fields_of, sheet_of, claimed_at, sheet_bytes, first_wrong}
-use Rattle.compose.specs.Fields.{compose_reply, said_composed, fields_reply}
+use Rattle.compose.specs.Fields.{compose_reply, fields_reply}
 use Rattle.compose.specs.declared.Composed.{Composed as DeckFields}
-use Rattle.compose.specs.declared.ComposeReply.TheVariants as composed
 use Rattle.judging.specs.Judging.{judge_reply, said_verdict, sheet_write_reply}
 use Rattle.judging.specs.declared.Verdict.{Verdict}
 use Rattle.judging.specs.declared.Verdict.TheVariants as verdict
+use Rattle.reply.specs.Chain.{read_back}
+use Rattle.std.specs.Prelude.{Result, Ok, Err}
 
 -- what is composed, taken apart
-pub composed-refused : (form : Form) (d : List ℕ) (r : Refusal) → composed.Refused r ≡ said_composed (compose_reply form d) → deck_reply form d ≡ refused r
+pub composed-refused : (form : Form) (d : List ℕ) (r : Refusal) → ◌≡◌ {A = Result DeckFields Refusal} (Err r) (as_result (compose_reply form d)) → deck_reply form d ≡ refused r
 unfolding compose_reply
 composed-refused form d r = go (deck_reply form d)
   where
-    go : (x : Read Deck) → composed.Refused r ≡ said_composed (x then λ k. read (record { fields = indices_of (molecule_of d k); sheet = k.sheet })) → x ≡ refused r
+    go : (x : Read Deck) → ◌≡◌ {A = Result DeckFields Refusal} (Err r) (as_result (x then λ k. read (record { fields = indices_of (molecule_of d k); sheet = k.sheet }))) → x ≡ refused r
     go (refused q) e = cc
     go (read k) e = absurd (let z : ◌≡◌ {A = ℕ} 0 1 = cc in omega arith)
 
-pub composed-read : (form : Form) (d : List ℕ) (x : DeckFields) → composed.Composed x ≡ said_composed (compose_reply form d)
+pub composed-read : (form : Form) (d : List ℕ) (x : DeckFields) → Ok x ≡ as_result (compose_reply form d)
     → (k : Deck) × (deck_reply form d ≡ read k) × (x.fields ≡ indices_of (molecule_of d k)) × (x.sheet ≡ k.sheet)
 unfolding compose_reply
 composed-read form d x = go (deck_reply form d)
   where
-    go : (y : Read Deck) → composed.Composed x ≡ said_composed (y then λ k. read (record { fields = indices_of (molecule_of d k); sheet = k.sheet }))
+    go : (y : Read Deck) → Ok x ≡ as_result (y then λ k. read (record { fields = indices_of (molecule_of d k); sheet = k.sheet }))
         → (k : Deck) × (y ≡ read k) × (x.fields ≡ indices_of (molecule_of d k)) × (x.sheet ≡ k.sheet)
     go (refused q) e = absurd (let z : ◌≡◌ {A = ℕ} 0 1 = cc in omega arith)
     go (read k) e = (k, refl, cc, cc)
 
 -- the fields alone
-pub fields_refused : (form : Form) (d : List ℕ) (r : Refusal) → deck_reply form d ≡ refused r → measured.Refused r ≡ said_indices (fields_reply form d)
+pub fields_refused : (form : Form) (d : List ℕ) (r : Refusal) → deck_reply form d ≡ refused r → Err r ≡ as_result (fields_reply form d)
 unfolding fields_reply
 fields_refused form d r e = rw e
 
-pub fields_read : (form : Form) (d : List ℕ) (k : Deck) (x : Indices) → deck_reply form d ≡ read k → x ≡ indices_of (molecule_of d k) → measured.Of x ≡ said_indices (fields_reply form d)
+pub fields_read : (form : Form) (d : List ℕ) (k : Deck) (x : Indices) → deck_reply form d ≡ read k → x ≡ indices_of (molecule_of d k) → Ok x ≡ as_result (fields_reply form d)
 unfolding fields_reply
 fields_read form d k x e q = rw (e, q)
 
@@ -84,5 +83,5 @@ module _ (s : Sheet) (d : List ℕ) (n : ℕ) where
   unfolding sheet_write_reply
   write_fields h l = rw (le-ltb longest_deck (length d) h, le-ltb n (sheet_bytes s) l)
 
-  pub write_told : (x : Read Indices) → length d ≤ longest_deck → sheet_bytes s ≤ n → said_indices x ≡ said_indices (fields_reply Composed d) → sheet_write_reply s d n ≡ x
-  write_told x h l e = write_fields h l ∙ sym (indices_told _ _ e) ∙ indices_told _ x refl
+  pub write_told : (x : Read Indices) → length d ≤ longest_deck → sheet_bytes s ≤ n → as_result x ≡ as_result (fields_reply Composed d) → sheet_write_reply s d n ≡ x
+  write_told x h l e = write_fields h l ∙ sym (read_back _ _ e) ∙ read_back _ x refl

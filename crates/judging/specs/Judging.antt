@@ -1,5 +1,5 @@
 -- Definitions. What a judged deck is told, and what is written into a buffer. Over the one graph with every atom and bond written out: no rule of composition.
-use Rattle.std.specs.Prelude.{ℕ, zero, suc, List, ltb, length}
+use Rattle.std.specs.Prelude.{ℕ, zero, suc, List, ltb, length, Result, Ok, Err}
 use Rattle.reply.specs.Read.{Read, refused, read, ◌then◌, refuse_if}
 use Rattle.block.specs.declared.Indices.{Indices}
 use Rattle.records.specs.Records.{sheet_at}
@@ -11,8 +11,7 @@ use Rattle.sheets.specs.Sheets.{fields_of, sheet_of, claimed_at, sheet_bytes, sh
 use Rattle.compose.specs.Fields.{fields_reply}
 use Rattle.judging.specs.declared.Verdict.{Verdict}
 use Rattle.judging.specs.declared.Verdict.TheVariants as verdict
-use Rattle.judging.specs.declared.SheetWritten.{SheetWritten}
-use Rattle.judging.specs.declared.SheetWritten.TheVariants as written
+use Rattle.reply.specs.declared.Refusal.{Refusal}
 
 -- the first field of the claimed sheet that is not the molecule's, from 1 to as many as its kind has, or 0 for none
 unfoldable pub judge_reply : List ℕ → Read ℕ
@@ -30,9 +29,9 @@ sheet_write_reply s d n =
     refuse_if (ltb n (sheet_bytes s)) 9 0 then λ _.
     fields_reply Composed d
 
-abbrev pub said_sheet_written : Read Indices → SheetWritten
-said_sheet_written (refused r) = written.Refused r
-said_sheet_written (read x) = written.Sheet
+abbrev pub said_sheet_written : Read Indices → Result (Unit {0}) Refusal
+said_sheet_written (refused r) = Err r
+said_sheet_written (read x) = Ok tt
 
 -- the buffer afterwards
 abbrev pub sheet_out : Sheet → List ℕ → Read Indices → List ℕ

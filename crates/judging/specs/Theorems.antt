@@ -1,15 +1,14 @@
 -- Laws. A written sheet is accepted, and each promise determines its reply and its bytes. Assumes nothing.
-use Rattle.std.specs.Prelude.{ℕ, ◌+◌, ◌≤◌, ◌≡◌, refl, ltb, length, take, drop}
+use Rattle.std.specs.Prelude.{ℕ, ◌+◌, ◌≤◌, ◌≡◌, refl, ltb, length, take, drop, Result, Ok}
 use mathlib.Core.List.{List, ◌++◌}
 use Rattle.std.proofs.Common.{sym, ◌∙◌, arith, le-ltb, ltb-false, take_at}
 use Rattle.std.proofs.Math.Path.{ap}
 use Rattle.std.proofs.Math.ListN.{get_or}
 use Rattle.graph.specs.Bounds.{tame_itself, tame_even, tame_odd, tame_at}
-use Rattle.reply.specs.Read.{Read, refused, read, refuse_if}
+use Rattle.reply.specs.Read.{Read, refused, read, refuse_if, as_result}
 use Rattle.reply.specs.Chain.{then-read, if_read}
-use Rattle.block.specs.Index.{indices_of, said_indices}
+use Rattle.block.specs.Index.{indices_of}
 use Rattle.block.specs.declared.Indices.{Indices}
-use Rattle.block.specs.declared.IndicesReply.{IndicesReply}
 use Rattle.deck.specs.Deck.{longest_deck, Deck, deck_reply}
 use Rattle.deck.specs.Molecule.{molecule_of}
 use Rattle.deck.specs.Sized.{longest_composed, composed_short, atoms_few, totals_small, largest_small}
@@ -25,8 +24,7 @@ use Rattle.compose.specs.Fields.{fields_reply}
 use Rattle.judging.specs.Judging.{judge_reply, said_verdict, sheet_write_reply, said_sheet_written, sheet_out}
 use Rattle.judging.specs.declared.Verdict.{Verdict}
 use Rattle.judging.specs.declared.Verdict.TheVariants as verdict
-use Rattle.judging.specs.declared.SheetWritten.{SheetWritten}
-use Rattle.judging.specs.declared.SheetWritten.TheVariants as written
+use Rattle.reply.specs.declared.Refusal.{Refusal}
 
 -- all fields of a deck's molecule fit their widths
 fields_fit : (form : Form) (d : List ℕ) (k : Deck) → deck_reply form d ≡ read k → FitWidths all_widths (all_fields (indices_of (molecule_of d k)))
@@ -102,7 +100,7 @@ unfolding sheet_put
 put_record s out x h = rw (le-ltb (length out) (sheet_bytes s) h) (take_at (sheet_record s (fields_of s x)) _ (sheet_bytes s) (length_sheet s x))
 
 -- a sheet that was written is that of the deck's molecule, and the buffer was long enough
-pub sheet_made : (y : Read Indices) → said_sheet_written y ≡ written.Sheet → (x : Indices) × (y ≡ read x)
+pub sheet_made : (y : Read Indices) → said_sheet_written y ≡ Ok tt → (x : Indices) × (y ≡ read x)
 sheet_made (refused r) e = absurd (let z : ◌≡◌ {A = ℕ} 0 1 = cc in omega arith)
 sheet_made (read x) e = (x, refl)
 
@@ -115,7 +113,7 @@ made s d n x p =
     (k, e, cc, ltb-false n (sheet_bytes s) (if_read _ 9 0 b))
 
 -- (b) the record that `write_sheet` writes, of either kind, put behind the same deck, is accepted
-pub written_accepted : (s : Sheet) (d out : List ℕ) → said_sheet_written (sheet_write_reply s d (length out)) ≡ written.Sheet
+pub written_accepted : (s : Sheet) (d out : List ℕ) → said_sheet_written (sheet_write_reply s d (length out)) ≡ Ok tt
     → said_verdict (judge_reply (d ++ take (sheet_bytes s) (sheet_out s out (sheet_write_reply s d (length out))))) ≡ verdict.Accepted
 unfolding sheet_of
 written_accepted s d out h =
@@ -126,13 +124,13 @@ written_accepted s d out h =
     ap (λ (r : List ℕ). said_verdict (judge_reply (d ++ r))) b ∙ ap said_verdict (sheet_accepted s d k e)
 
 -- (c) two replies, and two buffers, that satisfy a promise are equal
-pub unique-compose : (d : List ℕ) (r s : IndicesReply) → r ≡ said_indices (fields_reply Composed d) → s ≡ said_indices (fields_reply Composed d) → r ≡ s
+pub unique-compose : (d : List ℕ) (r s : Result Indices Refusal) → r ≡ as_result (fields_reply Composed d) → s ≡ as_result (fields_reply Composed d) → r ≡ s
 unique-compose d r s p q = p ∙ sym q
 
 pub unique-judge : (d : List ℕ) (r s : Verdict) → r ≡ said_verdict (judge_reply d) → s ≡ said_verdict (judge_reply d) → r ≡ s
 unique-judge d r s p q = p ∙ sym q
 
-pub unique-written : (k : Sheet) (d : List ℕ) (n : ℕ) (r s : SheetWritten) → r ≡ said_sheet_written (sheet_write_reply k d n) → s ≡ said_sheet_written (sheet_write_reply k d n) → r ≡ s
+pub unique-written : (k : Sheet) (d : List ℕ) (n : ℕ) (r s : Result (Unit {0}) Refusal) → r ≡ said_sheet_written (sheet_write_reply k d n) → s ≡ said_sheet_written (sheet_write_reply k d n) → r ≡ s
 unique-written k d n r s p q = p ∙ sym q
 
 pub unique-bytes : (k : Sheet) (d out a b : List ℕ) → a ≡ sheet_out k out (sheet_write_reply k d (length out)) → b ≡ sheet_out k out (sheet_write_reply k d (length out)) → a ≡ b

@@ -2,74 +2,49 @@
 #![tactic(auto)]
 
 ghost use Rattle.std.specs.Prelude.{◌≡◌, length};
-ghost use Rattle.reply.specs.Read.{read};
-ghost use Rattle.block.specs.Index.{said_indices};
+ghost use Rattle.reply.specs.Read.{read, as_result};
 ghost use Rattle.deck.specs.declared.Form.TheVariants.{Composed};
 ghost use Rattle.compose.specs.Fields.{fields_reply};
 ghost use Rattle.judging.specs.Judging.{judge_reply, said_verdict, sheet_write_reply, said_sheet_written, sheet_out};
 
-use block::IndicesReply;
-use compose::{ComposeReply, fields};
+use block::Indices;
+use compose::fields;
 use deck::{Form, LONGEST};
 use records::Sheet;
-use reply::Refusal;
+use reply::{Refusal, Rule};
 use sheets::{bytes_of, first_wrong, put_sheet};
 
 // What a judged deck is told: it differs in the first wrong field, 1 to 5 or, with a sheet of six, 1 to 6.
-#[derive(Drop)]
+#[derive(Clone, Copy, Debug, PartialEq, Eq)]
 pub enum Verdict {
     Refused(Refusal),
     Accepted,
     Differs(usize),
 }
 
-// What came of writing a sheet.
-#[derive(Drop)]
-pub enum SheetWritten {
-    Refused(Refusal),
-    Sheet,
-}
-
 // The fields of a deck without a sheet, or its refusal.
-pub fn compose(d: &[u8]) -> IndicesReply
-    ensures { result ≡ said_indices (fields_reply Composed d.now) }
+pub fn compose(d: &[u8]) -> Result<Indices, Refusal>
+    ensures { result ≡ as_result (fields_reply Composed d.now) }
 {
-    let told = fields(d, Form::Composed);
-    match told {
-        ComposeReply::Refused(refusal) => IndicesReply::Refused(refusal),
-        ComposeReply::Composed(x) => {
-            let all = x.fields;
-            IndicesReply::Of(all)
-        }
-    }
+    let x = fields(d, Form::Composed)?;
+    Ok(x.fields)
 }
 
 // Writes a sheet of a deck without one, a whole record of 40 or 44 bytes, into the first bytes of a buffer. A refusal writes nothing.
-pub fn write_sheet(d: &[u8], sheet: Sheet, out: &mut [u8]) -> SheetWritten
+pub fn write_sheet(d: &[u8], sheet: Sheet, out: &mut [u8]) -> Result<(), Refusal>
     ensures reply { result ≡ said_sheet_written (sheet_write_reply sheet d.now (length out.old)) }
     ensures bytes { out.new ≡ sheet_out sheet out.old (sheet_write_reply sheet d.now (length out.old)) }
 {
     let bytes = bytes_of(sheet);
     if LONGEST < d.len() {
-        return SheetWritten::Refused(Refusal {
-            number: 20,
-            place: 0,
-        });
+        return Err(Rule::DeckLength.at(0));
     }
     if out.len() < bytes {
-        return SheetWritten::Refused(Refusal {
-            number: 9,
-            place: 0,
-        });
+        return Err(Rule::ShortOutput.at(0));
     }
-    let told = compose(d);
-    match told {
-        IndicesReply::Refused(refusal) => SheetWritten::Refused(refusal),
-        IndicesReply::Of(all) => {
-            put_sheet(out, sheet, all);
-            SheetWritten::Sheet
-        }
-    }
+    let all = compose(d)?;
+    put_sheet(out, sheet, all);
+    Ok(())
 }
 
 // The verdict on a sheet by its first wrong field, 0 for none.
@@ -86,12 +61,8 @@ fn compared(n: usize) -> Verdict
 pub fn judge(d: &[u8]) -> Verdict
     ensures { result ≡ said_verdict (judge_reply d.now) }
 {
-    let told = fields(d, Form::Judged);
-    match told {
-        ComposeReply::Refused(refusal) => Verdict::Refused(refusal),
-        ComposeReply::Composed(x) => {
-            let all = x.fields;
-            compared(first_wrong(d, x.sheet, all))
-        }
+    match fields(d, Form::Judged) {
+        Err(refusal) => Verdict::Refused(refusal),
+        Ok(x) => compared(first_wrong(d, x.sheet, x.fields)),
     }
 }

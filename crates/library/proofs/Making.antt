@@ -28,7 +28,7 @@ use Rattle.arms.specs.declared.Arm.{Arm}
 use Rattle.arms.specs.declared.Core.{Core}
 use Rattle.arms.specs.declared.Stem.{Stem}
 use Rattle.stock.specs.Stock.{core_at, all_arms}
-use Rattle.library.specs.declared.ProductReply.TheVariants as product
+use Rattle.std.specs.Prelude.{Ok, Err, Some, None}
 
 -- what the code has of a library that is read
 pub held_read : (d : List ℕ) (l : Library) (r : LibraryRead) → library_reply d ≡ read l → r ≡ said_library (read l) → Held d l (take r.count r.blocks) (payload_at d r.at) r.sites r.n
@@ -68,15 +68,15 @@ made_said c arms n s x one few e f =
     f ∙ ap (λ (y : Stem). joined_to y (get_or arms (n - 1) no_arm)) (e ∙ ap (stem_of c arms) z) ∙ stem_joined c arms arms (n - 1) (λ i h. refl) ∙ ap (six_of c arms) w
 
 module _ (d : List ℕ) (position : ℕ) where
-  pub product-refused : (q : Refusal) → library_reply d ≡ refused q → product.Refused q ≡ said_product (product_reply d position)
+  pub product-refused : (q : Refusal) → library_reply d ≡ refused q → Err q ≡ said_product (product_reply d position)
   unfolding product_reply
   product-refused q e = rw e
 
   module _ (l : Library) (e : library_reply d ≡ read l) where
-    pub product_done : products l.sites ≤ position → product.Done ≡ said_product (product_reply d position)
+    pub product_done : products l.sites ≤ position → Ok None ≡ said_product (product_reply d position)
     unfolding product_reply
     product_done h = rw (e, le-ltb position (products l.sites) h)
 
-    pub product_made : position < products l.sites → (x : Indices) → x ≡ product_at d l position → product.Of x ≡ said_product (product_reply d position)
+    pub product_made : position < products l.sites → (x : Indices) → x ≡ product_at d l position → Ok (Some x) ≡ said_product (product_reply d position)
     unfolding product_reply
     product_made h x f = rw (e, lt-ltb position (products l.sites) h, f)

@@ -13,16 +13,16 @@ use Rattle.catalogue.specs.Library.{Library, library_reply}
 use Rattle.catalogue.specs.Products.{products, product_at, Product, done, made, product_reply}
 use Rattle.catalogue.proofs.Fine.{few_products}
 use Rattle.library.specs.Said.{said_product}
-use Rattle.library.specs.declared.ProductReply.{ProductReply}
-use Rattle.library.specs.declared.ProductReply.TheVariants as product
+use Rattle.std.specs.Prelude.{Result, Ok, Err, Option, Some, None}
+use Rattle.reply.specs.declared.Refusal.{Refusal}
 
 -- what is said of a product
-abbrev pub told_product : ProductReply → Read Product
-told_product (product.Refused r) = refused r
-told_product product.Done = read done
-told_product (product.Of x) = read (made x)
+abbrev pub told_product : Result (Option Indices) Refusal → Read Product
+told_product (Err r) = refused r
+told_product (Ok None) = read done
+told_product (Ok (Some x)) = read (made x)
 
-pub product_told : (a : ProductReply) (y : Read Product) → a ≡ said_product y → told_product a ≡ y
+pub product_told : (a : Result (Option Indices) Refusal) (y : Read Product) → a ≡ said_product y → told_product a ≡ y
 product_told a (refused r) e = ap told_product e
 product_told a (read done) e = ap told_product e
 product_told a (read (made x)) e = ap told_product e

@@ -1,12 +1,11 @@
 -- Definitions. A library's sheets: a step writes the sheet of the product at a position, a run is the steps one after the other.
-use Rattle.std.specs.Prelude.{ℕ, zero, suc, List, ◌++◌, ltb, length, drop}
+use Rattle.std.specs.Prelude.{ℕ, zero, suc, List, ◌++◌, ltb, length, drop, Result, Ok, Err, Option, Some, None}
 use Rattle.reply.specs.Read.{Read, refused, read, ◌then◌, refuse_if}
 use Rattle.records.specs.declared.Sheet.{Sheet}
 use Rattle.deck.specs.Deck.{longest_deck}
 use Rattle.sheets.specs.Sheets.{fields_of, sheet_record, sheet_bytes, sheet_put}
 use Rattle.catalogue.specs.Products.{Product, done, made, product_reply}
-use Rattle.library.specs.declared.StepReply.{StepReply}
-use Rattle.library.specs.declared.StepReply.TheVariants as stepped
+use Rattle.reply.specs.declared.Refusal.{Refusal}
 
 -- A step at a position: 20, 9 where the buffer of n bytes is too short, then the library's refusals.
 unfoldable pub step_reply : Sheet → List ℕ → ℕ → ℕ → Read Product
@@ -22,10 +21,10 @@ step_out s out (read done) = out
 step_out s out (read (made x)) = sheet_put s out (fields_of s x)
 
 -- how the code says it, with the position that is handed back
-abbrev pub said_step : ℕ → Read Product → StepReply
-said_step next (refused r) = stepped.Refused r
-said_step next (read done) = stepped.Done
-said_step next (read (made x)) = stepped.Next next
+abbrev pub said_step : ℕ → Read Product → Result (Option ℕ) Refusal
+said_step next (refused r) = Err r
+said_step next (read done) = Ok None
+said_step next (read (made x)) = Ok (Some next)
 
 -- what comes of a run: the next position, and the buffer
 pub record Ran : Type 0 where

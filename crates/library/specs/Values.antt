@@ -1,13 +1,12 @@
 -- Definitions. One field of a library's products: its values from a position on, as many as there are and a row has room for.
-use Rattle.std.specs.Prelude.{ℕ, ◌+◌, ◌-◌, min, List, ◌++◌, length, get_or, drop}
+use Rattle.std.specs.Prelude.{ℕ, ◌+◌, ◌-◌, min, List, ◌++◌, length, get_or, drop, Result, Ok, Err}
 use Rattle.reply.specs.Read.{Read, refused, read, ◌then◌, refuse_if, is_outside}
 use Rattle.block.specs.Rows.{table}
 use Rattle.block.specs.declared.Indices.{Indices}
 use Rattle.sheets.specs.Sheets.{all_fields}
 use Rattle.catalogue.specs.Library.{Library, library_reply}
 use Rattle.catalogue.specs.Products.{products, product_at}
-use Rattle.reply.specs.declared.NumberReply.{NumberReply}
-use Rattle.reply.specs.declared.NumberReply.TheVariants as counted
+use Rattle.reply.specs.declared.Refusal.{Refusal}
 
 -- a field by its number on the sheet, 1 to 6
 abbrev pub most_fields : ℕ
@@ -35,9 +34,9 @@ values_reply d field position n =
     read (values_from d l field position (min n (products l.sites - position)))
 
 -- how the code says it: how many they are; and the row afterwards
-abbrev pub said_values : Read (List ℕ) → NumberReply
-said_values (refused r) = counted.Refused r
-said_values (read vs) = counted.Of (length vs)
+abbrev pub said_values : Read (List ℕ) → Result ℕ Refusal
+said_values (refused r) = Err r
+said_values (read vs) = Ok (length vs)
 
 abbrev pub values_out : List ℕ → Read (List ℕ) → List ℕ
 values_out out (refused r) = out

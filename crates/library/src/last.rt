@@ -20,7 +20,7 @@ use stock::{ArmRows, arms_among};
 
 // What stays while the last site turns: the core with the other sites' arms. The arms that are joined to it stand at this place among all, and `left` of them
 // are to come.
-#[derive(Drop)]
+#[derive(Clone, Copy)]
 pub(crate) struct Staying {
     pub(crate) stem: Stem,
     pub(crate) place: usize,
@@ -28,7 +28,7 @@ pub(crate) struct Staying {
 }
 
 // How far a run has come: the next position, and how much of the buffer is written.
-#[derive(Drop)]
+#[derive(Clone, Copy)]
 pub(crate) struct Reached {
     pub(crate) next: usize,
     pub(crate) at: usize,

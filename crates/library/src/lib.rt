@@ -26,25 +26,9 @@ use choice::choose;
 use deck::LONGEST;
 use last::{staying_at, turn, turn_values};
 use records::{Sheet, le16_at, payload_at};
-use reply::{NumberReply, Refusal, Reply, is_outside};
+use reply::{Refusal, Rule, is_outside};
 use sheets::{bytes_of, put_sheet};
 use stock::{ArmRows, all_arms, arms_at, atoms_of, core_at};
-
-// The product at a position: its fields, or all products are done.
-#[derive(Drop)]
-pub enum ProductReply {
-    Refused(Refusal),
-    Done,
-    Of(Indices),
-}
-
-// What a step or a run says: sheets were written and the next position is this, or all products are done.
-#[derive(Drop)]
-pub enum StepReply {
-    Refused(Refusal),
-    Done,
-    Next(usize),
-}
 
 // The core, by the first block as it was opened while the deck was read, where that is the core.
 fn core_by(
@@ -92,53 +76,44 @@ fn fields_at(
 }
 
 // The fields of the product at a position of a library deck, or its refusal. Where the core is the deck's first block it is read once.
-pub fn product(d: &[u8], position: usize) -> ProductReply
+pub fn product(d: &[u8], position: usize) -> Result<Option<Indices>, Refusal>
     ensures { result ≡ said_product (product_reply d.now position) }
 {
     let mut first = [0u8; SUMMARY];
     let l = read_library(d, &mut first);
-    let reply = l.reply;
-    match reply {
-        Reply::Refused(refusal) => ProductReply::Refused(refusal),
-        Reply::Fine => {
-            if l.products <= position {
-                return ProductReply::Done;
-            }
-            let blocks = l.blocks;
-            let sites = l.sites;
-            let all = fields_at(d, blocks, l.count, l.at, sites, l.n, position, &first);
-            ProductReply::Of(all)
-        }
+    l.reply?;
+    if l.products <= position {
+        return Ok(None);
     }
+    let blocks = l.blocks;
+    let sites = l.sites;
+    let all = fields_at(d, blocks, l.count, l.at, sites, l.n, position, &first);
+    Ok(Some(all))
 }
 
 // Writes the sheet of the product at a position into the first bytes of a buffer, and hands back the next position. A refusal, and a position at or past the
 // number of products, write nothing.
-pub fn step(d: &[u8], sheet: Sheet, position: usize, out: &mut [u8]) -> StepReply
+pub fn step(
+    d: &[u8],
+    sheet: Sheet,
+    position: usize,
+    out: &mut [u8],
+) -> Result<Option<usize>, Refusal>
     ensures reply { result ≡ said_step (suc position) (step_reply sheet d.now position (length out.old)) }
     ensures bytes { out.new ≡ step_out sheet out.old (step_reply sheet d.now position (length out.old)) }
 {
     if LONGEST < d.len() {
-        return StepReply::Refused(Refusal {
-            number: 20,
-            place: 0,
-        });
+        return Err(Rule::DeckLength.at(0));
     }
     if out.len() < bytes_of(sheet) {
-        return StepReply::Refused(Refusal {
-            number: 9,
-            place: 0,
-        });
+        return Err(Rule::ShortOutput.at(0));
     }
-    let told = product(d, position);
-    match told {
-        ProductReply::Refused(refusal) => StepReply::Refused(refusal),
-        ProductReply::Done => StepReply::Done,
-        ProductReply::Of(all) => {
-            put_sheet(out, sheet, all);
-            StepReply::Next(position + 1)
-        }
-    }
+    let told = product(d, position)?;
+    let Some(all) = told else {
+        return Ok(None);
+    };
+    put_sheet(out, sheet, all);
+    Ok(Some(position + 1))
 }
 
 // The sheets of the products from a position on, as many as there are and a buffer has room for, and the next position.
@@ -189,35 +164,29 @@ fn run_read(d: &[u8], l: LibraryRead, position: usize, sheet: Sheet, out: &mut [
 
 // Writes the sheets of the products from a position on, one after the other, as many whole ones as a buffer holds, and hands back the next position: what the
 // steps write, each into what the one before left. The blocks are read once.
-pub fn run(d: &[u8], sheet: Sheet, position: usize, out: &mut [u8]) -> StepReply
+pub fn run(
+    d: &[u8],
+    sheet: Sheet,
+    position: usize,
+    out: &mut [u8],
+) -> Result<Option<usize>, Refusal>
     ensures reply { result ≡ said_step (run_of sheet d.now position out.old).next
         (step_reply sheet d.now position (length out.old)) }
     ensures bytes { out.new ≡ (run_of sheet d.now position out.old).out }
 {
     if LONGEST < d.len() {
-        return StepReply::Refused(Refusal {
-            number: 20,
-            place: 0,
-        });
+        return Err(Rule::DeckLength.at(0));
     }
     if out.len() < bytes_of(sheet) {
-        return StepReply::Refused(Refusal {
-            number: 9,
-            place: 0,
-        });
+        return Err(Rule::ShortOutput.at(0));
     }
     let l = read_library(d, &mut [0u8; 1]);
-    let reply = l.reply;
-    match reply {
-        Reply::Refused(refusal) => StepReply::Refused(refusal),
-        Reply::Fine => {
-            if l.products <= position {
-                return StepReply::Done;
-            }
-            let next = run_read(d, l, position, sheet, out);
-            StepReply::Next(next)
-        }
+    l.reply?;
+    if l.products <= position {
+        return Ok(None);
     }
+    let next = run_read(d, l, position, sheet, out);
+    Ok(Some(next))
 }
 
 // A field's number is 1 to 6.
@@ -287,24 +256,16 @@ fn values_read(
 
 // Writes one field of the products from a position on into the first places of a row, as many as there are and it has room for, and hands back how many. The
 // blocks are read once; no sheet is made.
-pub fn values(d: &[u8], field: usize, position: usize, row: &mut [u64]) -> NumberReply
+pub fn values(d: &[u8], field: usize, position: usize, row: &mut [u64]) -> Result<u64, Refusal>
     ensures reply { result ≡ said_values (values_reply d.now field position (length row.old)) }
     ensures numbers { row.new ≡ values_out row.old (values_reply d.now field position (length row.old)) }
 {
     let l = read_library(d, &mut [0u8; 1]);
-    let reply = l.reply;
-    match reply {
-        Reply::Refused(refusal) => NumberReply::Refused(refusal),
-        Reply::Fine => {
-            if is_outside(FIELDS, field) {
-                return NumberReply::Refused(Refusal {
-                    number: 35,
-                    place: 0,
-                });
-            }
-            let count = count_from(l.products, position, row.len());
-            values_read(d, l, position, field, count, row);
-            NumberReply::Of(count as u64)
-        }
+    l.reply?;
+    if is_outside(FIELDS, field) {
+        return Err(Rule::ClaimField.at(0));
     }
+    let count = count_from(l.products, position, row.len());
+    values_read(d, l, position, field, count, row);
+    Ok(count as u64)
 }

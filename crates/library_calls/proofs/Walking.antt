@@ -10,9 +10,10 @@ use Rattle.records.specs.declared.Sheet.{Sheet}
 use Rattle.catalogue.specs.Products.{Product, done, made}
 use Rattle.library.specs.Steps.{Ran, step_reply, step_out, said_step, run_of}
 use Rattle.library.specs.Running.{run_stops, run_ends}
-use Rattle.library.specs.declared.StepReply.{StepReply}
 use Rattle.calls.specs.Convention.{over}
 use Rattle.library_calls.specs.Libraries.{with_next, step_code, made_out, stepped_code, stepped_next, Walked}
+use Rattle.std.specs.Prelude.{Result, Option}
+use Rattle.reply.specs.declared.Refusal.{Refusal}
 
 -- a next position has room
 room_next : (entries : ℕ) (answer : Read Product) → 1 ≤ entries → with_next entries answer ≡ answer
@@ -46,14 +47,14 @@ module _ (answer : Read Product) (wrote : List ℕ) (position : ℕ) (out next :
         told = rw z (sym (stays answer (over (position ∷ []) next) next));
       }
 
-  pub walked_told : 1 ≤ length next → (told : StepReply) (r : ℕ) (out' next' : List ℕ) → told ≡ said_step position answer → r ≡ stepped_code told → next' ≡ stepped_next told next
+  pub walked_told : 1 ≤ length next → (told : Result (Option ℕ) Refusal) (r : ℕ) (out' next' : List ℕ) → told ≡ said_step position answer → r ≡ stepped_code told → next' ≡ stepped_next told next
       → out' ≡ wrote → wrote ≡ made_out wrote answer out → Walked answer wrote position out next r out' next'
   walked_told h told r out' next' e f g o w =
       let z = room_next (length next) answer h in
       record {
         replied = f ∙ ap stepped_code e ∙ said_code position answer ∙ ap step_code (sym z);
         written = o ∙ w ∙ ap (λ (y : Read Product). made_out wrote y out) (sym z);
-        told = g ∙ ap (λ (y : StepReply). stepped_next y next) e ∙ said_next position answer next ∙ ap (λ (y : Read Product). made_out (over (position ∷ []) next) y next) (sym z);
+        told = g ∙ ap (λ (y : Result (Option ℕ) Refusal). stepped_next y next) e ∙ said_next position answer next ∙ ap (λ (y : Read Product). made_out (over (position ∷ []) next) y next) (sym z);
       }
 
 -- what a step writes, and a run

@@ -1,10 +1,9 @@
 -- Definitions. What the C functions for libraries answer: the library's reply, 254 for done, then 9 where the next position has no room.
-use Rattle.std.specs.Prelude.{ℕ, List, [], ◌∷◌, ◌≡◌, ltb, length}
+use Rattle.std.specs.Prelude.{ℕ, List, [], ◌∷◌, ◌≡◌, ltb, length, Result, Ok, Err, Option, Some, None}
 use Rattle.reply.specs.Read.{Read, refused, read, ◌then◌, refuse_if}
 use Rattle.catalogue.specs.Products.{count_reply, Product, done, made}
-use Rattle.library.specs.declared.StepReply.{StepReply}
-use Rattle.library.specs.declared.StepReply.TheVariants as stepped
 use Rattle.calls.specs.Convention.{code, over, number_list}
+use Rattle.reply.specs.declared.Refusal.{Refusal}
 
 abbrev pub count_list : List ℕ → Read (List ℕ)
 count_list d = number_list (count_reply d)
@@ -28,15 +27,15 @@ made_out new (read done) old = old
 made_out new (read (made x)) old = new
 
 -- the same of what the library says
-abbrev pub stepped_code : StepReply → ℕ
-stepped_code (stepped.Refused r) = code r
-stepped_code stepped.Done = 254
-stepped_code (stepped.Next n) = 0
+abbrev pub stepped_code : Result (Option ℕ) Refusal → ℕ
+stepped_code (Err r) = code r
+stepped_code (Ok None) = 254
+stepped_code (Ok (Some n)) = 0
 
-abbrev pub stepped_next : StepReply → List ℕ → List ℕ
-stepped_next (stepped.Refused r) old = old
-stepped_next stepped.Done old = old
-stepped_next (stepped.Next n) old = over (n ∷ []) old
+abbrev pub stepped_next : Result (Option ℕ) Refusal → List ℕ → List ℕ
+stepped_next (Err r) old = old
+stepped_next (Ok None) old = old
+stepped_next (Ok (Some n)) old = over (n ∷ []) old
 
 -- the reply to a step or a run that hands back a position, and both outputs after the call
 pub record Walked (answer : Read Product) (wrote : List ℕ) (position : ℕ) (out next : List ℕ) (reply : ℕ) (out' next' : List ℕ) : Type 0 where

@@ -9,8 +9,8 @@ ghost use Rattle.library_calls.specs.Libraries.{count_list, with_next, step_code
 
 use calls::{code_of, give_number, sheet_for};
 use deck::LONGEST;
-use library::{ProductReply, StepReply};
 use records::Sheet;
+use reply::Refusal;
 use sheets::bytes_of;
 
 // What C says for done: no refusal has that number.
@@ -35,22 +35,22 @@ fn unlent_step(deck: &[u8], sheet: Sheet, position: usize, room: usize) -> u64
     }
     let answer = library::product(deck, position);
     match answer {
-        ProductReply::Refused(r) => code_of(r),
-        ProductReply::Done => DONE,
-        ProductReply::Of(_) => 9,
+        Err(r) => code_of(r),
+        Ok(None) => DONE,
+        Ok(Some(_)) => 9,
     }
 }
 
 // The reply to a step or a run, and the next position.
-fn tell(told: StepReply, next: &mut [u64]) -> u64
+fn tell(told: Result<Option<usize>, Refusal>, next: &mut [u64]) -> u64
     requires { 1 ≤ length next.old }
     ensures reply { result ≡ stepped_code told }
     ensures next { next.new ≡ stepped_next told next.old }
 {
     match told {
-        StepReply::Refused(r) => code_of(r),
-        StepReply::Done => DONE,
-        StepReply::Next(n) => {
+        Err(r) => code_of(r),
+        Ok(None) => DONE,
+        Ok(Some(n)) => {
             next[0] = n as u64;
             0
         }

@@ -1,18 +1,18 @@
 -- Worked examples, computed from the definitions.
 use mathlib.Core.Path.{◌≡◌, refl}
 use Rattle.reply.specs.Read.{refusal}
-use Rattle.block.specs.declared.IndicesReply.TheVariants as measured
 use Rattle.judging.specs.declared.Verdict.TheVariants as verdict
 use Rattle.text.specs.Text.{ascii, decimal_in, decimal}
 use Rattle.line.specs.Text.{indices_text, refusal_text, measured_text, differs_text, verdict_text, unread_text}
 use Rattle.line.specs.Label.{has_room, labelled}
+use Rattle.std.specs.Prelude.{Ok, Err}
 
 -- document 01's lines
-two_rings : measured_text (measured.Of (record { atoms = 12; w = 198; even = 96; odd = 102; polarity = 14; largest = 7 })) ≡ ascii "atoms 12 W 198 even 96 odd 102 polarity 14\n"
+two_rings : measured_text (Ok (record { atoms = 12; w = 198; even = 96; odd = 102; polarity = 14; largest = 7 })) ≡ ascii "atoms 12 W 198 even 96 odd 102 polarity 14\n"
 unfolding indices_text decimal decimal_in
 two_rings = refl
 
-a_refusal : measured_text (measured.Refused (refusal 7 0)) ≡ ascii "refused 7 at 0\n"
+a_refusal : measured_text (Err (refusal 7 0)) ≡ ascii "refused 7 at 0\n"
 unfolding refusal_text decimal decimal_in
 a_refusal = refl
 

@@ -1,11 +1,8 @@
 -- Definitions. The line that is printed for a reply, byte by byte: docs/RULES.md, "Numbers to check against".
-use Rattle.std.specs.Prelude.{ℕ, ◌+◌, ◌*◌, ◌-◌, List, ◌++◌, length, replicate}
+use Rattle.std.specs.Prelude.{ℕ, ◌+◌, ◌*◌, ◌-◌, List, ◌++◌, length, replicate, Result, Ok, Err}
 use Prim.Native.String.{String}
 use Rattle.reply.specs.declared.Refusal.{Refusal}
 use Rattle.block.specs.declared.Indices.{Indices}
-use Rattle.block.specs.declared.IndicesReply.{IndicesReply}
-use Rattle.block.specs.declared.IndicesReply.TheVariants as measured
-use Rattle.block.specs.Index.{said_indices}
 use Rattle.deck.specs.declared.Form.{Form}
 use Rattle.deck.specs.declared.Form.TheVariants.{Composed, Judged}
 use Rattle.compose.specs.Fields.{fields_reply}
@@ -14,6 +11,7 @@ use Rattle.judging.specs.declared.Verdict.{Verdict}
 use Rattle.judging.specs.declared.Verdict.TheVariants as verdict
 use Rattle.text.specs.Text.{ascii, most_digits, decimal}
 use Rattle.line.specs.declared.Line.{Line}
+use Rattle.reply.specs.Read.{as_result}
 
 -- a word, then a number
 abbrev pub named : String → ℕ → List ℕ
@@ -27,9 +25,9 @@ indices_text x = named "atoms " x.atoms ++ named " W " x.w ++ named " even " x.e
 unfoldable pub refusal_text : Refusal → List ℕ
 refusal_text r = named "refused " r.number ++ named " at " r.place ++ ascii "\n"
 
-abbrev pub measured_text : IndicesReply → List ℕ
-measured_text (measured.Of x) = indices_text x
-measured_text (measured.Refused r) = refusal_text r
+abbrev pub measured_text : Result Indices Refusal → List ℕ
+measured_text (Ok x) = indices_text x
+measured_text (Err r) = refusal_text r
 
 -- the first wrong field
 unfoldable pub differs_text : ℕ → List ℕ
@@ -42,7 +40,7 @@ verdict_text (verdict.Refused r) = refusal_text r
 
 -- the whole answer to a deck: its molecule's five fields, or the verdict on its sheet
 abbrev pub deck_text : Form → List ℕ → List ℕ
-deck_text Composed d = measured_text (said_indices (fields_reply Composed d))
+deck_text Composed d = measured_text (as_result (fields_reply Composed d))
 deck_text Judged d = verdict_text (said_verdict (judge_reply d))
 
 -- what is said of a deck that cannot be read

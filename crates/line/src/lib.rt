@@ -8,7 +8,7 @@ ghost use Rattle.line.specs.Text.{indices_text, refusal_text, measured_text, dif
 ghost use Rattle.line.specs.Label.{label_reply, labelled};
 ghost use Rattle.line.specs.Put.{Adds};
 
-use block::{Indices, IndicesReply};
+use block::Indices;
 use deck::Form;
 use judging::Verdict;
 use reply::Refusal;
@@ -20,7 +20,7 @@ const DIGITS: usize = 20;
 pub const LONGEST: usize = 31 + 5 * DIGITS;
 
 // A line, zeros behind it, and its length.
-#[derive(Clone, Copy)]
+#[derive(Clone, Copy, Debug, PartialEq, Eq)]
 pub struct Line {
     pub text: [u8; LONGEST],
     pub len: usize,
@@ -84,13 +84,13 @@ fn refusal_line(r: Refusal) -> Line
 }
 
 // The line of a block's or a deck's indices, or of its refusal.
-pub fn measured_line(m: IndicesReply) -> Line
+pub fn measured_line(m: Result<Indices, Refusal>) -> Line
     ensures value { result ≡ lined (measured_text m) }
     ensures prefix_len { IsPrefixLen result.len result.text }
 {
     match m {
-        IndicesReply::Refused(r) => refusal_line(r),
-        IndicesReply::Of(x) => indices_line(x),
+        Err(r) => refusal_line(r),
+        Ok(x) => indices_line(x),
     }
 }
 

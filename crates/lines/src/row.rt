@@ -17,7 +17,7 @@ pub const FAR: usize = 255;
 const LONG: u64 = 1000000000000000;
 
 // The numbers behind a line's colon, how many of them are asked, and whether the word "refused" stands among them, which is told by its r.
-#[derive(Clone, Copy)]
+#[derive(Clone, Copy, Debug, PartialEq, Eq)]
 pub struct Row {
     pub refused: bool,
     pub asked: usize,
@@ -109,14 +109,10 @@ fn entry(values: &[u64], count: usize, i: usize) -> u64 {
 
 // Whether the numbers of a line behind those that are asked are those of a reply.
 fn same(line: &[u64], asked: usize, count: usize, told: &[u64], n: usize) -> bool {
-    let mut i = 0;
-    let mut k = asked;
-    while k < MOST {
-        if entry(line, count, k) != entry(told, n, i) {
+    for k in asked..MOST {
+        if entry(line, count, k) != entry(told, n, k - asked) {
             return false;
         }
-        i += 1;
-        k += 1;
     }
     true
 }
@@ -169,10 +165,8 @@ impl Row {
 pub fn bytes_of(row: Row) -> [u8; ROOM] {
     let values = row.values;
     let mut bytes = [0u8; ROOM];
-    let mut k = 0;
-    while k < MOST {
+    for k in 0..MOST {
         bytes[k] = (values[k] % 256) as u8;
-        k += 1;
     }
     bytes
 }
@@ -188,12 +182,10 @@ fn is_hex(letter: u8) -> bool {
 // The place behind a line's last colon: the numbers in the words before it do not count.
 fn numbers_at(line: &[u8]) -> usize {
     let mut from = 0;
-    let mut at = 0;
-    while at < line.len() {
+    for at in 0..line.len() {
         if line[at] == b':' {
             from = at;
         }
-        at += 1;
     }
     from
 }
@@ -209,17 +201,12 @@ pub fn row_of(line: &[u8], letter: u8) -> Row {
         count: 0,
         number: 0,
     };
-    let mut at = numbers_at(line);
-    while at < line.len() {
-        let next = seen.with_byte(line[at], hex);
-        seen = next;
+    for at in numbers_at(line)..line.len() {
+        seen = seen.with_byte(line[at], hex);
         let count = seen.count;
-        if seen.open {
-            if count < MOST {
-                values[count] = seen.number;
-            }
+        if seen.open && count < MOST {
+            values[count] = seen.number;
         }
-        at += 1;
     }
     let last = seen.with_mark(b' ');
     Row {

@@ -2,7 +2,7 @@
 use crate::row::{ROOM, Row};
 
 // As its own line gives it, as later lines change it, and where its line stands.
-#[derive(Clone, Copy)]
+#[derive(Clone, Copy, Debug, PartialEq, Eq)]
 pub struct Subject {
     pub deck: bool,
     pub given: Row,

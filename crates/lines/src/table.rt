@@ -7,7 +7,7 @@ use crate::tally::Tally;
 use std::io;
 
 // The tally, and what the next lines ask about.
-#[derive(Clone, Copy)]
+#[derive(Clone, Copy, Debug, PartialEq, Eq)]
 pub struct Table {
     pub tally: Tally,
     pub subject: Subject,
@@ -23,11 +23,9 @@ impl Table {
 
     // After a line that asks nothing: one that starts with a capital says what is asked about.
     pub fn about(self, letter: u8, row: Row, at: usize, len: usize) -> Table {
-        let subject = self.subject;
-        let tally = self.tally;
         Table {
-            tally,
-            subject: subject.next(letter, row, at, len),
+            tally: self.tally,
+            subject: self.subject.next(letter, row, at, len),
         }
     }
 
@@ -40,9 +38,8 @@ impl Table {
         ok: bool,
     ) -> io::Result<Table> {
         let subject = self.subject;
-        let tally = self.tally;
         let name = records::part(text, subject.from, subject.len);
-        let tally = tally.count(rt, name, line, ok)?;
+        let tally = self.tally.count(rt, name, line, ok)?;
         Ok(Table { tally, subject })
     }
 }

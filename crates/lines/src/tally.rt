@@ -1,7 +1,7 @@
 // How many comparisons came out right. What is wrong is printed with its name.
 use std::io;
 
-#[derive(Clone, Copy)]
+#[derive(Clone, Copy, Debug, PartialEq, Eq)]
 pub struct Tally {
     pub right: u64,
     pub wrong: u64,

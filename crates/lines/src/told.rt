@@ -1,7 +1,7 @@
 // Replies as rows of numbers.
 use crate::row::{MOST, Row};
-use block::{Indices, IndicesReply, OneRow, VertexReply};
-use reply::{CountsReply, NumberReply, Refusal, Reply, wide};
+use block::{Indices, OneRow, Vertex};
+use reply::{Counts, Refusal, wide};
 
 pub fn nothing() -> Row {
     Row::none()
@@ -10,15 +10,14 @@ pub fn nothing() -> Row {
 // The numbers of a lent buffer.
 pub fn entries(xs: &[u64]) -> Row {
     let mut values = [0u64; MOST];
-    let mut i = 0;
-    while i < xs.len() && i < MOST {
+    let count = xs.len().min(MOST);
+    for i in 0..count {
         values[i] = xs[i];
-        i += 1;
     }
     Row {
         refused: false,
         asked: 0,
-        count: i,
+        count,
         values,
     }
 }
@@ -26,15 +25,14 @@ pub fn entries(xs: &[u64]) -> Row {
 // The same of bytes.
 pub fn bytes(xs: &[u8]) -> Row {
     let mut values = [0u64; MOST];
-    let mut i = 0;
-    while i < xs.len() && i < MOST {
+    let count = xs.len().min(MOST);
+    for i in 0..count {
         values[i] = wide(xs[i]);
-        i += 1;
     }
     Row {
         refused: false,
         asked: 0,
-        count: i,
+        count,
         values,
     }
 }
@@ -53,17 +51,17 @@ pub fn refusal(r: Refusal) -> Row {
     row
 }
 
-pub fn number(reply: NumberReply) -> Row {
+pub fn number(reply: Result<u64, Refusal>) -> Row {
     match reply {
-        NumberReply::Refused(r) => refusal(r),
-        NumberReply::Of(x) => one(x),
+        Err(r) => refusal(r),
+        Ok(x) => one(x),
     }
 }
 
-pub fn counts(reply: CountsReply) -> Row {
+pub fn counts(reply: Result<Counts, Refusal>) -> Row {
     match reply {
-        CountsReply::Refused(r) => refusal(r),
-        CountsReply::Of(x) => two(x.atoms as u64, x.bonds as u64),
+        Err(r) => refusal(r),
+        Ok(x) => two(x.atoms as u64, x.bonds as u64),
     }
 }
 
@@ -86,32 +84,31 @@ fn of_fields(letter: u8, x: Indices) -> Row {
 }
 
 // The fields that a question asks for, which is known by its first letter.
-pub fn indices(letter: u8, m: IndicesReply) -> Row {
+pub fn indices(letter: u8, m: Result<Indices, Refusal>) -> Row {
     match m {
-        IndicesReply::Refused(r) => refusal(r),
-        IndicesReply::Of(x) => of_fields(letter, x),
+        Err(r) => refusal(r),
+        Ok(x) => of_fields(letter, x),
     }
 }
 
 // Nothing, or refused.
-pub fn of_reply(reply: Reply) -> Row {
+pub fn of_reply(reply: Result<(), Refusal>) -> Row {
     match reply {
-        Reply::Refused(r) => refusal(r),
-        Reply::Fine => nothing(),
+        Err(r) => refusal(r),
+        Ok(()) => nothing(),
     }
 }
 
-pub fn around(a: VertexReply) -> Row {
+pub fn around(a: Result<Vertex, Refusal>) -> Row {
     match a {
-        VertexReply::Refused(r) => refusal(r),
-        VertexReply::Of(x) => { entries(&[x.sum, x.even, x.odd, x.evens, x.odds, x.ones, x.twos]) }
+        Err(r) => refusal(r),
+        Ok(x) => { entries(&[x.sum, x.even, x.odd, x.evens, x.odds, x.ones, x.twos]) }
     }
 }
 
 pub fn farthest(seen: OneRow) -> Row {
-    let reply = seen.reply;
-    match reply {
-        Reply::Refused(r) => refusal(r),
-        Reply::Fine => one(wide(seen.largest)),
+    match seen.reply {
+        Err(r) => refusal(r),
+        Ok(()) => one(wide(seen.largest)),
     }
 }

@@ -5,7 +5,6 @@
 -- | `placed_number`, `partners`          | an atom's partner, by its number in the deck's molecule             | `number_few`, `partners-length`                      |
 -- | `is_lost`, `is_loose`, `is_unlisted` | an atom without a partner of its own; a bond that the other has not | `none_passes`, `passing` (same_molecule)             |
 pub mod Matched
-pub mod Said
 pub mod Work
 pub mod Unique
 pub mod Laws

@@ -8,6 +8,8 @@ use Rattle.deck.specs.Deck.{Deck, deck_reply}
 use Rattle.deck.specs.Molecule.{graph_at, molecule_of}
 use Rattle.deck.specs.declared.Form.TheVariants.{Composed}
 use Rattle.deck.specs.Placed.{is_missing}
+use Rattle.matched.specs.declared.Match.{Match}
+use Rattle.matched.specs.declared.Match.TheVariants.{Same, Differs}
 
 -- the number that atom a of placement number p has in the whole molecule; 0 where there is no such atom
 unfoldable pub placed_number : List ℕ → Deck → ℕ → ℕ → ℕ
@@ -63,20 +65,16 @@ match_place g h to =
     first_bond (g.atoms + 1) (is_loose g h to) g.bonds or_else λ _.
     first_bond (g.atoms + length g.bonds + 1) (is_unlisted g to) h.bonds
 
-pub data Answer : Type 0 where
-  yes : Answer
-  no : ℕ → Answer
-
-abbrev pub answer_at : ℕ → Answer
-answer_at zero = yes
-answer_at (suc p) = no (suc p)
+abbrev pub answer_at : ℕ → Match
+answer_at zero = Same
+answer_at (suc p) = Differs (suc p)
 
 -- place 0 where they have not as many atoms
-unfoldable pub match_answer : Graph → Graph → List ℕ → Answer
-match_answer g h to = if_else (eqb g.atoms h.atoms) (λ _. answer_at (match_place g h to)) (λ _. no 0)
+unfoldable pub match_answer : Graph → Graph → List ℕ → Match
+match_answer g h to = if_else (eqb g.atoms h.atoms) (λ _. answer_at (match_place g h to)) (λ _. Differs 0)
 
 -- The deck's refusals, without a sheet; then 9 where the matching has fewer than two numbers an atom. An odd last number of the bonds is no bond.
-unfoldable pub match_reply : List ℕ → ℕ → List ℕ → List ℕ → Read Answer
+unfoldable pub match_reply : List ℕ → ℕ → List ℕ → List ℕ → Read Match
 match_reply d atoms bonds matching =
     deck_reply Composed d then λ k.
     refuse_if (ltb (length matching) (2 * atoms)) 9 0 then λ _.

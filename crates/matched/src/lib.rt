@@ -2,9 +2,9 @@
 // believed: after a yes the two differ only in the numbering of their atoms.
 #![tactic(auto)]
 
-ghost use Rattle.std.specs.Prelude.{◌≡◌, ◌&&◌, ◌+◌, ◌*◌, ◌/◌, ◌^◌, ◌≤◌, ◌<◌, eqb, length};
+ghost use Rattle.std.specs.Prelude.{◌≡◌, Ok, ◌&&◌, ◌+◌, ◌*◌, ◌/◌, ◌^◌, ◌≤◌, ◌<◌, eqb, length};
 ghost use Rattle.graph.specs.Graph.{bond, joins, any_joins};
-ghost use Rattle.reply.specs.Read.{read};
+ghost use Rattle.reply.specs.Read.{read, as_result};
 ghost use Rattle.block.specs.Block.{bonds_of, graph_of};
 ghost use Rattle.deck.specs.Deck.{deck_reply};
 ghost use Rattle.deck.specs.Molecule.{molecule_of};
@@ -14,10 +14,9 @@ ghost use Rattle.deck.specs.Placed.{deck_of};
 ghost use Rattle.whole.specs.Work.{most_start, most_numbers};
 ghost use Rattle.matched.specs.Matched.{placed_number, partners, partner, is_lost, is_loose, carried, first_atom, first_bond, match_place, answer_at, match_answer, match_reply};
 ghost use Rattle.matched.specs.Work.{is_taken, is_amiss};
-ghost use Rattle.matched.specs.Said.{said_whether, said_match};
 
 use deck::{Form, Layout};
-use reply::{CountsReply, Refusal, Reply, is_outside, wide_two};
+use reply::{Refusal, Rule, is_outside, wide_two};
 
 // The most atoms of a deck's molecule, and the most numbers that its bonds take.
 const ATOMS: usize = 2048;
@@ -25,11 +24,10 @@ const ATOMS: usize = 2048;
 const NUMBERS: usize = 12352;
 
 // The molecules are the same but for the numbering, or where they first differ.
-#[derive(Drop)]
-pub enum MatchReply {
-    Refused(Refusal),
-    Yes,
-    No(usize),
+#[derive(Clone, Copy, Debug, PartialEq, Eq)]
+pub enum Match {
+    Same,
+    Differs(usize),
 }
 
 // The number in the whole molecule of atom a of placement p, or 0.
@@ -47,11 +45,9 @@ fn put_partners(d: &[u8], deck: Layout, matching: &[u16], to: &mut [u16])
     requires { WholeDeck d.now (deck_of deck) × (2 * length to.old ≤ length matching.now) }
     ensures { to.new ≡ partners d.now (deck_of deck) matching.now (length to.old) }
 {
-    let mut i = 0;
-    while i < to.len() {
+    for i in 0..to.len() {
         let x = number_in(d, deck, matching[2 * i], matching[2 * i + 1]);
         to[i] = x as u16;
-        i += 1;
     }
 }
 
@@ -92,12 +88,10 @@ fn first_lost(to: &[u16], n: usize) -> usize
     requires { n ≤ most_start }
     ensures { result ≡ first_atom n 1 (is_lost to.now) }
 {
-    let mut v = 1;
-    while v <= n {
+    for v in 1..=n {
         if is_lost(to, v) {
             return v;
         }
-        v += 1;
     }
     0
 }
@@ -220,13 +214,13 @@ fn match_place(n: usize, bonds: &[u16], whole: &[u16], to: &[u16]) -> usize
     first_amiss(false, n, bonds, whole, to, whole, n + bonds.len() / 2 + 1)
 }
 
-fn answer_at(place: usize) -> MatchReply
-    ensures { result ≡ said_whether (answer_at place) }
+fn answer_at(place: usize) -> Match
+    ensures { result ≡ answer_at place }
 {
     if place == 0 {
-        return MatchReply::Yes;
+        return Match::Same;
     }
-    MatchReply::No(place)
+    Match::Differs(place)
 }
 
 // The answer for as many atoms as the deck's molecule has.
@@ -238,9 +232,9 @@ fn answer_placed(
     matching: &[u16],
     whole: &[u16],
     to: &mut [u16],
-) -> MatchReply
+) -> Match
     requires { WholeDeck d.now (deck_of deck) × (n ≤ most_start) × (n ≤ length to.old) × (2 * n ≤ length matching.now) × (length whole.now ≤ most_numbers) }
-    ensures { result ≡ said_whether (answer_at (match_place (graph_of n bonds.now) (graph_of n whole.now) (partners d.now (deck_of deck) matching.now n))) }
+    ensures { result ≡ answer_at (match_place (graph_of n bonds.now) (graph_of n whole.now) (partners d.now (deck_of deck) matching.now n)) }
 {
     put_partners(d, deck, matching, &mut to[..n]);
     let place = match_place(n, bonds, whole, &to[..n]);
@@ -256,27 +250,28 @@ fn answer_in(
     matching: &[u16],
     numbers: &mut [u16],
     to: &mut [u16],
-) -> MatchReply
+) -> Result<Match, Refusal>
     requires { (deck_reply Composed d.now ≡ read (deck_of deck)) × (2 * n ≤ length matching.now) × (most_numbers ≤ length numbers.old) × (most_start ≤ length to.old) }
-    ensures { result ≡ said_whether (match_answer (graph_of n bonds.now) (molecule_of d.now (deck_of deck)) (partners d.now (deck_of deck) matching.now n)) }
+    ensures { result ≡ Ok (match_answer (graph_of n bonds.now) (molecule_of d.now (deck_of deck)) (partners d.now (deck_of deck) matching.now n)) }
 {
-    let reply = whole::bonds(d, numbers);
-    match reply {
-        CountsReply::Refused(r) => MatchReply::Refused(r),
-        CountsReply::Of(c) => {
-            if c.atoms != n {
-                return MatchReply::No(0);
-            }
-            let end = 2 * c.bonds;
-            answer_placed(d, deck, n, bonds, matching, &numbers[..end], to)
-        }
+    let c = whole::bonds(d, numbers)?;
+    if c.atoms != n {
+        return Ok(Match::Differs(0));
     }
+    let end = 2 * c.bonds;
+    Ok(answer_placed(d, deck, n, bonds, matching, &numbers[..end], to))
 }
 
 // The same with room for the deck's bonds and for partners.
-fn answer(d: &[u8], deck: Layout, n: usize, bonds: &[u16], matching: &[u16]) -> MatchReply
+fn answer(
+    d: &[u8],
+    deck: Layout,
+    n: usize,
+    bonds: &[u16],
+    matching: &[u16],
+) -> Result<Match, Refusal>
     requires { (deck_reply Composed d.now ≡ read (deck_of deck)) × (2 * n ≤ length matching.now) }
-    ensures { result ≡ said_whether (match_answer (graph_of n bonds.now) (molecule_of d.now (deck_of deck)) (partners d.now (deck_of deck) matching.now n)) }
+    ensures { result ≡ Ok (match_answer (graph_of n bonds.now) (molecule_of d.now (deck_of deck)) (partners d.now (deck_of deck) matching.now n)) }
 {
     let mut numbers = [0u16; NUMBERS];
     let mut to = [0u16; ATOMS];
@@ -284,25 +279,16 @@ fn answer(d: &[u8], deck: Layout, n: usize, bonds: &[u16], matching: &[u16]) -> 
 }
 
 // Whether a matching makes the molecule of a deck without a sheet that of a list: for each of the list's atoms, 1 to `atoms`, it has two numbers, a placement
-// and an atom there. The bonds are pairs of atoms; an odd last number is no bond. `No` says the first place that fails: 0 for another number of atoms, 1 to n
+// and an atom there. The bonds are pairs of atoms; an odd last number is no bond. `Differs` says the first place that fails: 0 for another number of atoms, 1 to n
 // an atom without a partner of its own, n + e bond e of m in the list that the deck does not have, n + m + e bond e of the deck, as `whole::bonds` writes it,
 // that the list does not have. Or the deck's refusal, then 9 where the matching is too short.
-pub fn check(d: &[u8], atoms: usize, bonds: &[u16], matching: &[u16]) -> MatchReply
-    ensures { result ≡ said_match (match_reply d.now atoms bonds.now matching.now) }
+pub fn check(d: &[u8], atoms: usize, bonds: &[u16], matching: &[u16]) -> Result<Match, Refusal>
+    ensures { result ≡ as_result (match_reply d.now atoms bonds.now matching.now) }
 {
     let read = compose::read_deck(d, Form::Composed);
-    let reply = read.reply;
-    match reply {
-        Reply::Refused(r) => MatchReply::Refused(r),
-        Reply::Fine => {
-            if matching.len() / 2 < atoms {
-                return MatchReply::Refused(Refusal {
-                    number: 9,
-                    place: 0,
-                });
-            }
-            let deck = read.layout;
-            answer(d, deck, atoms, bonds, matching)
-        }
+    read.reply?;
+    if matching.len() / 2 < atoms {
+        return Err(Rule::ShortOutput.at(0));
     }
+    answer(d, read.layout, atoms, bonds, matching)
 }

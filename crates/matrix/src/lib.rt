@@ -4,20 +4,21 @@
 
 ghost use Rattle.std.specs.Prelude.{◌≡◌, ◌≤◌, min};
 ghost use Rattle.block.specs.Block.{most_atoms};
-ghost use Rattle.block.specs.Index.{indices_reply, said_indices};
+ghost use Rattle.block.specs.Index.{indices_reply};
 ghost use Rattle.block.specs.Rows.{rows_of, far_after};
 ghost use Rattle.matrix.specs.Matrix.{matrix_indices};
 ghost use Rattle.matrix.specs.Work.{LineOf};
+ghost use Rattle.reply.specs.Read.{as_result};
 
-use block::{ATOMS, DistanceRow, Farthest, Indices, IndicesReply};
+use block::{ATOMS, DistanceRow, Farthest, Indices};
 use half::within;
-use reply::{Reply, larger, wide};
+use reply::{Refusal, larger, wide};
 
 // The distances of a block: those from atom i are row i - 1, and that to atom j stands there at j - 1; 0 beyond the atoms.
 pub type DistanceMatrix = [DistanceRow; ATOMS];
 
 // What the first entries of a row add up to: all of them and the odd ones; how many are 3; and the largest.
-#[derive(Drop)]
+#[derive(Clone, Copy)]
 struct Line {
     pub all: u64,
     pub odd: u64,
@@ -34,14 +35,12 @@ fn along(row: &DistanceRow, k: usize) -> Line
     let mut odd: u64 = 0;
     let mut threes: u64 = 0;
     let mut largest: u64 = 0;
-    let mut j = 0;
-    while j < k {
+    for j in 0..k {
         let d = wide(row[j]);
         all += d;
         odd += d * (d % 2);
         threes += (d == 3) as u64;
         largest = larger(largest, d);
-        j += 1;
     }
     Line {
         all,
@@ -57,21 +56,17 @@ pub fn rows(n: usize, bonds: &[u8], far: &mut Farthest) -> DistanceMatrix
     ensures rows { result ≡ rows_of n bonds.now }
     ensures far { far.new ≡ far_after n bonds.now far.old }
 {
-    let reply = block::check(n, bonds);
     let mut rows = [[0u8; ATOMS]; ATOMS];
     let mut deep = [0u8; ATOMS];
-    let mut i = 0;
-    while i < ATOMS {
+    for i in 0..ATOMS {
         let seen = block::row(n, bonds, i + 1);
         let row = seen.row;
         rows[i] = row;
         deep[i] = seen.largest;
-        i += 1;
     }
-    let Reply::Fine = reply else {
-        return rows;
-    };
-    *far = deep;
+    if block::check(n, bonds).is_ok() {
+        *far = deep;
+    }
     rows
 }
 
@@ -84,15 +79,13 @@ pub fn sums(rows: DistanceMatrix, n: usize) -> Indices
     let mut odd: u64 = 0;
     let mut threes: u64 = 0;
     let mut largest: u64 = 0;
-    let mut i = 0;
-    while i < m {
+    for i in 0..m {
         let row = rows[i];
         let line = along(&row, i);
         w += line.all;
         odd += line.odd;
         threes += line.threes;
         largest = larger(largest, line.largest);
-        i += 1;
     }
     Indices {
         atoms: m as u64,
@@ -105,17 +98,11 @@ pub fn sums(rows: DistanceMatrix, n: usize) -> Indices
 }
 
 // The indices of a block by its matrix, or its refusal.
-pub fn measure(n: usize, bonds: &[u8]) -> IndicesReply
-    ensures { result ≡ said_indices (indices_reply n bonds.now) }
+pub fn measure(n: usize, bonds: &[u8]) -> Result<Indices, Refusal>
+    ensures { result ≡ as_result (indices_reply n bonds.now) }
 {
-    let reply = block::check(n, bonds);
-    match reply {
-        Reply::Refused(refusal) => IndicesReply::Refused(refusal),
-        Reply::Fine => {
-            let mut far = [0u8; ATOMS];
-            let matrix = rows(n, bonds, &mut far);
-            let indices = sums(matrix, n);
-            IndicesReply::Of(indices)
-        }
-    }
+    block::check(n, bonds)?;
+    let mut far = [0u8; ATOMS];
+    let matrix = rows(n, bonds, &mut far);
+    Ok(sums(matrix, n))
 }

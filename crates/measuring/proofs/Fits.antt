@@ -8,16 +8,17 @@ use borrow.Author.Tests.{ltb-false, le-ltb, eqb-true, not-false}
 use lib.Dec.{eqb, ltb}
 use lib.ListN.{length, take, length-append}
 use lib.Seq.{take-append_seam}
-use Rattle.reply.specs.Read.{Read, refused, read, ◌then◌, refuse_if, said_counts, told_counts}
-use Rattle.reply.specs.Chain.{then-read, neither, counts_told, counted_read}
+use Rattle.reply.specs.Read.{Read, refused, read, ◌then◌, refuse_if, as_result, as_read}
+use Rattle.reply.specs.Chain.{then-read, neither, counted_read, read_back}
 use Rattle.reply.specs.declared.Counts.{Counts}
-use Rattle.reply.specs.declared.CountsReply.{CountsReply}
 use Rattle.block.specs.Block.{most_bytes, block_reply}
 use Rattle.block.specs.Index.{indices_reply}
 use Rattle.block.specs.Told.{passed}
 use Rattle.molfile.specs.Molfile.{lines_reply, kept_atoms, bytes_of, file_reply, molfile_reply}
 use Rattle.molfile.specs.Said.{filled_bonds, molfile_bytes}
 use Rattle.measuring.specs.Measuring.{Fits, counted_reply, measure_reply}
+use Rattle.std.specs.Prelude.{Result}
+use Rattle.reply.specs.declared.Refusal.{Refusal}
 
 module _ (n : ℕ) (xs : List ℕ) (fine : block_reply n xs ≡ read tt) where
   pub few : length xs ≤ most_bytes
@@ -33,13 +34,13 @@ pub front_cut : (xs rest : List ℕ) {new : List ℕ} (m : ℕ) → 2 * m ≡ le
 front_cut xs rest m k e = (rw (k, e) (omega (arith, length-append xs rest)), rw (k, e) (take-append_seam xs rest))
 
 -- what is measured of bonds that a reply counted and that stand at the front
-module _ {A : Type 0} (R : Read A) (counts : A → Counts) (bytes : A → List ℕ) (seen : CountsReply) (new : List ℕ) (e : seen ≡ said_counts (R then λ a. read (counts a)))
+module _ {A : Type 0} (R : Read A) (counts : A → Counts) (bytes : A → List ℕ) (seen : Result Counts Refusal) (new : List ℕ) (e : seen ≡ as_result (R then λ a. read (counts a)))
     (cut : (a : A) → R ≡ read a → (2 * (counts a).bonds ≤ length new) × (take (2 * (counts a).bonds) new ≡ bytes a)) where
   pub fits : Fits seen new
   fits c q = let (a, r, n) = counted_read R counts (sym e ∙ q) in rw (← n) (cut a r).0
 
-  pub counted_is : counted_reply (told_counts seen) new ≡ (R then λ a. indices_reply (counts a).atoms (bytes a))
-  counted_is = rw (counts_told seen (R then λ a. read (counts a)) e) (go R cut)
+  pub counted_is : counted_reply (as_read seen) new ≡ (R then λ a. indices_reply (counts a).atoms (bytes a))
+  counted_is = rw (read_back seen (R then λ a. read (counts a)) e) (go R cut)
     where
       go : (Q : Read A) → ((a : A) → Q ≡ read a → (2 * (counts a).bonds ≤ length new) × (take (2 * (counts a).bonds) new ≡ bytes a))
           → counted_reply (Q then λ a. read (counts a)) new ≡ (Q then λ a. indices_reply (counts a).atoms (bytes a))

@@ -10,16 +10,15 @@ use lib.Seq.{sets, take_at, length-take-le}
 use Rattle.graph.specs.Graph.{Bond}
 use Rattle.reply.specs.Read.{Read, refused, read, refusal}
 use Rattle.reply.specs.declared.Refusal.{Refusal}
-use Rattle.reply.specs.declared.CountsReply.{CountsReply}
-use Rattle.reply.specs.declared.CountsReply.TheVariants as counts
 use Rattle.text.proofs.Putting.{at_front}
 use Rattle.molfile.specs.Molfile.{bond_line_count, bond_of_line, dropped_in, new_number, kept_bytes, lines_reply, kept_atoms, bytes_of, fitting_reply, file_reply}
 use Rattle.molfile.specs.Said.{said_answer, said_molfile, said_kept, filled_bonds, file_numbers, kept_numbers}
 use Rattle.molfile.specs.Work.{most}
 use Rattle.molfile.specs.declared.Kept.{Kept}
-use Rattle.molfile.specs.declared.KeptRead.TheVariants as kept
 use Rattle.molfile.proofs.Chains.{lines_parts, counts_few}
 use Rattle.molfile.proofs.Replies.{kept-refused, kept_of}
+use Rattle.std.specs.Prelude.{Result, Ok, Err}
+use Rattle.reply.specs.declared.Counts.{Counts}
 
 -- two numbers a bond at most
 bytes_few : (dropped : ℕ → Bool) (f : ℕ → Bond) (m : ℕ) → length (kept_bytes dropped f m) ≤ 2 * m
@@ -47,7 +46,7 @@ pub record Front (d row : List ℕ) (room : ℕ) (k : Kept) : Type 0 where
   pub taken : length (take k.numbers row) ≡ k.numbers
   pub numbers_are : take k.numbers row ≡ take room (bytes_of d)
 
-pub front : (d zs : List ℕ) {row : List ℕ} {room : ℕ} {k : Kept} → length zs ≡ room → said_kept d (length zs) (lines_reply d) ≡ kept.Of k → row ≡ kept_numbers d zs → Front d row room k
+pub front : (d zs : List ℕ) {row : List ℕ} {room : ℕ} {k : Kept} → length zs ≡ room → said_kept d (length zs) (lines_reply d) ≡ Ok k → row ≡ kept_numbers d zs → Front d row room k
 unfolding filled_bonds
 front d zs {row} {room} {k} e r p =
     let t = kept_of d (length zs) (lines_reply d) r in
@@ -64,38 +63,38 @@ front d zs {row} {room} {k} e r p =
 
 -- the answer for n atoms and bonds, by what a kind of reader refuses of them, and what is lent afterwards
 module _ (kind : ℕ → List ℕ → Read (Unit {0})) where
-  abbrev pub Answers : ℕ → List ℕ → List ℕ → CountsReply → List ℕ → Type 0
+  abbrev pub Answers : ℕ → List ℕ → List ℕ → Result Counts Refusal → List ℕ → Type 0
   Answers n xs out r after = (r ≡ said_answer n xs (fitting_reply kind n xs (length out))) × (after ≡ filled_bonds (fitting_reply kind n xs (length out)) xs out)
 
-  abbrev pub Reads : List ℕ → List ℕ → CountsReply → List ℕ → Type 0
+  abbrev pub Reads : List ℕ → List ℕ → Result Counts Refusal → List ℕ → Type 0
   Reads d out r after = (r ≡ said_molfile d (file_reply kind d (length out))) × (after ≡ file_numbers kind d out)
 
-  pub alike : (out : List ℕ) {n n' : ℕ} {xs ys after : List ℕ} {r : CountsReply} → n ≡ n' → xs ≡ ys → Answers n xs out r after → Answers n' ys out r after
+  pub alike : (out : List ℕ) {n n' : ℕ} {xs ys after : List ℕ} {r : Result Counts Refusal} → n ≡ n' → xs ≡ ys → Answers n xs out r after → Answers n' ys out r after
   alike out e f a = rw (← e, ← f) a
 
-  pub refused_alike : (out : List ℕ) {n : ℕ} {xs ys after : List ℕ} {r : CountsReply} {s : Refusal} → kind n xs ≡ refused s → kind n ys ≡ refused s → Answers n xs out r after → Answers n ys out r after
+  pub refused_alike : (out : List ℕ) {n : ℕ} {xs ys after : List ℕ} {r : Result Counts Refusal} {s : Refusal} → kind n xs ≡ refused s → kind n ys ≡ refused s → Answers n xs out r after → Answers n ys out r after
   unfolding filled_bonds
   refused_alike out e f a = rw f (rw e at a)
 
   module _ (n : ℕ) (xs out : List ℕ) where
-    pub answers_refused : {r : Refusal} → kind n xs ≡ refused r → Answers n xs out (counts.Refused r) out
+    pub answers_refused : {r : Refusal} → kind n xs ≡ refused r → Answers n xs out (Err r) out
     unfolding filled_bonds
     answers_refused e = rw e (refl, refl)
 
-    pub answers_short : kind n xs ≡ read tt → length out < length xs → Answers n xs out (counts.Refused (refusal 9 0)) out
+    pub answers_short : kind n xs ≡ read tt → length out < length xs → Answers n xs out (Err (refusal 9 0)) out
     unfolding filled_bonds
     answers_short e l = rw (e, lt-ltb (length out) (length xs) l) (refl, refl)
 
-    pub answers_fine : {after : List ℕ} → kind n xs ≡ read tt → length xs ≤ length out → after ≡ sets out 0 xs → Answers n xs out (counts.Of (record { atoms = n; bonds = length xs / 2 })) after
+    pub answers_fine : {after : List ℕ} → kind n xs ≡ read tt → length xs ≤ length out → after ≡ sets out 0 xs → Answers n xs out (Ok (record { atoms = n; bonds = length xs / 2 })) after
     unfolding filled_bonds
     answers_fine e l p = rw (e, le-ltb (length out) (length xs) l) (refl, (at_front {before = out} {text = xs} {r = length xs} (record { bytes = p; end = omega arith }) l).1)
 
   -- that for a file is that for what is kept of it
   module _ (d out : List ℕ) where
-    pub reads_refused : (room : ℕ) {r : Refusal} → said_kept d room (lines_reply d) ≡ kept.Refused r → Reads d out (counts.Refused r) out
+    pub reads_refused : (room : ℕ) {r : Refusal} → said_kept d room (lines_reply d) ≡ Err r → Reads d out (Err r) out
     unfolding file_reply filled_bonds
     reads_refused room e = rw (kept-refused d room (lines_reply d) e) (refl, refl)
 
-    pub reads_kept : {r : CountsReply} {after : List ℕ} → lines_reply d ≡ read tt → Answers (kept_atoms d) (bytes_of d) out r after → Reads d out r after
+    pub reads_kept : {r : Result Counts Refusal} {after : List ℕ} → lines_reply d ≡ read tt → Answers (kept_atoms d) (bytes_of d) out r after → Reads d out r after
     unfolding file_reply
     reads_kept e a = rw e a

@@ -11,16 +11,8 @@ use lib.ListN.{length, get_or, take, drop, length-take}
 use lib.Seq.{sets, take_all}
 use Rattle.graph.specs.Graph.{Bond}
 use Rattle.text.specs.Put.{Puts}
-use Rattle.text.proofs.Putting.{none, both, at_front, no_room}
+use Rattle.text.proofs.Putting.{at_front, no_room}
 use Rattle.molfile.specs.Work.{kept_by}
-
--- two numbers are stored, or none
-pub store_none : {out : List ℕ} {j : ℕ} (a b : ℕ) → (eqb a 0 || eqb b 0) ≡ true → Puts out j (cond (eqb a 0 || eqb b 0) [] (a ∷ b ∷ [])) out j
-store_none a b e = rw e none
-
-pub store_both : {out between after : List ℕ} {j k r : ℕ} (a b : ℕ) → (eqb a 0 || eqb b 0) ≡ false → Puts out j (a ∷ []) between k → Puts between k (b ∷ []) after r
-    → Puts out j (cond (eqb a 0 || eqb b 0) [] (a ∷ b ∷ [])) after r
-store_both a b e p q = rw e (both p q)
 
 pub kept_none : (numbers : List ℕ) (f : ℕ → Bond) → kept_by numbers f 0 ≡ []
 unfolding kept_by

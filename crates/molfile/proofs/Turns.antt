@@ -12,33 +12,31 @@ use Rattle.text.specs.Said.{line_at}
 use Rattle.text.specs.declared.Line.{Line}
 use Rattle.molfile.specs.Molfile.{in_turn}
 use Rattle.molfile.specs.Work.{said_line, said_walk, numbers_at, said_numbers}
-use Rattle.molfile.specs.declared.LineRead.TheVariants as line
-use Rattle.molfile.specs.declared.Walk.TheVariants as walk
 use Rattle.molfile.specs.declared.Numbers.{Numbers}
-use Rattle.molfile.specs.declared.NumbersRead.TheVariants as numbers
+use Rattle.std.specs.Prelude.{Ok, Err}
 
 -- what a reply says of the definition
-pub line_refused : (d : List ℕ) (at : ℕ) (m : Read (Unit {0})) {r : Refusal} → said_line d at m ≡ line.Refused r → m ≡ refused r
+pub line_refused : (d : List ℕ) (at : ℕ) (m : Read (Unit {0})) {r : Refusal} → said_line d at m ≡ Err r → m ≡ refused r
 line_refused d at (refused s) e = ap refused (cc)
 line_refused d at (read u) e = let z : ◌≡◌ {A = ℕ} 0 1 = cc in absurd (omega arith)
 
-pub line_read : (d : List ℕ) (at : ℕ) (m : Read (Unit {0})) {l : Line} → said_line d at m ≡ line.Read l → (m ≡ read tt) × (line_at d at ≡ l)
+pub line_read : (d : List ℕ) (at : ℕ) (m : Read (Unit {0})) {l : Line} → said_line d at m ≡ Ok l → (m ≡ read tt) × (line_at d at ≡ l)
 line_read d at (refused s) e = let z : ◌≡◌ {A = ℕ} 0 1 = cc in absurd (omega arith)
 line_read d at (read u) e = (refl, cc)
 
-pub walk_refused : (at : ℕ) (m : Read (Unit {0})) {r : Refusal} → said_walk at m ≡ walk.Refused r → m ≡ refused r
+pub walk_refused : (at : ℕ) (m : Read (Unit {0})) {r : Refusal} → said_walk at m ≡ Err r → m ≡ refused r
 walk_refused at (refused s) e = ap refused (cc)
 walk_refused at (read u) e = let z : ◌≡◌ {A = ℕ} 0 1 = cc in absurd (omega arith)
 
-pub walk-read : (at : ℕ) (m : Read (Unit {0})) {p : ℕ} → said_walk at m ≡ walk.At p → (m ≡ read tt) × (at ≡ p)
+pub walk-read : (at : ℕ) (m : Read (Unit {0})) {p : ℕ} → said_walk at m ≡ Ok p → (m ≡ read tt) × (at ≡ p)
 walk-read at (refused s) e = let z : ◌≡◌ {A = ℕ} 0 1 = cc in absurd (omega arith)
 walk-read at (read u) e = (refl, cc)
 
-pub numbers-refused : (d : List ℕ) (at : ℕ) (m : Read (Unit {0})) {r : Refusal} → said_numbers d at m ≡ numbers.Refused r → m ≡ refused r
+pub numbers-refused : (d : List ℕ) (at : ℕ) (m : Read (Unit {0})) {r : Refusal} → said_numbers d at m ≡ Err r → m ≡ refused r
 numbers-refused d at (refused s) e = ap refused (cc)
 numbers-refused d at (read u) e = let z : ◌≡◌ {A = ℕ} 0 1 = cc in absurd (omega arith)
 
-pub numbers-read : (d : List ℕ) (at : ℕ) (m : Read (Unit {0})) {x : Numbers} → said_numbers d at m ≡ numbers.Read x → (m ≡ read tt) × (numbers_at d at ≡ x)
+pub numbers-read : (d : List ℕ) (at : ℕ) (m : Read (Unit {0})) {x : Numbers} → said_numbers d at m ≡ Ok x → (m ≡ read tt) × (numbers_at d at ≡ x)
 numbers-read d at (refused s) e = let z : ◌≡◌ {A = ℕ} 0 1 = cc in absurd (omega arith)
 numbers-read d at (read u) e = (refl, cc)
 
@@ -72,8 +70,8 @@ module _ (f : ℕ → Read (Unit {0})) where
 
   -- a walk of k lines, where k is the count of the definition
   module _ (place : ℕ → ℕ) (k n : ℕ) (e : k ≡ n) where
-    pub walked : {p : ℕ} → said_walk (place k) (in_turn k f) ≡ walk.At p → (in_turn n f ≡ read tt) × (place n ≡ p)
+    pub walked : {p : ℕ} → said_walk (place k) (in_turn k f) ≡ Ok p → (in_turn n f ≡ read tt) × (place n ≡ p)
     walked w = rw (← e) (walk-read (place k) (in_turn k f) w)
 
-    pub stopped : {r : Refusal} → said_walk (place k) (in_turn k f) ≡ walk.Refused r → in_turn n f ≡ refused r
+    pub stopped : {r : Refusal} → said_walk (place k) (in_turn k f) ≡ Err r → in_turn n f ≡ refused r
     stopped w = rw (← e) (walk_refused (place k) (in_turn k f) w)

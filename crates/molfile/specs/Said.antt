@@ -1,23 +1,23 @@
 -- Definitions. How the code says what a molfile says.
-use Rattle.std.specs.Prelude.{ℕ, ◌/◌, List, ◌++◌, length, take, drop}
-use Rattle.reply.specs.Read.{Read, refused, read, ◌then◌, said_counts}
-use Rattle.reply.specs.declared.CountsReply.{CountsReply}
+use Rattle.std.specs.Prelude.{ℕ, ◌/◌, List, ◌++◌, length, take, drop, Result, Ok, Err}
+use Rattle.reply.specs.Read.{Read, refused, read, ◌then◌, as_result}
 use Rattle.block.specs.Block.{block_reply}
 use Rattle.molfile.specs.Molfile.{lines_reply, kept_atoms, bytes_of, file_reply}
-use Rattle.molfile.specs.declared.KeptRead.{KeptRead}
-use Rattle.molfile.specs.declared.KeptRead.TheVariants as kept
+use Rattle.reply.specs.declared.Refusal.{Refusal}
+use Rattle.reply.specs.declared.Counts.{Counts}
+use Rattle.molfile.specs.declared.Kept.{Kept}
 
 -- so many atoms, and bonds that take these numbers, two each
-abbrev pub said_answer : ℕ → List ℕ → Read (Unit {0}) → CountsReply
-said_answer n xs answer = said_counts (answer then λ _. read (record { atoms = n; bonds = length xs / 2 }))
+abbrev pub said_answer : ℕ → List ℕ → Read (Unit {0}) → Result Counts Refusal
+said_answer n xs answer = as_result (answer then λ _. read (record { atoms = n; bonds = length xs / 2 }))
 
-abbrev pub said_molfile : List ℕ → Read (Unit {0}) → CountsReply
+abbrev pub said_molfile : List ℕ → Read (Unit {0}) → Result Counts Refusal
 said_molfile d = said_answer (kept_atoms d) (bytes_of d)
 
 -- what is kept of a file: so many atoms, and as many numbers of bonds as there is room for
-abbrev pub said_kept : List ℕ → ℕ → Read (Unit {0}) → KeptRead
-said_kept d room (refused r) = kept.Refused r
-said_kept d room (read u) = kept.Of (record { atoms = kept_atoms d; numbers = length (take room (bytes_of d)) })
+abbrev pub said_kept : List ℕ → ℕ → Read (Unit {0}) → Result Kept Refusal
+said_kept d room (refused r) = Err r
+said_kept d room (read u) = Ok (record { atoms = kept_atoms d; numbers = length (take room (bytes_of d)) })
 
 -- what is lent afterwards: the numbers of the kept bonds, and later ones as they were; a refusal changes none
 unfoldable pub filled_bonds : Read (Unit {0}) → List ℕ → List ℕ → List ℕ

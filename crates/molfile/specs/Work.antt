@@ -1,38 +1,34 @@
 -- Work. What the functions over the lists of a file do: the marks of its hydrogens, the ends of its bonds, the weights and new numbers of its atoms.
-use Rattle.std.specs.Prelude.{ℕ, zero, suc, ◌+◌, ◌<◌, Bool, ◌&&◌, ◌||◌, cond, List, [], ◌∷◌, ◌++◌, ◌≡◌, eqb, length, get_or, take, drop}
+use Rattle.std.specs.Prelude.{ℕ, zero, suc, ◌+◌, ◌<◌, Bool, ◌&&◌, ◌||◌, cond, List, [], ◌∷◌, ◌++◌, ◌≡◌, eqb, length, get_or, take, drop, Result, Ok, Err}
 use Rattle.graph.specs.Graph.{Bond, bond, Within}
 use Rattle.reply.specs.Read.{Read, refused, read, ◌then◌}
 use Rattle.text.specs.Text.{next_line}
 use Rattle.text.specs.Said.{line_at}
 use Rattle.molfile.specs.Molfile.{counts_place, atom_line_place, bond_line_place, rest_place, atom_line_count, bond_line_count, ends_of_line, bond_of_line, hydrogen_at, in_turn, header_reply, numbers_reply, atom_reply, bond_reply_of, end_line_reply, new_number, kept_bytes}
-use Rattle.molfile.specs.declared.LineRead.{LineRead}
-use Rattle.molfile.specs.declared.LineRead.TheVariants as line
-use Rattle.molfile.specs.declared.Walk.{Walk}
-use Rattle.molfile.specs.declared.Walk.TheVariants as walk
 use Rattle.molfile.specs.declared.Numbers.{Numbers}
-use Rattle.molfile.specs.declared.NumbersRead.{NumbersRead}
-use Rattle.molfile.specs.declared.NumbersRead.TheVariants as numbers
 use Rattle.molfile.specs.declared.Kept.{Kept}
+use Rattle.reply.specs.declared.Refusal.{Refusal}
+use Rattle.text.specs.declared.Line.{Line}
 
 -- the most atoms or bonds that three digits say
 abbrev pub most : ℕ
 most = 999
 
-abbrev pub said_line : List ℕ → ℕ → Read (Unit {0}) → LineRead
-said_line d at (refused r) = line.Refused r
-said_line d at (read u) = line.Read (line_at d at)
+abbrev pub said_line : List ℕ → ℕ → Read (Unit {0}) → Result Line Refusal
+said_line d at (refused r) = Err r
+said_line d at (read u) = Ok (line_at d at)
 
-abbrev pub said_walk : ℕ → Read (Unit {0}) → Walk
-said_walk at (refused r) = walk.Refused r
-said_walk at (read u) = walk.At at
+abbrev pub said_walk : ℕ → Read (Unit {0}) → Result ℕ Refusal
+said_walk at (refused r) = Err r
+said_walk at (read u) = Ok at
 
 -- two numbers, and where the next line begins
 abbrev pub numbers_at : List ℕ → ℕ → Numbers
 numbers_at d at = record { one = (ends_of_line d at).one; two = (ends_of_line d at).two; next = next_line d at }
 
-abbrev pub said_numbers : List ℕ → ℕ → Read (Unit {0}) → NumbersRead
-said_numbers d at (refused r) = numbers.Refused r
-said_numbers d at (read u) = numbers.Read (numbers_at d at)
+abbrev pub said_numbers : List ℕ → ℕ → Read (Unit {0}) → Result Numbers Refusal
+said_numbers d at (refused r) = Err r
+said_numbers d at (read u) = Ok (numbers_at d at)
 
 -- the header and the counts line
 unfoldable pub counts_reply : List ℕ → Read (Unit {0})
@@ -62,24 +58,24 @@ pub record Ends (d : List ℕ) (m : ℕ) (ones twos : List ℕ) : Type 0 where
   pub two : (k : ℕ) → k < m → get_or twos k 0 ≡ (bond_of_line d k).two
 
 -- the atom lines: where they end, and the marks
-pub record AtomsRead (d : List ℕ) (n : ℕ) (before after : List ℕ) (r : Walk) : Type 0 where
+pub record AtomsRead (d : List ℕ) (n : ℕ) (before after : List ℕ) (r : Result ℕ Refusal) : Type 0 where
   pub reply : r ≡ said_walk (atom_line_place d n) (in_turn n (atom_reply d))
   pub marks : in_turn n (atom_reply d) ≡ read tt → Marks d n after
   pub same : length after ≡ length before
 
-pub record BondsRead (d : List ℕ) (m : ℕ) (ones twos ones' twos' : List ℕ) (r : Walk) : Type 0 where
+pub record BondsRead (d : List ℕ) (m : ℕ) (ones twos ones' twos' : List ℕ) (r : Result ℕ Refusal) : Type 0 where
   pub reply : r ≡ said_walk (bond_line_place d m) (in_turn m (bond_reply_of d))
   pub ends : in_turn m (bond_reply_of d) ≡ read tt → Ends d m ones' twos'
   pub same_one : length ones' ≡ length ones
   pub same_two : length twos' ≡ length twos
 
-pub record RestRead (d ones twos ones' twos' : List ℕ) (r : Walk) : Type 0 where
+pub record RestRead (d ones twos ones' twos' : List ℕ) (r : Result ℕ Refusal) : Type 0 where
   pub reply : r ≡ said_walk (rest_place d) (rest_reply d)
   pub ends : rest_reply d ≡ read tt → Ends d (bond_line_count d) ones' twos'
   pub same_one : length ones' ≡ length ones
   pub same_two : length twos' ≡ length twos
 
-pub record ListsRead (d marks ones twos marks' ones' twos' : List ℕ) (r : Walk) : Type 0 where
+pub record ListsRead (d marks ones twos marks' ones' twos' : List ℕ) (r : Result ℕ Refusal) : Type 0 where
   pub reply : r ≡ said_walk (rest_place d) (lists_reply d)
   pub marks_are : lists_reply d ≡ read tt → Marks d (atom_line_count d) marks'
   pub ends_are : lists_reply d ≡ read tt → Ends d (bond_line_count d) ones' twos'

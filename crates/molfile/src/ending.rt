@@ -4,7 +4,7 @@ ghost use Rattle.reply.specs.Read.{read};
 ghost use Rattle.molfile.specs.Molfile.{counts_place, rest_of};
 ghost use Rattle.molfile.specs.Work.{numbers_at, counts_reply};
 
-use super::{MOST, Numbers, NumbersRead, Walk, counts_line, lists};
+use super::{MOST, Numbers, counts_line, lists};
 
 // Where the bond lines end of a file whose counts line is read.
 fn listed_end(text: &[u8], x: Numbers) -> usize
@@ -16,8 +16,8 @@ fn listed_end(text: &[u8], x: Numbers) -> usize
     let mut twos = [0u16; MOST];
     let passed = lists(text, x, &mut marks, &mut ones, &mut twos);
     match passed {
-        Walk::Refused(_) => text.len(),
-        Walk::At(at) => at,
+        Err(_) => text.len(),
+        Ok(at) => at,
     }
 }
 
@@ -27,7 +27,7 @@ pub fn rest_place(text: &[u8]) -> usize
 {
     let seen = counts_line(text);
     match seen {
-        NumbersRead::Refused(_) => text.len(),
-        NumbersRead::Read(x) => listed_end(text, x),
+        Err(_) => text.len(),
+        Ok(x) => listed_end(text, x),
     }
 }

@@ -13,7 +13,7 @@ ghost use Rattle.molfile.specs.Molfile.{counts_place, atom_line_place, bond_line
 ghost use Rattle.molfile.specs.Said.{said_kept, kept_numbers};
 ghost use Rattle.molfile.specs.Work.{most, mark_of, said_line, said_walk, numbers_at, said_numbers, counts_reply, AtomsRead, BondsRead, RestRead, ListsRead};
 
-use reply::Refusal;
+use reply::{Refusal, Rule};
 use text::{BLANK, Line, NO_NUMBER};
 
 mod dropping;
@@ -22,16 +22,10 @@ mod ending;
 pub use ending::rest_place;
 
 // How many atoms of a molfile are kept, and how many numbers of their bonds, two each, were put.
-#[derive(Drop)]
+#[derive(Clone, Copy, Debug, PartialEq, Eq)]
 pub struct Kept {
     pub atoms: usize,
     pub numbers: usize,
-}
-
-#[derive(Drop)]
-pub enum KeptRead {
-    Refused(Refusal),
-    Of(Kept),
 }
 
 // The most atoms or bonds that three digits say.
@@ -45,20 +39,6 @@ const TWO_NUMBERS: usize = 6;
 
 const ATOM_LINE: usize = 32;
 
-// A line that is due, or its refusal.
-#[derive(Drop)]
-enum LineRead {
-    Refused(Refusal),
-    Read(Line),
-}
-
-// Where the lines end that were read, or the refusal of one.
-#[derive(Drop)]
-enum Walk {
-    Refused(Refusal),
-    At(usize),
-}
-
 // The two numbers that a line begins with, and where the next line begins.
 #[derive(Clone, Copy)]
 struct Numbers {
@@ -67,51 +47,32 @@ struct Numbers {
     pub next: usize,
 }
 
-#[derive(Drop)]
-enum NumbersRead {
-    Refused(Refusal),
-    Read(Numbers),
-}
-
 // The line due at a place: 25 where it is missing or has fewer characters than it needs.
-fn line(d: &[u8], at: usize, least: usize) -> LineRead
+fn line(d: &[u8], at: usize, least: usize) -> Result<Line, Refusal>
     ensures { result ≡ said_line d.now at (line_reply least d.now at) }
 {
     if d.len() <= at {
-        return LineRead::Refused(Refusal {
-            number: 25,
-            place: d.len(),
-        });
+        return Err(Rule::MolfileLine.at(d.len()));
     }
     let seen = text::line_at(d, at);
     if seen.chars < least {
-        return LineRead::Refused(Refusal {
-            number: 25,
-            place: at,
-        });
+        return Err(Rule::MolfileLine.at(at));
     }
-    LineRead::Read(seen)
+    Ok(seen)
 }
 
-// The three header lines.
-fn header(d: &[u8]) -> Walk
+// The header lines.
+const HEADER: usize = 3;
+
+fn header(d: &[u8]) -> Result<usize, Refusal>
     ensures { result ≡ said_walk (counts_place d.now) (in_turn 3 (header_reply d.now)) }
 {
     let mut at = 0;
-    let mut k: usize = 0;
-    while k < 3 {
-        let seen = line(d, at, 0);
-        match seen {
-            LineRead::Refused(r) => {
-                return Walk::Refused(r);
-            }
-            LineRead::Read(l) => {
-                at = l.next;
-            }
-        }
-        k += 1;
+    for _ in 0..HEADER {
+        let l = line(d, at, 0)?;
+        at = l.next;
     }
-    Walk::At(at)
+    Ok(at)
 }
 
 // The number of three characters at a place: 1000 where it is none.
@@ -123,45 +84,31 @@ fn number_at(d: &[u8], at: usize) -> usize
 }
 
 // A line that begins with two numbers: 25, then 26.
-fn two_numbers(d: &[u8], at: usize) -> NumbersRead
+fn two_numbers(d: &[u8], at: usize) -> Result<Numbers, Refusal>
     ensures { result ≡ said_numbers d.now at (numbers_reply d.now at) }
 {
-    let seen = line(d, at, TWO_NUMBERS);
-    match seen {
-        LineRead::Refused(r) => NumbersRead::Refused(r),
-        LineRead::Read(l) => {
-            let one = number_at(d, at);
-            let two = number_at(d, at + 3);
-            if one == NO_NUMBER {
-                return NumbersRead::Refused(Refusal {
-                    number: 26,
-                    place: at,
-                });
-            }
-            if two == NO_NUMBER {
-                return NumbersRead::Refused(Refusal {
-                    number: 26,
-                    place: at,
-                });
-            }
-            NumbersRead::Read(Numbers {
-                one,
-                two,
-                next: l.next,
-            })
-        }
+    let l = line(d, at, TWO_NUMBERS)?;
+    let one = number_at(d, at);
+    let two = number_at(d, at + 3);
+    if one == NO_NUMBER {
+        return Err(Rule::MolfileNumber.at(at));
     }
+    if two == NO_NUMBER {
+        return Err(Rule::MolfileNumber.at(at));
+    }
+    Ok(Numbers {
+        one,
+        two,
+        next: l.next,
+    })
 }
 
 // The header and the counts line.
-fn counts_line(d: &[u8]) -> NumbersRead
+fn counts_line(d: &[u8]) -> Result<Numbers, Refusal>
     ensures { result ≡ said_numbers d.now (counts_place d.now) (counts_reply d.now) }
 {
-    let passed = header(d);
-    match passed {
-        Walk::Refused(r) => NumbersRead::Refused(r),
-        Walk::At(at) => two_numbers(d, at),
-    }
+    let at = header(d)?;
+    two_numbers(d, at)
 }
 
 fn is_h(b: u8) -> bool
@@ -214,115 +161,95 @@ fn mark(d: &[u8], at: usize, chars: usize) -> u8
 }
 
 // The atom lines from a place on, and their marks.
-fn atoms(d: &[u8], from: usize, n: usize, marks: &mut [u8]) -> Walk
+fn atoms(d: &[u8], from: usize, n: usize, marks: &mut [u8]) -> Result<usize, Refusal>
     requires { (from ≡ atom_line_place d.now 0) × (n ≤ length marks.old) }
     ensures { AtomsRead d.now n marks.old marks.new result }
 {
     let mut at = from;
-    let mut i: usize = 0;
-    while i < n {
-        let seen = line(d, at, ATOM_LINE);
-        match seen {
-            LineRead::Refused(r) => {
-                return Walk::Refused(r);
-            }
-            LineRead::Read(l) => {
-                marks[i] = mark(d, at, l.chars);
-                at = l.next;
-            }
-        }
-        i += 1;
+    for i in 0..n {
+        let l = line(d, at, ATOM_LINE)?;
+        marks[i] = mark(d, at, l.chars);
+        at = l.next;
     }
-    Walk::At(at)
+    Ok(at)
 }
 
 // A bond line: 25, 26, then 27.
-fn bond_line(d: &[u8], at: usize, n: usize) -> NumbersRead
+fn bond_line(d: &[u8], at: usize, n: usize) -> Result<Numbers, Refusal>
     ensures { result ≡ said_numbers d.now at (bond_reply n d.now at) }
 {
-    let seen = two_numbers(d, at);
-    match seen {
-        NumbersRead::Refused(r) => NumbersRead::Refused(r),
-        NumbersRead::Read(x) => {
-            if reply::is_outside(n, x.one) {
-                return NumbersRead::Refused(Refusal {
-                    number: 27,
-                    place: at,
-                });
-            }
-            if reply::is_outside(n, x.two) {
-                return NumbersRead::Refused(Refusal {
-                    number: 27,
-                    place: at,
-                });
-            }
-            NumbersRead::Read(x)
-        }
+    let x = two_numbers(d, at)?;
+    if reply::is_outside(n, x.one) {
+        return Err(Rule::MolfileBondEnd.at(at));
     }
+    if reply::is_outside(n, x.two) {
+        return Err(Rule::MolfileBondEnd.at(at));
+    }
+    Ok(x)
 }
 
 // The bond lines from a place on, and their ends.
-fn bonds(d: &[u8], from: usize, n: usize, m: usize, ones: &mut [u16], twos: &mut [u16]) -> Walk
+fn bonds(
+    d: &[u8],
+    from: usize,
+    n: usize,
+    m: usize,
+    ones: &mut [u16],
+    twos: &mut [u16],
+) -> Result<usize, Refusal>
     requires { (from ≡ bond_line_place d.now 0) × (n ≡ atom_line_count d.now) × (n ≤ most) × (m ≤ length ones.old) × (m ≤ length twos.old) }
     ensures { BondsRead d.now m ones.old twos.old ones.new twos.new result }
 {
     let mut at = from;
-    let mut k: usize = 0;
-    while k < m {
-        let seen = bond_line(d, at, n);
-        match seen {
-            NumbersRead::Refused(r) => {
-                return Walk::Refused(r);
-            }
-            NumbersRead::Read(x) => {
-                ones[k] = x.one as u16;
-                twos[k] = x.two as u16;
-                at = x.next;
-            }
-        }
-        k += 1;
+    for k in 0..m {
+        let x = bond_line(d, at, n)?;
+        ones[k] = x.one as u16;
+        twos[k] = x.two as u16;
+        at = x.next;
     }
-    Walk::At(at)
+    Ok(at)
 }
 
 // The bond lines from a place on and their ends, and M  END: 25 to 27, or where the bond lines end.
-fn rest(d: &[u8], from: usize, n: usize, m: usize, ones: &mut [u16], twos: &mut [u16]) -> Walk
+fn rest(
+    d: &[u8],
+    from: usize,
+    n: usize,
+    m: usize,
+    ones: &mut [u16],
+    twos: &mut [u16],
+) -> Result<usize, Refusal>
     requires { (from ≡ bond_line_place d.now 0) × (n ≡ atom_line_count d.now) × (n ≤ most) × (m ≤ length ones.old) × (m ≤ length twos.old)
         × (m ≡ bond_line_count d.now) }
     ensures { RestRead d.now ones.old twos.old ones.new twos.new result }
 {
-    let passed = bonds(d, from, n, m, ones, twos);
-    match passed {
-        Walk::Refused(r) => Walk::Refused(r),
-        Walk::At(at) => {
-            if text::line_starts(d, at, b"M  END") {
-                return Walk::At(at);
-            }
-            let end = d.len();
-            Walk::Refused(Refusal {
-                number: 25,
-                place: end,
-            })
-        }
+    let at = bonds(d, from, n, m, ones, twos)?;
+    if text::line_starts(d, at, b"M  END") {
+        return Ok(at);
     }
+    let end = d.len();
+    Err(Rule::MolfileLine.at(end))
 }
 
 // The lines after the counts: 25 to 27, the marks of the atoms and the ends of the bonds, and where these end.
-fn lists(d: &[u8], x: Numbers, marks: &mut [u8], ones: &mut [u16], twos: &mut [u16]) -> Walk
+fn lists(
+    d: &[u8],
+    x: Numbers,
+    marks: &mut [u8],
+    ones: &mut [u16],
+    twos: &mut [u16],
+) -> Result<usize, Refusal>
     requires { (x ≡ numbers_at d.now (counts_place d.now)) × (x.one ≤ length marks.old) × (x.one ≤ most) × (x.two ≤ length ones.old)
         × (x.two ≤ length twos.old) }
     ensures { ListsRead d.now marks.old ones.old twos.old marks.new ones.new
         twos.new result }
 {
-    let passed = atoms(d, x.next, x.one, marks);
-    match passed {
-        Walk::Refused(r) => Walk::Refused(r),
-        Walk::At(at) => rest(d, at, x.one, x.two, ones, twos),
-    }
+    let at = atoms(d, x.next, x.one, marks)?;
+    rest(d, at, x.one, x.two, ones, twos)
 }
 
 // What is kept of a file whose counts line is read.
-fn listed(text: &[u8], x: Numbers, out: &mut [u16]) -> KeptRead
+fn listed(text: &[u8], x: Numbers, out: &mut [u16]) -> Result<Kept, Refusal>
     requires { (x ≡ numbers_at text.now (counts_place text.now)) × (counts_reply text.now ≡ read tt) }
     ensures reply { result ≡ said_kept text.now (length out.old) (lines_reply text.now) }
     ensures numbers { out.new ≡ kept_numbers text.now out.old }
@@ -330,25 +257,17 @@ fn listed(text: &[u8], x: Numbers, out: &mut [u16]) -> KeptRead
     let mut marks = [0u8; MOST];
     let mut ones = [0u16; MOST];
     let mut twos = [0u16; MOST];
-    let reply = lists(text, x, &mut marks, &mut ones, &mut twos);
-    match reply {
-        Walk::Refused(r) => KeptRead::Refused(r),
-        Walk::At(_) => {
-            let k = dropping::kept(x.one, x.two, &marks, &ones, &twos, out);
-            KeptRead::Of(k)
-        }
-    }
+    lists(text, x, &mut marks, &mut ones, &mut twos)?;
+    let k = dropping::kept(x.one, x.two, &marks, &ones, &twos, out);
+    Ok(k)
 }
 
 // What is kept of a molfile once hydrogens are dropped: how many atoms, and as many numbers of its bonds, two each, as there is room for, at the front of what
 // is lent; later numbers stay. Or it is a refusal, 25 to 27 of its lines in file order, and no number changes.
-pub fn kept_bonds(text: &[u8], out: &mut [u16]) -> KeptRead
+pub fn kept_bonds(text: &[u8], out: &mut [u16]) -> Result<Kept, Refusal>
     ensures reply { result ≡ said_kept text.now (length out.old) (lines_reply text.now) }
     ensures numbers { out.new ≡ kept_numbers text.now out.old }
 {
-    let seen = counts_line(text);
-    match seen {
-        NumbersRead::Refused(r) => KeptRead::Refused(r),
-        NumbersRead::Read(x) => listed(text, x, out),
-    }
+    let x = counts_line(text)?;
+    listed(text, x, out)
 }

@@ -4,13 +4,13 @@
 ghost use Rattle.std.specs.Prelude.{◌≡◌, ◌++◌, length};
 ghost use Rattle.graph.specs.Graph.{bond};
 ghost use Rattle.block.specs.Block.{bonds_of, block_reply};
-ghost use Rattle.reply.specs.Read.{read, said_number};
+ghost use Rattle.reply.specs.Read.{read, as_result};
 ghost use Rattle.text.specs.Text.{ascii};
 ghost use Rattle.text.specs.Put.{Puts};
 ghost use Rattle.molwriter.specs.Written.{molfile_write_reply, written_bytes};
 ghost use Rattle.molwriter.specs.Pieces.{counts_text, atoms_text, bond_text, bonds_text};
 
-use reply::{NumberReply, Refusal, Reply, wide_byte};
+use reply::{Refusal, Rule, wide_byte};
 
 // The bytes of the lines that every file has, of an atom line and of a bond line, line feeds among them.
 const FIXED: usize = 50;
@@ -34,15 +34,13 @@ fn put_atoms(out: &mut [u8], at: usize, n: usize) -> usize
     ensures { Puts out.old at (atoms_text n) out.new result }
 {
     let mut k = at;
-    let mut i: usize = 0;
-    while i < n {
+    for _ in 0..n {
         let next = text::put(
             out,
             k,
             b"    0.0000    0.0000    0.0000 C   0  0  0  0  0  0  0  0  0  0  0  0\n",
         );
         k = next;
-        i += 1;
     }
     k
 }
@@ -62,44 +60,36 @@ fn put_bonds(out: &mut [u8], at: usize, bonds: &[u8]) -> usize
 {
     let m = bonds.len() / 2;
     let mut at_end = at;
-    let mut k: usize = 0;
-    while k < m {
+    for k in 0..m {
         let next = put_bond(out, at_end, bonds[2 * k], bonds[2 * k + 1]);
         at_end = next;
-        k += 1;
     }
     at_end
 }
 
 // The answer for a block that is not refused.
-fn written(n: usize, bonds: &[u8], out: &mut [u8]) -> NumberReply
+fn written(n: usize, bonds: &[u8], out: &mut [u8]) -> Result<u64, Refusal>
     requires { block_reply n bonds.now ≡ read tt }
-    ensures reply { result ≡ said_number (molfile_write_reply n bonds.now (length out.old)) }
+    ensures reply { result ≡ as_result (molfile_write_reply n bonds.now (length out.old)) }
     ensures bytes { out.new ≡ written_bytes n bonds.now out.old }
 {
     let m = bonds.len() / 2;
     if out.len() < FIXED + ATOM * n + BOND * m {
-        return NumberReply::Refused(Refusal {
-            number: 9,
-            place: 0,
-        });
+        return Err(Rule::ShortOutput.at(0));
     }
     let a = put_counts(out, n, m);
     let b = put_atoms(out, a, n);
     let c = put_bonds(out, b, bonds);
     let end = text::put(out, c, b"M  END\n");
-    NumberReply::Of(end as u64)
+    Ok(end as u64)
 }
 
 // Writes a block as a molfile at the front of the lent output and answers how many bytes that takes; later bytes stay. Or it is a refusal, and no byte
 // changes: the block's, then 9 where fewer bytes are lent than the text has.
-pub fn write(n: usize, bonds: &[u8], out: &mut [u8]) -> NumberReply
-    ensures reply { result ≡ said_number (molfile_write_reply n bonds.now (length out.old)) }
+pub fn write(n: usize, bonds: &[u8], out: &mut [u8]) -> Result<u64, Refusal>
+    ensures reply { result ≡ as_result (molfile_write_reply n bonds.now (length out.old)) }
     ensures bytes { out.new ≡ written_bytes n bonds.now out.old }
 {
-    let reply = block::check(n, bonds);
-    match reply {
-        Reply::Refused(r) => NumberReply::Refused(r),
-        Reply::Fine => written(n, bonds, out),
-    }
+    block::check(n, bonds)?;
+    written(n, bonds, out)
 }

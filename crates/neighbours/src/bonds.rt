@@ -1,11 +1,11 @@
 // The bonds of a text.
 ghost use Rattle.std.specs.Prelude.{◌≡◌, true, cond, ◌+◌, ◌≤◌, length};
-ghost use Rattle.reply.specs.Read.{said_reply};
 ghost use Rattle.adjacency.specs.Neighbours.{end, bonds_length};
 ghost use Rattle.adjacency.specs.Work.{steps_at, is_bond, is_high, until, put_one, put_end, BondsPut, Sized, high_reply};
+ghost use Rattle.reply.specs.Read.{as_result};
 
 use super::{Reach, scan};
-use reply::{Refusal, Reply};
+use reply::{Refusal, Rule};
 
 // Whether a number after a label is a bond.
 fn is_bond(label: usize, x: usize) -> bool
@@ -78,25 +78,22 @@ pub(crate) fn fill(text: &[u8], from: usize, n: usize, out: &mut [u8]) -> Reach
 }
 
 // The block's refusals of bonds after which a label above n stands, or none.
-pub(crate) fn judged(n: usize, bonds: &[u8], high: bool) -> Reply
+pub(crate) fn judged(n: usize, bonds: &[u8], high: bool) -> Result<(), Refusal>
     requires { Sized n bonds.now }
-    ensures { result ≡ said_reply (high_reply n bonds.now high) }
+    ensures { result ≡ as_result (high_reply n bonds.now high) }
 {
     let reply = block::check(n, bonds);
     if !high {
         return reply;
     }
-    let here = Reply::Refused(Refusal {
-        number: 3,
-        place: bonds.len() / 2 + 1,
-    });
+    let here = Err(Rule::BondEnd.at(bonds.len() / 2 + 1));
     match reply {
-        Reply::Fine => here,
-        Reply::Refused(refusal) => {
+        Ok(()) => here,
+        Err(refusal) => {
             if refusal.number == 7 {
                 here
             } else {
-                Reply::Refused(refusal)
+                Err(refusal)
             }
         }
     }

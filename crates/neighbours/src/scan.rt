@@ -1,13 +1,12 @@
 // The numbers of a text, and its refusals 21 and 22.
 ghost use Rattle.std.specs.Prelude.{◌≡◌, true, ◌≤◌, ◌<◌, length, get_or};
-ghost use Rattle.reply.specs.Read.{read, ◌then◌};
+ghost use Rattle.reply.specs.Read.{read, ◌then◌, as_result};
 ghost use Rattle.text.specs.Text.{is_digit};
 ghost use Rattle.adjacency.specs.Neighbours.{too_much, grown, is_apart, is_good, fault_at, label_after, is_last, last_reply};
 ghost use Rattle.adjacency.specs.Work.{value_after, start_after, numbers_at, Skipped, Here, Next, shaped_from};
-ghost use Rattle.neighbours.specs.Said.{said_shape};
 
-use super::{Shape, Token, bonds};
-use reply::Refusal;
+use super::{Token, bonds};
+use reply::{Refusal, Rule};
 use text::{digit, is_digit};
 
 // The most that a number may say.
@@ -163,24 +162,21 @@ fn is_last(label: usize, x: usize) -> bool
 }
 
 // Nothing stands after the last 0; k bonds stand before it.
-fn last(text: &[u8], at: usize, k: usize) -> Shape
+fn last(text: &[u8], at: usize, k: usize) -> Result<usize, Refusal>
     requires { at ≤ length text.now }
-    ensures { result ≡ said_shape (last_reply (numbers_at text.now at) then λ _. read k) }
+    ensures { result ≡ as_result (last_reply (numbers_at text.now at) then λ _. read k) }
 {
     let x = number(text, at);
     if text.len() <= x.place {
-        return Shape::Bonds(k);
+        return Ok(k);
     }
-    Shape::Refused(Refusal {
-        number: 22,
-        place: x.place,
-    })
+    Err(Rule::TextEnd.at(x.place))
 }
 
 // The descriptions from a place on, up to the last 0.
-pub(crate) fn shape(text: &[u8], from: usize) -> Shape
+pub(crate) fn shape(text: &[u8], from: usize) -> Result<usize, Refusal>
     requires { from ≤ length text.now }
-    ensures { result ≡ said_shape (shaped_from (length text.now) 0 0 (numbers_at text.now from)) }
+    ensures { result ≡ as_result (shaped_from (length text.now) 0 0 (numbers_at text.now from)) }
 {
     let mut at = from;
     let mut label = 0;
@@ -188,10 +184,7 @@ pub(crate) fn shape(text: &[u8], from: usize) -> Shape
     loop {
         let x = number(text, at);
         if text.len() <= x.place {
-            return Shape::Refused(Refusal {
-                number: 22,
-                place: text.len(),
-            });
+            return Err(Rule::TextEnd.at(text.len()));
         }
         if is_last(label, x.value) {
             return last(text, x.next, k);

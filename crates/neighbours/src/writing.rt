@@ -36,9 +36,7 @@ fn count(near: &Neighbours, n: usize, i: usize) -> usize
     ensures { result ≡ length (greater (joined_in near.now) n i) }
 {
     let mut k = 0;
-    let mut j = 0;
-    while j < n {
-        j += 1;
+    for j in 1..=n {
         k = k + one_if_greater(near, i, j);
     }
     k
@@ -70,9 +68,7 @@ fn neighbours(out: &mut [u8], from: usize, near: &Neighbours, n: usize, i: usize
     ensures { Puts out.old from (listed (greater (joined_in near.now) n i)) out.new result }
 {
     let mut at = from;
-    let mut j = 0;
-    while j < n {
-        j += 1;
+    for j in 1..=n {
         at = neighbour(out, at, near, i, j);
     }
     at
@@ -97,9 +93,7 @@ fn lines(out: &mut [u8], from: usize, near: &Neighbours, n: usize) -> usize
     ensures { Puts out.old from (lines (joined_in near.now) n n) out.new result }
 {
     let mut at = from;
-    let mut i = 0;
-    while i < n {
-        i += 1;
+    for i in 1..=n {
         at = line(out, at, near, n, i);
     }
     at

@@ -5,12 +5,12 @@ use crate::{values, written};
 use half::PAIRS;
 use lines::row::{FAR, Row, STAYS};
 use lines::told;
-use reply::{NumberReply, wide};
-use sets::SetsReply;
+use reply::{Refusal, wide};
+use sets::Sets;
 use shares::BONDS;
 
 // The first entries of a buffer are lent.
-fn contributed(n: usize, bonds: &[u8], out: &mut [u64], lent: usize) -> NumberReply
+fn contributed(n: usize, bonds: &[u8], out: &mut [u64], lent: usize) -> Result<u64, Refusal>
     requires { lent ≤ length out.old }
 {
     shares::contributions(n, bonds, &mut out[..lent])
@@ -39,10 +39,10 @@ fn szeged(letter: u8, n: usize, bonds: &[u8]) -> Row {
 }
 
 // Both numbers of a tree, by the recursion from a root.
-fn sets(reply: SetsReply) -> Row {
+fn sets(reply: Result<Sets, Refusal>) -> Row {
     match reply {
-        SetsReply::Refused(r) => told::refusal(r),
-        SetsReply::Of(x) => told::two(x.bonds, x.atoms),
+        Err(r) => told::refusal(r),
+        Ok(x) => told::two(x.bonds, x.atoms),
     }
 }
 

@@ -38,8 +38,7 @@ fn read_table<R: Print>(rt: &R, text: &[u8]) -> io::Result<Table> {
     let mut at = 0;
     while at < text.len() {
         let end = table::line_end(text, at);
-        let next = after(rt, table, text, records::part(text, at, end - at), at)?;
-        table = next;
+        table = after(rt, table, text, records::part(text, at, end - at), at)?;
         at = end;
     }
     Ok(table)

@@ -1,21 +1,22 @@
 // Of a text: a molfile, a neighbour text or an SDF.
 use lines::row::{FAR, Row, STAYS};
 use lines::told;
-use sdfile::{Step, Value};
+use reply::Refusal;
+use sdfile::{Piece, Span};
 
 // A place; the first byte of the record of an SDF from there, how many it has, and where the next begins; nothing where all are done.
-fn data_record(reply: Step) -> Row {
+fn data_record(reply: Option<Piece>) -> Row {
     match reply {
-        Step::Done => told::nothing(),
-        Step::Next(p) => told::entries(&[p.start as u64, p.len as u64, p.next as u64]),
+        None => told::nothing(),
+        Some(p) => told::entries(&[p.start as u64, p.len as u64, p.next as u64]),
     }
 }
 
 // The first byte of the value of a data item, and how many it has.
-fn item(reply: Value) -> Row {
+fn item(reply: Result<Span, Refusal>) -> Row {
     match reply {
-        Value::Refused(r) => told::refusal(r),
-        Value::At(s) => told::two(s.start as u64, s.len as u64),
+        Err(r) => told::refusal(r),
+        Ok(s) => told::two(s.start as u64, s.len as u64),
     }
 }
 
@@ -25,8 +26,7 @@ const SMALL: usize = 64;
 // The numbers of atoms and bonds of a molfile that is read whole.
 fn whole(text: &[u8]) -> Row {
     let mut out = [STAYS as u16; SMALL];
-    let reply = wholefile::read_whole(text, &mut out);
-    told::counts(reply)
+    told::counts(wholefile::read_whole(text, &mut out))
 }
 
 // The reply to a question, which is known by its first letter.

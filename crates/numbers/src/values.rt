@@ -1,7 +1,7 @@
 // The values of a block's two polynomials.
 use lines::row::Row;
 use lines::told;
-use poly::{Values, ValuesReply};
+use poly::Values;
 
 // What the least f64 above 1 has more.
 const NEXT: f64 = 2.220446049250313e-16;
@@ -34,9 +34,8 @@ fn are(v: Values, row: Row) -> bool {
 
 pub(crate) fn right(letter: u8, n: usize, bonds: &[u8], row: Row) -> bool {
     let x = x_of(letter, row);
-    let reply = poly::polynomial(n, bonds, x);
-    match reply {
-        ValuesReply::Refused(r) => row.says(told::refusal(r)),
-        ValuesReply::Values(v) => are(v, row),
+    match poly::polynomial(n, bonds, x) {
+        Err(r) => row.says(told::refusal(r)),
+        Ok(v) => are(v, row),
     }
 }

@@ -1,24 +1,23 @@
 // A block's molfile and its neighbour text, each read and measured again.
-use block::IndicesReply;
+use block::Indices;
 use lines::row::Row;
 use lines::told;
-use reply::NumberReply;
+use reply::Refusal;
 
 // Room for a text of a small block.
 const TEXT: usize = 1024;
 
 // The text's length is that of the line, and what is measured of it is what is measured of the block.
-fn same(length: u64, again: IndicesReply, n: usize, bonds: &[u8], row: Row) -> bool {
+fn same(length: u64, again: Result<Indices, Refusal>, n: usize, bonds: &[u8], row: Row) -> bool {
     let own = reach::measure(n, bonds);
     row.says(told::one(length)) && told::indices(b'q', own).says(told::indices(b'q', again))
 }
 
 pub(crate) fn molfile(n: usize, bonds: &[u8], row: Row) -> bool {
     let mut text = [0u8; TEXT];
-    let reply = molwriter::write(n, bonds, &mut text);
-    match reply {
-        NumberReply::Refused(r) => row.says(told::refusal(r)),
-        NumberReply::Of(k) => {
+    match molwriter::write(n, bonds, &mut text) {
+        Err(r) => row.says(told::refusal(r)),
+        Ok(k) => {
             let again = measuring::measure(records::part(&text, 0, k as usize));
             same(k, again, n, bonds, row)
         }
@@ -27,10 +26,9 @@ pub(crate) fn molfile(n: usize, bonds: &[u8], row: Row) -> bool {
 
 pub(crate) fn neighbours(n: usize, bonds: &[u8], row: Row) -> bool {
     let mut text = [0u8; TEXT];
-    let reply = neighbours::write(n, bonds, &mut text);
-    match reply {
-        NumberReply::Refused(r) => row.says(told::refusal(r)),
-        NumberReply::Of(k) => {
+    match neighbours::write(n, bonds, &mut text) {
+        Err(r) => row.says(told::refusal(r)),
+        Ok(k) => {
             let again = measuring::measure_neighbours(records::part(&text, 0, k as usize));
             same(k, again, n, bonds, row)
         }

@@ -6,8 +6,6 @@ use Rattle.graph.specs.Graph.{pairs_at}
 use Rattle.reply.specs.Read.{Read, refused, read, ◌then◌, refuse_if}
 use Rattle.block.specs.Block.{most_atoms, graph_of, block_reply}
 use Rattle.poly.specs.declared.Values.{Values}
-use Rattle.poly.specs.declared.ValuesReply.{ValuesReply}
-use Rattle.poly.specs.declared.ValuesReply.TheVariants as answer
 
 -- the floats 0, 1 and 0.5
 abbrev pub zero_f : Float
@@ -53,11 +51,6 @@ polynomial_at n x = refuse_if (unusable x) 10 0 then λ _. read (polynomial_valu
 
 unfoldable pub polynomial_reply : ℕ → List ℕ → Float → Read Values
 polynomial_reply n xs x = block_reply n xs then λ _. polynomial_at (pairs_at (graph_of n xs)) x
-
--- how the code says it
-abbrev pub said_polynomial : Read Values → ValuesReply
-said_polynomial (refused r) = answer.Refused r
-said_polynomial (read v) = answer.Values v
 
 -- n(k) as the code holds it: at place k of a list
 abbrev pub pairs_counted : List ℕ → ℕ → ℕ

@@ -2,23 +2,17 @@
 #![tactic(auto)]
 
 ghost use Rattle.std.specs.Prelude.{◌≡◌};
-ghost use Rattle.poly.specs.Poly.{pairs_counted, value, polynomial_at, polynomial_reply, said_polynomial};
+ghost use Rattle.poly.specs.Poly.{pairs_counted, value, polynomial_at, polynomial_reply};
+ghost use Rattle.reply.specs.Read.{as_result};
 
 use block::ATOMS;
-use reply::{Refusal, Reply};
+use reply::{Refusal, Rule};
 
 // The even and the odd value, kept together.
-#[derive(Drop)]
+#[derive(Clone, Copy, Debug, PartialEq)]
 pub struct Values {
     pub even: f64,
     pub odd: f64,
-}
-
-// The two values, or a refusal.
-#[derive(Drop)]
-pub enum ValuesReply {
-    Values(Values),
-    Refused(Refusal),
 }
 
 const FARTHEST: usize = ATOMS - 1;
@@ -40,31 +34,26 @@ fn value_of(counts: [u16; ATOMS], parity: usize, x: f64) -> f64
     v
 }
 
-fn values_of(counts: [u16; ATOMS], x: f64) -> ValuesReply
-    ensures { result ≡ said_polynomial (polynomial_at (pairs_counted counts) x) }
+fn values_of(counts: [u16; ATOMS], x: f64) -> Result<Values, Refusal>
+    ensures { result ≡ as_result (polynomial_at (pairs_counted counts) x) }
 {
     if x > 0.0 {
         if x <= 1.0 {
             let even = value_of(counts, 0, x);
             let odd = value_of(counts, 1, x);
-            return ValuesReply::Values(Values { even, odd });
+            return Ok(Values { even, odd });
         }
     }
-    ValuesReply::Refused(Refusal {
-        number: 10,
-        place: 0,
-    })
+    Err(Rule::Argument.at(0))
 }
 
 // The polynomial values of a block at x.
-pub fn polynomial(n: usize, bonds: &[u8], x: f64) -> ValuesReply
-    ensures { result ≡ said_polynomial (polynomial_reply n bonds.now x) }
+pub fn polynomial(n: usize, bonds: &[u8], x: f64) -> Result<Values, Refusal>
+    ensures { result ≡ as_result (polynomial_reply n bonds.now x) }
 {
     let pairs = block::pair_counts(n, bonds);
-    let reply = pairs.reply;
-    let counts = pairs.at;
-    match reply {
-        Reply::Refused(r) => ValuesReply::Refused(r),
-        Reply::Fine => values_of(counts, x),
+    match pairs.reply {
+        Err(r) => Err(r),
+        Ok(()) => values_of(pairs.at, x),
     }
 }

@@ -3,12 +3,10 @@ use Prim.Native.Nat.{ℕ}
 use mathlib.Core.List.{List}
 use mathlib.Core.Path.{◌≡◌, sym, ◌∙◌, ap, ap₂}
 use borrow.Author.Tests.{eq-eqb, ne_eqb}
-use Rattle.reply.specs.Read.{Read, said_reply}
-use Rattle.reply.specs.declared.Reply.{Reply}
+use Rattle.reply.specs.Read.{Read, as_result}
 use Rattle.block.specs.declared.Indices.{Indices}
 use Rattle.records.specs.declared.Sheet.{Sheet}
 use Rattle.judging.specs.Judging.{said_sheet_written, sheet_out}
-use Rattle.judging.specs.declared.SheetWritten.{SheetWritten}
 use Rattle.queues.specs.declared.Queue.{Queue}
 use Rattle.queues.specs.declared.Queue.TheVariants.{Day, Night}
 use Rattle.calls.specs.Convention.{coded, reply_code}
@@ -16,6 +14,8 @@ use Rattle.deck_calls.specs.Replies.{written_code}
 use Rattle.queue_calls.specs.TwoQueues.{queue_for}
 use Rattle.calls.proofs.Laws.{reply_coded}
 use Rattle.deck_calls.proofs.Laws.{written_coded}
+use Rattle.std.specs.Prelude.{Result}
+use Rattle.reply.specs.declared.Refusal.{Refusal}
 
 pub queue_day : (which : ℕ) → which ≡ 0 → Day ≡ queue_for which
 queue_day which e = rw (eq-eqb which 0 e)
@@ -25,12 +25,12 @@ queue_night which e = rw (ne_eqb which 0 e)
 
 -- a reply about a queue that is called by a number, and the table that is left
 module _ (told : Queue → Read (Unit {0})) (left : Queue → List ℕ) where
-  pub queue_coded : {x : ℕ} (a : Reply) (q p : Queue) (t : List ℕ) → q ≡ p → x ≡ reply_code a → (a ≡ said_reply (told q)) × (t ≡ left q) → (x ≡ coded (told p)) × (t ≡ left p)
-  queue_coded a q p t s e f = (e ∙ reply_coded a (told p) (f.0 ∙ ap (λ (y : Queue). said_reply (told y)) s), f.1 ∙ ap left s)
+  pub queue_coded : {x : ℕ} (a : Result (Unit {0}) Refusal) (q p : Queue) (t : List ℕ) → q ≡ p → x ≡ reply_code a → (a ≡ as_result (told q)) × (t ≡ left q) → (x ≡ coded (told p)) × (t ≡ left p)
+  queue_coded a q p t s e f = (e ∙ reply_coded a (told p) (f.0 ∙ ap (λ (y : Queue). as_result (told y)) s), f.1 ∙ ap left s)
 
 -- a sheet over what a queue that is called by a number holds
 module _ (told : Queue → Sheet → Read Indices) (old : List ℕ) where
-  pub sheet_coded : {x : ℕ} (w : SheetWritten) (q p : Queue) (s k : Sheet) (out : List ℕ) → q ≡ p → s ≡ k → x ≡ written_code w → (w ≡ said_sheet_written (told q s)) × (out ≡ sheet_out s old (told q s)) → (x ≡ coded (told p k)) × (out ≡ sheet_out k old (told p k))
+  pub sheet_coded : {x : ℕ} (w : Result (Unit {0}) Refusal) (q p : Queue) (s k : Sheet) (out : List ℕ) → q ≡ p → s ≡ k → x ≡ written_code w → (w ≡ said_sheet_written (told q s)) × (out ≡ sheet_out s old (told q s)) → (x ≡ coded (told p k)) × (out ≡ sheet_out k old (told p k))
   sheet_coded w q p s k out e f g h = (
     g ∙ written_coded w (told p k) (h.0 ∙ ap₂ (λ (y : Queue) (z : Sheet). said_sheet_written (told y z)) e f),
     h.1 ∙ ap₂ (λ (y : Queue) (z : Sheet). sheet_out z old (told y z)) e f,

@@ -8,9 +8,8 @@ use native.Mathlib.Omega.{arith}
 use lib.Dec.{eqb}
 use lib.ListN.{length, take, drop}
 use lib.Seq.{sets}
-use Rattle.reply.specs.Read.{Read, refused, read, refusal, ◌then◌, refuse_if, said_reply}
+use Rattle.reply.specs.Read.{Read, refused, read, refusal, ◌then◌, refuse_if, as_result}
 use Rattle.reply.specs.declared.Refusal.{Refusal}
-use Rattle.reply.specs.declared.Reply.{Reply}
 use Rattle.block.specs.Block.{block_reply}
 use Rattle.filling.specs.Reply.{fill_reply, fill_bytes}
 use Rattle.filling.proofs.Places.{place_told, place_stays, place_puts}
@@ -21,6 +20,7 @@ use Rattle.queues.specs.declared.Queue.{Queue}
 use Rattle.summary.specs.Layout.{summary_bytes}
 use Rattle.queues.specs.Queues.{stored_block}
 use Rattle.queues.specs.Work.{first_of, filled_in}
+use Rattle.std.specs.Prelude.{Result}
 
 module _ (s : List ℕ) (x : ℕ) where
   pub held_is : (k : ℕ) (b : Bool) → b ≡ is_held x k → k ≡ place_holding summary_bytes s x → holds summary_bytes s x ≡ b
@@ -146,8 +146,8 @@ module _ (s : List ℕ) (x n : ℕ) (bs : List ℕ) (k : ℕ) (e : k ≡ place_h
   fits : summary_bytes * k + summary_bytes ≤ length s
   fits = omega (arith, size, l)
 
-  pub lent_reply : (r : Reply) → r ≡ said_reply (fill_reply n bs (length (take (summary_bytes * k + summary_bytes - summary_bytes * k) (drop (summary_bytes * k) s)))) → r ≡ said_reply (block_reply n bs)
-  lent_reply r q = q ∙ ap said_reply (place_told s k fits x n bs)
+  pub lent_reply : (r : Result (Unit {0}) Refusal) → r ≡ as_result (fill_reply n bs (length (take (summary_bytes * k + summary_bytes - summary_bytes * k) (drop (summary_bytes * k) s)))) → r ≡ as_result (block_reply n bs)
+  lent_reply r q = q ∙ ap as_result (place_told s k fits x n bs)
 
   pub lent_bytes : (new : List ℕ) → new ≡ fill_bytes x n bs (take (summary_bytes * k + summary_bytes - summary_bytes * k) (drop (summary_bytes * k) s))
       → take (summary_bytes * k) s ++ (new ++ drop (summary_bytes * k + summary_bytes - summary_bytes * k) (drop (summary_bytes * k) s)) ≡ filled_in s x n bs

@@ -4,18 +4,17 @@
 mod places;
 
 ghost use Rattle.std.specs.Prelude.{◌≡◌, ◌≤◌};
-ghost use Rattle.reply.specs.Read.{said_reply};
 ghost use Rattle.queues.specs.Table.{shelf_bytes, shelf_start, table_reply, emptied};
-ghost use Rattle.block.specs.Index.{said_indices};
 ghost use Rattle.summary.specs.Layout.{summary_bytes};
 ghost use Rattle.queues.specs.Queues.{add_told, table_added, look_told, drop_told, table_dropped, compose_told};
+ghost use Rattle.reply.specs.Read.{as_result};
 
-use block::IndicesReply;
+use block::Indices;
 use places::{SHELF, add_to, clear, drop_from, look_in};
-use reply::{Refusal, Reply, refused};
+use reply::{Refusal, Rule};
 
 // Whose call it is.
-#[derive(Drop)]
+#[derive(Clone, Copy, Debug, PartialEq, Eq)]
 pub enum Queue {
     Day,
     Night,
@@ -35,24 +34,30 @@ fn start_of(queue: Queue) -> usize
 }
 
 // Makes the table empty.
-pub fn empty(table: &mut [u8]) -> Reply
-    ensures reply { result ≡ said_reply (table_reply summary_bytes table.old) }
+pub fn empty(table: &mut [u8]) -> Result<(), Refusal>
+    ensures reply { result ≡ as_result (table_reply summary_bytes table.old) }
     ensures bytes { table.new ≡ emptied summary_bytes table.old }
 {
     if table.len() < TABLE {
-        return refused(9);
+        return Err(Rule::ShortOutput.at(0));
     }
     clear(table);
-    Reply::Fine
+    Ok(())
 }
 
 // Adds a block under a number to what a queue holds.
-pub fn add(table: &mut [u8], queue: Queue, number: u16, n: usize, bonds: &[u8]) -> Reply
-    ensures reply { result ≡ said_reply (add_told table.old queue number n bonds.now) }
+pub fn add(
+    table: &mut [u8],
+    queue: Queue,
+    number: u16,
+    n: usize,
+    bonds: &[u8],
+) -> Result<(), Refusal>
+    ensures reply { result ≡ as_result (add_told table.old queue number n bonds.now) }
     ensures bytes { table.new ≡ table_added table.old queue number n bonds.now }
 {
     if table.len() < TABLE {
-        return refused(9);
+        return Err(Rule::ShortOutput.at(0));
     }
     let start = start_of(queue);
     let end = start + SHELF;
@@ -60,14 +65,11 @@ pub fn add(table: &mut [u8], queue: Queue, number: u16, n: usize, bonds: &[u8]) 
 }
 
 // The six fields of the block that a queue holds under a number.
-pub fn look(table: &[u8], queue: Queue, number: u16) -> IndicesReply
-    ensures { result ≡ said_indices (look_told table.now queue number) }
+pub fn look(table: &[u8], queue: Queue, number: u16) -> Result<Indices, Refusal>
+    ensures { result ≡ as_result (look_told table.now queue number) }
 {
     if table.len() < TABLE {
-        return IndicesReply::Refused(Refusal {
-            number: 9,
-            place: 0,
-        });
+        return Err(Rule::ShortOutput.at(0));
     }
     let start = start_of(queue);
     let end = start + SHELF;
@@ -75,12 +77,12 @@ pub fn look(table: &[u8], queue: Queue, number: u16) -> IndicesReply
 }
 
 // Drops the block that a queue holds under a number.
-pub fn drop(table: &mut [u8], queue: Queue, number: u16) -> Reply
-    ensures reply { result ≡ said_reply (drop_told table.old queue number) }
+pub fn drop(table: &mut [u8], queue: Queue, number: u16) -> Result<(), Refusal>
+    ensures reply { result ≡ as_result (drop_told table.old queue number) }
     ensures bytes { table.new ≡ table_dropped table.old queue number }
 {
     if table.len() < TABLE {
-        return refused(9);
+        return Err(Rule::ShortOutput.at(0));
     }
     let start = start_of(queue);
     let end = start + SHELF;
@@ -88,14 +90,11 @@ pub fn drop(table: &mut [u8], queue: Queue, number: u16) -> Reply
 }
 
 // The six fields that an assembly's payload makes of the blocks that a queue holds, or its refusal, 15 to 19, 23 or 24, at the placement's number.
-pub fn compose(table: &[u8], queue: Queue, xs: &[u8]) -> IndicesReply
-    ensures { result ≡ said_indices (compose_told table.now queue xs.now) }
+pub fn compose(table: &[u8], queue: Queue, xs: &[u8]) -> Result<Indices, Refusal>
+    ensures { result ≡ as_result (compose_told table.now queue xs.now) }
 {
     if table.len() < TABLE {
-        return IndicesReply::Refused(Refusal {
-            number: 9,
-            place: 0,
-        });
+        return Err(Rule::ShortOutput.at(0));
     }
     let start = start_of(queue);
     let end = start + SHELF;

@@ -1,8 +1,7 @@
 // A shelf: one queue's eight places, a summary each. A place is empty where its number is 0.
 ghost use Rattle.std.specs.Prelude.{◌≡◌, ◌+◌, ◌≤◌, ◌<◌, length};
 ghost use Rattle.std.proofs.lemmas.List.Edits.{sets};
-ghost use Rattle.reply.specs.Read.{refusal, said_reply};
-ghost use Rattle.block.specs.Index.{said_indices};
+ghost use Rattle.reply.specs.Read.{refusal, as_result};
 ghost use Rattle.summary.specs.Layout.{summary_bytes, stored_fields};
 ghost use Rattle.block.specs.Block.{block_reply};
 ghost use Rattle.queues.specs.Shelf.{places, is_held, place_holding, zero_number, room_reply, add_reply, added, look_reply, drop_reply, dropped};
@@ -11,10 +10,10 @@ ghost use Rattle.queues.specs.Queues.{stored_block};
 ghost use Rattle.queues.specs.Work.{first_of, filled_in};
 
 use super::TABLE;
-use block::IndicesReply;
+use block::Indices;
 use filling::fill;
 use records::le16_at;
-use reply::{Refusal, Reply, refused};
+use reply::{Refusal, Rule};
 use summary::SUMMARY;
 
 pub(crate) const PLACES: usize = 8;
@@ -25,12 +24,10 @@ pub(crate) const SHELF: usize = SUMMARY * PLACES;
 pub(crate) fn place_of(s: &[u8], number: u16) -> usize
     ensures { (result ≡ place_holding summary_bytes s.now number) × (result ≤ places) }
 {
-    let mut k = 0;
-    while k < PLACES {
+    for k in 0..PLACES {
         if le16_at(s, SUMMARY * k) == number {
             return k;
         }
-        k += 1;
     }
     PLACES
 }
@@ -43,37 +40,34 @@ pub(crate) fn is_held(number: u16, k: usize) -> bool
 }
 
 // Refusals 14, 29 and 28 of a number that is to be added, where k is the first empty place.
-pub(crate) fn room_reply(s: &[u8], number: u16, k: usize) -> Reply
+pub(crate) fn room_reply(s: &[u8], number: u16, k: usize) -> Result<(), Refusal>
     requires { k ≡ place_holding summary_bytes s.now 0 }
-    ensures { result ≡ said_reply (room_reply summary_bytes s.now number) }
+    ensures { result ≡ as_result (room_reply summary_bytes s.now number) }
 {
     if number == 0 {
-        return refused(14);
+        return Err(Rule::BlockNumber.at(0));
     }
     if is_held(number, place_of(s, number)) {
-        return refused(29);
+        return Err(Rule::QueueHolds.at(0));
     }
     if k < PLACES {
-        return Reply::Fine;
+        return Ok(());
     }
-    refused(28)
+    Err(Rule::QueueFull.at(0))
 }
 
 // The reply to a block whose number is refused: its own refusal comes first.
-fn not_added(n: usize, bonds: &[u8], room: Refusal) -> Reply
-    ensures { result ≡ said_reply (first_of (block_reply n bonds.now) room) }
+fn not_added(n: usize, bonds: &[u8], room: Refusal) -> Result<(), Refusal>
+    ensures { result ≡ as_result (first_of (block_reply n bonds.now) room) }
 {
-    let reply = block::check(n, bonds);
-    match reply {
-        Reply::Refused(refusal) => Reply::Refused(refusal),
-        Reply::Fine => Reply::Refused(room),
-    }
+    block::check(n, bonds)?;
+    Err(room)
 }
 
 // Fills the first empty place, k.
-fn fill_in(s: &mut [u8], k: usize, number: u16, n: usize, bonds: &[u8]) -> Reply
+fn fill_in(s: &mut [u8], k: usize, number: u16, n: usize, bonds: &[u8]) -> Result<(), Refusal>
     requires { (length s.old ≡ shelf_bytes summary_bytes) × (k ≡ place_holding summary_bytes s.old 0) × (k < places) }
-    ensures reply { result ≡ said_reply (block_reply n bonds.now) }
+    ensures reply { result ≡ as_result (block_reply n bonds.now) }
     ensures bytes { s.new ≡ filled_in s.old number n bonds.now }
 {
     let start = SUMMARY * k;
@@ -82,35 +76,31 @@ fn fill_in(s: &mut [u8], k: usize, number: u16, n: usize, bonds: &[u8]) -> Reply
 }
 
 // Adds a block under a number.
-pub(crate) fn add_to(s: &mut [u8], number: u16, n: usize, bonds: &[u8]) -> Reply
+pub(crate) fn add_to(s: &mut [u8], number: u16, n: usize, bonds: &[u8]) -> Result<(), Refusal>
     requires { length s.old ≡ shelf_bytes summary_bytes }
-    ensures reply { result ≡ said_reply (add_reply summary_bytes s.old number (block_reply n bonds.now)) }
+    ensures reply { result ≡ as_result (add_reply summary_bytes s.old number (block_reply n bonds.now)) }
     ensures bytes { s.new ≡ added summary_bytes s.old number (block_reply n bonds.now)
         (stored_block number n bonds.now) }
 {
     let k = place_of(s, 0);
-    let room = room_reply(s, number, k);
-    match room {
-        Reply::Refused(refusal) => not_added(n, bonds, refusal),
-        Reply::Fine => fill_in(s, k, number, n, bonds),
+    match room_reply(s, number, k) {
+        Err(refusal) => not_added(n, bonds, refusal),
+        Ok(()) => fill_in(s, k, number, n, bonds),
     }
 }
 
 // The fields of the block that has a number.
-pub(crate) fn look_in(s: &[u8], number: u16) -> IndicesReply
+pub(crate) fn look_in(s: &[u8], number: u16) -> Result<Indices, Refusal>
     requires { length s.now ≡ shelf_bytes summary_bytes }
-    ensures { result ≡ said_indices (look_reply summary_bytes s.now stored_fields number) }
+    ensures { result ≡ as_result (look_reply summary_bytes s.now stored_fields number) }
 {
     let k = place_of(s, number);
     if !is_held(number, k) {
-        return IndicesReply::Refused(Refusal {
-            number: 30,
-            place: 0,
-        });
+        return Err(Rule::QueueLacks.at(0));
     }
     let start = SUMMARY * k;
     let end = start + SUMMARY;
-    IndicesReply::Of(summary::fields(&s[start..end]))
+    Ok(summary::fields(&s[start..end]))
 }
 
 // Sets the number at a place to 0.
@@ -123,17 +113,17 @@ fn free(s: &mut [u8], at: usize)
 }
 
 // Drops the block that has a number.
-pub(crate) fn drop_from(s: &mut [u8], number: u16) -> Reply
+pub(crate) fn drop_from(s: &mut [u8], number: u16) -> Result<(), Refusal>
     requires { length s.old ≡ shelf_bytes summary_bytes }
-    ensures reply { result ≡ said_reply (drop_reply summary_bytes s.old number) }
+    ensures reply { result ≡ as_result (drop_reply summary_bytes s.old number) }
     ensures bytes { s.new ≡ dropped summary_bytes s.old number }
 {
     let k = place_of(s, number);
     if !is_held(number, k) {
-        return refused(30);
+        return Err(Rule::QueueLacks.at(0));
     }
     free(s, SUMMARY * k);
-    Reply::Fine
+    Ok(())
 }
 
 // Sets the bytes of the table to 0.
@@ -141,9 +131,7 @@ pub(crate) fn clear(t: &mut [u8])
     requires { table_bytes summary_bytes ≤ length t.old }
     ensures { t.new ≡ zeroed summary_bytes t.old }
 {
-    let mut k = 0;
-    while k < TABLE {
+    for k in 0..TABLE {
         t[k] = 0;
-        k += 1;
     }
 }

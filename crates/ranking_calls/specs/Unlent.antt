@@ -1,10 +1,8 @@
 -- Laws. What is said where no number is lent for how many are held; and by what the library says. Assumes nothing.
-use Rattle.std.specs.Prelude.{ℕ, ◌≤◌, ◌<◌, Bool, true, false, List, [], ◌∷◌, ◌≡◌, refl, length, get_or}
+use Rattle.std.specs.Prelude.{ℕ, ◌≤◌, ◌<◌, Bool, true, false, List, [], ◌∷◌, ◌≡◌, refl, length, get_or, Result, Ok, Err}
 use Rattle.std.proofs.Common.{sym, ◌∙◌, ap, arith, eq-eqb, ne_eqb}
-use Rattle.reply.specs.Read.{Read, refused, read, is_outside, told_number}
+use Rattle.reply.specs.Read.{Read, refused, read, is_outside, as_read}
 use Rattle.reply.specs.declared.Refusal.{Refusal}
-use Rattle.reply.specs.declared.NumberReply.{NumberReply}
-use Rattle.reply.specs.declared.NumberReply.TheVariants as counted
 use Rattle.catalogue.specs.Library.{Library, library_reply}
 use Rattle.library.specs.Values.{most_fields, values_reply, said_values}
 use Rattle.placing.specs.Ranked.{Entry}
@@ -20,11 +18,11 @@ pub wants_greatest_lem : (g : ℕ) → (g ≡ 0 → ⊥) → true ≡ wants_grea
 wants_greatest_lem g e = rw (ne_eqb g 0 e)
 
 -- what the values' reply tells
-pub values_refused : (x : Read (List ℕ)) (q : Refusal) → said_values x ≡ counted.Refused q → code q ≡ coded (then_nine x)
+pub values_refused : (x : Read (List ℕ)) (q : Refusal) → said_values x ≡ Err q → code q ≡ coded (then_nine x)
 values_refused (refused r) q e = let f : r ≡ q = cc in ap code (sym f)
 values_refused (read l) q e = absurd (let z : ◌≡◌ {A = ℕ} 0 1 = cc in omega arith)
 
-pub values_of : (x : Read (List ℕ)) (n : ℕ) → said_values x ≡ counted.Of n → 9 ≡ coded (then_nine x)
+pub values_of : (x : Read (List ℕ)) (n : ℕ) → said_values x ≡ Ok n → 9 ≡ coded (then_nine x)
 values_of (refused r) n e = absurd (let z : ◌≡◌ {A = ℕ} 0 1 = cc in omega arith)
 values_of (read l) n e = refl
 
@@ -56,21 +54,21 @@ module _ (d : List ℕ) (field greatest tag : ℕ) (best : List ℕ) where
   }
   ranks_lacking (x ∷ xs) h r e = absurd (omega arith)
 
-  said_held : (x : Read (List Entry)) (held : List ℕ) → (coded (told_number (said_best x)) ≡ coded x) × (out_after (number_list (told_number (said_best x))) held ≡ held_out x held)
+  said_held : (x : Read (List Entry)) (held : List ℕ) → (coded (as_read (said_best x)) ≡ coded x) × (out_after (number_list (as_read (said_best x))) held ≡ held_out x held)
   said_held (refused r) held = (refl, refl)
   said_held (read l) held = (refl, refl)
 
-  pub ranks_told : (held : List ℕ) → 1 ≤ length held → (g : Bool) → g ≡ wants_greatest greatest → (told : NumberReply) (r : ℕ) (best' held' : List ℕ)
+  pub ranks_told : (held : List ℕ) → 1 ≤ length held → (g : Bool) → g ≡ wants_greatest greatest → (told : Result ℕ Refusal) (r : ℕ) (best' held' : List ℕ)
       → told ≡ said_best (best_reply d field g tag best (get_or held 0 0)) → best' ≡ best_out best (best_reply d field g tag best (get_or held 0 0))
-      → Lent (number_list (told_number told)) held r held' → Ranks (best_for d field greatest tag best held) best held r best' held'
+      → Lent (number_list (as_read told)) held r held' → Ranks (best_for d field greatest tag best held) best held r best' held'
   ranks_told [] h g w told r best' held' e f l = absurd (omega arith)
   ranks_told (y ∷ held) h g w told r best' held' e f l =
       let same : best_reply d field g tag best y ≡ best_reply d field (wants_greatest greatest) tag best y = ap (λ (b : Bool). best_reply d field b tag best y) w in
       let x = best_reply d field g tag best y in
-      let (p, q) = number_fits (told_number told) h l in
+      let (p, q) = number_fits (as_read told) h l in
       let (s, t) = said_held x (y ∷ held) in
       record {
-        replied = p ∙ ap (λ (t : NumberReply). coded (told_number t)) e ∙ s ∙ ap coded same;
+        replied = p ∙ ap (λ (t : Result ℕ Refusal). coded (as_read t)) e ∙ s ∙ ap coded same;
         entries = f ∙ ap (best_out best) same;
-        many = q ∙ ap (λ (t : NumberReply). out_after (number_list (told_number t)) (y ∷ held)) e ∙ t ∙ ap (λ (z : Read (List Entry)). held_out z (y ∷ held)) same;
+        many = q ∙ ap (λ (t : Result ℕ Refusal). out_after (number_list (as_read t)) (y ∷ held)) e ∙ t ∙ ap (λ (z : Read (List Entry)). held_out z (y ∷ held)) same;
       }

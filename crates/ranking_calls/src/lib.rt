@@ -8,7 +8,6 @@ ghost use Rattle.ranking_calls.specs.Ranks.{wants_greatest, best_for, Ranks};
 
 use calls::{code_of, give_number};
 use library::values;
-use reply::NumberReply;
 
 // Whether the greatest are wanted: any number but 0 says so.
 fn wants(greatest: usize) -> bool
@@ -27,8 +26,8 @@ fn unlent(deck: &[u8], field: usize) -> u64
     let mut none = [0u64; 1];
     let told = values(deck, field, 0, &mut none);
     match told {
-        NumberReply::Refused(r) => code_of(r),
-        NumberReply::Of(_) => 9,
+        Err(r) => code_of(r),
+        Ok(_) => 9,
     }
 }
 

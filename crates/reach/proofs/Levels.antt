@@ -15,20 +15,20 @@ use Rattle.graph.specs.Bounds.{tame_odd, tame_at}
 use Rattle.graph.specs.Parts.{parts_of}
 use Rattle.graph.specs.Connected.{connected_molecule}
 use Rattle.graph.specs.Sums.{sum_pairs_add, sum_pairs_cong}
-use Rattle.reply.specs.Read.{read, refusal}
+use Rattle.reply.specs.Read.{read, refusal, as_result}
 use Rattle.reply.specs.declared.Refusal.{Refusal}
 use Rattle.block.specs.Block.{most_atoms, graph_of, drawn_reply}
-use Rattle.block.specs.Index.{indices_of, indices_reply, said_indices}
+use Rattle.block.specs.Index.{indices_of, indices_reply}
 use Rattle.block.specs.Opened.{neighbours_of}
 use Rattle.block.specs.Told.{block_drawn, drawn_atoms, drawn_sound}
 use Rattle.block.specs.declared.Indices.{Indices}
-use Rattle.block.specs.declared.IndicesReply.TheVariants.{Of, Refused}
 use Rattle.reach.specs.Reach.{WithNeighbours, Reach, Inner, Spread, of_level, AllNext, LowSums, Room, Added, Reached, LevelsUpTo, first_level, up_to, farther_of, halved}
 use Rattle.reach.specs.declared.Both.{Both}
 use Rattle.reach.proofs.Beginning.{first_below, first_deep, reach_first, up_first, first_wanting}
 use Rattle.reach.proofs.Meeting.{next_all}
 use Rattle.reach.proofs.Spreading.{reach_inner}
 use Rattle.reach.proofs.Summing.{up_next, up_most, up_more, up_all, all_met, met_all, deeper, apart, room, all_connected, last_is, one_farther, count_reach}
+use Rattle.std.specs.Prelude.{Result, Ok, Err}
 
 pub record Level (n : ℕ) (xs : List ℕ) (k : ℕ) (near sets reached : List ℕ) (s : Both) (met d : ℕ) : Type 0 where
   pub reach : Reach (graph_of n xs) d near
@@ -107,7 +107,7 @@ module _ (n : ℕ) (xs : List ℕ) (drawn : drawn_reply n xs ≡ read tt) where
         fits = omega (arith, here, up_most g each (suc d) 1 (λ x l. omega arith), mul-le-mul few.high few.high)
 
         -- nothing was added
-        pub stuck : met' ≡ met → Refused (refusal 7 0) ≡ said_indices (indices_reply n xs)
+        pub stuck : met' ≡ met → Err (refusal 7 0) ≡ as_result (indices_reply n xs)
         unfolding indices_reply
         stuck e = rw (block_drawn n xs, drawn, apart g sound d (omega (arith, here, L.upto.met_is)) (omega (arith, L.upto.met_is)))
 
@@ -187,18 +187,18 @@ module _ (n : ℕ) (xs : List ℕ) (drawn : drawn_reply n xs ≡ read tt) where
     pub odd_less : s.odd / 2 ≤ s.all / 2
     odd_less = omega (arith, all_twice, odd_twice, parts)
 
-    pub level_end : Of (halved n s d) ≡ said_indices (indices_reply n xs)
+    pub level_end : Ok (halved n s d) ≡ as_result (indices_reply n xs)
     unfolding indices_reply indices_of
     level_end =
         let v : s.all / 2 - s.odd / 2 ≡ total g even_of = omega (arith, all_twice, odd_twice, parts) in
-        rw (block_drawn n xs, drawn, linked) (λ k. Of (record { atoms = n; w = all_twice k; even = v k; odd = odd_twice k; polarity = threes_twice k; largest = sym largest_last k }))
+        rw (block_drawn n xs, drawn, linked) (λ k. Ok (record { atoms = n; w = all_twice k; even = v k; odd = odd_twice k; polarity = threes_twice k; largest = sym largest_last k }))
 
 -- a reply with indices is no refusal, and has one largest distance
-pub not_of : {r : Refusal} {x : Indices} → Refused r ≡ Of x → ⊥
+pub not_of : {r : Refusal} {x : Indices} → ◌≡◌ {A = Result Indices Refusal} (Err r) (Ok x) → ⊥
 not_of e = let z : ◌≡◌ {A = ℕ} 0 1 = cc in omega arith
 
-pub of_reached : {g : Graph} {own k : ℕ} {reached : List ℕ} (y x : Indices) → Of y ≡ Of x → Reached g own k y.largest reached → Reached g own k x.largest reached
+pub of_reached : {g : Graph} {own k : ℕ} {reached : List ℕ} (y x : Indices) → ◌≡◌ {A = Result Indices Refusal} (Ok y) (Ok x) → Reached g own k y.largest reached → Reached g own k x.largest reached
 of_reached {g} {own} {k} {reached} y x e R = subst (λ (d : ℕ). Reached g own k d reached) (same y x e) R
   where
-    same : (y x : Indices) → Of y ≡ Of x → y.largest ≡ x.largest
+    same : (y x : Indices) → ◌≡◌ {A = Result Indices Refusal} (Ok y) (Ok x) → y.largest ≡ x.largest
     same y x e = cc

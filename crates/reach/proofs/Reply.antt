@@ -13,22 +13,22 @@ use Rattle.graph.specs.Graph.{Graph, Within, vertex_sum}
 use Rattle.graph.specs.Farthest.{largest}
 use Rattle.graph.specs.Largest.{largest_over, largest_below}
 use Rattle.half.specs.Half.{table}
-use Rattle.reply.specs.Read.{refused, read}
+use Rattle.reply.specs.Read.{refused, read, as_result}
 use Rattle.reply.specs.declared.Refusal.{Refusal}
 use Rattle.block.specs.Block.{most_atoms, graph_of, drawn_reply, block_reply}
-use Rattle.block.specs.Index.{indices_of, indices_reply, said_indices}
+use Rattle.block.specs.Index.{indices_of, indices_reply}
 use Rattle.block.specs.Near.{around}
 use Rattle.block.specs.Tables.{length-table, get_or-table}
 use Rattle.block.specs.Told.{few_atoms, molecule, drawn_refused}
 use Rattle.block.specs.declared.Indices.{Indices}
-use Rattle.block.specs.declared.IndicesReply.TheVariants as measured
 use Rattle.reach.specs.Reach.{first_level, Left, Reached}
 use Rattle.reach.specs.Sums.{vertex_sums_of}
 use Rattle.reach.proofs.Summing.{all_wanting}
+use Rattle.std.specs.Prelude.{Err}
 
 module _ (n : ℕ) (xs : List ℕ) where
   -- 1 to 6
-  pub refused_reply : (r : Refusal) → drawn_reply n xs ≡ refused r → measured.Refused r ≡ said_indices (indices_reply n xs)
+  pub refused_reply : (r : Refusal) → drawn_reply n xs ≡ refused r → Err r ≡ as_result (indices_reply n xs)
   unfolding indices_reply
   refused_reply r e = rw (drawn_refused n xs r e)
 

@@ -10,17 +10,17 @@
 ghost use Rattle.std.specs.Prelude.{◌≡◌, ℕ, ◌+◌, ◌*◌, ◌/◌, ◌≤◌, ◌<◌, length, get_or, true};
 ghost use Rattle.std.specs.Int.Count.{ones};
 ghost use Rattle.graph.specs.Graph.{Within, sum, odd_of};
-ghost use Rattle.reply.specs.Read.{read, said_reply};
+ghost use Rattle.reply.specs.Read.{read, as_result};
 ghost use Rattle.block.specs.Block.{most_atoms, graph_of, drawn_reply, block_reply};
-ghost use Rattle.block.specs.Index.{indices_reply, said_indices};
+ghost use Rattle.block.specs.Index.{indices_reply};
 ghost use Rattle.block.specs.Near.{around};
 ghost use Rattle.block.specs.Opened.{neighbours_of, drawn_near};
 ghost use Rattle.block.specs.Rows.{lent_row};
 ghost use Rattle.reach.specs.Sums.{sums_reply};
 ghost use Rattle.reach.specs.Reach.{WithNeighbours, Spread, Fit, Low, together_in, few_atoms, low, of_level, AllMeet, AllNext, exchanged, LowSums, first_level, farther_of, halved, Room, Added, Left, Reached};
 
-use block::{ATOMS, Indices, IndicesReply, Neighbours, first_atoms, size};
-use reply::{Refusal, Reply};
+use block::{ATOMS, Indices, Neighbours, first_atoms, size};
+use reply::{Refusal, Rule};
 
 // A set of atoms for each atom: that of atom v at v - 1.
 type Sets = [u64; ATOMS];
@@ -31,7 +31,7 @@ const FEW: usize = 16;
 const SIDE: u64 = 65536;
 
 // What the distances of all ordered pairs add up to: all of them and the odd ones; and how many are 3.
-#[derive(Drop)]
+#[derive(Clone, Copy)]
 struct Both {
     pub all: u64,
     pub odd: u64,
@@ -43,12 +43,10 @@ fn with_neighbours(near: &Neighbours, n: usize, odd: &mut [u64], even: &mut [u64
     requires { (n ≤ most_atoms) × (n ≤ length odd.old) × (n ≤ length even.old) }
     ensures { WithNeighbours n near.now odd.new × WithNeighbours n near.now even.new }
 {
-    let mut i = 0;
-    while i < n {
+    for i in 0..n {
         let set = near[i] | 1u64 << i;
         odd[i] = set;
         even[i] = set;
-        i += 1;
     }
 }
 
@@ -83,11 +81,9 @@ fn by_fours(sets: &[u64], q: usize) -> u64
     ensures { (Low (4 * q) sets.now → result ≡ together_in sets.now (4 * q)) × (result ≤ most_atoms * most_atoms) }
 {
     let mut met: u64 = 0;
-    let mut k = 0;
-    while k < q {
+    for k in 0..q {
         let i = 4 * k;
         met += size_of_four(sets[i], sets[i + 1], sets[i + 2], sets[i + 3]);
-        k += 1;
     }
     met
 }
@@ -98,11 +94,9 @@ fn one_by_one(sets: &[u64], from: usize, n: usize) -> u64
     ensures { (together_in sets.now from + result ≡ together_in sets.now n) × (result ≤ most_atoms * most_atoms) }
 {
     let mut met: u64 = 0;
-    let mut i = from;
-    while i < n {
+    for i in from..n {
         let atoms = size(sets[i]);
         met += atoms;
-        i += 1;
     }
     met
 }
@@ -131,12 +125,10 @@ fn spread(near: &[u64], n: usize, bonds: &[u8], sets: &mut [u64]) -> u64
 {
     let m = bonds.len() / 2;
     let half = m - m / 2;
-    let mut k = 0;
-    while k < half {
+    for k in 0..half {
         let j = k + m / 2;
         exchange(near, bonds[2 * k], bonds[2 * k + 1], sets);
         exchange(near, bonds[2 * j], bonds[2 * j + 1], sets);
-        k += 1;
     }
     together(sets, n)
 }
@@ -166,11 +158,9 @@ fn count(sets: &Sets, k: usize, reached: &mut [u64])
     requires { (k ≤ most_atoms) × (k ≤ length reached.old) × Room k reached.old }
     ensures { Added k sets.now reached.old reached.new }
 {
-    let mut i = 0;
-    while i < k {
+    for i in 0..k {
         let atoms = size(sets[i]);
         reached[i] = reached[i] + atoms;
-        i += 1;
     }
 }
 
@@ -214,25 +204,23 @@ fn all_next(near: &Sets, drawn: &Neighbours, n: usize) -> bool
     ensures { result ≡ true → AllNext n near.now drawn.now }
 {
     let all = first_atoms(n);
-    let mut i = 0;
-    while i < n {
+    for i in 0..n {
         if !all_meet(near, drawn[i], all ^ near[i]) {
             return false;
         }
-        i += 1;
     }
     true
 }
 
 // The indices of n atoms of which none are more than d bonds apart.
-fn finished(n: usize, s: Both, d: u64) -> IndicesReply
+fn finished(n: usize, s: Both, d: u64) -> Result<Indices, Refusal>
     requires { s.odd / 2 ≤ s.all / 2 }
-    ensures { result ≡ IndicesReply.Of (halved n s d) }
+    ensures { result ≡ Ok (halved n s d) }
 {
     let w = s.all / 2;
     let odd = s.odd / 2;
     let even = w - odd;
-    IndicesReply::Of(Indices {
+    Ok(Indices {
         atoms: n as u64,
         w,
         even,
@@ -246,11 +234,17 @@ fn finished(n: usize, s: Both, d: u64) -> IndicesReply
 // apart as the bonds have ends, a byte each: the first level needs no counting; and where no more pairs are left than atoms, the last level needs no
 // spreading. And lent, 0 before, for each of the first k atoms, how many atoms were within its reach, all levels from the first to the one before the
 // last together.
-fn summed(n: usize, bonds: &[u8], drawn: &Neighbours, k: usize, reached: &mut [u64]) -> IndicesReply
+fn summed(
+    n: usize,
+    bonds: &[u8],
+    drawn: &Neighbours,
+    k: usize,
+    reached: &mut [u64],
+) -> Result<Indices, Refusal>
     requires { (drawn_reply n bonds.now ≡ read tt) × (drawn.now ≡ neighbours_of (graph_of n bonds.now)) × (k ≤ n) × (k ≤ length reached.old)
         × ((p : ℕ) → get_or reached.old p 0 ≡ 0) }
-    ensures reply { result ≡ said_indices (indices_reply n bonds.now) }
-    ensures reached { (x : Indices) → result ≡ IndicesReply.Of x → Reached (graph_of n bonds.now) (first_level bonds.now) k x.largest reached.new }
+    ensures reply { result ≡ as_result (indices_reply n bonds.now) }
+    ensures reached { (x : Indices) → result ≡ Ok x → Reached (graph_of n bonds.now) (first_level bonds.now) k x.largest reached.new }
 {
     let pairs = n as u64 * n as u64;
     let ends = bonds.len() as u64;
@@ -272,10 +266,7 @@ fn summed(n: usize, bonds: &[u8], drawn: &Neighbours, k: usize, reached: &mut [u
         }
         let more = next_level(d, n, bonds, &mut odd, &mut even);
         if more == met {
-            return IndicesReply::Refused(Refusal {
-                number: 7,
-                place: 0,
-            });
+            return Err(Rule::NoPath.at(0));
         }
         d += 1;
         s = farther(s, d, more - met);
@@ -285,23 +276,18 @@ fn summed(n: usize, bonds: &[u8], drawn: &Neighbours, k: usize, reached: &mut [u
 }
 
 // The indices of a block, its bonds read once, or its refusal; and lent what `block::drawn` says: its neighbours, where 1 to 6 do not refuse it.
-pub fn opened(n: usize, bonds: &[u8], near: &mut Neighbours) -> IndicesReply
-    ensures reply { result ≡ said_indices (indices_reply n bonds.now) }
+pub fn opened(n: usize, bonds: &[u8], near: &mut Neighbours) -> Result<Indices, Refusal>
+    ensures reply { result ≡ as_result (indices_reply n bonds.now) }
     ensures near { near.new ≡ drawn_near n bonds.now }
 {
-    let reply = block::drawn(n, bonds, near);
-    match reply {
-        Reply::Refused(refusal) => IndicesReply::Refused(refusal),
-        Reply::Fine => {
-            let mut none = [0u64; 0];
-            summed(n, bonds, near, 0, &mut none)
-        }
-    }
+    block::drawn(n, bonds, near)?;
+    let mut none = [0u64; 0];
+    summed(n, bonds, near, 0, &mut none)
 }
 
 // The indices of a block, or its refusal.
-pub fn measure(n: usize, bonds: &[u8]) -> IndicesReply
-    ensures { result ≡ said_indices (indices_reply n bonds.now) }
+pub fn measure(n: usize, bonds: &[u8]) -> Result<Indices, Refusal>
+    ensures { result ≡ as_result (indices_reply n bonds.now) }
 {
     let mut near = [0u64; ATOMS];
     opened(n, bonds, &mut near)
@@ -314,33 +300,27 @@ fn left(n: usize, levels: u64, own: u64, sums: &mut [u64])
     ensures { Left n levels own sums.old sums.new }
 {
     let all = n as u64 * levels;
-    let mut i = 0;
-    while i < n {
+    for i in 0..n {
         sums[i] = all - (own + sums[i]);
-        i += 1;
     }
 }
 
 // The reply to a block, and in what is lent the vertex sum of each atom, that of atom v at v - 1; all is 0 beyond the atoms, and where it is refused.
-pub fn vertex_sums(n: usize, bonds: &[u8], sums: &mut [u64; ATOMS]) -> Reply
-    ensures reply { result ≡ said_reply (block_reply n bonds.now) }
+pub fn vertex_sums(n: usize, bonds: &[u8], sums: &mut [u64; ATOMS]) -> Result<(), Refusal>
+    ensures reply { result ≡ as_result (block_reply n bonds.now) }
     ensures sums { sums.new ≡ lent_row (sums_reply n bonds.now) }
 {
     *sums = [0u64; ATOMS];
     let mut near = [0u64; ATOMS];
-    let reply = block::drawn(n, bonds, &mut near);
-    let Reply::Fine = reply else {
-        return reply;
-    };
-    let answer = summed(n, bonds, &near, n, sums);
-    match answer {
-        IndicesReply::Refused(refusal) => {
+    block::drawn(n, bonds, &mut near)?;
+    match summed(n, bonds, &near, n, sums) {
+        Err(refusal) => {
             *sums = [0u64; ATOMS];
-            Reply::Refused(refusal)
+            Err(refusal)
         }
-        IndicesReply::Of(indices) => {
+        Ok(indices) => {
             left(n, indices.largest, first(bonds), sums);
-            reply
+            Ok(())
         }
     }
 }

@@ -4,19 +4,19 @@
 mod little;
 
 ghost use Rattle.std.specs.Prelude.{not, ◌≡◌, [], ◌∷◌, ◌+◌, ◌≤◌, eqb, length};
-ghost use Rattle.reply.specs.Read.{said_reply};
 ghost use Rattle.records.specs.Bytes.{byte_at, le16, PartOf};
 ghost use Rattle.records.specs.Records.{head_bytes, length_at, sheet_kind, sheet_at, wanted, is_wrong, length_reply, record_reply};
+ghost use Rattle.reply.specs.Read.{as_result};
 
 pub use little::{little_at, put_little};
-use reply::{Refusal, Reply};
+use reply::{Refusal, Rule};
 
 // The bytes of a record's head: payload length and kind.
 pub const HEAD: usize = 4;
 
 // A kind of record: its number, the bytes of payload that hold its counts, where in the payload the count of its items stands, the bytes of an item, and
 // whether it is loose: it has no such items, and who reads it says where its payload ends.
-#[derive(Clone, Copy)]
+#[derive(Clone, Copy, Debug, PartialEq, Eq)]
 pub struct Kind {
     pub number: u16,
     pub fixed: u16,
@@ -59,7 +59,7 @@ pub const SHEET_OF_SIX: Kind = Kind {
 };
 
 // A sheet has five fields or six.
-#[derive(Clone, Copy)]
+#[derive(Clone, Copy, Debug, PartialEq, Eq)]
 pub enum Sheet {
     Five,
     Six,
@@ -138,34 +138,25 @@ fn is_wrong(d: &[u8], at: usize, k: Kind) -> bool
 }
 
 // Refusal 13 of the record at a place, which is of a kind.
-fn length_reply(d: &[u8], at: usize, k: Kind) -> Reply
+fn length_reply(d: &[u8], at: usize, k: Kind) -> Result<(), Refusal>
     requires { at + head_bytes ≤ length d.now }
-    ensures { result ≡ said_reply (length_reply k d.now at) }
+    ensures { result ≡ as_result (length_reply k d.now at) }
 {
     if is_wrong(d, at, k) {
-        return Reply::Refused(Refusal {
-            number: 13,
-            place: at,
-        });
+        return Err(Rule::PayloadLength.at(at));
     }
-    Reply::Fine
+    Ok(())
 }
 
 // Refusals 11, 12 and 13 of the record at a place where two kinds may stand.
-pub fn record_at(d: &[u8], at: usize, a: Kind, b: Kind) -> Reply
-    ensures { result ≡ said_reply (record_reply (a ∷ b ∷ []) d.now at) }
+pub fn record_at(d: &[u8], at: usize, a: Kind, b: Kind) -> Result<(), Refusal>
+    ensures { result ≡ as_result (record_reply (a ∷ b ∷ []) d.now at) }
 {
     if d.len() < at {
-        return Reply::Refused(Refusal {
-            number: 11,
-            place: at,
-        });
+        return Err(Rule::RecordCut.at(at));
     }
     if d.len() - at < HEAD + (le16_at(d, at) as usize) {
-        return Reply::Refused(Refusal {
-            number: 11,
-            place: at,
-        });
+        return Err(Rule::RecordCut.at(at));
     }
     let kind = le16_at(d, at + 2);
     if kind == a.number {
@@ -174,10 +165,7 @@ pub fn record_at(d: &[u8], at: usize, a: Kind, b: Kind) -> Reply
     if kind == b.number {
         return length_reply(d, at, b);
     }
-    Reply::Refused(Refusal {
-        number: 12,
-        place: at,
-    })
+    Err(Rule::RecordKind.at(at))
 }
 
 // Which of the two a sheet's record at a place is.

@@ -1,5 +1,5 @@
 -- Laws. Two decks listed another way: their sheets of either kind have the same fields, either's sheet is accepted behind the other, and any sheet is told the same behind both. Assumes nothing.
-use Rattle.std.specs.Prelude.{ℕ, ◌+◌, ◌≤◌, List, ◌++◌, ◌↔◌, ◌≡◌, length, take, drop}
+use Rattle.std.specs.Prelude.{ℕ, ◌+◌, ◌≤◌, List, ◌++◌, ◌↔◌, ◌≡◌, length, take, drop, Ok}
 use Rattle.std.proofs.Common.{sym, ◌∙◌, ap, subst, take-append-drop}
 use Rattle.std.proofs.Math.Path.{ap₂}
 use native.Mathlib.Omega.{arith}
@@ -25,7 +25,6 @@ use Rattle.judging.specs.Judging.{judge_reply, said_verdict, sheet_write_reply, 
 use Rattle.judging.specs.Headline.{accepted_exactly}
 use Rattle.judging.specs.Theorems.{written_accepted}
 use Rattle.judging.specs.declared.Verdict.TheVariants.{Accepted}
-use Rattle.judging.specs.declared.SheetWritten.TheVariants as written
 use Rattle.renumbered.specs.Renumbered.{Renumbered, RelistedDecks}
 use Rattle.renumbered.specs.Shorter.{without_sheet, without_molecule, sheet_behind}
 use Rattle.renumbered.proofs.Distances.{reversed, same_indices}
@@ -92,7 +91,7 @@ module _ {c d : List ℕ} (r : RelistedDecks Composed Composed c d) where
       → said_verdict (judge_reply (d ++ take (sheet_bytes kind) (sheet_out kind out (sheet_write_reply kind c (length out))))) ≡ Accepted
   behind_other kind out n = rw (same_writing kind (length out)) (written_accepted kind d out told)
     where
-      told : said_sheet_written (sheet_write_reply kind d (length out)) ≡ written.Sheet
+      told : said_sheet_written (sheet_write_reply kind d (length out)) ≡ Ok tt
       told =
           unfold sheet_write_reply fields_reply in rw (le-ltb longest_deck (length d) (omega (arith, composed_short d r.second r.two)), le-ltb (length out) (sheet_bytes kind) n, r.two)
 

@@ -1,13 +1,7 @@
 -- Definitions. An answer that is a refusal or a value. A refusing definition is a chain of such answers, in the order of the rules.
-use Rattle.std.specs.Prelude.{ℕ, zero, suc, Bool, true, false, ◌||◌, eqb, ltb}
+use Rattle.std.specs.Prelude.{ℕ, zero, suc, Bool, true, false, ◌||◌, eqb, ltb, Result, Ok, Err}
 use Rattle.reply.specs.declared.Refusal.{Refusal}
-use Rattle.reply.specs.declared.Reply.{Reply}
-use Rattle.reply.specs.declared.Reply.TheVariants.{Fine, Refused}
-use Rattle.reply.specs.declared.NumberReply.{NumberReply}
-use Rattle.reply.specs.declared.NumberReply.TheVariants as number
 use Rattle.reply.specs.declared.Counts.{Counts}
-use Rattle.reply.specs.declared.CountsReply.{CountsReply}
-use Rattle.reply.specs.declared.CountsReply.TheVariants as counts
 
 abbrev pub refusal : ℕ → ℕ → Refusal
 refusal n p = record { number = n; place = p }
@@ -41,25 +35,11 @@ if_else false f g = g tt
 abbrev pub is_outside : ℕ → ℕ → Bool
 is_outside n v = eqb v 0 || ltb n v
 
--- how the code says a refusal or none
-abbrev pub said_reply : Read (Unit {0}) → Reply
-said_reply (refused r) = Refused r
-said_reply (read u) = Fine
+-- how the code says an answer; and what was said
+abbrev pub as_result : {A : Type 0} → Read A → Result A Refusal
+as_result (refused r) = Err r
+as_result (read a) = Ok a
 
--- how it says a refusal or a number; and what was said
-abbrev pub said_number : Read ℕ → NumberReply
-said_number (refused r) = number.Refused r
-said_number (read n) = number.Of n
-
-abbrev pub told_number : NumberReply → Read ℕ
-told_number (number.Refused r) = refused r
-told_number (number.Of n) = read n
-
--- the same of how many atoms and bonds there are
-abbrev pub said_counts : Read Counts → CountsReply
-said_counts (refused r) = counts.Refused r
-said_counts (read c) = counts.Of c
-
-abbrev pub told_counts : CountsReply → Read Counts
-told_counts (counts.Refused r) = refused r
-told_counts (counts.Of c) = read c
+abbrev pub as_read : {A : Type 0} → Result A Refusal → Read A
+as_read (Err r) = refused r
+as_read (Ok a) = read a

@@ -1,48 +1,32 @@
-// What every part of the library answers with: fine, a number, how many atoms and bonds there are, or a refusal. And what all of them do with small numbers.
+//! What every part of the library answers with: a value, or a refusal. And what all of them do with small numbers.
 #![tactic(auto)]
 
-ghost use Rattle.std.specs.Prelude.{◌≡◌, ◌≤◌, max};
+mod rule;
+
+ghost use Rattle.std.specs.Prelude.{◌≡◌, ◌≤◌, max, Err};
 ghost use Rattle.reply.specs.Read.{refusal, is_outside};
 
+pub use rule::Rule;
+
 // What is wrong, by the number of the rules' table, and where.
-#[derive(Clone, Copy)]
+#[derive(Clone, Copy, Debug, PartialEq, Eq)]
 pub struct Refusal {
     pub number: usize,
     pub place: usize,
 }
 
-// Fine, or refused.
-#[derive(Clone, Copy)]
-pub enum Reply {
-    Fine,
-    Refused(Refusal),
-}
-
-// A number, or refused.
-#[derive(Drop)]
-pub enum NumberReply {
-    Refused(Refusal),
-    Of(u64),
-}
-
-// How many atoms and bonds a molecule has; that, or refused.
-#[derive(Drop)]
+// How many atoms and bonds a molecule has.
+#[derive(Clone, Copy, Debug, PartialEq, Eq)]
 pub struct Counts {
     pub atoms: usize,
     pub bonds: usize,
 }
 
-#[derive(Drop)]
-pub enum CountsReply {
-    Refused(Refusal),
-    Of(Counts),
-}
-
 // A refusal at place 0.
-pub fn refused(number: usize) -> Reply
-    ensures { result ≡ Reply.Refused (refusal number 0) }
+pub fn refused(number: usize) -> Result<(), Refusal>
+    ensures { result ≡ Err (refusal number 0) }
 {
-    Reply::Refused(Refusal { number, place: 0 })
+    Err(Refusal { number, place: 0 })
 }
 
 // Whether v is none of the numbers 1 to n.

@@ -17,7 +17,8 @@ use Rattle.deck.specs.Sized.{one_molecule}
 use Rattle.deck.specs.declared.Form.TheVariants.{Composed}
 use Rattle.graph.proofs.MatchedLaws.{same_size}
 use Rattle.renumbered.specs.Renumbered.{Renumbered}
-use Rattle.matched.specs.Matched.{partners, partner, is_lost, is_loose, carried, is_unlisted, first_atom, first_bond, match_place, yes, match_answer, match_reply}
+use Rattle.matched.specs.Matched.{partners, partner, is_lost, is_loose, carried, is_unlisted, first_atom, first_bond, match_place, match_answer, match_reply}
+use Rattle.matched.specs.declared.Match.TheVariants.{Same}
 use Rattle.matched.specs.Laws.{first_no}
 use Rattle.same_molecule.specs.Yes.{atom_no}
 
@@ -87,7 +88,7 @@ module _ (g h : Graph) (to : List ℕ) (s : Sound g) (m : Molecule h) (r : Renum
       let k = carried_in to g.bonds (p.back b.one) (p.back b.two) (r.brought b.one b.two j) in
       ap not (ap₂ (any_joins (carried to g.bonds)) (sym e) (sym f) ∙ k)
 
-  pub yes_where : match_answer g h to ≡ yes
+  pub yes_where : match_answer g h to ≡ Same
   unfolding match_answer match_place bonded
   yes_where =
       rw (
@@ -100,7 +101,7 @@ module _ (g h : Graph) (to : List ℕ) (s : Sound g) (m : Molecule h) (r : Renum
 -- THE CONVERSE
 pub renumbered_matched : (d : List ℕ) (atoms : ℕ) (bonds matching : List ℕ) (k : Deck) → deck_reply Composed d ≡ read k → 2 * atoms ≤ length matching → Sound (graph_of atoms bonds)
     → (r : Renumbered (graph_of atoms bonds) (molecule_of d k)) → ((v : ℕ) → Within atoms v → r.numbers.to v ≡ partner (partners d k matching atoms) v)
-    → match_reply d atoms bonds matching ≡ read yes
+    → match_reply d atoms bonds matching ≡ read Same
 unfolding match_reply
 renumbered_matched d atoms bonds matching k e l s r same =
     rw (e, le-ltb (length matching) (2 * atoms) l) (ap read (yes_where (graph_of atoms bonds) (molecule_of d k) (partners d k matching atoms) s (one_molecule Composed d k e) r same))

@@ -1,6 +1,6 @@
 -- Laws. AFTER A YES the deck's molecule and the listed one differ only in the numbering of their atoms: so the deck's sheet has the fields of the listed molecule, and a
 -- claimed sheet behind the deck is accepted exactly where it claims those. Assumes nothing.
-use Rattle.std.specs.Prelude.{ℕ, zero, suc, ◌+◌, ◌-◌, ◌≤◌, ◌<◌, Bool, true, false, ◌||◌, List, ◌++◌, ◌↔◌, ◌≡◌, refl}
+use Rattle.std.specs.Prelude.{ℕ, zero, suc, ◌+◌, ◌-◌, ◌≤◌, ◌<◌, Bool, true, false, ◌||◌, List, ◌++◌, ◌↔◌, ◌≡◌, refl, Ok}
 use Rattle.std.proofs.Math.Bool.{not}
 use Rattle.std.proofs.lemmas.Bool.{false≢true}
 use Rattle.std.proofs.Math.Logic.{⊎_elim}
@@ -12,7 +12,7 @@ use Rattle.std.proofs.Math.Dec.{eqb}
 use Rattle.std.proofs.Math.ListN.{length}
 use Rattle.graph.specs.Graph.{Bond, Graph, Walk, Within, Molecule, bonded, any_atom}
 use Rattle.graph.specs.Bonds.{first_of, second_of, bonded_sym}
-use Rattle.reply.specs.Read.{Read, refused, read, is_outside}
+use Rattle.reply.specs.Read.{Read, refused, read, is_outside, as_result}
 use Rattle.reply.specs.Chain.{neither}
 use Rattle.block.specs.Block.{graph_of}
 use Rattle.block.specs.Faults.{inside}
@@ -30,9 +30,9 @@ use Rattle.judging.specs.declared.Verdict.TheVariants.{Accepted}
 use Rattle.renumbered.specs.Renumbered.{Renumbered}
 use Rattle.renumbered.proofs.Distances.{reversed, walk_to, same_indices}
 use Rattle.renumbered.proofs.DecksLaws.{behind_exactly}
-use Rattle.matched.specs.Matched.{partners, partner, is_lost, is_loose, is_unlisted, first_atom, first_bond, Answer, yes, no, match_reply}
-use Rattle.matched.specs.Said.{said_match}
-use Rattle.matched.specs.declared.MatchReply.TheVariants as told
+use Rattle.matched.specs.Matched.{partners, partner, is_lost, is_loose, is_unlisted, first_atom, first_bond, match_reply}
+use Rattle.matched.specs.declared.Match.{Match}
+use Rattle.matched.specs.declared.Match.TheVariants as told
 use Rattle.same_molecule.specs.Paired.{back_in, paired}
 use Rattle.same_molecule.specs.Yes.{yes-read, answer_yes, places_none, none_passes, passing, uncarried, partner_within}
 
@@ -44,10 +44,10 @@ any_in (suc n) p u w e =
     ⊎_elim (λ q. second_of (p (suc n)) (any_atom n p) (any_in n p u (record { low = w.low; high = q }) e)) (λ q. first_of (p (suc n)) (any_atom n p) (sym (ap p q) ∙ e)) (le-suc_iff.0 w.high)
 
 -- what a reply of the code says of the definition
-said_yes : (R : Read Answer) → said_match R ≡ told.Yes → R ≡ read yes
+said_yes : (R : Read Match) → as_result R ≡ Ok told.Same → R ≡ read told.Same
 said_yes (refused r) e = let z : ◌≡◌ {A = ℕ} 0 1 = cc in absurd (omega arith)
-said_yes (read yes) e = refl
-said_yes (read (no p)) e = let z : ◌≡◌ {A = ℕ} 0 1 = cc in absurd (omega arith)
+said_yes (read told.Same) e = refl
+said_yes (read (told.Differs p)) e = let z : ◌≡◌ {A = ℕ} 0 1 = cc in absurd (omega arith)
 
 -- what is matched atom by atom, with nothing left over
 module _ (g h : Graph) (to : List ℕ) (size : g.atoms ≡ h.atoms)
@@ -148,7 +148,7 @@ pub record Same (d : List ℕ) (atoms : ℕ) (bonds : List ℕ) : Type 0 where
   pub molecule : Molecule (graph_of atoms bonds)
 
 -- THE THEOREM
-pub matched_renumbered : (d : List ℕ) (atoms : ℕ) (bonds matching : List ℕ) → match_reply d atoms bonds matching ≡ read yes → Same d atoms bonds
+pub matched_renumbered : (d : List ℕ) (atoms : ℕ) (bonds matching : List ℕ) → match_reply d atoms bonds matching ≡ read told.Same → Same d atoms bonds
 matched_renumbered d atoms bonds matching e =
     let (k, a, f) = yes-read d atoms bonds matching e in
     let g = graph_of atoms bonds in
@@ -165,7 +165,7 @@ matched_renumbered d atoms bonds matching e =
     }
 
 -- the same of the code's reply
-pub matched_told : (d : List ℕ) (atoms : ℕ) (bonds matching : List ℕ) → said_match (match_reply d atoms bonds matching) ≡ told.Yes → Same d atoms bonds
+pub matched_told : (d : List ℕ) (atoms : ℕ) (bonds matching : List ℕ) → as_result (match_reply d atoms bonds matching) ≡ Ok told.Same → Same d atoms bonds
 matched_told d atoms bonds matching e = matched_renumbered d atoms bonds matching (said_yes (match_reply d atoms bonds matching) e)
 
 module _ {d : List ℕ} {atoms : ℕ} {bonds : List ℕ} (s : Same d atoms bonds) where

@@ -15,27 +15,28 @@ use Rattle.deck.specs.Molecule.{graph_at, join_at, molecule_of}
 use Rattle.deck.specs.declared.Form.TheVariants.{Composed}
 use Rattle.deck.specs.Placed.{is_missing}
 use Rattle.deck.specs.Present.{present}
-use Rattle.matched.specs.Matched.{placed_number, partners, partner, is_lost, is_loose, carried, is_unlisted, first_atom, first_bond, ◌or_else◌, match_place, yes, no, answer_at, match_answer, match_reply}
+use Rattle.matched.specs.Matched.{placed_number, partners, partner, is_lost, is_loose, carried, is_unlisted, first_atom, first_bond, ◌or_else◌, match_place, answer_at, match_answer, match_reply}
+use Rattle.matched.specs.declared.Match.TheVariants.{Same, Differs}
 use Rattle.matched.specs.Laws.{partners-length, first_yes, first_no}
 
 -- the deck that a yes speaks of
-pub yes-read : (d : List ℕ) (n : ℕ) (bonds m : List ℕ) → match_reply d n bonds m ≡ read yes
-    → (k : Deck) × (deck_reply Composed d ≡ read k) × (match_answer (graph_of n bonds) (molecule_of d k) (partners d k m n) ≡ yes)
+pub yes-read : (d : List ℕ) (n : ℕ) (bonds m : List ℕ) → match_reply d n bonds m ≡ read Same
+    → (k : Deck) × (deck_reply Composed d ≡ read k) × (match_answer (graph_of n bonds) (molecule_of d k) (partners d k m n) ≡ Same)
 unfolding match_reply
 yes-read d n bonds m e =
     let (k, a, f) = then-read (deck_reply Composed d) _ e in
     let (u, b, h) = then-read (refuse_if (ltb (length m) (2 * n)) 9 0) (λ _. read (match_answer (graph_of n bonds) (molecule_of d k) (partners d k m n))) f in
     (k, a, cc)
 
-place_none : (p : ℕ) → answer_at p ≡ yes → p ≡ 0
+place_none : (p : ℕ) → answer_at p ≡ Same → p ≡ 0
 place_none zero e = refl
 place_none (suc p) e = let z : ◌≡◌ {A = ℕ} 0 1 = cc in absurd (omega arith)
 
-pub answer_yes : (g h : Graph) (to : List ℕ) → match_answer g h to ≡ yes → (g.atoms ≡ h.atoms) × (match_place g h to ≡ 0)
+pub answer_yes : (g h : Graph) (to : List ℕ) → match_answer g h to ≡ Same → (g.atoms ≡ h.atoms) × (match_place g h to ≡ 0)
 unfolding match_answer
 answer_yes g h to e = go (eqb g.atoms h.atoms) refl e
   where
-    go : (t : Bool) → eqb g.atoms h.atoms ≡ t → if_else t (λ _. answer_at (match_place g h to)) (λ _. no 0) ≡ yes → (g.atoms ≡ h.atoms) × (match_place g h to ≡ 0)
+    go : (t : Bool) → eqb g.atoms h.atoms ≡ t → if_else t (λ _. answer_at (match_place g h to)) (λ _. Differs 0) ≡ Same → (g.atoms ≡ h.atoms) × (match_place g h to ≡ 0)
     go true t f = (eqb-true g.atoms h.atoms t, place_none (match_place g h to) f)
     go false t f = let z : ◌≡◌ {A = ℕ} 0 1 = cc in absurd (omega arith)
 

@@ -10,16 +10,15 @@ use native.Mathlib.Numerals.{add-one}
 use lib.Dec.{eqb, ltb}
 use lib.ListN.{length, get_or, drop, drop_of_length-le}
 use lib.Seq.{drop-cons}
-use Rattle.reply.specs.Read.{Read, refused, read, refusal}
+use Rattle.reply.specs.Read.{Read, refused, read, refusal, as_result}
 use Rattle.reply.specs.declared.Refusal.{Refusal}
 use Rattle.records.specs.Bytes.{PartOf}
 use Rattle.text.specs.Text.{until_feed, line_end, starts_with, next_line, line_chars}
 use Rattle.molfile.specs.Molfile.{end_word, rest_of}
 use Rattle.sdfile.specs.Sdf.{line_from, items_from, is_some_header, header_from, header_one, value_chars, opens, opens_in, most_opens, is_no_name, value_reply, item_reply}
-use Rattle.sdfile.specs.Said.{said_value, span_of}
+use Rattle.sdfile.specs.Said.{span_of}
 use Rattle.sdfile.specs.declared.Span.{Span}
-use Rattle.sdfile.specs.declared.Value.{Value}
-use Rattle.sdfile.specs.declared.Value.TheVariants.{Refused, At}
+use Rattle.std.specs.Prelude.{Ok, Err}
 
 module _ (d name : List ℕ) (at h : ℕ) (is : h ≡ header_from d name at) where
   pub value_twice : h < length d → value_reply d name at ≡ refused (refusal 39 h)
@@ -82,13 +81,13 @@ no_name_many name n = rw (ne_eqb (length name) 0 n)
 abbrev nothing : Span
 nothing = record { start = 0; len = 0 }
 
-pub span_refused : (x : Read Span) (v : Value) (q : Refusal) → v ≡ said_value x → v ≡ Refused q → span_of x ≡ nothing
-span_refused (refused r) v q e f = refl
-span_refused (read s) v q e f = let z : ◌≡◌ {A = ℕ} 0 1 = cc in absurd (omega arith)
+pub span_refused : (x : Read Span) {q : Refusal} → Err q ≡ as_result x → span_of x ≡ nothing
+span_refused (refused r) e = refl
+span_refused (read s) e = let z : ◌≡◌ {A = ℕ} 0 1 = cc in absurd (omega arith)
 
-pub span_read : (x : Read Span) (v : Value) (s : Span) → v ≡ said_value x → v ≡ At s → span_of x ≡ s
-span_read (refused r) v s e f = let z : ◌≡◌ {A = ℕ} 0 1 = cc in absurd (omega arith)
-span_read (read t) v s e f = cc
+pub span_read : (x : Read Span) {s : Span} → Ok s ≡ as_result x → span_of x ≡ s
+span_read (refused r) e = let z : ◌≡◌ {A = ℕ} 0 1 = cc in absurd (omega arith)
+span_read (read t) e = cc
 
 pub part_at : {s r : Bor (List ℕ)} {a b : Span} → b ≡ a → PartOf s a.start a.len r → PartOf s b.start b.len r
 part_at {s} {r} e p = subst (λ (x : Span). PartOf s x.start x.len r) (sym e) p

@@ -1,17 +1,16 @@
 -- Laws. Records and items of small texts, by computing.
-use Rattle.std.specs.Prelude.{List, ◌++◌, ◌≡◌, refl, ℕ}
+use Rattle.std.specs.Prelude.{List, ◌++◌, ◌≡◌, refl, ℕ, Option, Some, None}
 use Rattle.reply.specs.Read.{Read, refused, read, refusal}
 use Rattle.text.specs.Text.{ascii, until_feed, line_end, has_carriage, line_chars, next_line, later_line, starts_with, line_starts, is_number, all_digits, number_of, value_from}
 use Rattle.molfile.specs.Molfile.{in_turn, line_reply, numbers_reply, bond_reply, end_line_reply, lines_reply}
 use Rattle.sdfile.specs.Sdf.{until_line, line_from, is_white, all_white, step_at, has_name, is_header, stands, has_tag, is_some_header, value_chars, opens_in, is_no_name, value_reply, item_reply}
 use Rattle.sdfile.specs.declared.Span.{Span}
-use Rattle.sdfile.specs.declared.Step.{Step}
-use Rattle.sdfile.specs.declared.Step.TheVariants.{Done, Next}
+use Rattle.sdfile.specs.declared.Piece.{Piece}
 
-abbrev pub piece : ℕ → ℕ → ℕ → Step
-piece a n b = Next (record { start = a; len = n; next = b })
+abbrev pub piece : ℕ → ℕ → ℕ → Option Piece
+piece a n b = Some (record { start = a; len = n; next = b })
 
-unfoldable pub told : List ℕ → ℕ → Step
+unfoldable pub told : List ℕ → ℕ → Option Piece
 unfolding step_at all_white is_white line_from until_line starts_with next_line line_end until_feed
 told d from = step_at d from
 
@@ -26,7 +25,7 @@ said d name = item_reply d name
 abbrev pub two : List ℕ
 two = ascii "ab\n$$$$\r\nc $$$$\nd"
 
-pub two_records : (told two 0 ≡ piece 0 3 9) × (told two 9 ≡ piece 9 8 17) × (told two 17 ≡ Done) × (told two 99 ≡ Done)
+pub two_records : (told two 0 ≡ piece 0 3 9) × (told two 9 ≡ piece 9 8 17) × (told two 17 ≡ None) × (told two 99 ≡ None)
 unfolding told
 two_records = (refl, refl, refl, refl)
 
@@ -34,11 +33,11 @@ two_records = (refl, refl, refl, refl)
 abbrev pub empties : List ℕ
 empties = ascii "$$$$ x\n$$$$\n \n$$$$\n\t\r\n "
 
-pub empty_records : (told empties 0 ≡ piece 0 0 7) × (told empties 7 ≡ piece 7 0 12) × (told empties 12 ≡ piece 12 2 19) × (told empties 19 ≡ Done)
+pub empty_records : (told empties 0 ≡ piece 0 0 7) × (told empties 7 ≡ piece 7 0 12) × (told empties 12 ≡ piece 12 2 19) × (told empties 19 ≡ None)
 unfolding told
 empty_records = (refl, refl, refl, refl)
 
-pub no_record : (told (ascii "") 0 ≡ Done) × (told (ascii " \t\r\n") 0 ≡ Done) × (told (ascii "\n\nx") 0 ≡ piece 0 3 3)
+pub no_record : (told (ascii "") 0 ≡ None) × (told (ascii " \t\r\n") 0 ≡ None) × (told (ascii "\n\nx") 0 ≡ piece 0 3 3)
 unfolding told
 no_record = (refl, refl, refl)
 

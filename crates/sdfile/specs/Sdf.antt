@@ -1,11 +1,10 @@
 -- Definitions. An SDF: records one after the other, each behind it a line that begins with `$$$$`; and the data items of a record. Lines are those of crate `text`. Places are bytes, counted from 0.
-use Rattle.std.specs.Prelude.{ℕ, suc, ◌+◌, ◌-◌, Bool, true, false, ◌&&◌, ◌||◌, cond, List, [], ◌∷◌, ◌++◌, eqb, leb, ltb, length, take, drop}
+use Rattle.std.specs.Prelude.{ℕ, suc, ◌+◌, ◌-◌, Bool, true, false, ◌&&◌, ◌||◌, cond, List, [], ◌∷◌, ◌++◌, eqb, leb, ltb, length, take, drop, Option, Some, None}
 use Rattle.reply.specs.Read.{Read, read, ◌then◌, refuse_if, if_else}
 use Rattle.text.specs.Text.{ascii, feed, carriage, blank, until_feed, next_line, line_chars, starts_with}
 use Rattle.molfile.specs.Molfile.{end_word, rest_of}
 use Rattle.sdfile.specs.declared.Span.{Span}
-use Rattle.sdfile.specs.declared.Step.{Step}
-use Rattle.sdfile.specs.declared.Step.TheVariants.{Done, Next}
+use Rattle.sdfile.specs.declared.Piece.{Piece}
 
 -- LINES. How many bytes stand before the first line that a test holds of, all of them where it holds of none.
 -- The test is asked of the bytes from a line's first one on. At first a line begins, or one is gone on with.
@@ -36,13 +35,13 @@ all_white (b ∷ bs) = is_white b && all_white bs
 abbrev pub record_end : List ℕ → ℕ → ℕ
 record_end d from = line_from (starts_with marks) d from
 
--- the record that begins at a place: the next one begins behind the line with marks. Done where only white bytes are left
-unfoldable pub step_at : List ℕ → ℕ → Step
+-- the record that begins at a place: the next one begins behind the line with marks. None where only white bytes are left
+unfoldable pub step_at : List ℕ → ℕ → Option Piece
 step_at d from =
     if_else
     (all_white (drop from d))
-    (λ _. Done)
-    (λ _. Next (record { start = from; len = record_end d from - from; next = next_line d (record_end d from) }))
+    (λ _. None)
+    (λ _. Some (record { start = from; len = record_end d from - from; next = next_line d (record_end d from) }))
 
 -- ITEMS. They stand behind the molfile's own M  END, the first line behind its bonds that begins so; there are none where the molfile's lines are refused
 abbrev pub items_from : List ℕ → ℕ

@@ -2,13 +2,13 @@
 #![tactic(auto)]
 
 ghost use Rattle.std.specs.Prelude.{◌≡◌, cond, ◌≤◌, ◌<◌, eqb, length, drop};
-ghost use Rattle.reply.specs.Read.{refused, refusal};
+ghost use Rattle.reply.specs.Read.{refused, refusal, as_result};
 ghost use Rattle.records.specs.Bytes.{PartOf};
 ghost use Rattle.text.specs.Text.{starts_with, next_line};
 ghost use Rattle.sdfile.specs.Sdf.{line_from, is_white, all_white, step_at, items_from, tagged, has_name, is_header, header_from, stands, has_tag, is_some_header, value_chars, opens, opens_in, is_no_name, value_reply, item_reply};
-ghost use Rattle.sdfile.specs.Said.{said_value, span_of};
+ghost use Rattle.sdfile.specs.Said.{span_of};
 
-use reply::Refusal;
+use reply::{Refusal, Rule};
 use text::{BLANK, CARRIAGE, FEED};
 
 const TAB: u8 = 9;
@@ -21,36 +21,19 @@ const CLOSES: u8 = 62;
 // The most of the first in a name.
 const MOST_OPENS: usize = 16;
 
-// Refusals: no item of a name, and more than one.
-const NO_ITEM: usize = 38;
-
-const TWO_ITEMS: usize = 39;
-
 // A record: its first byte, how many it has, and where the next one begins.
-#[derive(Drop)]
+#[derive(Clone, Copy, Debug, PartialEq, Eq)]
 pub struct Piece {
     pub start: usize,
     pub len: usize,
     pub next: usize,
 }
 
-#[derive(Drop)]
-pub enum Step {
-    Done,
-    Next(Piece),
-}
-
 // A part of a record: its first byte, and how many it has.
-#[derive(Drop)]
+#[derive(Clone, Copy, Debug, PartialEq, Eq)]
 pub struct Span {
     pub start: usize,
     pub len: usize,
-}
-
-#[derive(Drop)]
-pub enum Value {
-    Refused(Refusal),
-    At(Span),
 }
 
 fn is_white(b: u8) -> bool
@@ -99,16 +82,16 @@ fn line_from(d: &[u8], from: usize, word: &[u8]) -> usize
 }
 
 // The record that begins at a place.
-pub fn record(text: &[u8], from: usize) -> Step
+pub fn record(text: &[u8], from: usize) -> Option<Piece>
     ensures { result ≡ step_at text.now from }
 {
     if all_white(text, from) {
-        return Step::Done;
+        return None;
     }
     let end = line_from(text, from, b"$$$$");
     let len = end - from;
     let behind = text::line_at(text, end);
-    Step::Next(Piece {
+    Some(Piece {
         start: from,
         len,
         next: behind.next,
@@ -137,12 +120,10 @@ fn is_tag(d: &[u8], at: usize, name: &[u8]) -> bool
 fn has_tag(d: &[u8], name: &[u8]) -> bool
     ensures { result ≡ has_name (tagged name.now) d.now }
 {
-    let mut i = 0;
-    while i < d.len() {
+    for i in 0..d.len() {
         if is_tag(d, i, name) {
             return true;
         }
-        i += 1;
     }
     false
 }
@@ -186,12 +167,10 @@ fn next_line(d: &[u8], at: usize) -> usize
 fn stands(d: &[u8], from: usize, b: u8) -> bool
     ensures { result ≡ stands b (drop from d.now) }
 {
-    let mut i = from;
-    while i < d.len() {
+    for i in from..d.len() {
         if d[i] == b {
             return true;
         }
-        i += 1;
     }
     false
 }
@@ -200,12 +179,10 @@ fn stands(d: &[u8], from: usize, b: u8) -> bool
 fn has_some_tag(d: &[u8]) -> bool
     ensures { result ≡ has_tag d.now }
 {
-    let mut i = 0;
-    while i < d.len() {
+    for i in 0..d.len() {
         if d[i] == OPENS {
             return stands(d, i + 1, CLOSES);
         }
-        i += 1;
     }
     false
 }
@@ -236,28 +213,22 @@ fn value_chars(d: &[u8], at: usize) -> usize
     value.chars
 }
 
-fn none() -> Value
-    ensures { result ≡ said_value (refused (refusal 38 0)) }
+fn none() -> Result<Span, Refusal>
+    ensures { result ≡ as_result (refused (refusal 38 0)) }
 {
-    Value::Refused(Refusal {
-        number: NO_ITEM,
-        place: 0,
-    })
+    Err(Rule::NoItem.at(0))
 }
 
 // The value that stands at a place, if no other header of the name follows.
-fn value_at(d: &[u8], name: &[u8], at: usize) -> Value
-    ensures { result ≡ said_value (value_reply d.now name.now at) }
+fn value_at(d: &[u8], name: &[u8], at: usize) -> Result<Span, Refusal>
+    ensures { result ≡ as_result (value_reply d.now name.now at) }
 {
     let two = header_from(d, at, name);
     if two < d.len() {
-        return Value::Refused(Refusal {
-            number: TWO_ITEMS,
-            place: two,
-        });
+        return Err(Rule::TwoItems.at(two));
     }
     let len = value_chars(d, at);
-    Value::At(Span { start: at, len })
+    Ok(Span { start: at, len })
 }
 
 // Where the data items begin.
@@ -284,10 +255,8 @@ fn opens_in(name: &[u8]) -> usize
     ensures { result ≡ opens_in name.now }
 {
     let mut k: usize = 0;
-    let mut i = 0;
-    while i < name.len() {
+    for i in 0..name.len() {
         k += opening(name[i]);
-        i += 1;
     }
     k
 }
@@ -303,8 +272,8 @@ fn is_no_name(name: &[u8]) -> bool
 }
 
 // The value of the data item of a name.
-pub fn item(d: &[u8], name: &[u8]) -> Value
-    ensures { result ≡ said_value (item_reply d.now name.now) }
+pub fn item(d: &[u8], name: &[u8]) -> Result<Span, Refusal>
+    ensures { result ≡ as_result (item_reply d.now name.now) }
 {
     if is_no_name(name) {
         return none();
@@ -322,9 +291,8 @@ pub fn item(d: &[u8], name: &[u8]) -> Value
 pub fn item_part<'a>(d: &'a [u8], name: &[u8]) -> &'a [u8]
     ensures { PartOf d.entry (span_of (item_reply d.now name.now)).start (span_of (item_reply d.now name.now)).len result }
 {
-    let v = item(d, name);
-    let Value::At(s) = v else {
-        return records::part(d, 0, 0);
-    };
-    records::part(d, s.start, s.len)
+    match item(d, name) {
+        Err(_) => records::part(d, 0, 0),
+        Ok(s) => records::part(d, s.start, s.len),
+    }
 }

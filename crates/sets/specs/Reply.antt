@@ -5,8 +5,6 @@ use Rattle.reply.specs.Read.{Read, refused, read, ◌then◌, refuse_if, is_outs
 use Rattle.block.specs.Block.{bonds_of, graph_of, block_reply}
 use Rattle.sets.specs.Sets.{hosoya, merrifield_simmons}
 use Rattle.sets.specs.declared.Sets.{Sets}
-use Rattle.sets.specs.declared.SetsReply.{SetsReply}
-use Rattle.sets.specs.declared.SetsReply.TheVariants as reply
 
 unfoldable pub sets_of : Graph → Sets
 sets_of g = record { bonds = hosoya g; atoms = merrifield_simmons g }
@@ -21,7 +19,3 @@ sets_reply n xs = block_reply n xs then λ _. tree_reply n xs
 -- from a root that is named: 18 at place 0 where there is no such atom
 unfoldable pub sets_from_reply : ℕ → List ℕ → ℕ → Read Sets
 sets_from_reply n xs root = block_reply n xs then λ _. refuse_if (is_outside n root) 18 0 then λ _. tree_reply n xs
-
-abbrev pub said_sets : Read Sets → SetsReply
-said_sets (refused r) = reply.Refused r
-said_sets (read s) = reply.Of s

@@ -7,30 +7,24 @@
 #![tactic(auto)]
 
 ghost use Rattle.std.specs.Prelude.{◌≡◌};
-ghost use Rattle.reply.specs.Read.{refusal};
+ghost use Rattle.reply.specs.Read.{as_result};
 ghost use Rattle.block.specs.Block.{graph_of};
-ghost use Rattle.sets.specs.Reply.{sets_of, sets_reply, sets_from_reply, said_sets};
+ghost use Rattle.sets.specs.Reply.{sets_of, sets_reply, sets_from_reply};
 ghost use Rattle.sets.specs.Merging.{weight, taken, added, WeightPair, Store, Stored, BondsListed, Adds, Keyed, Rooted};
 
 use block::ATOMS;
-use reply::{Refusal, Reply};
+use reply::{Refusal, Rule};
 
 // The number of sets of bonds that share no atom, and of sets of atoms no two of which are bonded; the empty set is counted in each.
-#[derive(Drop)]
+#[derive(Clone, Copy, Debug, PartialEq, Eq)]
 pub struct Sets {
     pub bonds: u64,
     pub atoms: u64,
 }
 
-#[derive(Drop)]
-pub enum SetsReply {
-    Refused(Refusal),
-    Of(Sets),
-}
-
 // What the part of a tree counts that was merged into an atom v, in the terms of [Ilić, Ilić]. Sets of bonds: x is h[v], all sets of that part, and y is hw[v], those that leave
 // v free. Sets of atoms: x is iw[v], those without v, and y those with v, so that i[v] is x + y.
-#[derive(Drop)]
+#[derive(Clone, Copy)]
 struct Weight {
     pub x: u64,
     pub y: u64,
@@ -88,13 +82,11 @@ fn keyed(bonds: &[u8], root: usize) -> [u32; PLACES]
     let mut keys = [0u32; PLACES];
     keys[root] = 2 * UNIT;
     let m = bonds.len() / 2;
-    let mut k = 0;
-    while k < m {
+    for k in 0..m {
         let a = reply::wide(bonds[2 * k]) as usize;
         let b = reply::wide(bonds[2 * k + 1]) as usize;
         add(&mut keys, a, b);
         add(&mut keys, b, a);
-        k += 1;
     }
     keys
 }
@@ -134,35 +126,24 @@ fn recursion(n: usize, bonds: &[u8], root: usize) -> Sets
     }
 }
 
-// A refusal at place 0.
-fn refused(number: usize) -> SetsReply
-    ensures { result ≡ SetsReply.Refused (refusal number 0) }
-{
-    SetsReply::Refused(Refusal { number, place: 0 })
-}
-
 // The two numbers of a block that is a tree, worked out from whichever atom is taken as the root, or its refusal; 18 at place 0 where there is no such atom, and then 34 at
 // place 0 where the block is no tree.
-pub fn count_from(n: usize, bonds: &[u8], root: usize) -> SetsReply
-    ensures { result ≡ said_sets (sets_from_reply n bonds.now root) }
+pub fn count_from(n: usize, bonds: &[u8], root: usize) -> Result<Sets, Refusal>
+    ensures { result ≡ as_result (sets_from_reply n bonds.now root) }
 {
-    let reply = block::check(n, bonds);
-    if let Reply::Refused(refusal) = reply {
-        return SetsReply::Refused(refusal);
-    }
+    block::check(n, bonds)?;
     if reply::is_outside(n, root) {
-        return refused(18);
+        return Err(Rule::JoinAtom.at(0));
     }
     if bonds.len() / 2 + 1 != n {
-        return refused(34);
+        return Err(Rule::NoTree.at(0));
     }
-    let sets = recursion(n, bonds, root);
-    SetsReply::Of(sets)
+    Ok(recursion(n, bonds, root))
 }
 
 // The two numbers of a block that is a tree, or its refusal; 34 at place 0 where it is none.
-pub fn count(n: usize, bonds: &[u8]) -> SetsReply
-    ensures { result ≡ said_sets (sets_reply n bonds.now) }
+pub fn count(n: usize, bonds: &[u8]) -> Result<Sets, Refusal>
+    ensures { result ≡ as_result (sets_reply n bonds.now) }
 {
     count_from(n, bonds, 1)
 }

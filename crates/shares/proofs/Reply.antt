@@ -11,7 +11,7 @@ use Rattle.graph.specs.Graph.{wiener}
 use Rattle.graph.specs.BondSums.{added, added-map}
 use Rattle.graph.specs.Paths.{denominator, share}
 use Rattle.graph.proofs.UsesLaws.{shares_total}
-use Rattle.reply.specs.Read.{refused, read, refuse_if, refusal, said_number}
+use Rattle.reply.specs.Read.{refused, read, refuse_if, refusal, as_result}
 use Rattle.reply.specs.Chain.{then-read}
 use Rattle.block.specs.Block.{bonds_of, graph_of, block_reply}
 use Rattle.block.specs.Told.{molecule}
@@ -19,8 +19,8 @@ use Rattle.block.specs.Numbered.{bond_at, bonds_length}
 use Rattle.block.specs.Lent.{EntriesFilled, filled_bonds}
 use Rattle.reply.specs.declared.Refusal.{Refusal}
 use Rattle.shares.specs.Reply.{most_denominator, shares_reply, filled_shares, shares_entries}
-use Rattle.reply.specs.declared.NumberReply.{NumberReply}
 use Rattle.shares.proofs.Blocks.{plain}
+use Rattle.std.specs.Prelude.{Result}
 
 module _ (n : ℕ) (xs : List ℕ) where
   pub reply-refused : (room : ℕ) {r : Refusal} → block_reply n xs ≡ refused r → shares_reply n xs room ≡ refused r
@@ -52,8 +52,8 @@ module _ (n : ℕ) (xs : List ℕ) where
   entries_done e f room = filled_bonds (share (graph_of n xs)) xs f room ∙ rw e
 
 -- THE PROMISE DETERMINES the reply and the entries
-pub one_reply : (n : ℕ) (xs out : List ℕ) (r s : NumberReply) (o p : List ℕ) → r ≡ said_number (shares_reply n xs (length out)) → o ≡ shares_entries n xs out
-    → s ≡ said_number (shares_reply n xs (length out)) → p ≡ shares_entries n xs out → (r ≡ s) × (o ≡ p)
+pub one_reply : (n : ℕ) (xs out : List ℕ) (r s : Result ℕ Refusal) (o p : List ℕ) → r ≡ as_result (shares_reply n xs (length out)) → o ≡ shares_entries n xs out
+    → s ≡ as_result (shares_reply n xs (length out)) → p ≡ shares_entries n xs out → (r ≡ s) × (o ≡ p)
 one_reply n xs out r s o p a b c d = (a ∙ sym c, b ∙ sym d)
 
 -- what a reply that is D tells

@@ -39,11 +39,11 @@ pub placed : (row : List ℕ) (j x : ℕ) (G : ℕ → ℕ) → j < length row �
 placed row j x G i h e k l =
     ⊎_elim (λ q. q.1 ∙ e ∙ ap G (sym q.0)) (λ q. q.1 ∙ h k (omega (arith, q.0))) (after_store row j x k i)
 
--- the same, for the seats of the atoms 1 to v
-pub seated_next : (row : List ℕ) (v x : ℕ) (G : ℕ → ℕ) → v + 1 < length row → ((u : ℕ) → Within v u → at row u ≡ G u) → x ≡ G (v + 1)
-    → (u : ℕ) → Within (v + 1) u → at (set row (v + 1) x) u ≡ G u
-seated_next row v x G i h e u w =
-    ⊎_elim (λ q. q.1 ∙ e ∙ ap G (sym q.0)) (λ q. q.1 ∙ h u (record { low = w.low; high = omega (arith, q.0) })) (after_store row (v + 1) x u i)
+-- the same, for the seats of the atoms before v
+pub seated_next : (row : List ℕ) (v x : ℕ) (G : ℕ → ℕ) → v < length row → ((u : ℕ) → 0 < u → u < v → at row u ≡ G u) → x ≡ G v
+    → (u : ℕ) → 0 < u → u < v + 1 → at (set row v x) u ≡ G u
+seated_next row v x G i h e u p l =
+    ⊎_elim (λ q. q.1 ∙ e ∙ ap G (sym q.0)) (λ q. q.1 ∙ h u p (omega (arith, q.0))) (after_store row v x u i)
 
 -- what holds of the places 0 to n - 1 holds of the atoms 1 to n
 pub of_places : (P : ℕ → Type 0) (n : ℕ) → ((j : ℕ) → j < n → P (suc j)) → (v : ℕ) → Within n v → P v

@@ -30,33 +30,35 @@ pub product_fits : (x y : ℕ) → x ≤ full → y ≤ full → Fits w64 (x * y
 product_fits x y h k = record { fits = lt_of_le_of_lt (mul-le-mul h k) (lit< tt) }
 
 module _ {n : ℕ} {f : ℕ → ℕ} {m : ℕ} {c : List ℕ} {before : ℕ} (t : Tally n f m c before) (start : ℕ) where
-  -- the multiple of m and of the counts after start, up to k
-  abbrev up_to : ℕ → ℕ
-  up_to k = lcm_over (k - start) (λ j. f (start + j)) m
+  -- the multiple of m and of the counts after start, before k
+  abbrev so_far : ℕ → ℕ
+  so_far k = lcm_over (k - (start + 1)) (λ j. f (start + j)) m
 
-  pub none_yet : before ≡ min cap (up_to start)
+  pub none_yet : before ≡ min cap (so_far (start + 1))
   unfolding lcm_over
-  none_yet = let z : start - start ≡ 0 = omega arith in t.capped ∙ rw z
+  none_yet = let z : start + 1 - (start + 1) ≡ 0 = omega arith in t.capped ∙ rw z
 
-  module _ (k : ℕ) (from : start ≤ k) (more : k < n) where
-    up_to_pos : 0 < up_to k
-    up_to_pos = over_pos (λ j. f (start + j)) m t.first (k - start) (λ j w. t.positive (start + j) (record { low = omega arith; high = omega arith }))
+  module _ (k : ℕ) (after : start < k) (inside : k ≤ n) where
+    so_far_pos : 0 < so_far k
+    so_far_pos = over_pos (λ j. f (start + j)) m t.first (k - (start + 1)) (λ j w. t.positive (start + j) (record { low = omega arith; high = omega arith }))
 
-    here : Within n (k + 1)
+    here : Within n k
     here = record { low = omega arith; high = omega arith }
 
-    pub taken_fits : (all : ℕ) → all ≡ min cap (up_to k) → (0 < all) × (all ≤ cap) × (0 < at c (k + 1)) × (at c (k + 1) ≤ cap)
-    taken_fits all e =
-        (omega (arith, up_to_pos), omega arith, omega (arith, t.counts.holds (k + 1) here, t.positive (k + 1) here), omega (arith, t.counts.holds (k + 1) here))
+    pub taken_fits : (all : ℕ) → all ≡ min cap (so_far k) → (0 < all) × (all ≤ cap) × (0 < at c k) × (at c k ≤ cap)
+    taken_fits all e = (omega (arith, so_far_pos), omega arith, omega (arith, t.counts.holds k here, t.positive k here), omega (arith, t.counts.holds k here))
 
-    pub taken_in : (all x : ℕ) → all ≡ min cap (up_to k) → x ≡ min cap (lcm all (at c (k + 1))) → x ≡ min cap (up_to (k + 1))
+    pub taken_in : (all x : ℕ) → all ≡ min cap (so_far k) → x ≡ min cap (lcm all (at c k)) → x ≡ min cap (so_far (k + 1))
     unfolding lcm_over
     taken_in all x e h =
-        let next : k + 1 - start ≡ suc (k - start) = omega arith in
-        let last : k + 1 ≡ start + suc (k - start) = omega arith in
-        h ∙ ap₂ (λ (u v : ℕ). min cap (lcm u v)) e (t.counts.holds (k + 1) here)
-        ∙ lcm_cap cap (up_to k) (f (k + 1)) (omega arith) up_to_pos (t.positive (k + 1) here)
-        ∙ rw (next, last)
+        let next : k + 1 - (start + 1) ≡ suc (k - (start + 1)) = omega arith in
+        let last : k ≡ start + suc (k - (start + 1)) = omega arith in
+        h ∙ ap₂ (λ (u v : ℕ). min cap (lcm u v)) e (t.counts.holds k here)
+        ∙ lcm_cap cap (so_far k) (f k) (omega arith) so_far_pos (t.positive k here)
+        ∙ rw (next, ← last)
+
+  pub taken_all : (all : ℕ) → all ≡ min cap (so_far (n + 1)) → all ≡ min cap (lcm_over (n - start) (λ j. f (start + j)) m)
+  taken_all all e = let z : n + 1 - (start + 1) ≡ n - start = omega arith in (rw z at e)
 
 -- a start's arrays, of all
 module _ {n : ℕ} {bs : List Bond} {near : List ℕ} {half fars : List ℕ} (G : BlockGiven n bs near half fars) (i : ℕ) (l : i < n) (row : List ℕ) (is : row ≡ half_row half (i + 1)) where

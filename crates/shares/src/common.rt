@@ -38,9 +38,7 @@ pub(crate) fn common_start(n: usize, c: &[u64; SEATS], start: usize, before: u64
     ensures { (f : ℕ → ℕ) (m : ℕ) → Tally n f m c.now before → result ≡ min cap (lcm_over (n - start) (λ k. f (start + k)) m) }
 {
     let mut all = before;
-    let mut k = start;
-    while k < n {
-        k += 1;
+    for k in start + 1..=n {
         all = common(all, c[k]);
     }
     all

@@ -20,9 +20,7 @@ fn weights(n: usize, c: &[u64; SEATS], start: usize, d: u64) -> [u64; SEATS]
     ensures { ((v : ℕ) → Within n v → at result v ≡ cond (ltb start v) (d / at c.now v) 0) × ((w : ℕ) → at result w ≤ d) }
 {
     let mut row = [0u64; SEATS];
-    let mut v = start;
-    while v < n {
-        v += 1;
+    for v in start + 1..=n {
         row[v] = d / c[v];
     }
     row
@@ -51,13 +49,11 @@ fn add_flows(bonds: &[u8], row: &DistanceRow, c: &[u64; SEATS], t: &[u64; SEATS]
         out.old out.new }
 {
     let m = bonds.len() / 2;
-    let mut k = 0;
-    while k < m {
+    for k in 0..m {
         let a = wide_byte(bonds[2 * k]);
         let b = wide_byte(bonds[2 * k + 1]);
         let s = passed(row, c, t, a, b) + passed(row, c, t, b, a);
         out[k] = out[k] + s;
-        k += 1;
     }
 }
 
@@ -69,10 +65,8 @@ fn raise(m: usize, f: u64, out: &mut [u64])
     if f == 1 {
         return;
     }
-    let mut k = 0;
-    while k < m {
+    for k in 0..m {
         out[k] = out[k] * f;
-        k += 1;
     }
 }
 
@@ -123,8 +117,7 @@ pub(crate) fn fill(
         → get_or out.new k 0 ≡ share (graph_of n bonds.now) (bond_at bonds.now k)) }
 {
     let mut d: u64 = 1;
-    let mut i = 0;
-    while i < n {
+    for i in 0..n {
         if MOST < d {
             return CAP;
         }
@@ -133,7 +126,6 @@ pub(crate) fn fill(
         let top = wide_byte(far[i]);
         let next = add_start(n, bonds, near, &row, &levels, top, i, d, out);
         d = next;
-        i += 1;
     }
     d
 }
@@ -143,9 +135,7 @@ pub(crate) fn put(m: usize, entries: &[u64; BONDS], out: &mut [u64])
     requires { (m ≤ length out.old) × (m ≤ most_bytes / 2) }
     ensures { EntriesFilled m (λ k. get_or entries.now k 0) out.old out.new }
 {
-    let mut j = 0;
-    while j < m {
+    for j in 0..m {
         out[j] = entries[j];
-        j += 1;
     }
 }

@@ -7,7 +7,7 @@
 #![tactic(auto)]
 
 ghost use Rattle.std.specs.Prelude.{◌≡◌, length};
-ghost use Rattle.reply.specs.Read.{read, said_number};
+ghost use Rattle.reply.specs.Read.{read, as_result};
 ghost use Rattle.block.specs.Block.{graph_of, block_reply};
 ghost use Rattle.block.specs.Rows.{far_of, half_table};
 ghost use Rattle.block.specs.Opened.{neighbours_of};
@@ -15,7 +15,7 @@ ghost use Rattle.shares.specs.Reply.{shares_reply, shares_entries};
 
 use block::{ATOMS, BYTES, Farthest, Neighbours};
 use half::{Half, PAIRS};
-use reply::{NumberReply, Refusal, Reply};
+use reply::{Refusal, Rule};
 
 mod common;
 mod flows;
@@ -43,42 +43,33 @@ fn answered(
     half: &Half,
     far: &Farthest,
     out: &mut [u64],
-) -> NumberReply
+) -> Result<u64, Refusal>
     requires { (block_reply n bonds.now ≡ read tt) × (near.now ≡ neighbours_of (graph_of n bonds.now)) × (half.now ≡ half_table n bonds.now)
         × (far.now ≡ far_of n bonds.now) }
-    ensures reply { result ≡ said_number (shares_reply n bonds.now (length out.old)) }
+    ensures reply { result ≡ as_result (shares_reply n bonds.now (length out.old)) }
     ensures entries { out.new ≡ shares_entries n bonds.now out.old }
 {
     if out.len() < bonds.len() / 2 {
-        return NumberReply::Refused(Refusal {
-            number: 9,
-            place: 0,
-        });
+        return Err(Rule::ShortOutput.at(0));
     }
     let mut entries = [0u64; BONDS];
     let d = flows::fill(n, bonds, near, half, far, &mut entries);
     if MOST < d {
-        return NumberReply::Refused(Refusal {
-            number: 8,
-            place: 0,
-        });
+        return Err(Rule::Denominator.at(0));
     }
     flows::put(bonds.len() / 2, &entries, out);
-    NumberReply::Of(d)
+    Ok(d)
 }
 
 // The contributions of a block's bonds. The reply is D; the entry of each bond, in list order, is D times its contribution, and later entries
 // stay. Or it is a refusal, and no entry changes: the block's, then 9 where there are fewer entries than bonds, then 8 where D is above the most.
-pub fn contributions(n: usize, bonds: &[u8], out: &mut [u64]) -> NumberReply
-    ensures reply { result ≡ said_number (shares_reply n bonds.now (length out.old)) }
+pub fn contributions(n: usize, bonds: &[u8], out: &mut [u64]) -> Result<u64, Refusal>
+    ensures reply { result ≡ as_result (shares_reply n bonds.now (length out.old)) }
     ensures entries { out.new ≡ shares_entries n bonds.now out.old }
 {
     let mut half = [0u8; PAIRS];
     let mut far = [0u8; ATOMS];
     let mut near = [0u64; ATOMS];
-    let reply = block::table(n, bonds, &mut near, &mut half, &mut far);
-    match reply {
-        Reply::Refused(refusal) => NumberReply::Refused(refusal),
-        Reply::Fine => answered(n, bonds, &near, &half, &far, out),
-    }
+    block::table(n, bonds, &mut near, &mut half, &mut far)?;
+    answered(n, bonds, &near, &half, &far, out)
 }

@@ -45,11 +45,9 @@ pub(crate) fn by_level(n: usize, row: &DistanceRow) -> [u64; SEATS]
     ensures { (top : ℕ) → Tops n (entry row.now) top → Levels n (entry row.now) result top }
 {
     let mut sets = [0u64; SEATS];
-    let mut j = 0;
-    while j < n {
+    for j in 0..n {
         let d = wide_byte(row[j]);
         sets[d] = sets[d] | (1u64 << j);
-        j += 1;
     }
     sets
 }
@@ -60,10 +58,8 @@ fn reversed(sets: &[u64; SEATS], top: usize) -> [u64; SEATS]
     ensures { (n : ℕ) (key : ℕ → ℕ) → Levels n key sets.now top → Levels n (heights top key) result top }
 {
     let mut back = [0u64; SEATS];
-    let mut d = 0;
-    while d <= top {
+    for d in 0..=top {
         back[d] = sets[top - d];
-        d += 1;
     }
     back
 }

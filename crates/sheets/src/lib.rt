@@ -53,12 +53,10 @@ fn read_fields(d: &[u8], from: usize, widths: &[usize], fields: &mut [u64])
     ensures { fields.new ≡ fields_at widths.now d.now from }
 {
     let mut at = from;
-    let mut i = 0;
-    while i < widths.len() {
+    for i in 0..widths.len() {
         let w = widths[i];
         fields[i] = little_at(d, at, w);
         at += w;
-        i += 1;
     }
 }
 
@@ -122,12 +120,10 @@ fn first_apart(xs: &[u64], ys: &[u64]) -> usize
     requires { length xs.now ≡ length ys.now }
     ensures { result ≡ first_wrong 1 xs.now ys.now }
 {
-    let mut i = 0;
-    while i < xs.len() {
+    for i in 0..xs.len() {
         if xs[i] != ys[i] {
             return i + 1;
         }
-        i += 1;
     }
     0
 }

@@ -2,15 +2,15 @@
 #![tactic(auto)]
 
 ghost use Rattle.std.specs.Prelude.{◌≡◌, ◌*◌, ◌<◌};
-ghost use Rattle.reply.specs.Read.{said_reply};
 ghost use Rattle.records.specs.Bytes.{le16, PartOf};
 ghost use Rattle.assembly.specs.Placements.{placement_at, atom_site, fault, shelf_reply};
 ghost use Rattle.summary.specs.Layout.{summary_bytes};
 ghost use Rattle.shelf.specs.Shelf.{summary_at, places_in, place_of, sites_in, shelf_in};
+ghost use Rattle.reply.specs.Read.{as_result};
 
 use assembly::{JoinSite, PLACEMENTS, first_fault, join_fault, parent_fault, placement_at};
 use records::{le16_at, part};
-use reply::{Refusal, Reply, is_outside, wide};
+use reply::{Refusal, Rule, is_outside, wide};
 use summary::{SUMMARY, atoms, ends};
 
 // The summary at a place.
@@ -40,12 +40,10 @@ pub fn place_of(book: &[u8], number: usize) -> usize
     if number == 0 {
         return n;
     }
-    let mut i = 0;
-    while i < n {
+    for i in 0..n {
         if number_at(book, i) == number {
             return i;
         }
-        i += 1;
     }
     n
 }
@@ -87,26 +85,21 @@ fn fault_of(book: &[u8], xs: &[u8], k: usize) -> usize
 }
 
 // Refusals 15 to 19, 23 and 24 of an assembly's payload over a book.
-pub fn check(book: &[u8], xs: &[u8]) -> Reply
-    ensures { result ≡ said_reply (shelf_reply (shelf_in book.now) xs.now) }
+pub fn check(book: &[u8], xs: &[u8]) -> Result<(), Refusal>
+    ensures { result ≡ as_result (shelf_reply (shelf_in book.now) xs.now) }
 {
     let p = le16_at(xs, 0) as usize;
     if is_outside(PLACEMENTS, p) {
-        return Reply::Refused(Refusal {
-            number: 15,
-            place: 0,
-        });
+        return Err(Rule::PlacementCount.at(0));
     }
-    let mut k = 0;
-    while k < p {
+    for k in 0..p {
         let f = fault_of(book, xs, k);
-        k += 1;
         if f != 0 {
-            return Reply::Refused(Refusal {
+            return Err(Refusal {
                 number: f,
-                place: k,
+                place: k + 1,
             });
         }
     }
-    Reply::Fine
+    Ok(())
 }

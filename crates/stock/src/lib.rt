@@ -25,11 +25,9 @@ pub fn atoms_of(sites: [Site; SITES]) -> [u8; SITES]
     ensures { result ≡ atoms_of sites }
 {
     let mut atoms = [0u8; SITES];
-    let mut k: usize = 0;
-    while k < SITES {
+    for k in 0..SITES {
         let s = sites[k];
         atoms[k] = s.atom;
-        k += 1;
     }
     atoms
 }
@@ -109,12 +107,10 @@ pub fn arms_at(
     let mut arms = [NO_ARM; SITES];
     let mut place = [0u8; SUMMARY];
     let mut held: usize = NO_NUMBER;
-    let mut k: usize = 0;
-    while k < SITES {
+    for k in 0..SITES {
         let s = sites[k];
         let arm = held_arm(d, blocks, count, xs, s, digits[k], &mut held, &mut place);
         arms[k] = arm;
-        k += 1;
     }
     arms
 }
@@ -132,12 +128,10 @@ pub fn all_arms(
     let mut all = [[0u64; 14]; PLACES];
     let mut place = [0u8; SUMMARY];
     let mut held: usize = NO_NUMBER;
-    let mut i = 0;
-    while i < PLACES {
+    for i in 0..PLACES {
         let s = sites[i / CANDIDATES];
         let j = i % CANDIDATES;
         all[i] = arm_row(held_arm(d, blocks, count, xs, s, j, &mut held, &mut place));
-        i += 1;
     }
     all
 }
@@ -158,11 +152,9 @@ pub fn arms_among(all: &ArmRows, digits: [usize; SITES]) -> [Arm; SITES]
     ensures { result ≡ arms_among all.now digits }
 {
     let mut arms = [NO_ARM; SITES];
-    let mut k: usize = 0;
-    while k < SITES {
+    for k in 0..SITES {
         let arm = arm_among(all, k, digits[k]);
         arms[k] = arm;
-        k += 1;
     }
     arms
 }

@@ -108,13 +108,11 @@ fn stepped(
     ensures { Stepped links.now count from.now home old result }
 {
     let mut row = old;
-    let mut z = home;
-    while z < count {
+    for z in home..count {
         if parent_of(links, z) == home {
             let site = end_at(links, 2 * z + 1) % 256;
             row[z] = from[site - 1];
         }
-        z += 1;
     }
     row
 }
@@ -161,10 +159,8 @@ fn put_ends(
         × (from.now ≡ (seen_from book.now x).row) × (sight ≡ count_row (seen_from book.now x).counts) }
     ensures { Put book.now links.now count x e to rows.old counts.old rows.new counts.new }
 {
-    let mut f = e;
-    while f < to {
+    for f in e..to {
         put_end(book, links, count, x, from, sight, rows, counts, f);
-        f += 1;
     }
 }
 
@@ -180,10 +176,8 @@ fn again(links: &Links, x: u32, e: usize, f: usize) -> u32
     ensures { result ≡ 0 → Nowhere links.now x e f }
 {
     let mut total: u32 = 0;
-    let mut g = e;
-    while g < f {
+    for g in e..f {
         total += one_if_same(links[g], x);
-        g += 1;
     }
     total
 }
@@ -246,9 +240,7 @@ pub(crate) fn see_ends(
     ensures rows { StepsKnown book.now links.now rows.new count }
     ensures counts { Counted book.now links.now counts.new count 1 }
 {
-    let mut e: usize = 2;
-    while e < 2 * count {
+    for e in 2..2 * count {
         see_end(book, links, count, rows, counts, e);
-        e += 1;
     }
 }

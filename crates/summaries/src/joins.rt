@@ -95,18 +95,16 @@ fn core_of(
 {
     let mut v = begun(book, links, count, rows, counts, k);
     let p = parent_of(links, k);
-    let mut m = p;
-    while m < k {
+    for m in p..k {
         let d = apart_kept(book, links, count, rows, m, k, p, far);
         far[m] = d;
         v = grown(v, d, core_at(counts, 2 * m));
-        m += 1;
     }
     v
 }
 
 // The running summary: the six fields of the molecule as far as it is built.
-#[derive(Drop)]
+#[derive(Clone, Copy)]
 pub(crate) struct Summary {
     pub(crate) fields: Indices,
 }
@@ -138,13 +136,11 @@ pub(crate) fn composed(
     let mut s = Summary {
         fields: fields_at(book, end_at(links, 0)),
     };
-    let mut k: usize = 1;
-    while k < count {
+    for k in 1..count {
         let core = core_of(book, links, count, rows, counts, k, far);
         let own = core_at(counts, 2 * k);
         s = s.joined(fields_at(book, end_at(links, 2 * k)), core, own);
         counts[2 * k + 1] = row_of(core);
-        k += 1;
     }
     s.fields
 }

@@ -6,19 +6,19 @@ mod joins;
 mod links;
 
 ghost use Rattle.std.specs.Prelude.{◌≡◌, ◌*◌, ◌-◌, ◌≤◌, length};
-ghost use Rattle.block.specs.Index.{said_indices};
 ghost use Rattle.joining.specs.Parts.{six_in};
 ghost use Rattle.summaries.specs.Composing.{composed_reply};
 ghost use Rattle.summaries.specs.Ready.{kept_in, joins_in, ReadyShelf};
 ghost use Rattle.summaries.specs.Ends.{Unmarked};
+ghost use Rattle.reply.specs.Read.{as_result};
 
 use assembly::PLACEMENTS;
-use block::{Indices, IndicesReply};
+use block::Indices;
 use ends::{CountRow, MORE, StepRow, see_ends};
 use joins::composed;
 use links::{Links, links_of};
 use records::le16_at;
-use reply::Reply;
+use reply::Refusal;
 use shelf::check;
 
 // The placements of a small assembly: for it, and for one of middle size, fewer rows are cleared.
@@ -65,17 +65,11 @@ fn placed(book: &[u8], links: &Links, count: usize) -> Indices
 
 // The six fields of an assembly's payload over a book of summaries, or its refusal, 15 to 19, 23 or 24, at the placement's number. The bytes
 // alone fix the reply, whatever they are.
-pub fn compose(book: &[u8], xs: &[u8]) -> IndicesReply
-    ensures { result ≡ said_indices (composed_reply book.now xs.now) }
+pub fn compose(book: &[u8], xs: &[u8]) -> Result<Indices, Refusal>
+    ensures { result ≡ as_result (composed_reply book.now xs.now) }
 {
-    let reply = check(book, xs);
-    match reply {
-        Reply::Refused(refusal) => IndicesReply::Refused(refusal),
-        Reply::Fine => {
-            let count = le16_at(xs, 0) as usize;
-            let links = links_of(xs, count);
-            let all = placed(book, &links, count);
-            IndicesReply::Of(all)
-        }
-    }
+    check(book, xs)?;
+    let count = le16_at(xs, 0) as usize;
+    let links = links_of(xs, count);
+    Ok(placed(book, &links, count))
 }

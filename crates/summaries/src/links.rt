@@ -53,13 +53,11 @@ pub(crate) fn links_of(xs: &[u8], count: usize) -> Links
     ensures { LinkedUpTo xs.now result count }
 {
     let mut links = [0u32; 3 * PLACEMENTS];
-    let mut k = 0;
-    while k < count {
+    for k in 0..count {
         let q = placement_at(xs, k);
         links[2 * k] = key(q.block, q.own);
         links[2 * k + 1] = key(block_of(xs, q.parent), q.site);
         links[PARENTS + k] = q.parent as u32;
-        k += 1;
     }
     links
 }

@@ -9,8 +9,8 @@ use lib.ListN.{length, take, drop, length-map}
 use lib.Seq.{take_at}
 use Rattle.graph.specs.Graph.{wiener}
 use Rattle.graph.specs.BondSums.{added, added-map}
-use Rattle.reply.specs.Read.{refused, read, refuse_if, refusal, said_number}
-use Rattle.reply.specs.Chain.{then-read, number_told}
+use Rattle.reply.specs.Read.{refused, read, refuse_if, refusal, as_result}
+use Rattle.reply.specs.Chain.{then-read, read_back}
 use Rattle.block.specs.Block.{bonds_of, graph_of, block_reply}
 use Rattle.block.specs.Told.{molecule}
 use Rattle.block.specs.Numbered.{bonds_length}
@@ -19,9 +19,8 @@ use Rattle.reply.specs.declared.Refusal.{Refusal}
 use Rattle.szeged.specs.Szeged.{szeged_term, szeged_terms, szeged}
 use Rattle.szeged.specs.Reply.{szeged_reply, filled_terms, szeged_entries}
 use Rattle.szeged.specs.Work.{Done}
-use Rattle.reply.specs.declared.NumberReply.{NumberReply}
-use Rattle.reply.specs.declared.NumberReply.TheVariants.{Of}
 use Rattle.szeged.proofs.Tree.{szeged_of_tree}
+use Rattle.std.specs.Prelude.{Result, Ok}
 
 module _ (n : ℕ) (xs : List ℕ) where
   pub reply-refused : (room : ℕ) {r : Refusal} → block_reply n xs ≡ refused r → szeged_reply n xs room ≡ refused r
@@ -47,8 +46,8 @@ module _ (n : ℕ) (xs : List ℕ) where
   entries_done e room d = filled_bonds (szeged_term (graph_of n xs)) xs d.entries room ∙ rw e
 
 -- THE PROMISE DETERMINES the reply and the entries
-pub one_reply : (n : ℕ) (xs out : List ℕ) (r s : NumberReply) (o p : List ℕ) → r ≡ said_number (szeged_reply n xs (length out)) → o ≡ szeged_entries n xs out
-    → s ≡ said_number (szeged_reply n xs (length out)) → p ≡ szeged_entries n xs out → (r ≡ s) × (o ≡ p)
+pub one_reply : (n : ℕ) (xs out : List ℕ) (r s : Result ℕ Refusal) (o p : List ℕ) → r ≡ as_result (szeged_reply n xs (length out)) → o ≡ szeged_entries n xs out
+    → s ≡ as_result (szeged_reply n xs (length out)) → p ≡ szeged_entries n xs out → (r ≡ s) × (o ≡ p)
 one_reply n xs out r s o p a b c d = (a ∙ sym c, b ∙ sym d)
 
 -- what a reply that is the index tells
@@ -73,8 +72,8 @@ pub szeged_tree : (n : ℕ) (xs : List ℕ) → block_reply n xs ≡ read tt →
 szeged_tree n xs fine few = szeged_of_tree (molecule n xs fine) few
 
 -- and so is the index that is told
-pub tree_told : (n : ℕ) (xs : List ℕ) (room : ℕ) (r : NumberReply) → r ≡ said_number (szeged_reply n xs room)
-    → (w : ℕ) → r ≡ Of w → length (bonds_of xs) + 1 ≡ n → w ≡ wiener (graph_of n xs)
+pub tree_told : (n : ℕ) (xs : List ℕ) (room : ℕ) (r : Result ℕ Refusal) → r ≡ as_result (szeged_reply n xs room)
+    → (w : ℕ) → r ≡ Ok w → length (bonds_of xs) + 1 ≡ n → w ≡ wiener (graph_of n xs)
 tree_told n xs room r e w i few =
-    let (fine, is) = told n xs room w (sym (number_told (Of w) (szeged_reply n xs room) (sym i ∙ e))) in
+    let (fine, is) = told n xs room w (sym (read_back (Ok w) (szeged_reply n xs room) (sym i ∙ e))) in
     sym is ∙ szeged_tree n xs fine few

@@ -21,7 +21,7 @@ pub const BLANK: u8 = 32;
 pub const NO_NUMBER: usize = 1000;
 
 // A line: how many characters it has, and where the next one begins.
-#[derive(Drop)]
+#[derive(Clone, Copy, Debug, PartialEq, Eq)]
 pub struct Line {
     pub chars: usize,
     pub next: usize,
@@ -101,10 +101,8 @@ fn feeds(d: &[u8], at: usize) -> u8
     ensures { result ≡ 0 → Clear d.now at 16 }
 {
     let mut n: u8 = 0;
-    let mut k: usize = 0;
-    while k < STEP {
+    for k in 0..STEP {
         n = n + is_feed(d[at + k]);
-        k += 1;
     }
     n
 }
@@ -174,15 +172,13 @@ pub fn line_at(d: &[u8], at: usize) -> Line
 pub fn starts_with(d: &[u8], word: &[u8]) -> bool
     ensures { result ≡ starts_with word.now d.now }
 {
-    let mut i = 0;
-    while i < word.len() {
+    for i in 0..word.len() {
         if d.len() <= i {
             return false;
         }
         if d[i] != word[i] {
             return false;
         }
-        i += 1;
     }
     true
 }

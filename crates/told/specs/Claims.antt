@@ -1,6 +1,6 @@
 -- Laws. What the one number of a C reply about claims, and about a record or a data item of an SDF, tells. A claim's number and the place of an item are at most the length of what was lent, which is here shorter than 2^56 bytes.
 use Prim.Native.Nat.{ℕ, zero, suc, ◌+◌, ◌≤◌, ◌<◌}
-use Rattle.std.specs.Prelude.{Bool, ◌&&◌, ◌||◌, cond, List, [], ◌∷◌, ◌↔◌, ◌≡◌, eqb, leb, length}
+use Rattle.std.specs.Prelude.{Bool, ◌&&◌, ◌||◌, cond, List, [], ◌∷◌, ◌↔◌, ◌≡◌, eqb, leb, length, Option, Some, None}
 use Rattle.std.proofs.Math.Bool.{true, false, not}
 use Rattle.std.proofs.Math.Path.{refl, ap}
 use Rattle.std.proofs.Common.{arith}
@@ -14,8 +14,6 @@ use Rattle.deck.specs.Deck.{Deck, deck_reply}
 use Rattle.deck.specs.Molecule.{molecule_of}
 use Rattle.deck.specs.declared.Form.TheVariants.{Composed}
 use Rattle.judging.specs.Judging.{said_verdict}
-use Rattle.printed.specs.declared.Printed.{Printed}
-use Rattle.printed.specs.declared.Printed.TheVariants.{Unread, Of}
 use Rattle.claiming.specs.Claims.{printed_of, claim_of, said_reading, size_at, claim_reply, claims_from, claims_in, Truth, is_right, first_wrong_claim, any_sets, claims_reply}
 use Rattle.claiming.specs.Going.{claim_read}
 use Rattle.claiming.specs.Headline.{Right, Claimed}
@@ -26,8 +24,7 @@ use Rattle.sdfile.specs.Sdf.{header_one, value_chars, is_no_name, value_reply, i
 use Rattle.sdfile.specs.Found.{value_place, header_two}
 use Rattle.sdfile.specs.declared.Piece.{Piece}
 use Rattle.sdfile.specs.declared.Span.{Span}
-use Rattle.sdfile.specs.declared.Step.{Step}
-use Rattle.sdfile.specs.declared.Step.TheVariants.{Done, Next}
+use Rattle.printed.specs.declared.Number.{Number}
 use Rattle.calls.specs.Convention.{most_place, coded, fitting}
 use Rattle.deck_calls.specs.Replies.{verdict_code}
 use Rattle.claim_calls.specs.Spans.{step_list, item_list}
@@ -35,9 +32,9 @@ use Rattle.told.specs.Bounded.{Bounded, then_bounded, if_bounded, deck_bounded}
 use Rattle.told.specs.Recovered.{Tells, Judges, judges, block_here, listed, lent}
 
 -- One claim, the k-th.
-of_bounded : (f k : ℕ) (p : Printed) → k < most_place → Bounded most_place (claim_of f k p)
-of_bounded f k Unread h = record { low = omega arith; high = omega arith; place = h }
-of_bounded f k (Of x) h = tt
+of_bounded : (f k : ℕ) (p : Option Number) → k < most_place → Bounded most_place (claim_of f k p)
+of_bounded f k None h = record { low = omega arith; high = omega arith; place = h }
+of_bounded f k (Some x) h = tt
 
 claim_bounded : (most : ℕ) (cs : List ℕ) (at k : ℕ) → k < most_place → Bounded most_place (claim_reply most cs at k)
 unfolding claim_reply said_reading
@@ -157,16 +154,16 @@ sdf_item_tells d name room l =
     second_bounded d l (header_two d name) (record { start = value_place d name; len = value_chars d (value_place d name) })))))
 
 -- A record: 0 where there is one, 254 where all are done, 9 where there is one and fewer than three entries are lent.
-pub record Steps (room : ℕ) (s : Step) : Type 0 where
-  pub fine : coded (fitting room (step_list s)) ≡ 0 → (p : Piece) × (s ≡ Next p)
-  pub ended : coded (fitting room (step_list s)) ≡ 254 → s ≡ Done
-  pub lacking : coded (fitting room (step_list s)) ≡ 9 → (p : Piece) × (s ≡ Next p) × (room < 3)
+pub record Steps (room : ℕ) (s : Option Piece) : Type 0 where
+  pub fine : coded (fitting room (step_list s)) ≡ 0 → (p : Piece) × (s ≡ Some p)
+  pub ended : coded (fitting room (step_list s)) ≡ 254 → s ≡ None
+  pub lacking : coded (fitting room (step_list s)) ≡ 9 → (p : Piece) × (s ≡ Some p) × (room < 3)
 
-steps : (room : ℕ) (s : Step) → Steps room s
-steps room Done = record { fine = λ e. absurd (omega (arith, e)); ended = λ e. refl; lacking = λ e. absurd (omega (arith, e)) }
-steps room (Next p) = go (ltb room 3) refl
+steps : (room : ℕ) (s : Option Piece) → Steps room s
+steps room None = record { fine = λ e. absurd (omega (arith, e)); ended = λ e. refl; lacking = λ e. absurd (omega (arith, e)) }
+steps room (Some p) = go (ltb room 3) refl
   where
-    go : (t : Bool) → ltb room 3 ≡ t → Steps room (Next p)
+    go : (t : Bool) → ltb room 3 ≡ t → Steps room (Some p)
     go true e = record { fine = λ f. (p, refl); ended = λ f. absurd (omega (arith, rw e at f)); lacking = λ f. (p, refl, ltb-true room 3 e) }
     go false e = record { fine = λ f. (p, refl); ended = λ f. absurd (omega (arith, rw e at f)); lacking = λ f. absurd (omega (arith, rw e at f)) }
 

@@ -1,7 +1,7 @@
 // Large molecules: a deck's molecule written out, and a listed molecule held against it.
 ghost use Rattle.std.specs.Prelude.{◌≡◌};
+ghost use Rattle.reply.specs.Read.{as_result};
 ghost use Rattle.matched.specs.Matched.{match_reply};
-ghost use Rattle.matched.specs.Said.{said_match};
 ghost use Rattle.whole_calls.specs.Replies.{WrittenOut, match_code};
 
 #[unsafe(no_mangle)]
@@ -18,7 +18,7 @@ pub extern "C" fn tteuyomal_matched(
     bonds: &[u16],
     matching: &[u16],
 ) -> u64
-    ensures { result ≡ match_code (said_match (match_reply deck.now atoms bonds.now matching.now)) }
+    ensures { result ≡ match_code (as_result (match_reply deck.now atoms bonds.now matching.now)) }
 {
     whole_calls::matched(deck, atoms, bonds, matching)
 }

@@ -13,7 +13,7 @@ ghost use Rattle.whole.specs.Whole.{pair_numbers, whole_reply, numbers_after};
 ghost use Rattle.whole.specs.Work.{most_start, most_brought, most_numbers, over_atoms, over_numbers, block_numbers, joins_of, joining, brought, bonds_before};
 
 use deck::{Form, Layout};
-use reply::{Counts, CountsReply, Refusal, Reply, wide};
+use reply::{Counts, Refusal, Rule, wide};
 
 // Puts a number at a place, where there is room.
 fn put(out: &mut [u16], at: usize, x: u16)
@@ -54,11 +54,9 @@ pub fn start_of(d: &[u8], deck: Layout, k: u16) -> usize
 {
     let end = k as usize;
     let mut start = 0;
-    let mut i: usize = 0;
-    while i < end {
+    for i in 0..end {
         let b = deck::block_at(d, deck, i);
         start += b.atoms as usize;
-        i += 1;
     }
     start
 }
@@ -114,12 +112,10 @@ fn bond_count(d: &[u8], deck: Layout) -> usize
     ensures { (result ≡ length (bonds_before (graph_at d.now (deck_of deck)) (join_at d.now (deck_of deck)) deck.placements)) × (2 * result ≤ most_numbers) }
 {
     let mut m = 0;
-    let mut k: usize = 0;
-    while k < deck.placements {
+    for k in 0..deck.placements {
         let b = deck::block_at(d, deck, k);
         let bonds = assembly::bonds_part(d, b);
         m += bonds.len() / 2 + joins_of(k);
-        k += 1;
     }
     m
 }
@@ -130,36 +126,26 @@ fn put_all(d: &[u8], deck: Layout, out: &mut [u16])
     ensures { out.new ≡ sets out.old 0 (pair_numbers (bonds_before (graph_at d.now (deck_of deck)) (join_at d.now (deck_of deck)) deck.placements)) }
 {
     let mut at = 0;
-    let mut k: usize = 0;
-    while k < deck.placements {
+    for k in 0..deck.placements {
         let next = put_placed(d, deck, k, out, at);
         at = next;
-        k += 1;
     }
 }
 
 // The molecule of a deck without a sheet: how many atoms and bonds it has, and its bonds at the front of the lent numbers, two each; later numbers stay. Or
 // the deck's refusal, then 9 where fewer numbers are lent than the bonds take, and no number changes.
-pub fn bonds(d: &[u8], out: &mut [u16]) -> CountsReply
+pub fn bonds(d: &[u8], out: &mut [u16]) -> Result<Counts, Refusal>
     ensures reply { result ≡ said_molecule (whole_reply d.now (length out.old)) }
     ensures numbers { out.new ≡ numbers_after (whole_reply d.now (length out.old)) out.old }
 {
     let read = compose::read_deck(d, Form::Composed);
-    let reply = read.reply;
-    match reply {
-        Reply::Refused(r) => CountsReply::Refused(r),
-        Reply::Fine => {
-            let deck = read.layout;
-            let m = bond_count(d, deck);
-            if out.len() < 2 * m {
-                return CountsReply::Refused(Refusal {
-                    number: 9,
-                    place: 0,
-                });
-            }
-            let atoms = start_of(d, deck, deck.placements as u16);
-            put_all(d, deck, out);
-            CountsReply::Of(Counts { atoms, bonds: m })
-        }
+    read.reply?;
+    let deck = read.layout;
+    let m = bond_count(d, deck);
+    if out.len() < 2 * m {
+        return Err(Rule::ShortOutput.at(0));
     }
+    let atoms = start_of(d, deck, deck.placements as u16);
+    put_all(d, deck, out);
+    Ok(Counts { atoms, bonds: m })
 }

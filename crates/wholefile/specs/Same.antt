@@ -1,10 +1,9 @@
 -- Laws. A file that is read as a block is read whole as the same molecule. Assumes nothing.
-use Rattle.std.specs.Prelude.{ℕ, List, ◌≡◌, ltb, length}
+use Rattle.std.specs.Prelude.{ℕ, List, ◌≡◌, ltb, length, Ok}
 use Rattle.std.proofs.Common.{sym, ◌∙◌, ap, arith, ne_eqb}
 use Rattle.reply.specs.Read.{Read, read, ◌then◌, refuse_if}
 use Rattle.reply.specs.Chain.{then-read, counted_read}
 use Rattle.reply.specs.declared.Counts.{Counts}
-use Rattle.reply.specs.declared.CountsReply.TheVariants.{Of}
 use Rattle.block.specs.Block.{block_reply}
 use Rattle.block.specs.Told.{passed, few_atoms}
 use Rattle.molfile.specs.Molfile.{lines_reply, kept_atoms, bytes_of, file_reply, molfile_reply}
@@ -29,9 +28,9 @@ whole_read d room e =
     rw (a, block_molecule n xs f) g
 
 -- where `read` gives a block into so many bytes, `read_whole` gives the same atoms and bonds into as many numbers
-pub whole_same : (d out : List ℕ) (c : Counts) → said_molfile d (molfile_reply d (length out)) ≡ Of c
-    → (said_molfile d (whole_file_reply d (length out)) ≡ Of c) × (whole_numbers d out ≡ molfile_bytes d out)
+pub whole_same : (d out : List ℕ) (c : Counts) → said_molfile d (molfile_reply d (length out)) ≡ Ok c
+    → (said_molfile d (whole_file_reply d (length out)) ≡ Ok c) × (whole_numbers d out ≡ molfile_bytes d out)
 whole_same d out c e =
     let (u, r, n) = counted_read (molfile_reply d (length out)) _ e in
     let w = whole_read d (length out) r in
-    (ap (said_molfile d) w ∙ ap Of n, ap (λ (m : Read (Unit {0})). filled_bonds m (bytes_of d) out) (w ∙ sym r))
+    (ap (said_molfile d) w ∙ ap Ok n, ap (λ (m : Read (Unit {0})). filled_bonds m (bytes_of d) out) (w ∙ sym r))

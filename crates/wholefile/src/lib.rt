@@ -4,7 +4,6 @@
 ghost use Rattle.std.specs.Prelude.{◌≡◌, ◌&&◌, ◌||◌, cond, [], ◌+◌, ◌*◌, ◌≤◌, ◌<◌, eqb, length};
 ghost use Rattle.std.proofs.lemmas.List.Edits.{sets};
 ghost use Rattle.graph.specs.Graph.{bond, joins};
-ghost use Rattle.reply.specs.Read.{said_reply};
 ghost use Rattle.block.specs.Block.{bonds_of, bond_fault, bonds_reply};
 ghost use Rattle.block.specs.Numbered.{bond_at};
 ghost use Rattle.block.proofs.Reading.{before};
@@ -12,13 +11,15 @@ ghost use Rattle.molfile.specs.Molfile.{fitting_reply};
 ghost use Rattle.molfile.specs.Said.{said_answer, said_molfile, filled_bonds};
 ghost use Rattle.wholefile.specs.Whole.{molecule_reply, whole_file_reply};
 ghost use Rattle.wholefile.specs.Said.{whole_numbers, seen_by};
+ghost use Rattle.reply.specs.Read.{as_result};
+ghost use Rattle.reply.specs.Rules.{number_if};
 
 use block::LIMIT;
-use molfile::{KeptRead, PAIRS};
-use reply::{Counts, CountsReply, Refusal, Reply, is_outside, refused, wide_two};
+use molfile::PAIRS;
+use reply::{Counts, Refusal, Rule, is_outside, wide_two};
 
 // What the bonds before say of two atoms: whether one of them joins these, and how many ends each has.
-#[derive(Drop)]
+#[derive(Clone, Copy)]
 struct Seen {
     pub joined: bool,
     pub one: usize,
@@ -58,65 +59,52 @@ fn look_back(xs: &[u16], k: usize, a: u16, b: u16) -> Seen
     let mut joined = false;
     let mut one: usize = 0;
     let mut two: usize = 0;
-    let mut i: usize = 0;
-    while i < k {
+    for i in 0..k {
         let p = xs[2 * i];
         let q = xs[2 * i + 1];
         let now_joined = either(joins(p, q, a, b), joined);
         joined = now_joined;
         one = one_if(p, a) + one_if(q, a) + one;
         two = one_if(p, b) + one_if(q, b) + two;
-        i += 1;
     }
     Seen { joined, one, two }
 }
 
-// The refusal number of bond k, from 0, after those before it, or 0.
-fn fault(n: usize, xs: &[u16], k: usize) -> usize
+// The rule that refuses bond k, from 0, after those before it.
+#[tactic(auto, unfolding(block::specs::Block::bond_fault))]
+fn fault(n: usize, xs: &[u16], k: usize) -> Option<Rule>
     requires { 2 * k + 1 < length xs.now }
-    ensures { result ≡ bond_fault n (before xs.now k) (bond_at xs.now k) }
+    ensures { number_if result ≡ bond_fault n (before xs.now k) (bond_at xs.now k) }
 {
     let a = xs[2 * k];
     let b = xs[2 * k + 1];
-    if is_outside(n, wide_two(a)) {
-        return 3;
-    }
-    if is_outside(n, wide_two(b)) {
-        return 3;
+    if is_outside(n, wide_two(a)) || is_outside(n, wide_two(b)) {
+        return Some(Rule::BondEnd);
     }
     if a == b {
-        return 4;
+        return Some(Rule::SelfBond);
     }
     let seen = look_back(xs, k, a, b);
     if seen.joined {
-        return 5;
+        return Some(Rule::ListedBefore);
     }
-    if seen.one >= LIMIT {
-        return 6;
+    if seen.one >= LIMIT || seen.two >= LIMIT {
+        return Some(Rule::SeventhBond);
     }
-    if seen.two >= LIMIT {
-        return 6;
-    }
-    0
+    None
 }
 
 // The refusals 3 to 6 of the bonds between n atoms, one by one.
-fn bonds(n: usize, xs: &[u16]) -> Reply
-    ensures { result ≡ said_reply (bonds_reply n [] (bonds_of xs.now)) }
+fn bonds(n: usize, xs: &[u16]) -> Result<(), Refusal>
+    ensures { result ≡ as_result (bonds_reply n [] (bonds_of xs.now)) }
 {
     let m = xs.len() / 2;
-    let mut k: usize = 0;
-    while k < m {
-        let number = fault(n, xs, k);
-        if number != 0 {
-            return Reply::Refused(Refusal {
-                number,
-                place: k + 1,
-            });
+    for k in 0..m {
+        if let Some(rule) = fault(n, xs, k) {
+            return Err(rule.at(k + 1));
         }
-        k += 1;
     }
-    Reply::Fine
+    Ok(())
 }
 
 // Puts numbers at the front of what is lent.
@@ -124,61 +112,46 @@ fn put(out: &mut [u16], xs: &[u16])
     requires { length xs.now ≤ length out.old }
     ensures { out.new ≡ sets out.old 0 xs.now }
 {
-    let mut i: usize = 0;
-    while i < xs.len() {
+    for i in 0..xs.len() {
         out[i] = xs[i];
-        i += 1;
     }
 }
 
 // The refusals of n atoms and the bonds between them: 1 for no atom, then 3 to 6.
-fn molecule(n: usize, xs: &[u16]) -> Reply
-    ensures { result ≡ said_reply (molecule_reply n xs.now) }
+fn molecule(n: usize, xs: &[u16]) -> Result<(), Refusal>
+    ensures { result ≡ as_result (molecule_reply n xs.now) }
 {
     if n == 0 {
-        return refused(1);
+        return Err(Rule::AtomCount.at(0));
     }
     bonds(n, xs)
 }
 
 // The answer for n atoms and the bonds between them: their refusals, 9 for a lent output too short, or the numbers of the bonds.
-fn answer(n: usize, xs: &[u16], out: &mut [u16]) -> CountsReply
+fn answer(n: usize, xs: &[u16], out: &mut [u16]) -> Result<Counts, Refusal>
     ensures reply { result ≡ said_answer n xs.now (fitting_reply molecule_reply n xs.now (length out.old)) }
     ensures numbers { out.new ≡ filled_bonds (fitting_reply molecule_reply n xs.now (length out.old)) xs.now out.old }
 {
-    let reply = molecule(n, xs);
-    match reply {
-        Reply::Refused(r) => CountsReply::Refused(r),
-        Reply::Fine => {
-            if out.len() < xs.len() {
-                return CountsReply::Refused(Refusal {
-                    number: 9,
-                    place: 0,
-                });
-            }
-            put(out, xs);
-            CountsReply::Of(Counts {
-                atoms: n,
-                bonds: xs.len() / 2,
-            })
-        }
+    molecule(n, xs)?;
+    if out.len() < xs.len() {
+        return Err(Rule::ShortOutput.at(0));
     }
+    put(out, xs);
+    Ok(Counts {
+        atoms: n,
+        bonds: xs.len() / 2,
+    })
 }
 
 // Reads a molfile as one molecule: how many atoms and bonds it has, its bonds at the front of the lent output, two numbers each, and later numbers stay. Or
 // it is a refusal, and no number changes: 25 to 27 of its lines in file order, 1 where no atom is kept, 3 to 6 of the kept bonds one by one, then 9 where
 // fewer numbers are lent than these take. How many bonds there are and whether paths lead to all atoms is not asked.
-pub fn read_whole(text: &[u8], out: &mut [u16]) -> CountsReply
+pub fn read_whole(text: &[u8], out: &mut [u16]) -> Result<Counts, Refusal>
     ensures reply { result ≡ said_molfile text.now (whole_file_reply text.now (length out.old)) }
     ensures numbers { out.new ≡ whole_numbers text.now out.old }
 {
     let mut pairs = [0u16; PAIRS];
-    let seen = molfile::kept_bonds(text, &mut pairs);
-    match seen {
-        KeptRead::Refused(r) => CountsReply::Refused(r),
-        KeptRead::Of(k) => {
-            let numbers = k.numbers;
-            answer(k.atoms, &pairs[..numbers], out)
-        }
-    }
+    let k = molfile::kept_bonds(text, &mut pairs)?;
+    let numbers = k.numbers;
+    answer(k.atoms, &pairs[..numbers], out)
 }

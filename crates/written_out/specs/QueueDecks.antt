@@ -30,7 +30,6 @@ use Rattle.sheets.specs.Sheets.{fields_of, widths, fields_at, sheet_of, sheet_by
 use Rattle.compose.specs.Fields.{fields_reply}
 use Rattle.judging.specs.Judging.{judge_reply, said_verdict, sheet_write_reply, sheet_out}
 use Rattle.judging.specs.declared.Verdict.TheVariants.{Accepted}
-use Rattle.judging.specs.declared.SheetWritten.TheVariants as written
 use Rattle.gathered.specs.Gathered.{over_output, sheet_told}
 use Rattle.gathered.specs.Orders.{Order, Handed, record_blocks, table_left, blocks_left}
 use Rattle.gathered.specs.Stacked.{HeldBlocks, block_records}

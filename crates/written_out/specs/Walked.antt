@@ -1,7 +1,7 @@
 -- Laws. THE WALK: steps from position 0, each at the position that was handed back, give the sheet of every product once, in order, and then done; a run writes
 -- the steps' bytes one after the other. (That each choice has one position: `each_choice_once`, products.) Assumes nothing.
 use Prim.Native.Nat.{ℕ, zero, suc, ◌+◌, ◌*◌, ◌-◌, ◌≤◌, ◌<◌}
-use Rattle.std.specs.Prelude.{Bool, true, false, ◌⊎◌, ◌≡◌, ltb, length, take}
+use Rattle.std.specs.Prelude.{Bool, true, false, ◌⊎◌, ◌≡◌, ltb, length, take, Ok, None}
 use mathlib.Core.List.{List, ◌++◌, append_assoc}
 use Rattle.std.proofs.Common.{inl, inr, ⊎_elim, ◌∙◌, le-ltb, ltb-true, ltb-false, length-append, take_at, drop_at}
 use Rattle.std.proofs.Math.Path.{refl, sym, ap, ap₂}
@@ -19,7 +19,6 @@ use Rattle.catalogue.specs.Library.{Library, library_reply}
 use Rattle.catalogue.specs.Products.{Product, done, made, products, product_at}
 use Rattle.library.specs.Steps.{Ran, behind, after_step, step_reply, step_out, steps_from, run_of}
 use Rattle.library.specs.Running.{step_long, step_short, run_stops, made_step, done_step, run_next, run_done, run_full}
-use Rattle.library.specs.declared.StepReply.TheVariants as stepped
 use Rattle.written_out.specs.Walk.{sheet_before, walk_from, in_order, one_by_one}
 
 -- a sheet has bytes
@@ -56,7 +55,7 @@ module _ (s : Sheet) (out : List ℕ) (x : Indices) (h : sheet_bytes s ≤ lengt
 module _ (s : Sheet) (d : List ℕ) (l : Library) (e : library_reply d ≡ read l) where
   -- STEPS FROM A POSITION ON give the sheets of all products from there on, and then done
   walk_from_lem : (k position : ℕ) (out : List ℕ) → position + k ≡ products l.sites → sheet_bytes s ≤ length out
-      → walk_from (suc k) s d position out ≡ record { sheets = in_order s d l k position; last = stepped.Done }
+      → walk_from (suc k) s d position out ≡ record { sheets = in_order s d l k position; last = Ok None }
   unfolding walk_from in_order
   walk_from_lem zero position out n h = rw (done_step s d l e position (length out) (omega arith) h)
   walk_from_lem (suc k) position out n h =
@@ -66,7 +65,7 @@ module _ (s : Sheet) (d : List ℕ) (l : Library) (e : library_reply d ≡ read 
 
   -- EVERY PRODUCT ONCE, IN ORDER, AND THEN DONE
   pub whole_walk : (out : List ℕ) → sheet_bytes s ≤ length out
-      → walk_from (suc (products l.sites)) s d 0 out ≡ record { sheets = in_order s d l (products l.sites) 0; last = stepped.Done }
+      → walk_from (suc (products l.sites)) s d 0 out ≡ record { sheets = in_order s d l (products l.sites) 0; last = Ok None }
   whole_walk out h = walk_from_lem (products l.sites) 0 out (omega arith) h
 
   -- A RUN IS ITS STEPS: the first step's bytes, then a run from the position that it hands back into what it left

@@ -1,4 +1,3 @@
-use Prim.Native.Nat.{◌-◌}
 use mathlib.Core.Path.{◌≡◌, ◌∙◌, ap}
 use native.Mathlib.Omega.{arith}
 use lib.ListN.{get_or}
@@ -7,16 +6,16 @@ use Rattle.arms.proofs.Keeping.{sight_start, sight_next}
 use Rattle.arms.proofs.sight.Goals as goal
 
 pub loop-m-init : goal.loop-m-init
-loop-m-init c = (omega arith, sight_start _ _ _ _)
+loop-m-init c = sight_start _ _ _ _
 
 pub loop-m-preserved : goal.loop-m-preserved
 loop-m-preserved c =
     let l = c.loop-m in
-    (omega arith, sight_next _ _ _ _ l.m l.v _ _ l.invariant.1 c.wide-d.ensures.0 c.grown-next.ensures)
+    sight_next _ _ _ _ l.m l.v _ _ l.invariant c.wide-d.ensures.0 c.grown-v.ensures
 
 pub returns : goal.returns
 returns c =
     let a = c.args in
     let l = c.loop-m in
     let e : l.m ≡ a.k = omega arith in
-    l.invariant.1 ∙ ap (sight_from a.ends a.arms a.k (get_or a.ends a.k no_port).counts) e
+    l.invariant ∙ ap (sight_from a.ends a.arms a.k (get_or a.ends a.k no_port).counts) e

@@ -1,4 +1,3 @@
-use Prim.Native.Nat.{◌-◌, ◌≤◌}
 use mathlib.Core.List.{List}
 use mathlib.Core.Path.{◌≡◌}
 use Rattle.block.specs.declared.Indices.{Indices}
@@ -12,7 +11,4 @@ abbrev pub whole : Indices → List Port → Core
 whole x ends = record { six = x; ends = ends }
 
 abbrev pub invariant-loop-k : goal.invariant-loop-k
-invariant-loop-k l = (l.k ≤ l.n) × (l.six ≡ six_of (whole l.initial.six l.ends) l.arms l.k) × (l.from ≡ sight_at l.ends l.arms l.k l.k)
-
-abbrev pub decreases-loop-k : goal.decreases-loop-k
-decreases-loop-k l = l.n - l.k
+invariant-loop-k l = (l.six ≡ six_of (whole l.initial.six l.ends) l.arms l.k) × (l.from ≡ sight_at l.ends l.arms l.k l.k)

@@ -1,6 +1,5 @@
-use Prim.Native.Nat.{◌+◌, ◌*◌, ◌-◌, ◌≤◌}
+use Prim.Native.Nat.{◌+◌, ◌≤◌}
 use mathlib.Core.Path.{◌≡◌}
-use Rattle.records.specs.Records.{assembly_kind}
 use Rattle.assembly.specs.Placements.{placement_at, join_on, joins_on}
 use Rattle.assembly.specs.Work.{own_on}
 use Rattle.assembly.proofs.joins_on.Given as goal
@@ -9,7 +8,4 @@ use Rattle.assembly.proofs.joins_on.Given as goal
 abbrev pub invariant-loop-k : goal.invariant-loop-k
 invariant-loop-k l =
     let joins = join_on (placement_at l.xs) in
-    (l.total + own_on joins l.k l.p l.a ≡ joins_on joins l.k l.p l.a + own_on joins l.last l.p l.a) × (l.total ≤ l.k + 1) × (l.k ≤ l.last) × (l.at ≡ assembly_kind.fixed + assembly_kind.item * l.k)
-
-abbrev pub decreases-loop-k : goal.decreases-loop-k
-decreases-loop-k l = l.last - l.k
+    (l.total + own_on joins l.k l.p l.a ≡ joins_on joins l.k l.p l.a + own_on joins l.last l.p l.a) × (l.total ≤ l.k + 1)

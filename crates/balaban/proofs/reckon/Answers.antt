@@ -1,4 +1,3 @@
-use Prim.Native.Nat.{◌-◌}
 use native.Mathlib.Omega.{arith}
 use Rattle.block.specs.Numbered.{few_bytes}
 use Rattle.balaban.proofs.Blocks.{adding_none, ends, adding_next, fits, reckoned_is}

@@ -11,6 +11,6 @@ returns-in_default c =
 
 pub returns : goal.returns
 returns c =
-    let e = c.in-Fine.is in
+    let e = c.in-Ok.is in
     let h = c.halved-reply.ensures in
     pairs_fine _ _ (fine_read _ (sym h.reply ∙ e)) _ (h.half ∙ half_lent _ _) _ e c.count_pairs-at.ensures

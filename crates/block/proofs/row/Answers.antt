@@ -1,4 +1,4 @@
-use mathlib.Core.Path.{refl, sym, ◌∙◌}
+use mathlib.Core.Path.{refl, sym, ap, ◌∙◌}
 use borrow.Author.Tests.{not-true, not-false}
 use Rattle.graph.specs.Graph.{Within}
 use Rattle.block.specs.Block.{graph_of}
@@ -8,6 +8,7 @@ use Rattle.block.specs.Faults.{inside}
 use Rattle.block.specs.Told.{passed}
 use Rattle.block.proofs.Filling.{row-refused, row_outside, row_fine}
 use Rattle.block.proofs.Replies.{refused_block}
+use Rattle.std.specs.Prelude.{Err}
 use Rattle.block.proofs.row.Goals as goal
 use Rattle.block.proofs.row.Goals.{Else-is_outside, Else-not-admit}
 
@@ -26,7 +27,7 @@ ready-in-Else-is_outside : (c : Else-is_outside) → let s = c.args in ReadyBloc
 ready-in-Else-is_outside c = c.admit.ensures.ready (not-false _ c.if-not-admit.false-raw)
 
 pub returns-then-is_outside : goal.returns-then-is_outside
-returns-then-is_outside c = row_outside _ _ _ _ (ready (goal.at.returns-then-is_outside c).Else-not-admit).fine (sym c.is_outside.ensures ∙ c.if-is_outside.true) refl refl refl
+returns-then-is_outside c = row_outside _ _ _ _ (ready (goal.at.returns-then-is_outside c).Else-not-admit).fine (sym c.is_outside.ensures ∙ c.if-is_outside.true) (ap Err c.at.ensures) refl refl
 
 atom : (c : Else-is_outside) → let s = c.args in Within s.n s.i
 atom c = inside _ _ (sym c.is_outside.ensures ∙ c.if-is_outside.false)

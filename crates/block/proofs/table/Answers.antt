@@ -1,15 +1,15 @@
 use mathlib.Core.Path.{refl, sym, ap}
 use borrow.Author.Tests.{not-true, not-false}
-use Rattle.reply.specs.Read.{said_reply}
 use Rattle.block.specs.Drawn.{none_opened}
 use Rattle.block.proofs.Filling.{kept, stored}
 use Rattle.block.proofs.Replies.{refused_block, near_opened}
 use Rattle.block.proofs.table.Goals as goal
+use Rattle.reply.specs.Read.{as_result}
 
 pub returns-then-not-admit : goal.returns-then-not-admit
 returns-then-not-admit c =
     let b = refused_block _ _ c.refusal.ensures (c.admit.ensures.refuses (not-true _ c.if-not-admit.true-raw)) in
-    record { reply = sym (ap said_reply b); near = sym (none_opened _ _ b); half = kept _ _ _ b _ _; far = kept _ _ _ b _ _ }
+    record { reply = sym (ap as_result b); near = sym (none_opened _ _ b); half = kept _ _ _ b _ _; far = kept _ _ _ b _ _ }
 
 pub from_all-requires : goal.from_all-requires
 from_all-requires c =
@@ -18,4 +18,4 @@ from_all-requires c =
 pub returns : goal.returns
 returns c =
     let R = c.admit.ensures.ready (not-false _ c.if-not-admit.false-raw) in
-    record { reply = sym (ap said_reply R.fine); near = near_opened _ _ R; half = stored _ _ R.fine _ _ _ (c.from_all.ensures.half _ R); far = stored _ _ R.fine _ _ _ (c.from_all.ensures.far _ R) }
+    record { reply = sym (ap as_result R.fine); near = near_opened _ _ R; half = stored _ _ R.fine _ _ _ (c.from_all.ensures.half _ R); far = stored _ _ R.fine _ _ _ (c.from_all.ensures.far _ R) }

@@ -2,7 +2,6 @@ use Prim.Native.Nat.{◌-◌}
 use mathlib.Core.Path.{refl, ◌∙◌}
 use lib.ListN.{length-set}
 use native.Mathlib.Omega.{arith}
-use Rattle.blockfile.specs.Bytes.{low}
 use Rattle.blockfile.proofs.Lows.{narrow_more, narrow_all}
 use Rattle.blockfile.proofs.narrow.Goals as goal
 

@@ -29,12 +29,6 @@ onward c =
 pub returns-then-claims-at : goal.returns-then-claims-at
 returns-then-claims-at c = let a = c.args in sym (onward (goal.at.returns-then-claims-at c).After-size_at-size ∙ asks_end a.field a.claims.now _ _ (omega (arith, c.if-claims-at.true)))
 
-pub overflow_add-at : goal.overflow_add-at
-overflow_add-at c = omega (arith, c.if-claims-at.false)
-
-pub loop-at-smaller : goal.loop-at-smaller
-loop-at-smaller c = omega (arith, c.if-claims-at.false)
-
 pub loop-at-preserved : goal.loop-at-preserved
 loop-at-preserved c = (onward (goal.at.loop-at-preserved c).After-size_at-size, omega (arith, c.if-claims-at.false))
 

@@ -1,10 +1,11 @@
-use mathlib.Core.Path.{sym, ◌∙◌}
+use mathlib.Core.Path.{sym, ◌∙◌, ap}
+use Rattle.std.specs.Prelude.{Err}
 use Rattle.claiming.proofs.Steps.{said_unread, said_read}
 use Rattle.claiming.proofs.said.Goals as goal
 
 -- `claiming::said` meets its contract. Assumes nothing.
-pub returns-in-Unread : goal.returns-in-Unread
-returns-in-Unread c = said_unread _ _ _ (sym c.in-Unread.is ∙ c.number-told.ensures) c.refused.ensures
+pub returns-in_default : goal.returns-in_default
+returns-in_default c = said_unread _ _ _ (sym c.in_default.is ∙ c.number.ensures) (ap Err c.at.ensures)
 
-pub returns-in-Of : goal.returns-in-Of
-returns-in-Of c = said_read _ _ _ _ (sym c.in-Of.is ∙ c.number-told.ensures)
+pub returns : goal.returns
+returns c = said_read _ _ _ _ (sym c.in-Some.is ∙ c.number.ensures)

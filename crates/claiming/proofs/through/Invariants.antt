@@ -3,7 +3,6 @@ use mathlib.Core.Bool.{false}
 use mathlib.Core.Path.{◌≡◌}
 use lib.ListN.{length}
 use Rattle.claiming.specs.Work.{gone_through}
-use Rattle.claiming.specs.declared.ClaimReply.TheVariants as claim
 use Rattle.claiming.proofs.through.Given as goal
 
 -- `claiming::through` meets its contract. The loop's invariant: what is met from here on, after what was met, is what is met in all.

@@ -35,12 +35,6 @@ overflow_add-at-in-loop-i c = omega (arith, c.loop-i.invariant)
 pub overflow_add-at-in-loop-i-2 : goal.overflow_add-at-in-loop-i-2
 overflow_add-at-in-loop-i-2 c = omega (arith, c.loop-i.invariant)
 
-pub overflow_add-i : goal.overflow_add-i
-overflow_add-i c = omega (arith, c.loop-i.invariant)
-
-pub loop-i-smaller : goal.loop-i-smaller
-loop-i-smaller c = omega (arith, c.loop-i-test.true)
-
 pub loop-i-preserved : goal.loop-i-preserved
 loop-i-preserved c =
     let l = c.loop-i in
@@ -55,4 +49,4 @@ pub returns : goal.returns
 returns c =
     let l = c.loop-i in
     let e : most_blocks - l.i ≡ 0 = omega (arith, c.loop-i-test.false) in
-    (omega (arith, l.invariant.2, heads_end (most_blocks - l.i) c.args.d.now l.at e), l.invariant.0)
+    (omega (arith, l.invariant.2, heads_end (most_blocks - l.i) c.args.d.now l.at e), omega arith)

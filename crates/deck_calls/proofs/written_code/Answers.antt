@@ -3,5 +3,5 @@ use Rattle.deck_calls.specs.Replies.{written_code}
 use Rattle.deck_calls.proofs.written_code.Goals as goal
 
 -- `deck_calls::written_code` meets its contract.
-pub returns-in-Refused : goal.returns-in-Refused
-returns-in-Refused c = c.code_of.ensures ∙ ap written_code (sym c.in-Refused.is)
+pub returns-in-Err : goal.returns-in-Err
+returns-in-Err c = c.code_of.ensures ∙ ap written_code (sym c.in-Err.is)

@@ -23,9 +23,6 @@ overflow_sub-p-in-loop-j c = omega (arith, c.loop-j.invariant.most, c.loop-j-tes
 pub overflow_add-p : goal.overflow_add-p
 overflow_add-p c = omega (arith, c.loop-j.invariant.near, c.loop-j.invariant.high, c.loop-j.invariant.most)
 
-pub overflow_add-j : goal.overflow_add-j
-overflow_add-j c = omega (arith, c.loop-j.invariant.high, c.loop-j.invariant.most)
-
 pub loop-j-preserved : goal.loop-j-preserved
 loop-j-preserved c = down_next c.loop-j.invariant c.loop-j-test.true
 

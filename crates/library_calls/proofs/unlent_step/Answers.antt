@@ -1,5 +1,7 @@
 use mathlib.Core.Path.{sym, ◌∙◌, ap}
 use native.Mathlib.Omega.{arith}
+use Rattle.std.specs.Prelude.{Ok, Option}
+use Rattle.block.specs.declared.Indices.{Indices}
 use Rattle.reply.specs.Read.{Read}
 use Rattle.catalogue.specs.Products.{Product}
 use Rattle.library.specs.Running.{step_long, step_short, step_product}
@@ -14,11 +16,11 @@ returns-then-deck-gt-LONGEST c = let a = c.args in sym (ap (λ (x : Read Product
 pub returns-then-room-bytes_of : goal.returns-then-room-bytes_of
 returns-then-room-bytes_of c = let a = c.args in sym (ap (λ (x : Read Product). step_code (with_next 0 x)) (step_short a.sheet a.deck.now a.position a.room c.if-deck-gt-LONGEST.false (omega (arith, c.if-room-bytes_of.true, c.bytes_of.ensures))))
 
-pub returns-in-Refused : goal.returns-in-Refused
-returns-in-Refused c = let a = c.args in c.code_of.ensures ∙ sym (ap (λ (x : Read Product). step_code (with_next 0 x)) (step_product a.sheet a.deck.now a.position a.room c.if-deck-gt-LONGEST.false (omega (arith, c.if-room-bytes_of.false, c.bytes_of.ensures)) ∙ sym (product_told _ _ (sym c.in-Refused.is ∙ c.product-answer.ensures))))
+pub returns-in-Err : goal.returns-in-Err
+returns-in-Err c = let a = c.args in c.code_of.ensures ∙ sym (ap (λ (x : Read Product). step_code (with_next 0 x)) (step_product a.sheet a.deck.now a.position a.room c.if-deck-gt-LONGEST.false (omega (arith, c.if-room-bytes_of.false, c.bytes_of.ensures)) ∙ sym (product_told _ _ (sym c.in-Err.is ∙ c.product-answer.ensures))))
 
-pub returns-in-Done : goal.returns-in-Done
-returns-in-Done c = let a = c.args in sym (ap (λ (x : Read Product). step_code (with_next 0 x)) (step_product a.sheet a.deck.now a.position a.room c.if-deck-gt-LONGEST.false (omega (arith, c.if-room-bytes_of.false, c.bytes_of.ensures)) ∙ sym (product_told _ _ (sym c.in-Done.is ∙ c.product-answer.ensures))))
+pub returns-in-Ok-None : goal.returns-in-Ok-None
+returns-in-Ok-None c = let a = c.args in sym (ap (λ (x : Read Product). step_code (with_next 0 x)) (step_product a.sheet a.deck.now a.position a.room c.if-deck-gt-LONGEST.false (omega (arith, c.if-room-bytes_of.false, c.bytes_of.ensures)) ∙ sym (product_told _ _ (sym (c.in-Ok-None.is ∙ ap (λ (x : Option Indices). Ok x) (rw c.in-Ok-None.is at c.in-Ok-None.field-0-is)) ∙ c.product-answer.ensures))))
 
-pub returns-in-Of : goal.returns-in-Of
-returns-in-Of c = let a = c.args in sym (ap (λ (x : Read Product). step_code (with_next 0 x)) (step_product a.sheet a.deck.now a.position a.room c.if-deck-gt-LONGEST.false (omega (arith, c.if-room-bytes_of.false, c.bytes_of.ensures)) ∙ sym (product_told _ _ (sym c.in-Of.is ∙ c.product-answer.ensures))))
+pub returns-in-Ok-Some : goal.returns-in-Ok-Some
+returns-in-Ok-Some c = let a = c.args in sym (ap (λ (x : Read Product). step_code (with_next 0 x)) (step_product a.sheet a.deck.now a.position a.room c.if-deck-gt-LONGEST.false (omega (arith, c.if-room-bytes_of.false, c.bytes_of.ensures)) ∙ sym (product_told _ _ (sym (c.in-Ok-Some.is ∙ ap (λ (x : Option Indices). Ok x) (rw c.in-Ok-Some.is at c.in-Ok-Some.field-0-is)) ∙ c.product-answer.ensures))))

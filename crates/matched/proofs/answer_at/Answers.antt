@@ -2,12 +2,11 @@ use Prim.Native.Nat.{ℕ, zero, suc}
 use mathlib.Core.Path.{◌≡◌, refl}
 use native.Mathlib.Omega.{arith}
 use Rattle.matched.specs.Matched.{answer_at}
-use Rattle.matched.specs.Said.{said_whether}
-use Rattle.matched.specs.declared.MatchReply.TheVariants as told
+use Rattle.matched.specs.declared.Match.TheVariants.{Differs}
 use Rattle.matched.proofs.answer_at.Goals as goal
 
 -- `matched::answer_at` meets its contract. Assumes nothing.
-later : (p : ℕ) → (p ≡ 0 → ⊥) → told.No p ≡ said_whether (answer_at p)
+later : (p : ℕ) → (p ≡ 0 → ⊥) → Differs p ≡ answer_at p
 later zero n = absurd (n refl)
 later (suc p) n = refl
 

@@ -9,7 +9,6 @@ use Rattle.block.specs.Block.{graph_of}
 use Rattle.deck.specs.Sound.{whole}
 use Rattle.deck.specs.Placed.{deck_of}
 use Rattle.matched.specs.Matched.{partners, match_place, answer_at}
-use Rattle.matched.specs.Said.{said_whether}
 use Rattle.matched.specs.Laws.{partners-length}
 use Rattle.matched.proofs.answer_placed.Goals as goal
 
@@ -34,5 +33,5 @@ returns c =
     let e : p.new.to ≡ partners a.d.now (deck_of a.deck) a.matching.now a.n = p.ensures ∙ ap (partners a.d.now (deck_of a.deck) a.matching.now) n in
     let m : length p.new.to ≡ a.n = ap length e ∙ partners-length a.d.now (deck_of a.deck) a.matching.now a.n in
     c.answer_at.ensures
-    ∙ ap (λ (i : ℕ). said_whether (answer_at i))
+    ∙ ap answer_at
     (c.match_place-place.ensures ∙ ap (λ (l : List ℕ). match_place (graph_of a.n a.bonds.now) (graph_of a.n a.whole.now) l) (take_at p.new.to _ a.n m ∙ e))

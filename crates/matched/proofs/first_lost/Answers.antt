@@ -29,3 +29,10 @@ returns c =
     let a = c.args in
     let l = c.loop-v in
     atom_over a.n l.v (is_lost a.to.now) (omega (arith, c.loop-v-test.false)) ∙ l.invariant.2
+
+pub returns-else-is_lost : goal.returns-else-is_lost
+returns-else-is_lost c =
+    let a = c.args in
+    let l = c.loop-v in
+    let e : l.v ≡ a.n = omega arith in
+    atom_over a.n (l.v + 1) (is_lost a.to.now) (omega (arith, e)) ∙ atom_on a.n l.v (is_lost a.to.now) c.loop-v-test.true (sym c.is_lost.ensures ∙ c.if-is_lost.false) ∙ l.invariant.2

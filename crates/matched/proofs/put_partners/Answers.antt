@@ -18,9 +18,6 @@ overflow_cast-to c =
     let i = c.loop-i.i in
     omega (arith, c.number_in-x.ensures, number_few c.requires.0 (get_or m (2 * i) 0) (get_or m (2 * i + 1) 0))
 
-pub loop-i-smaller : goal.loop-i-smaller
-loop-i-smaller c = let l = c.loop-i in omega (arith, length-set l.to l.i c.number_in-x.result, c.loop-i-test.true)
-
 pub loop-i-preserved : goal.loop-i-preserved
 loop-i-preserved c =
     let a = c.args in

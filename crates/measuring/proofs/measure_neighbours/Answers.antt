@@ -2,10 +2,10 @@ use mathlib.Core.Path.{refl, ◌∙◌, ap}
 use lib.ListN.{replicate}
 use Rattle.adjacency.specs.Neighbours.{neighbours_reply}
 use Rattle.block.specs.Block.{most_bytes}
-use Rattle.block.specs.Index.{said_indices}
 use Rattle.measuring.proofs.Fits.{fits, counted_is}
 use Rattle.measuring.proofs.Texts.{text_is, text_cut}
 use Rattle.measuring.proofs.measure_neighbours.Goals as goal
+use Rattle.reply.specs.Read.{as_result}
 
 -- `measuring::measure_neighbours` meets its contract: the bonds that were read are measured.
 pub counted-requires : goal.counted-requires
@@ -16,4 +16,4 @@ counted-requires c =
 pub returns : goal.returns
 returns c =
     let d = c.args.text.now in
-    c.counted.ensures ∙ ap said_indices (counted_is (neighbours_reply d most_bytes) _ _ _ _ c.read-seen.ensures.reply (text_cut d (replicate most_bytes 0) _ refl c.read-seen.ensures.bytes) ∙ text_is d)
+    c.counted.ensures ∙ ap as_result (counted_is (neighbours_reply d most_bytes) _ _ _ _ c.read-seen.ensures.reply (text_cut d (replicate most_bytes 0) _ refl c.read-seen.ensures.bytes) ∙ text_is d)

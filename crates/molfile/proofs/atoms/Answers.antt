@@ -8,44 +8,43 @@ use Rattle.text.specs.Said.{line_at}
 use Rattle.text.specs.Laws.{said_next, said_chars}
 use Rattle.molfile.specs.Molfile.{atom_line_place, hydrogen_at, line_reply, atom_reply}
 use Rattle.molfile.specs.Work.{mark_of, said_walk}
-use Rattle.molfile.specs.declared.Walk.TheVariants.{At}
 use Rattle.molfile.proofs.Turns.{line_refused, line_read, turn_none, turn_more, turn_stops}
 use Rattle.molfile.proofs.Lines.{line_there}
 use Rattle.molfile.proofs.Filling.{holds_none, holds_more, atom_next}
 use native.Mathlib.Omega.{arith}
 use Rattle.molfile.proofs.atoms.Goals as goal
 use Rattle.molfile.proofs.atoms.Invariants.{mark}
-use Rattle.molfile.proofs.atoms.Goals.{In-Read}
+use Rattle.molfile.proofs.atoms.Goals.{In_ok-l}
+use Rattle.std.specs.Prelude.{Ok}
+use Rattle.std.proofs.lemmas.Result.{err_from_is_err_and}
 
 -- the line is there
-there : (c : In-Read) → let l = c.loop-i in let d = c.args.d.now in
-    (line_reply 32 d l.at ≡ read tt) × (line_at d l.at ≡ c.in-Read.l)
+there : (c : In_ok-l) → let l = c.loop-i in let d = c.args.d.now in
+    (line_reply 32 d l.at ≡ read tt) × (line_at d l.at ≡ c.in_ok-l.l)
 there c = let l = c.loop-i in let d = c.args.d.now in
-    line_read d l.at (line_reply 32 d l.at) (sym c.line-seen.ensures ∙ c.in-Read.is)
+    line_read d l.at (line_reply 32 d l.at) (sym c.in_ok-l.ensures)
 
 pub loop-i-init : goal.loop-i-init
 loop-i-init c =
     let a = c.args in
     (omega arith, c.requires.0, turn_none (atom_reply a.d.now), refl, holds_none (mark a.d.now) a.marks.now)
 
-pub shape_of-marks-in-Refused : goal.shape_of-marks-in-Refused
-shape_of-marks-in-Refused c = c.loop-i.invariant.3
-
-pub returns-in-Refused : goal.returns-in-Refused
-returns-in-Refused c =
+pub returns-in_err-l : goal.returns-in_err-l
+returns-in_err-l c =
     let l = c.loop-i in
     let a = c.args in
     let d = a.d.now in
-    let e = line_refused d l.at (line_reply 32 d l.at) (sym c.line-seen.ensures ∙ c.in-Refused.is) in
-    let t = turn_stops (atom_reply d) a.n l.i c.in-Refused.r (omega arith) l.invariant.2 (rw l.invariant.1 at e) in
-    record { reply = sym (ap (said_walk (atom_line_place d a.n)) t); marks = λ z. absurd (not_read (sym t ∙ z)); same = l.invariant.3 }
+    let e = line_refused d l.at (line_reply 32 d l.at) (sym c.in_err-l.ensures) in
+    let t = turn_stops (atom_reply d) a.n l.i _ (omega arith) l.invariant.2 (rw l.invariant.1 at e) in
+    let p = err_from_is_err_and c.from_residual.result c.from_residual.ensures.1 in
+    rw (p.1, p.2) (record { reply = sym (ap (said_walk (atom_line_place d a.n)) t); marks = λ z. absurd (not_read (sym t ∙ z)); same = l.invariant.3 })
 
 pub mark-requires : goal.mark-requires
 mark-requires c =
     let l = c.loop-i in
     let d = c.args.d.now in
-    let e = said_chars d l.at (sym (there (goal.at.mark-requires c).In-Read).1) in
-    (e, omega (arith, line_there 32 d l.at (there (goal.at.mark-requires c).In-Read).0))
+    let e = said_chars d l.at (sym (there (goal.at.mark-requires c).In_ok-l).1) in
+    (e, omega (arith, line_there 32 d l.at (there (goal.at.mark-requires c).In_ok-l).0))
 
 pub bounds-marks-i : goal.bounds-marks-i
 bounds-marks-i c =
@@ -56,7 +55,7 @@ pub loop-i-preserved : goal.loop-i-preserved
 loop-i-preserved c =
     let l = c.loop-i in
     let d = c.args.d.now in
-    let t = there (goal.at.loop-i-preserved c).In-Read in (
+    let t = there (goal.at.loop-i-preserved c).In_ok-l in (
       omega arith,
       said_next d l.at (sym t.1) ∙ ap (next_line d) l.invariant.1 ∙ sym (atom_next d l.i),
       turn_more (atom_reply d) l.i l.invariant.2 (rw l.invariant.1 at t.0),
@@ -74,4 +73,4 @@ returns c =
     let d = a.d.now in
     let e : l.i ≡ a.n = omega arith in
     let t = rw e at l.invariant.2 in
-    record { reply = ap At (rw e at l.invariant.1) ∙ sym (ap (said_walk (atom_line_place d a.n)) t); marks = λ z. record { at = λ i h. l.invariant.4 i (omega arith) }; same = l.invariant.3 }
+    record { reply = ap Ok (rw e at l.invariant.1) ∙ sym (ap (said_walk (atom_line_place d a.n)) t); marks = λ z. record { at = λ i h. l.invariant.4 i (omega arith) }; same = l.invariant.3 }

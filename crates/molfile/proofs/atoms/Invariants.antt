@@ -15,6 +15,3 @@ mark d i = mark_of (hydrogen_at d (atom_line_place d i))
 
 abbrev pub invariant-loop-i : goal.invariant-loop-i
 invariant-loop-i l = (l.i ≤ l.n) × (l.at ≡ atom_line_place l.d l.i) × (in_turn l.i (atom_reply l.d) ≡ read tt) × (length l.marks ≡ length l.initial.marks) × Holds (mark l.d) l.i l.marks
-
-abbrev pub decreases-loop-i : goal.decreases-loop-i
-decreases-loop-i l = l.n - l.i

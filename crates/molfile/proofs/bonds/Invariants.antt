@@ -17,6 +17,3 @@ two d k = (bond_of_line d k).two
 
 abbrev pub invariant-loop-k : goal.invariant-loop-k
 invariant-loop-k l = (l.k ≤ l.m) × (l.at ≡ bond_line_place l.d l.k) × (in_turn l.k (bond_reply_of l.d) ≡ read tt) × (length l.ones ≡ length l.initial.ones) × (length l.twos ≡ length l.initial.twos) × Holds (one l.d) l.k l.ones × Holds (two l.d) l.k l.twos
-
-abbrev pub decreases-loop-k : goal.decreases-loop-k
-decreases-loop-k l = l.m - l.k

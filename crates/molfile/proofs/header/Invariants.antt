@@ -6,8 +6,5 @@ use Rattle.molfile.specs.Molfile.{in_turn, header_reply}
 use Rattle.molfile.proofs.header.Given as goal
 
 -- `molfile::header` meets its contract. The loop's invariant: k lines are there, and the next begins at `at`.
-abbrev pub invariant-loop-k : goal.invariant-loop-k
-invariant-loop-k l = (l.k ≤ 3) × (l.at ≡ later_line l.d 0 l.k) × (in_turn l.k (header_reply l.d) ≡ read tt)
-
-abbrev pub decreases-loop-k : goal.decreases-loop-k
-decreases-loop-k l = 3 - l.k
+abbrev pub invariant-loop : goal.invariant-loop
+invariant-loop l = (l.counter ≤ 3) × (l.at ≡ later_line l.d 0 l.counter) × (in_turn l.counter (header_reply l.d) ≡ read tt)

@@ -9,14 +9,14 @@ use Rattle.text.specs.Text.{ascii}
 use Rattle.molwriter.specs.Written.{molfile_text}
 use Rattle.molwriter.specs.Pieces.{counts_text, pieces}
 use Rattle.molwriter.specs.Listing.{text_pieces}
-use Rattle.reply.specs.Read.{said_number}
-use Rattle.reply.specs.declared.NumberReply.TheVariants.{Of}
 use Rattle.molwriter.specs.Length.{half_length, pieces-length}
 use Rattle.text.proofs.Putting.{both, as_word, at_front}
 use Rattle.molwriter.specs.Replies.{write_short, write_fine, stays, fills}
 use native.Mathlib.Omega.{arith}
 use Rattle.molwriter.proofs.written.Goals as goal
 use Rattle.molwriter.proofs.written.Goals.{Start}
+use Rattle.reply.specs.Read.{as_result}
+use Rattle.std.specs.Prelude.{Ok, Err}
 
 -- `molwriter::written` meets its contract: the parts of the text one after the other.
 few : (s : Start) → (s.args.n ≤ most_atoms) × (length s.args.bonds.now ≤ most_bytes)
@@ -51,7 +51,7 @@ pub returns-then-out-n : goal.returns-then-out-n
 returns-then-out-n c =
     let a = c.args in
     let e = write_short a.n a.bonds.now (length a.out.now) c.requires (no_room a.n (length a.bonds.now / 2) (long (goal.at.returns-then-out-n c).Start) c.if-out-n.true) in
-    record { reply = sym (ap said_number e); bytes = sym (stays (molfile_text a.n (bonds_of a.bonds.now)) a.out.now e) }
+    record { reply = ap Err c.at.ensures ∙ sym (ap as_result e); bytes = sym (stays (molfile_text a.n (bonds_of a.bonds.now)) a.out.now e) }
 
 pub returns : goal.returns
 unfolding pieces
@@ -63,4 +63,4 @@ returns c =
     let first = as_word (ap (λ (m : ℕ). ascii "\n\n\n" ++ counts_text n m) (sym (half_length xs))) c.put_counts-a.ensures in
     let F = at_front (as_word (text_pieces n (bonds_of xs)) (both (both (both first c.put_atoms-b.ensures) c.put_bonds-c.ensures) c.put-end.ensures)) l in
     let e = write_fine n xs (length a.out.now) c.requires l in
-    record { reply = ap Of F.0 ∙ sym (ap said_number e); bytes = F.1 ∙ sym (fills (molfile_text n (bonds_of xs)) a.out.now e) }
+    record { reply = ap Ok F.0 ∙ sym (ap as_result e); bytes = F.1 ∙ sym (fills (molfile_text n (bonds_of xs)) a.out.now e) }

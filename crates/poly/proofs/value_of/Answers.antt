@@ -1,6 +1,5 @@
 use Prim.Native.Nat.{ℕ, zero, suc, ◌-◌, ◌%◌, ◌≤◌, ◌<◌}
 use mathlib.Core.Path.{◌≡◌, refl, sym, ap, ◌∙◌}
-use mathlib.Core.Logic.{⊎_elim}
 use native.Mathlib.Nat.{lt_irrefl, lt_of_lt_of_le, zero-lt-suc}
 use native.Mathlib.Omega.{arith}
 use borrow.Author.Tests.{eq-eqb, ne_eqb}
@@ -9,6 +8,7 @@ use lib.IntN.{pos}
 use lib.Ieee.{Float, binary64, add, mul, of_int, of_bits}
 use Rattle.poly.specs.Poly.{pairs_counted, of_parity, turn, horner, value}
 use Rattle.poly.proofs.value_of.Goals as goal
+use Rattle.poly.proofs.value_of.Goals.{then-k-parity, else-k-parity}
 
 -- `poly::value_of` meets its contract. The loop's invariant: what is left to do from v at k is the whole value. The measure is k.
 -- after a turn at k, k - 1 is next
@@ -52,10 +52,10 @@ loop-k-preserved c =
     let v = c.loop-k.v in
     let go : (u : ℕ) (w : Float) → of_parity p n k ≡ u → w ≡ turn u x v → horner (of_parity p n) x (k - 1) w ≡ value p n x =
     λ u w e q. ap (λ (z : Float). horner (of_parity p n) x (k - 1) z) (q ∙ ap (λ (i : ℕ). turn i x v) (sym e)) ∙ next (of_parity p n) x k v c.loop-k-test.true ∙ c.loop-k.invariant.1 in
-    ⊎_elim
-    (λ w. (omega arith, go (n k) c.if-k-parity.v (own p n k w.if-k-parity.true) w.v-is))
-    (λ w. (omega arith, go 0 c.if-k-parity.v (other p n k w.if-k-parity.false) (w.v-is ∙ ap (λ (z : Float). mul binary64 (add binary64 v z) x) nought)))
-    c.if-k-parity.branch-raw
+    elim c.if-k-parity.branch [
+      | then-k-parity w ↦ (omega arith, go (n k) c.if-k-parity.v (own p n k w.if-k-parity.true) w.v-is)
+      | else-k-parity w ↦ (omega arith, go 0 c.if-k-parity.v (other p n k w.if-k-parity.false) (w.v-is ∙ ap (λ (z : Float). mul binary64 (add binary64 v z) x) nought))
+    ]
 
 pub returns : goal.returns
 returns c = sym (done _ _ _ _ c.loop-k-test.false) ∙ c.loop-k.invariant.1

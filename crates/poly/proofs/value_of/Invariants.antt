@@ -1,4 +1,4 @@
-use Prim.Native.Nat.{◌-◌, ◌≤◌}
+use Prim.Native.Nat.{◌≤◌}
 use mathlib.Core.Path.{◌≡◌}
 use Rattle.poly.specs.Poly.{pairs_counted, of_parity, horner, most_distance, value}
 use Rattle.poly.proofs.value_of.Given as goal

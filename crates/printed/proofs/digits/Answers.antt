@@ -8,34 +8,22 @@ use Rattle.printed.proofs.digits.Lts as lts
 use Rattle.printed.proofs.more.Reads as more-reads
 use Rattle.printed.proofs.digits.Goals as goal
 
--- src/lib.rt:121:5
 pub loop-i-init : goal.loop-i-init
 loop-i-init c = (refl, omega arith)
 
--- src/lib.rt:123:13
 pub returns-then-text-i : goal.returns-then-text-i
 returns-then-text-i c = let l = c.loop-i in none_left l.v _ l.i _ l.invariant.1 c.if-text-i.true ∙ ap said_value (sym l.invariant.0)
 
--- src/lib.rt:125:28
--- src/lib.rt:125:13
--- src/lib.rt:126:23
--- src/lib.rt:127:13
--- src/lib.rt:127:13
-pub returns-in_default : goal.returns-in_default
-returns-in_default c =
+pub returns-in_err-v : goal.returns-in_err-v
+returns-in_err-v c =
     let l = c.loop-i in
-    one_large l.v _ l.i _ c.if-text-i.false c.loop-i-test.true (sym c.in_default.is ∙ c.more-next.ensures) ∙ ap said_value (sym l.invariant.0)
+    rw c.from_residual.ensures (one_large l.v _ l.i _ c.if-text-i.false c.loop-i-test.true c.in_err-v.ensures ∙ ap said_value (sym l.invariant.0))
 
--- src/lib.rt:130:9
--- src/lib.rt:121:5
--- src/lib.rt:121:5
 pub loop-i-preserved : goal.loop-i-preserved
 loop-i-preserved c =
     let l = c.loop-i in
-    let e = sym c.in-Of.is ∙ c.more-next.ensures in
-    let m = one_more l.v _ l.i _ _ c.if-text-i.false c.loop-i-test.true e in
+    let m = one_more l.v _ l.i _ _ c.if-text-i.false c.loop-i-test.true c.in_ok-v.ensures in
     (l.invariant.0 ∙ m.0, m.1)
 
--- src/lib.rt:116:1
 pub returns : goal.returns
 returns c = let l = c.loop-i in none_due l.v _ l.i _ l.invariant.1 c.loop-i-test.false ∙ ap said_value (sym l.invariant.0)

@@ -11,6 +11,3 @@ use Rattle.printed.proofs.digits.Given as goal
 -- `printed::digits` meets its contract. The loop's invariant: the digits that are left make of v what all make of the start.
 abbrev pub invariant-loop-i : goal.invariant-loop-i
 invariant-loop-i l = (value_from l.start (part l.text l.from (l.to - l.from)) ≡ value_from l.v (part l.text l.i (l.to - l.i))) × (l.v < most_printed)
-
-abbrev pub decreases-loop-i : goal.decreases-loop-i
-decreases-loop-i l = l.to - l.i

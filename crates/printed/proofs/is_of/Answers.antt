@@ -8,22 +8,14 @@ use Rattle.text.proofs.is_digit.Reads as is-digit-reads
 use Rattle.printed.proofs.is_of.Goals as goal
 
 -- `printed::is_of` meets its contract. Assumes nothing.
--- src/lib.rt:49:25
--- src/lib.rt:50:25
--- src/lib.rt:50:25
--- src/lib.rt:51:24
--- src/lib.rt:45:1
 pub returns-then-b-eq32 : goal.returns-then-b-eq32
 returns-then-b-eq32 c = is_blank _ _ c.in-Blank.is c.if-b-eq32.true
 
--- src/lib.rt:45:1
 pub returns-else-b-eq32 : goal.returns-else-b-eq32
 returns-else-b-eq32 c = is_tab _ _ c.in-Blank.is c.if-b-eq32.false
 
--- src/lib.rt:45:1
 pub returns-in-Digit : goal.returns-in-Digit
 returns-in-Digit c = let a = c.args in c.is_digit.ensures ∙ sym (ap (λ (k : Class). is_of k a.b) c.in-Digit.is)
 
--- src/lib.rt:45:1
 pub returns-in-Zero : goal.returns-in-Zero
 returns-in-Zero c = let a = c.args in sym (ap (λ (k : Class). is_of k a.b) c.in-Zero.is)

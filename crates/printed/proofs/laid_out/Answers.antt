@@ -7,13 +7,6 @@ use Rattle.printed.proofs.past.Reads as past-reads
 use Rattle.printed.proofs.laid_out.Goals as goal
 
 -- `printed::laid_out` meets its contract. Assumes nothing.
--- src/lib.rt:89:9
--- src/lib.rt:90:9
--- src/lib.rt:91:9
--- src/lib.rt:92:9
--- src/lib.rt:93:9
--- src/lib.rt:94:9
--- src/lib.rt:86:1
 pub returns : goal.returns
 returns c =
     shape_is _ _ _ _ _ _ _ _ c.past-from.ensures c.past-to.ensures c.behind_point-first.ensures c.past-last.ensures c.past-end.ensures c.is_sound-sound.ensures

@@ -10,14 +10,8 @@ use Rattle.text.proofs.digit.Reads as digit-reads
 use Rattle.printed.proofs.more.Goals as goal
 
 -- `printed::more` meets its contract. Assumes nothing.
--- src/lib.rt:108:13
--- src/lib.rt:109:13
--- src/lib.rt:110:9
 pub returns-then-v-d : goal.returns-then-v-d
 returns-then-v-d c = let a = c.args in said_large (10 * a.v + digit a.b) (omega (arith, c.digit-d.ensures))
 
--- src/lib.rt:112:15
--- src/lib.rt:112:15
--- src/lib.rt:105:1
 pub returns : goal.returns
 returns c = let a = c.args in said_of (10 * a.v + c.digit-d.result) (omega (arith, c.digit-d.ensures)) ∙ ap (λ (d : ℕ). said_value (10 * a.v + d)) c.digit-d.ensures

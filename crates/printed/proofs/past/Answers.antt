@@ -7,22 +7,14 @@ use Rattle.printed.proofs.past.Lts as lts
 use Rattle.printed.proofs.is_of.Reads as is-of-reads
 use Rattle.printed.proofs.past.Goals as goal
 
--- src/lib.rt:60:5
 pub loop-i-init : goal.loop-i-init
 loop-i-init c = refl
 
--- src/lib.rt:61:26
--- src/lib.rt:61:13
--- src/lib.rt:62:13
 pub returns-then-not-is_of : goal.returns-then-not-is_of
 returns-then-not-is_of c = let l = c.loop-i in sym (l.invariant ∙ past_here _ _ l.i c.loop-i-test.true (sym c.is_of.ensures ∙ not-true _ c.if-not-is_of.true-raw))
 
--- src/lib.rt:64:9
--- src/lib.rt:60:5
--- src/lib.rt:60:5
 pub loop-i-preserved : goal.loop-i-preserved
 loop-i-preserved c = let l = c.loop-i in l.invariant ∙ past_later _ _ l.i c.loop-i-test.true (sym c.is_of.ensures ∙ not-false _ c.if-not-is_of.false-raw)
 
--- src/lib.rt:56:1
 pub returns : goal.returns
 returns c = let l = c.loop-i in sym (l.invariant ∙ past_end _ _ l.i c.loop-i-test.false)

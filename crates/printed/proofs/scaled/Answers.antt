@@ -7,15 +7,11 @@ use Rattle.printed.proofs.scaled.Lts as lts
 use Rattle.printed.proofs.scaled.Goals as goal
 
 -- `printed::scaled` meets its contract. Assumes nothing.
--- src/lib.rt:186:12
--- src/lib.rt:187:9
 pub returns-then-c-unit : goal.returns-then-c-unit
 returns-then-c-unit c = let a = c.args in bounded_large (a.c * a.unit) a.unit (omega (arith, (div-lt_iff_lt-mul c.requires).0 c.if-c-unit.true))
 
--- src/lib.rt:189:33
 pub overflow_mul-result : goal.overflow_mul-result
 overflow_mul-result c = omega (arith, (le-div_iff_mul-le c.requires).0 c.if-c-unit.false)
 
--- src/lib.rt:182:1
 pub returns : goal.returns
 returns c = let a = c.args in bounded_small (a.c * a.unit) a.unit (omega (arith, (le-div_iff_mul-le c.requires).0 c.if-c-unit.false))

@@ -5,8 +5,5 @@ use Rattle.printed.proofs.unit.Lts as lts
 use Rattle.printed.proofs.unit.Goals as goal
 
 -- `printed::unit` meets its contract. Assumes nothing.
--- src/lib.rt:178:5
--- src/lib.rt:178:5
--- src/lib.rt:162:1
 pub returns : goal.returns
 returns c = let e = unit_is c.args.f c.requires in (e, omega (arith, e, unit_some c.args.f))

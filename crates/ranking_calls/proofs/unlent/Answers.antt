@@ -4,12 +4,12 @@ use Rattle.ranking_calls.specs.Unlent.{values_refused, values_of}
 use Rattle.ranking_calls.proofs.unlent.Goals as goal
 
 -- `ranking_calls::unlent` meets its contract. Assumes nothing.
-pub returns-in-Refused : goal.returns-in-Refused
-returns-in-Refused c =
+pub returns-in-Err : goal.returns-in-Err
+returns-in-Err c =
     let a = c.args in
-    c.code_of.ensures ∙ values_refused (values_reply a.deck.now a.field 0 1) _ (sym c.values-told.ensures.reply ∙ c.in-Refused.is)
+    c.code_of.ensures ∙ values_refused (values_reply a.deck.now a.field 0 1) _ (sym c.values-told.ensures.reply ∙ c.in-Err.is)
 
-pub returns-in-Of : goal.returns-in-Of
-returns-in-Of c =
+pub returns-in-Ok : goal.returns-in-Ok
+returns-in-Ok c =
     let a = c.args in
-    values_of (values_reply a.deck.now a.field 0 1) _ (sym c.values-told.ensures.reply ∙ c.in-Of.is)
+    values_of (values_reply a.deck.now a.field 0 1) _ (sym c.values-told.ensures.reply ∙ c.in-Ok.is)

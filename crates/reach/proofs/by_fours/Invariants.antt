@@ -1,4 +1,4 @@
-use Prim.Native.Nat.{◌-◌, ◌*◌, ◌≤◌}
+use Prim.Native.Nat.{◌*◌, ◌≤◌}
 use mathlib.Core.Path.{◌≡◌}
 use Rattle.block.specs.Block.{most_atoms}
 use Rattle.reach.specs.Reach.{Low, together_in}
@@ -6,6 +6,3 @@ use Rattle.reach.proofs.by_fours.Given as goal
 
 abbrev pub invariant-loop-k : goal.invariant-loop-k
 invariant-loop-k l = (l.k ≤ l.q) × (Low (4 * l.q) l.sets → l.met ≡ together_in l.sets (4 * l.k)) × (l.met ≤ most_atoms * l.k)
-
-abbrev pub decreases-loop-k : goal.decreases-loop-k
-decreases-loop-k l = l.q - l.k

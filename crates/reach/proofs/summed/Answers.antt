@@ -1,9 +1,10 @@
 use Prim.Native.Nat.{ℕ, suc, ◌+◌, ◌-◌, ◌*◌, ◌≤◌, ◌<◌}
-use mathlib.Core.Path.{◌≡◌, refl, sym, ◌∙◌}
+use mathlib.Core.Path.{◌≡◌, refl, sym, ap, ◌∙◌}
 use native.Mathlib.Nat.{mul-le-mul}
 use native.Mathlib.Numerals.{add-one}
 use native.Mathlib.Omega.{arith}
 use Rattle.graph.specs.Graph.{each}
+use Rattle.std.specs.Prelude.{Err}
 use Rattle.reply.specs.Read.{read}
 use Rattle.block.specs.Block.{most_atoms, graph_of, drawn_reply}
 use Rattle.block.specs.Numbered.{drawn_bytes}
@@ -148,7 +149,7 @@ found c = met_next _ _ (drawn-in-in-After-next_level-more c) c.loop-met.invarian
 
 pub returns-then-more-met : goal.returns-then-more-met
 returns-then-more-met c =
-    record { reply = stuck _ _ (drawn-in (goal.at.returns-then-more-met c).In-loop-met) c.loop-met.invariant.4 (more-in (goal.at.returns-then-more-met c).In-loop-met) (found (goal.at.returns-then-more-met c).After-next_level-more) (omega (arith, c.if-more-met.true)); reached = λ x e. absurd (not_of e) }
+    record { reply = ap Err c.at.ensures ∙ stuck _ _ (drawn-in (goal.at.returns-then-more-met c).In-loop-met) c.loop-met.invariant.4 (more-in (goal.at.returns-then-more-met c).In-loop-met) (found (goal.at.returns-then-more-met c).After-next_level-more) (omega (arith, c.if-more-met.true)); reached = λ x e. absurd (not_of e) }
 
 pub overflow_add-d-in-loop-met : goal.overflow_add-d-in-loop-met
 overflow_add-d-in-loop-met c = omega (arith, shallow-in (goal.at.overflow_add-d-in-loop-met c).In-loop-met, few _ _ (drawn-in (goal.at.overflow_add-d-in-loop-met c).In-loop-met))

@@ -1,4 +1,4 @@
-use Prim.Native.Nat.{ℕ, ◌-◌, ◌^◌, ◌≤◌}
+use Prim.Native.Nat.{ℕ, ◌^◌, ◌≤◌}
 use mathlib.Core.List.{List}
 use lib.Bits.{bit_or}
 use lib.ListN.{get_or}
@@ -11,6 +11,3 @@ Filled near i old sets = EntriesFilled i (λ p. bit_or (get_or near p 0) (2 ^ p)
 
 abbrev pub invariant-loop-i : goal.invariant-loop-i
 invariant-loop-i l = (l.i ≤ l.n) × Filled l.near l.i l.initial.odd l.odd × Filled l.near l.i l.initial.even l.even
-
-abbrev pub decreases-loop-i : goal.decreases-loop-i
-decreases-loop-i l = l.n - l.i

@@ -7,12 +7,12 @@ use Rattle.text.specs.Laws.{said_next}
 use Rattle.text.specs.Text.{starts_with, next_line}
 use Rattle.sdfile.specs.Sdf.{marks, record_end, all_white, step_at}
 use Rattle.sdfile.specs.Laws.{from_from, step_done, step_next}
-use Rattle.sdfile.specs.declared.Step.TheVariants.{Next}
 use native.Mathlib.Omega.{arith}
 use Rattle.sdfile.proofs.record.Goals as goal
+use Rattle.std.specs.Prelude.{Some}
 
 -- `sdfile::record` meets its contract. Assumes nothing.
-found : (d : List ℕ) (from e n : ℕ) → all_white (drop from d) ≡ false → e ≡ record_end d from → n ≡ next_line d e → Next (record { start = from; len = e - from; next = n }) ≡ step_at d from
+found : (d : List ℕ) (from e n : ℕ) → all_white (drop from d) ≡ false → e ≡ record_end d from → n ≡ next_line d e → Some (record { start = from; len = e - from; next = n }) ≡ step_at d from
 found d from e n w p q = rw (q, p) (sym (step_next d from w))
 
 pub returns-then-all_white : goal.returns-then-all_white

@@ -1,4 +1,3 @@
-use Prim.Native.Nat.{◌-◌}
 use native.Mathlib.Omega.{arith}
 use Rattle.sets.proofs.Keying.{keying_start, first_adds, second_adds, keying_next, keying_end}
 use Rattle.sets.proofs.keyed.Goals as goal

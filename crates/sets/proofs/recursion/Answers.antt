@@ -1,9 +1,7 @@
-use Prim.Native.Nat.{◌-◌}
 use native.Mathlib.Omega.{arith}
 use Rattle.sets.proofs.Trees.{listed}
 use Rattle.sets.proofs.Running.{running_start, in_places, p_places, store_bonds, store_atoms, key_enough, some_left, running_merged, more_atoms, running_next, root-places, atoms_fit, answered}
 use Rattle.sets.proofs.recursion.Goals as goal
-use Rattle.sets.proofs.recursion.Goals.{After-chosen-then-key-eq1-1, After-chosen-then-key-eq1-1-unread, In-loop-left-unread}
 
 pub keyed-keys-requires : goal.keyed-keys-requires
 keyed-keys-requires c = listed c.requires
@@ -15,7 +13,7 @@ pub bounds-keys-a : goal.bounds-keys-a
 bounds-keys-a c = omega (arith, in_places c.requires c.loop-left.invariant)
 
 pub offset_bounds-keys-a : goal.offset_bounds-keys-a
-offset_bounds-keys-a c = omega (arith, bounds-keys-a (goal.at.offset_bounds-keys-a c).In-loop-left-unread)
+offset_bounds-keys-a c = omega (arith, in_places c.requires c.loop-left.invariant)
 
 pub merge-requires : goal.merge-requires
 merge-requires c = store_bonds c.requires c.loop-left.invariant c.if-key-eq1.true
@@ -27,7 +25,7 @@ pub bounds-keys-p : goal.bounds-keys-p
 bounds-keys-p c = omega (arith, p_places c.requires c.loop-left.invariant c.if-key-eq1.true)
 
 pub offset_bounds-keys-p : goal.offset_bounds-keys-p
-offset_bounds-keys-p c = omega (arith, bounds-keys-p (goal.at.offset_bounds-keys-p c).After-chosen-then-key-eq1-1-unread)
+offset_bounds-keys-p c = omega (arith, p_places c.requires c.loop-left.invariant c.if-key-eq1.true)
 
 pub overflow_cast-keys : goal.overflow_cast-keys
 overflow_cast-keys c = omega (arith, in_places c.requires c.loop-left.invariant)
@@ -42,13 +40,13 @@ pub bounds-keys-p-then-key-eq1 : goal.bounds-keys-p-then-key-eq1
 bounds-keys-p-then-key-eq1 c = omega (arith, p_places c.requires c.loop-left.invariant c.if-key-eq1.true)
 
 pub offset_bounds-keys-p-then-key-eq1 : goal.offset_bounds-keys-p-then-key-eq1
-offset_bounds-keys-p-then-key-eq1 c = omega (arith, bounds-keys-p-then-key-eq1 (goal.at.offset_bounds-keys-p-then-key-eq1 c).After-chosen-then-key-eq1-1)
+offset_bounds-keys-p-then-key-eq1 c = omega (arith, p_places c.requires c.loop-left.invariant c.if-key-eq1.true)
 
 pub bounds-keys-a-then-key-eq1 : goal.bounds-keys-a-then-key-eq1
 bounds-keys-a-then-key-eq1 c = omega (arith, in_places c.requires c.loop-left.invariant)
 
 pub offset_bounds-keys-a-then-key-eq1 : goal.offset_bounds-keys-a-then-key-eq1
-offset_bounds-keys-a-then-key-eq1 c = omega (arith, bounds-keys-a-then-key-eq1 (goal.at.offset_bounds-keys-a-then-key-eq1 c).After-chosen-then-key-eq1-1)
+offset_bounds-keys-a-then-key-eq1 c = omega (arith, in_places c.requires c.loop-left.invariant)
 
 pub overflow_sub-left : goal.overflow_sub-left
 overflow_sub-left c = some_left c.requires c.loop-left.invariant c.if-key-eq1.true

@@ -14,17 +14,14 @@ pub loop-i-init : goal.loop-i-init
 loop-i-init c =
     let a = c.args in
     let e : places_in a.book.now - 0 ≡ places_in a.book.now = omega arith in
-    (omega arith, omega arith, place_some a.book.now a.number c.if-number-eq0.false ∙ ap (place_from a.book.now a.number 0) (sym e))
-
-pub number_at-requires : goal.number_at-requires
-number_at-requires c = omega (arith, c.loop-i.invariant.1, c.loop-i-test.true)
+    (omega arith, place_some a.book.now a.number c.if-number-eq0.false ∙ ap (place_from a.book.now a.number 0) (sym e))
 
 -- one place at least is left
 left : (c : In-loop-i) → let a = c.args in let n = places_in a.book.now in
     place_of a.book.now a.number ≡ place_from a.book.now a.number c.loop-i.i (suc (n - (c.loop-i.i + 1)))
 left c = let a = c.args in let n = places_in a.book.now in
     let e : n - c.loop-i.i ≡ suc (n - (c.loop-i.i + 1)) = omega arith in
-    c.loop-i.invariant.2 ∙ ap (place_from a.book.now a.number c.loop-i.i) e
+    c.loop-i.invariant.1 ∙ ap (place_from a.book.now a.number c.loop-i.i) e
 
 pub returns-then-number_at-number : goal.returns-then-number_at-number
 returns-then-number_at-number c =
@@ -35,7 +32,7 @@ pub loop-i-preserved : goal.loop-i-preserved
 loop-i-preserved c =
     let a = c.args in
     let i = c.loop-i.i in
-    (omega arith, omega arith, left (goal.at.loop-i-preserved c).In-loop-i ∙ place_next a.book.now a.number _ _ (λ e. c.if-number_at-number.false (c.number_at.ensures ∙ e)) ∙ ap (λ (j : ℕ). place_from a.book.now a.number j (places_in a.book.now - (i + 1))) (sym (add-one i)))
+    (omega arith, left (goal.at.loop-i-preserved c).In-loop-i ∙ place_next a.book.now a.number _ _ (λ e. c.if-number_at-number.false (c.number_at.ensures ∙ e)) ∙ ap (λ (j : ℕ). place_from a.book.now a.number j (places_in a.book.now - (i + 1))) (sym (add-one i)))
 
 pub returns : goal.returns
 returns c =
@@ -44,4 +41,4 @@ returns c =
     let i = c.loop-i.i in
     let e : n - i ≡ 0 = omega arith in
     let q : i ≡ n = omega (arith, c.loop-i.invariant.0) in
-    sym (c.loop-i.invariant.2 ∙ ap (place_from a.book.now a.number i) e ∙ place_none a.book.now a.number i ∙ q)
+    sym (c.loop-i.invariant.1 ∙ ap (place_from a.book.now a.number i) e ∙ place_none a.book.now a.number i ∙ q)

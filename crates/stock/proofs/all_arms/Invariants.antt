@@ -1,4 +1,4 @@
-use Prim.Native.Nat.{ℕ, ◌-◌, ◌/◌, ◌%◌}
+use Prim.Native.Nat.{ℕ, ◌/◌, ◌%◌}
 use mathlib.Core.List.{List, []}
 use lib.ListN.{take, get_or}
 use Rattle.arms.specs.Arms.{arm_row}
@@ -16,6 +16,3 @@ row d bs xs sites i = arm_row (arm_at d bs xs (get_or sites (i / most_candidates
 
 abbrev pub invariant-loop-i : goal.invariant-loop-i
 invariant-loop-i l = FilledTo [] (row l.d (take l.count l.blocks) l.xs l.sites) all_places l.all l.i × Holds l.d (take l.count l.blocks) l.held l.place
-
-abbrev pub decreases-loop-i : goal.decreases-loop-i
-decreases-loop-i l = all_places - l.i

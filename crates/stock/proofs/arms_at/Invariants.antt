@@ -1,4 +1,3 @@
-use Prim.Native.Nat.{◌-◌}
 use lib.ListN.{take, get_or}
 use Rattle.arms.specs.Arms.{no_arm}
 use Rattle.arms.proofs.Keeping.{FilledTo}
@@ -11,6 +10,3 @@ use Rattle.stock.proofs.arms_at.Given as goal
 abbrev pub invariant-loop-k : goal.invariant-loop-k
 invariant-loop-k l =
     FilledTo no_arm (λ j. arm_at l.d (take l.count l.blocks) l.xs (get_or l.sites j no_site) (get_or l.digits j 0)) most_sites l.arms l.k × Holds l.d (take l.count l.blocks) l.held l.place
-
-abbrev pub decreases-loop-k : goal.decreases-loop-k
-decreases-loop-k l = most_sites - l.k

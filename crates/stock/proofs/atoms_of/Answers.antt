@@ -1,15 +1,8 @@
-use Prim.Native.Nat.{◌-◌}
 use mathlib.Core.Path.{refl}
 use native.Mathlib.Omega.{arith}
 use Rattle.arms.proofs.Keeping.{filled_none, filled_next, filled_all}
 use Rattle.stock.specs.Stock.{atoms_of}
 use Rattle.stock.proofs.atoms_of.Goals as goal
-
-pub loop-k-init : goal.loop-k-init
-loop-k-init c = filled_none refl
-
-pub loop-k-preserved : goal.loop-k-preserved
-loop-k-preserved c = filled_next c.loop-k.invariant (omega arith) refl
 
 pub returns : goal.returns
 unfolding atoms_of

@@ -1,4 +1,3 @@
-use Prim.Native.Nat.{◌-◌}
 use lib.ListN.{get_or}
 use Rattle.arms.proofs.Keeping.{FilledTo}
 use Rattle.catalogue.specs.Library.{most_sites}
@@ -8,6 +7,3 @@ use Rattle.stock.proofs.atoms_of.Given as goal
 -- `stock::atoms_of` meets its contract. The loop's invariant: the first k atoms are the sites'. Assumes nothing.
 abbrev pub invariant-loop-k : goal.invariant-loop-k
 invariant-loop-k l = FilledTo 0 (λ j. (get_or l.sites j no_site).atom) most_sites l.atoms l.k
-
-abbrev pub decreases-loop-k : goal.decreases-loop-k
-decreases-loop-k l = most_sites - l.k

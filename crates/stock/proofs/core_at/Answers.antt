@@ -7,11 +7,6 @@ use Rattle.stock.specs.Stock.{core_at}
 use Rattle.stock.proofs.core_at.Goals as goal
 
 -- `stock::core_at` meets its contract. Assumes nothing.
-pub hold-requires : goal.hold-requires
-hold-requires c = λ h. absurd (omega arith)
-
-pub slice_bounds-core_in-end : goal.slice_bounds-core_in-end
-slice_bounds-core_in-end c = sym (ap length c.hold.ensures.place ∙ opened_long _ _ _)
 
 pub returns : goal.returns
 unfolding core_at

@@ -1,4 +1,3 @@
-use Prim.Native.Nat.{◌-◌}
 use native.Mathlib.Omega.{arith}
 use Rattle.block.specs.Told.{few_atoms}
 use Rattle.block.specs.Numbered.{few_bytes}

@@ -28,9 +28,6 @@ overflow_add-m-in-loop-k c =
     let l = c.loop-k in
     omega (arith, few (goal.at.overflow_add-m-in-loop-k c).After-bonds_part-bonds, c.joins_of.ensures.1, l.invariant.2, l.invariant.0, c.requires.count.high)
 
-pub loop-k-smaller : goal.loop-k-smaller
-loop-k-smaller c = omega (arith, c.loop-k-test.true)
-
 pub loop-k-preserved : goal.loop-k-preserved
 loop-k-preserved c =
     let l = c.loop-k in

@@ -22,9 +22,6 @@ put_placed-next-requires c =
     let l = c.loop-k in
     (c.requires, omega (arith, c.loop-k-test.true), omega (arith, l.invariant.2, l.invariant.0, c.requires.count.high))
 
-pub loop-k-smaller : goal.loop-k-smaller
-loop-k-smaller c = omega (arith, c.loop-k-test.true)
-
 pub loop-k-preserved : goal.loop-k-preserved
 loop-k-preserved c =
     let l = c.loop-k in

@@ -1,4 +1,4 @@
-use Prim.Native.Nat.{◌*◌, ◌-◌, ◌≤◌}
+use Prim.Native.Nat.{◌*◌, ◌≤◌}
 use mathlib.Core.Path.{◌≡◌}
 use lib.ListN.{length}
 use lib.Seq.{sets}
@@ -16,6 +16,3 @@ invariant-loop-k l =
     × (l.at ≤ most_brought * l.k)
     × (length l.out ≡ length l.initial.out)
     × (l.out ≡ sets l.initial.out 0 (pair_numbers (bonds_before (graph_at l.d (deck_of l.deck)) (join_at l.d (deck_of l.deck)) l.k)))
-
-abbrev pub decreases-loop-k : goal.decreases-loop-k
-decreases-loop-k l = l.deck.placements - l.k

@@ -1,4 +1,4 @@
-use Prim.Native.Nat.{◌*◌, ◌-◌, ◌≤◌}
+use Prim.Native.Nat.{◌*◌, ◌≤◌}
 use mathlib.Core.Path.{◌≡◌}
 use Rattle.graph.specs.Assembly.{start_at}
 use Rattle.deck.specs.Molecule.{graph_at}
@@ -8,6 +8,3 @@ use Rattle.whole.proofs.start_of.Given as goal
 -- `whole::start_of` meets its contract. The loop's invariant: the atoms of the placements before i are added up.
 abbrev pub invariant-loop-i : goal.invariant-loop-i
 invariant-loop-i l = (l.i ≤ l.k) × (l.start ≡ start_at (graph_at l.d (deck_of l.deck)) l.i) × (l.start ≤ 65535 * l.i)
-
-abbrev pub decreases-loop-i : goal.decreases-loop-i
-decreases-loop-i l = l.k - l.i

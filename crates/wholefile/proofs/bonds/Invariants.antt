@@ -5,6 +5,3 @@ use Rattle.wholefile.proofs.bonds.Given as goal
 -- `wholefile::bonds` meets its contract. The loop's invariant: the first k bonds have no fault.
 abbrev pub invariant-loop-k : goal.invariant-loop-k
 invariant-loop-k l = (l.k ≤ l.m) × Reads l.n l.xs l.k
-
-abbrev pub decreases-loop-k : goal.decreases-loop-k
-decreases-loop-k l = l.m - l.k

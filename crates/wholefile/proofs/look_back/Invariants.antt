@@ -5,6 +5,3 @@ use Rattle.wholefile.proofs.look_back.Given as goal
 -- `wholefile::look_back` meets its contract. The loop's invariant: what the first i bonds say.
 abbrev pub invariant-loop-i : goal.invariant-loop-i
 invariant-loop-i l = (l.i ≤ l.k) × LookedBack l.xs l.a l.b l.i l.joined l.one l.two
-
-abbrev pub decreases-loop-i : goal.decreases-loop-i
-decreases-loop-i l = l.k - l.i

@@ -7,6 +7,3 @@ use Rattle.wholefile.proofs.put.Given as goal
 -- `wholefile::put` meets its contract. The loop's invariant: the first i numbers are put.
 abbrev pub invariant-loop-i : goal.invariant-loop-i
 invariant-loop-i l = (l.i ≤ length l.xs) × (length l.out ≡ length l.initial.out) × (l.out ≡ sets l.initial.out 0 (take l.i l.xs))
-
-abbrev pub decreases-loop-i : goal.decreases-loop-i
-decreases-loop-i l = length l.xs - l.i

@@ -2,6 +2,8 @@ use Prim.Native.Nat.{◌-◌, ◌*◌}
 use mathlib.Core.Path.{sym, ap, ◌∙◌}
 use native.Mathlib.Omega.{arith}
 use lib.ListN.{length-take}
+use Rattle.reply.specs.Rules.{number_if}
+use Rattle.reply.specs.Chain.{some_number}
 use Rattle.block.specs.Sketched.{or_seven}
 use Rattle.block.proofs.Reading.{same_fault, reads_start, reads_fault, reads_next, reads_fine}
 use Rattle.block.proofs.bonding.refusal.Goals as goal
@@ -12,11 +14,14 @@ loop-k-init c = (omega arith, reads_start _ _)
 pub slice_bounds-fault-end : goal.slice_bounds-fault-end
 slice_bounds-fault-end c = omega (arith, length-take (2 * c.loop-k.k) c.args.bonds.now)
 
-pub returns-then-number-ne0 : goal.returns-then-number-ne0
-returns-then-number-ne0 c = sym (ap or_seven (reads_fault _ _ _ c.loop-k.invariant.1 (omega arith) _ c.if-number-ne0.true (c.fault-number.ensures ∙ same_fault _ _ _ (omega arith) _)))
+pub returns-in-Some : goal.returns-in-Some
+returns-in-Some c =
+    let r = c.in-Some.rule in
+    let same = ap number_if (sym c.in-Some.is) ∙ c.fault.ensures ∙ same_fault _ _ _ (omega arith) _ in
+    c.at.ensures ∙ sym (ap or_seven (reads_fault _ _ _ c.loop-k.invariant.1 (omega arith) _ (some_number r) same))
 
 pub loop-k-preserved : goal.loop-k-preserved
-loop-k-preserved c = (omega arith, reads_next _ _ _ c.loop-k.invariant.1 (omega arith) (sym (c.fault-number.ensures ∙ same_fault _ _ _ (omega arith) _) ∙ c.if-number-ne0.false))
+loop-k-preserved c = (omega arith, reads_next _ _ _ c.loop-k.invariant.1 (omega arith) (sym (c.fault.ensures ∙ same_fault _ _ _ (omega arith) _) ∙ ap number_if c.in_default.is))
 
 pub returns : goal.returns
-returns c = sym (ap or_seven (reads_fine _ _ _ c.loop-k.invariant.1 (omega arith)))
+returns c = c.at-2.ensures ∙ sym (ap or_seven (reads_fine _ _ _ c.loop-k.invariant.1 (omega arith)))

@@ -1,4 +1,4 @@
-use Prim.Native.Nat.{◌-◌, ◌^◌, ◌≤◌}
+use Prim.Native.Nat.{◌^◌, ◌≤◌}
 use mathlib.Core.Path.{◌≡◌}
 use Rattle.catalogue.specs.Products.{products}
 use Rattle.catalogue.specs.Table.{sites_in}
@@ -7,6 +7,3 @@ use Rattle.catalogue.proofs.sites.count_of.Given as goal
 -- `catalogue::sites::count_of` meets its contract. Assumes nothing.
 abbrev pub invariant-loop-k : goal.invariant-loop-k
 invariant-loop-k l = (l.k ≤ l.n) × (l.total ≡ products (sites_in l.sites l.k)) × (l.total ≤ 256 ^ l.k)
-
-abbrev pub decreases-loop-k : goal.decreases-loop-k
-decreases-loop-k l = l.n - l.k

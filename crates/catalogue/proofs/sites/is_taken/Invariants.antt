@@ -1,4 +1,4 @@
-use Prim.Native.Nat.{◌-◌, ◌≤◌}
+use Prim.Native.Nat.{◌≤◌}
 use mathlib.Core.Path.{◌≡◌}
 use Rattle.catalogue.specs.Library.{is_taken}
 use Rattle.catalogue.specs.Table.{sites_in}

@@ -5,7 +5,6 @@ use native.Mathlib.Omega.{arith}
 use lib.ListN.{length, take}
 use lib.Seq.{length-take-le}
 use borrow.Author.Rules.{rules}
-use Rattle.reply.specs.Read.{said_reply}
 use Rattle.reply.specs.Chain.{refused_read}
 use Rattle.block.specs.Block.{block_reply}
 use Rattle.assembly.specs.Book.{bond_bytes, most_blocks}
@@ -17,6 +16,8 @@ use Rattle.deck.proofs.Turns.{unfit, number_unfit, number_fit, moved_said, place
 use Rattle.deck.proofs.Filled.{reply_stays, reply_filled}
 use Rattle.compose.proofs.blocks.block_reply.Goals as goal
 use Rattle.compose.proofs.blocks.block_reply.Goals.{After-fill_at, After-is_unfit, Start}
+use Rattle.std.specs.Prelude.{Err}
+use Rattle.reply.specs.Read.{as_result}
 
 -- `compose::blocks::block_reply` meets its contract. Assumes nothing.
 abbrev done : Start → List BlockAt
@@ -33,12 +34,12 @@ unfit-is c = c.is_unfit.ensures ∙ ap (λ (b : BlockAt). unfit_after (done-in-A
 
 -- what the block is told
 told_is : (c : After-fill_at) → let b = block_at c.args.d.now c.args.at in
-    c.fill_at.result ≡ said_reply (block_reply b.atoms (bond_bytes c.args.d.now b))
-told_is c = c.fill_at.ensures.reply ∙ ap (λ (b : BlockAt). said_reply (block_reply b.atoms (bond_bytes c.args.d.now b))) c.requires.1
+    c.fill_at.result ≡ as_result (block_reply b.atoms (bond_bytes c.args.d.now b))
+told_is c = c.fill_at.ensures.reply ∙ ap (λ (b : BlockAt). as_result (block_reply b.atoms (bond_bytes c.args.d.now b))) c.requires.1
 
 pub returns-then-is_unfit : goal.returns-then-is_unfit
 returns-then-is_unfit c = let e = number_unfit c.args.d.now c.args.at (done (goal.at.returns-then-is_unfit c).Start) (sym (unfit-is (goal.at.returns-then-is_unfit c).After-is_unfit) ∙ c.if-is_unfit.true) in
-    record { reply = ap said_reply (sym e); bytes = sym (reply_stays c.args.d.now c.args.at (done (goal.at.returns-then-is_unfit c).Start) c.args.book.now _ e) }
+    record { reply = ap Err c.at.ensures ∙ ap as_result (sym e); bytes = sym (reply_stays c.args.d.now c.args.at (done (goal.at.returns-then-is_unfit c).Start) c.args.book.now _ e) }
 
 pub block_moved-requires : goal.block_moved-requires
 block_moved-requires c = (c.requires.2, λ r q. omega (arith, c.requires.3, place_low c.args.d.now (block_at c.args.d.now c.args.at) r (refused_read _ r (sym (told_is (goal.at.block_moved-requires c).After-fill_at) ∙ q))))
@@ -52,7 +53,7 @@ returns c =
       reply = c.block_moved.ensures
           ∙ ap (moved_reply (block_place at)) (told_is (goal.at.returns c).After-fill_at)
           ∙ moved_said (block_place at) (block_reply b.atoms (bond_bytes d b))
-          ∙ ap said_reply (sym (number_fit d at (done (goal.at.returns c).Start) fit));
+          ∙ ap as_result (sym (number_fit d at (done (goal.at.returns c).Start) fit));
       bytes = c.fill_at.ensures.bytes
           ∙ ap (λ (x : BlockAt). filled_book d c.args.book.now c.args.count x) c.requires.1
           ∙ ap (λ (n : ℕ). filled_book d c.args.book.now n b) (sym (counted (goal.at.returns c).Start))

@@ -1,5 +1,7 @@
 use mathlib.Core.Path.{sym, ap, ◌∙◌}
-use Rattle.deck.specs.Said.{said_deck}
+use Rattle.std.specs.Prelude.{Err}
+use Rattle.reply.specs.declared.Refusal.{Refusal}
+use Rattle.deck.specs.Said.{refused_deck, said_deck}
 use Rattle.deck.proofs.Parts.{open_long, open_short}
 use Rattle.deck.proofs.Filled.{book_long, book_short}
 use Rattle.compose.proofs.blocks.open_deck.Goals as goal
@@ -7,7 +9,7 @@ use Rattle.compose.proofs.blocks.open_deck.Goals as goal
 -- `compose::blocks::open_deck` meets its contract. Assumes nothing.
 pub returns-then-d-gt-LONGEST : goal.returns-then-d-gt-LONGEST
 returns-then-d-gt-LONGEST c = let a = c.args in let h = c.if-d-gt-LONGEST.true in
-    record { reply = c.deck_refused.ensures ∙ ap said_deck (sym (open_long a.last a.d.now h)); bytes = sym (book_long a.last a.d.now a.book.now h) }
+    record { reply = c.deck_refused.ensures ∙ ap (λ (r : Refusal). refused_deck (Err r)) c.at.ensures ∙ ap said_deck (sym (open_long a.last a.d.now h)); bytes = sym (book_long a.last a.d.now a.book.now h) }
 
 pub returns : goal.returns
 returns c =

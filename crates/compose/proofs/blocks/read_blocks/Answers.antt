@@ -6,7 +6,7 @@ use native.Mathlib.Omega.{arith}
 use lib.Dec.{eqb}
 use lib.ListN.{length, take, length-set}
 use lib.Seq.{length-take-le}
-use Rattle.reply.specs.Read.{read, said_reply}
+use Rattle.reply.specs.Read.{read, as_result}
 use Rattle.reply.specs.Chain.{fine_read, refused_read}
 use Rattle.records.specs.Records.{block_kind, kind_at, end_at, record_reply}
 use Rattle.records.specs.Taken.{taken}
@@ -20,7 +20,7 @@ use Rattle.deck.specs.Kept.{fit}
 use Rattle.deck.proofs.Turns.{second, no_record, no_block_lem, bad_block, one_block, said, table_is, table_grows, table_next}
 use Rattle.deck.proofs.Filled.{reply_stays, book_no_record, book_no_block, book_bad_block, book_one_block}
 use Rattle.compose.proofs.blocks.read_blocks.Goals as goal
-use Rattle.compose.proofs.blocks.read_blocks.Goals.{After-block_reply-s, After-record_at-r, At-loop-blocks, Else-le16_at, In-Fine, In-Fine-s}
+use Rattle.compose.proofs.blocks.read_blocks.Goals.{After-block_reply-s, After-record_at-r, At-loop-blocks, Else-le16_at, In-Ok, In-Ok-s}
 
 -- the blocks so far
 abbrev done : At-loop-blocks → List BlockAt
@@ -29,14 +29,14 @@ done l = take l.loop-blocks.count l.loop-blocks.blocks
 abbrev done-in-After-record_at-r : After-record_at-r → List BlockAt
 done-in-After-record_at-r l = take l.loop-blocks.count l.loop-blocks.blocks
 
-abbrev done-in-In-Fine : In-Fine → List BlockAt
-done-in-In-Fine l = take l.loop-blocks.count l.loop-blocks.blocks
+abbrev done-in-In-Ok : In-Ok → List BlockAt
+done-in-In-Ok l = take l.loop-blocks.count l.loop-blocks.blocks
 
 abbrev done-in-After-block_reply-s : After-block_reply-s → List BlockAt
 done-in-After-block_reply-s l = take l.loop-blocks.count l.loop-blocks.blocks
 
-abbrev done-in-In-Fine-s : In-Fine-s → List BlockAt
-done-in-In-Fine-s l = take l.loop-blocks.count l.loop-blocks.blocks
+abbrev done-in-In-Ok-s : In-Ok-s → List BlockAt
+done-in-In-Ok-s l = take l.loop-blocks.count l.loop-blocks.blocks
 
 abbrev deck : At-loop-blocks → List ℕ
 deck l = l.args.d.now
@@ -44,8 +44,8 @@ deck l = l.args.d.now
 abbrev deck-in-After-record_at-r : After-record_at-r → List ℕ
 deck-in-After-record_at-r l = l.args.d.now
 
-abbrev deck-in-In-Fine : In-Fine → List ℕ
-deck-in-In-Fine l = l.args.d.now
+abbrev deck-in-In-Ok : In-Ok → List ℕ
+deck-in-In-Ok l = l.args.d.now
 
 abbrev deck-in-Else-le16_at : Else-le16_at → List ℕ
 deck-in-Else-le16_at l = l.args.d.now
@@ -53,8 +53,8 @@ deck-in-Else-le16_at l = l.args.d.now
 abbrev deck-in-After-block_reply-s : After-block_reply-s → List ℕ
 deck-in-After-block_reply-s l = l.args.d.now
 
-abbrev deck-in-In-Fine-s : In-Fine-s → List ℕ
-deck-in-In-Fine-s l = l.args.d.now
+abbrev deck-in-In-Ok-s : In-Ok-s → List ℕ
+deck-in-In-Ok-s l = l.args.d.now
 
 abbrev last : At-loop-blocks → Kind
 last l = l.args.last
@@ -62,8 +62,8 @@ last l = l.args.last
 abbrev last-in-After-record_at-r : After-record_at-r → Kind
 last-in-After-record_at-r l = l.args.last
 
-abbrev last-in-In-Fine : In-Fine → Kind
-last-in-In-Fine l = l.args.last
+abbrev last-in-In-Ok : In-Ok → Kind
+last-in-In-Ok l = l.args.last
 
 counted : (l : At-loop-blocks) → length (done l) ≡ l.loop-blocks.count
 counted l = length-take-le l.loop-blocks.count l.loop-blocks.blocks (omega arith)
@@ -71,11 +71,11 @@ counted l = length-take-le l.loop-blocks.count l.loop-blocks.blocks (omega arith
 counted-in-After-record_at-r : (l : After-record_at-r) → length (done-in-After-record_at-r l) ≡ l.loop-blocks.count
 counted-in-After-record_at-r l = length-take-le l.loop-blocks.count l.loop-blocks.blocks (omega arith)
 
-counted-in-In-Fine : (l : In-Fine) → length (done-in-In-Fine l) ≡ l.loop-blocks.count
-counted-in-In-Fine l = length-take-le l.loop-blocks.count l.loop-blocks.blocks (omega arith)
+counted-in-In-Ok : (l : In-Ok) → length (done-in-In-Ok l) ≡ l.loop-blocks.count
+counted-in-In-Ok l = length-take-le l.loop-blocks.count l.loop-blocks.blocks (omega arith)
 
-counted-in-In-Fine-s : (l : In-Fine-s) → length (done-in-In-Fine-s l) ≡ l.loop-blocks.count
-counted-in-In-Fine-s l = length-take-le l.loop-blocks.count l.loop-blocks.blocks (omega arith)
+counted-in-In-Ok-s : (l : In-Ok-s) → length (done-in-In-Ok-s l) ≡ l.loop-blocks.count
+counted-in-In-Ok-s l = length-take-le l.loop-blocks.count l.loop-blocks.blocks (omega arith)
 
 -- what is left to do, one turn at least
 left : (l : At-loop-blocks) → blocks_reply (last l) (deck l) ≡ blocks_from (suc (most_blocks - l.loop-blocks.count)) (last l) (deck l) l.loop-blocks.next (done l)
@@ -90,37 +90,37 @@ book-left l =
     l.loop-blocks.invariant.6 ∙ ap (λ (k : ℕ). book_from k (last l) (deck l) l.loop-blocks.next (done l) l.loop-blocks.book) e
 
 -- what the record is told
-record_is : (c : After-record_at-r) → c.record_at-r.result ≡ said_reply (record_reply (kinds_after (done-in-After-record_at-r c) (last-in-After-record_at-r c)) (deck-in-After-record_at-r c) c.loop-blocks.next)
+record_is : (c : After-record_at-r) → c.record_at-r.result ≡ as_result (record_reply (kinds_after (done-in-After-record_at-r c) (last-in-After-record_at-r c)) (deck-in-After-record_at-r c) c.loop-blocks.next)
 record_is c = c.record_at-r.ensures
-    ∙ ap (λ (k : Kind). said_reply (record_reply (block_kind ∷ k ∷ []) (deck-in-After-record_at-r c) c.loop-blocks.next)) (c.second_kind.ensures ∙ ap (λ (n : ℕ). cond (eqb n 0) block_kind (last-in-After-record_at-r c)) (sym (counted-in-After-record_at-r c)))
-    ∙ ap said_reply (second (done-in-After-record_at-r c) (last-in-After-record_at-r c) (deck-in-After-record_at-r c) c.loop-blocks.next)
+    ∙ ap (λ (k : Kind). as_result (record_reply (block_kind ∷ k ∷ []) (deck-in-After-record_at-r c) c.loop-blocks.next)) (c.second_kind.ensures ∙ ap (λ (n : ℕ). cond (eqb n 0) block_kind (last-in-After-record_at-r c)) (sym (counted-in-After-record_at-r c)))
+    ∙ ap as_result (second (done-in-After-record_at-r c) (last-in-After-record_at-r c) (deck-in-After-record_at-r c) c.loop-blocks.next)
 
-record_is-in-In-Fine : (c : In-Fine) → c.record_at-r.result ≡ said_reply (record_reply (kinds_after (done-in-In-Fine c) (last-in-In-Fine c)) (deck-in-In-Fine c) c.loop-blocks.next)
-record_is-in-In-Fine c = c.record_at-r.ensures
-    ∙ ap (λ (k : Kind). said_reply (record_reply (block_kind ∷ k ∷ []) (deck-in-In-Fine c) c.loop-blocks.next)) (c.second_kind.ensures ∙ ap (λ (n : ℕ). cond (eqb n 0) block_kind (last-in-In-Fine c)) (sym (counted-in-In-Fine c)))
-    ∙ ap said_reply (second (done-in-In-Fine c) (last-in-In-Fine c) (deck-in-In-Fine c) c.loop-blocks.next)
+record_is-in-In-Ok : (c : In-Ok) → c.record_at-r.result ≡ as_result (record_reply (kinds_after (done-in-In-Ok c) (last-in-In-Ok c)) (deck-in-In-Ok c) c.loop-blocks.next)
+record_is-in-In-Ok c = c.record_at-r.ensures
+    ∙ ap (λ (k : Kind). as_result (record_reply (block_kind ∷ k ∷ []) (deck-in-In-Ok c) c.loop-blocks.next)) (c.second_kind.ensures ∙ ap (λ (n : ℕ). cond (eqb n 0) block_kind (last-in-In-Ok c)) (sym (counted-in-In-Ok c)))
+    ∙ ap as_result (second (done-in-In-Ok c) (last-in-In-Ok c) (deck-in-In-Ok c) c.loop-blocks.next)
 
-record-fine : (c : In-Fine) → record_reply (kinds_after (done-in-In-Fine c) (last-in-In-Fine c)) (deck-in-In-Fine c) c.loop-blocks.next ≡ read tt
-record-fine c = fine_read _ (sym (record_is-in-In-Fine c) ∙ c.in-Fine.is)
+record-fine : (c : In-Ok) → record_reply (kinds_after (done-in-In-Ok c) (last-in-In-Ok c)) (deck-in-In-Ok c) c.loop-blocks.next ≡ read tt
+record-fine c = fine_read _ (sym (record_is-in-In-Ok c) ∙ c.in-Ok.is)
 
-record-whole : (c : In-Fine) → end_at (deck-in-In-Fine c) c.loop-blocks.next ≤ length (deck-in-In-Fine c)
-record-whole c = (taken (deck-in-In-Fine c) c.loop-blocks.next (kinds_after (done-in-In-Fine c) (last-in-In-Fine c)) (record-fine c)).whole
+record-whole : (c : In-Ok) → end_at (deck-in-In-Ok c) c.loop-blocks.next ≤ length (deck-in-In-Ok c)
+record-whole c = (taken (deck-in-In-Ok c) c.loop-blocks.next (kinds_after (done-in-In-Ok c) (last-in-In-Ok c)) (record-fine c)).whole
 
 -- it is a block
 is_block : (c : Else-le16_at) → kind_at (deck-in-Else-le16_at c) c.loop-blocks.next ≡ 1
 is_block c = sym c.le16_at.ensures ∙ c.if-le16_at.false
 
-block-is : (c : After-block_reply-s) → c.block_reply-s.result ≡ said_reply (block_reply_at (deck-in-After-block_reply-s c) c.loop-blocks.next (done-in-After-block_reply-s c))
+block-is : (c : After-block_reply-s) → c.block_reply-s.result ≡ as_result (block_reply_at (deck-in-After-block_reply-s c) c.loop-blocks.next (done-in-After-block_reply-s c))
 block-is c = c.block_reply-s.ensures.reply
 
-block-is-in-In-Fine-s : (c : In-Fine-s) → c.block_reply-s.result ≡ said_reply (block_reply_at (deck-in-In-Fine-s c) c.loop-blocks.next (done-in-In-Fine-s c))
-block-is-in-In-Fine-s c = c.block_reply-s.ensures.reply
+block-is-in-In-Ok-s : (c : In-Ok-s) → c.block_reply-s.result ≡ as_result (block_reply_at (deck-in-In-Ok-s c) c.loop-blocks.next (done-in-In-Ok-s c))
+block-is-in-In-Ok-s c = c.block_reply-s.ensures.reply
 
-block-fine : (c : In-Fine-s) → block_reply_at (deck-in-In-Fine-s c) c.loop-blocks.next (done-in-In-Fine-s c) ≡ read tt
-block-fine c = fine_read _ (sym (block-is-in-In-Fine-s c) ∙ c.in-Fine-s.is)
+block-fine : (c : In-Ok-s) → block_reply_at (deck-in-In-Ok-s c) c.loop-blocks.next (done-in-In-Ok-s c) ≡ read tt
+block-fine c = fine_read _ (sym (block-is-in-In-Ok-s c) ∙ c.in-Ok-s.is)
 
-room : (c : In-Fine-s) → c.loop-blocks.count < most_blocks
-room c = omega (arith, counted-in-In-Fine-s c, (fit (deck-in-In-Fine-s c) c.loop-blocks.next (done-in-In-Fine-s c) (block-fine c)).room)
+room : (c : In-Ok-s) → c.loop-blocks.count < most_blocks
+room c = omega (arith, counted-in-In-Ok-s c, (fit (deck-in-In-Ok-s c) c.loop-blocks.next (done-in-In-Ok-s c) (block-fine c)).room)
 
 pub loop-blocks-init : goal.loop-blocks-init
 unfolding blocks_reply blocks_book
@@ -142,7 +142,7 @@ shape_of-book-then-le16_at c = c.loop-blocks.invariant.5
 pub returns-then-le16_at : goal.returns-then-le16_at
 returns-then-le16_at c = let t = table_is c.loop-blocks.blocks c.loop-blocks.count (omega arith) c.loop-blocks.invariant.4 in
     let k : (kind_at (deck (goal.at.returns-then-le16_at c).At-loop-blocks) c.loop-blocks.next ≡ 1 → ⊥) = λ e. c.if-le16_at.true (c.le16_at.ensures ∙ e) in
-    let f = record-fine (goal.at.returns-then-le16_at c).In-Fine in record {
+    let f = record-fine (goal.at.returns-then-le16_at c).In-Ok in record {
       reply = c.deck_at.ensures
           ∙ said (deck (goal.at.returns-then-le16_at c).At-loop-blocks) c.loop-blocks.blocks (done (goal.at.returns-then-le16_at c).At-loop-blocks) c.loop-blocks.count c.loop-blocks.next t (sym (counted (goal.at.returns-then-le16_at c).At-loop-blocks))
           ∙ ap said_deck (sym (left (goal.at.returns-then-le16_at c).At-loop-blocks ∙ no_block_lem (most_blocks - c.loop-blocks.count) (last (goal.at.returns-then-le16_at c).At-loop-blocks) (deck (goal.at.returns-then-le16_at c).At-loop-blocks) c.loop-blocks.next (done (goal.at.returns-then-le16_at c).At-loop-blocks) f k));
@@ -162,7 +162,7 @@ shape_of-book-in_default-s c = c.book-1.given ∙ c.loop-blocks.invariant.5
 pub returns-in_default-s : goal.returns-in_default-s
 returns-in_default-s c = let k = most_blocks - c.loop-blocks.count in
     let e = refused_read _ c.in_default-s.field-0 (sym (block-is (goal.at.returns-in_default-s c).After-block_reply-s) ∙ c.in_default-s.is) in
-    let f = record-fine (goal.at.returns-in_default-s c).In-Fine in
+    let f = record-fine (goal.at.returns-in_default-s c).In-Ok in
     let g = is_block (goal.at.returns-in_default-s c).Else-le16_at in record {
       reply = c.deck_refused-in_default-s.ensures
           ∙ ap refused_deck c.in_default-s.is
@@ -173,20 +173,20 @@ returns-in_default-s c = let k = most_blocks - c.loop-blocks.count in
     }
 
 pub bounds-blocks-count : goal.bounds-blocks-count
-bounds-blocks-count c = room (goal.at.bounds-blocks-count c).In-Fine-s
+bounds-blocks-count c = room (goal.at.bounds-blocks-count c).In-Ok-s
 
 pub overflow_add-next-in-loop-blocks-2 : goal.overflow_add-next-in-loop-blocks-2
-overflow_add-next-in-loop-blocks-2 c = omega (arith, c.le16_at-in-loop-blocks.ensures, record-whole (goal.at.overflow_add-next-in-loop-blocks-2 c).In-Fine)
+overflow_add-next-in-loop-blocks-2 c = omega (arith, c.le16_at-in-loop-blocks.ensures, record-whole (goal.at.overflow_add-next-in-loop-blocks-2 c).In-Ok)
 
 pub loop-blocks-preserved : goal.loop-blocks-preserved
 loop-blocks-preserved c = let k = c.loop-blocks.count in
     let b = c.block_at-b in
-    let f = record-fine (goal.at.loop-blocks-preserved c).In-Fine in
+    let f = record-fine (goal.at.loop-blocks-preserved c).In-Ok in
     let g = is_block (goal.at.loop-blocks-preserved c).Else-le16_at in
-    let h = block-fine (goal.at.loop-blocks-preserved c).In-Fine-s in
-    let free = room (goal.at.loop-blocks-preserved c).In-Fine-s in
+    let h = block-fine (goal.at.loop-blocks-preserved c).In-Ok-s in
+    let free = room (goal.at.loop-blocks-preserved c).In-Ok-s in
     let m : suc most_blocks - (k + 1) ≡ most_blocks - k = omega arith in (
-      omega (arith, c.le16_at-in-loop-blocks.ensures, record-whole (goal.at.loop-blocks-preserved c).In-Fine),
+      omega (arith, c.le16_at-in-loop-blocks.ensures, record-whole (goal.at.loop-blocks-preserved c).In-Ok),
       omega arith,
       simp length-set c.loop-blocks.invariant.2,
       rw (m, table_grows c.loop-blocks.blocks k b.result (omega arith), b.ensures, c.le16_at-in-loop-blocks.ensures) (left (goal.at.loop-blocks-preserved c).At-loop-blocks ∙ one_block (most_blocks - k) (last (goal.at.loop-blocks-preserved c).At-loop-blocks) (deck (goal.at.loop-blocks-preserved c).At-loop-blocks) c.loop-blocks.next (done (goal.at.loop-blocks-preserved c).At-loop-blocks) f g h),

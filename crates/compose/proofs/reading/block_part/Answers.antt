@@ -29,10 +29,10 @@ returns-in_default-judged c = let (p, e) = not-composed (goal.at.returns-in_defa
 pub returns-in_default : goal.returns-in_default
 returns-in_default c = let (p, e) = not-composed (goal.at.returns-in_default c).In_default in
     let r = c.read_deck-j in
-    let (k, f, g) = held (deck (goal.at.returns-in_default c).Start) c.args.number Judged r.result r.ensures c.in-Fine-judged.is in
+    let (k, f, g) = held (deck (goal.at.returns-in_default c).Start) c.args.number Judged r.result r.ensures c.in-Ok-judged.is in
     part_at (g ∙ sym (in_judged (deck (goal.at.returns-in_default c).Start) c.args.number p k e f)) c.payload_of.ensures
 
 pub returns : goal.returns
 returns c = let r = c.read_deck-k in
-    let (k, f, g) = held (deck (goal.at.returns c).Start) c.args.number Composed r.result r.ensures c.in-Fine.is in
+    let (k, f, g) = held (deck (goal.at.returns c).Start) c.args.number Composed r.result r.ensures c.in-Ok.is in
     part_at (g ∙ sym (in_composed (deck (goal.at.returns c).Start) c.args.number k f)) c.payload_of-2.ensures

@@ -2,7 +2,7 @@ use Prim.Native.Nat.{suc, ◌-◌, ◌≤◌, ◌<◌}
 use mathlib.Core.Path.{◌≡◌, refl, sym}
 use lib.ListN.{get_or}
 use Rattle.molfile.specs.Work.{most, bond_by}
-use Rattle.text.proofs.Putting.{none, both, as_word, same_length as put-length}
+use Rattle.text.proofs.Putting.{none, both, as_word}
 use Rattle.molfile.proofs.Keeping.{kept_none, kept_more}
 use native.Mathlib.Omega.{arith}
 use Rattle.molfile.proofs.dropping.keep.Goals as goal
@@ -25,18 +25,6 @@ pub loop-k-init : goal.loop-k-init
 loop-k-init c =
     (omega arith, as_word (sym (kept_none c.args.numbers.now (bond_by c.args.ones.now c.args.twos.now))) none)
 
-pub overflow_sub-a : goal.overflow_sub-a
-overflow_sub-a c = (one (goal.at.overflow_sub-a c).After-wide_two).2
-
-pub bounds-numbers-wide_two : goal.bounds-numbers-wide_two
-bounds-numbers-wide_two c = (one (goal.at.bounds-numbers-wide_two c).After-wide_two).1
-
-pub overflow_sub-b : goal.overflow_sub-b
-overflow_sub-b c = (two (goal.at.overflow_sub-b c).After-wide_two-in-loop-k).2
-
-pub bounds-numbers-wide_two-in-loop-k : goal.bounds-numbers-wide_two-in-loop-k
-bounds-numbers-wide_two-in-loop-k c = (two (goal.at.bounds-numbers-wide_two-in-loop-k c).After-wide_two-in-loop-k).1
-
 pub loop-k-preserved : goal.loop-k-preserved
 loop-k-preserved c =
     let g = c.args in
@@ -46,13 +34,3 @@ loop-k-preserved c =
     let a = get_or g.numbers.now x 0 in
     let b = get_or g.numbers.now y 0 in
     (omega arith, as_word (sym (kept_more g.numbers.now (bond_by g.ones.now g.twos.now) l.k x y a b (one (goal.at.loop-k-preserved c).After-wide_two).0 (two (goal.at.loop-k-preserved c).After-wide_two-in-loop-k).0 refl refl)) (both l.invariant.1 c.store-next.ensures))
-
-pub shape_of-out : goal.shape_of-out
-shape_of-out c = put-length c.loop-k.invariant.1
-
-pub returns : goal.returns
-returns c =
-    let l = c.loop-k in
-    let a = c.args in
-    let e : l.k ≡ a.m = omega arith in
-    rw e at l.invariant.1

@@ -41,9 +41,6 @@ loop-i-init c =
     let gone = dropped_by c.args.marks.now c.args.weights.now in
     (omega arith, record { size = c.requires.1; count = number_none gone; at = holds_none (number_by gone) c.args.weights.now }, λ j h. refl)
 
-pub bounds-weights-i : goal.bounds-weights-i
-bounds-weights-i c = omega (arith, c.loop-i.invariant.1.size, c.requires.0)
-
 pub grown-next-requires : goal.grown-next-requires
 grown-next-requires c = omega (arith, few (goal.at.grown-next-requires c).At-loop-i, c.requires.0)
 
@@ -61,9 +58,3 @@ loop-i-preserved c =
       record { size = length-set w i c.given.result ∙ inv.size; count = e.0; at = holds_more (number_by (dropped (goal.at.loop-i-preserved c).At-loop-i)) w i c.given.result (omega (arith, inv.size, c.requires.0)) inv.at v },
       λ j h. get_or-set_other w i j c.given.result 0 (λ q. omega arith) ∙ c.loop-i.invariant.2 j (omega arith),
     )
-
-pub returns : goal.returns
-returns c =
-    let l = c.loop-i in
-    let a = c.args in
-    let e : l.i ≡ a.n = omega arith in rw e at l.invariant.1

@@ -8,6 +8,3 @@ use Rattle.molfile.proofs.dropping.renumber.Given as goal
 abbrev pub invariant-loop-i : goal.invariant-loop-i
 invariant-loop-i l =
     (l.i ≤ l.n) × Numbered (dropped_by l.marks l.initial.weights) l.i l.weights l.count × ((j : ℕ) → l.i ≤ j → get_or l.weights j 0 ≡ get_or l.initial.weights j 0)
-
-abbrev pub decreases-loop-i : goal.decreases-loop-i
-decreases-loop-i l = l.n - l.i

@@ -1,7 +1,7 @@
 use Prim.Native.Nat.{suc, ◌+◌, ◌-◌, ◌*◌, ◌≤◌, ◌<◌}
 use mathlib.Core.Path.{◌≡◌, sym, ap}
-use lib.ListN.{length, get_or, set, length-set}
-use Rattle.molfile.specs.Work.{most, heft, bond_by}
+use lib.ListN.{length, get_or, set}
+use Rattle.molfile.specs.Work.{most, bond_by}
 use Rattle.molfile.proofs.Weighing.{heft_small, back_small, weight_small, weighed_none, weighed_more, set_below}
 use native.Mathlib.Omega.{arith}
 use Rattle.molfile.proofs.dropping.weigh.Goals as goal
@@ -45,29 +45,8 @@ pub loop-k-init : goal.loop-k-init
 loop-k-init c =
     (omega arith, rw c.requires.1 (weighed_none c.args.marks.now c.args.ones.now c.args.twos.now))
 
-pub overflow_sub-a : goal.overflow_sub-a
-overflow_sub-a c = (one (goal.at.overflow_sub-a c).After-wide_two-a).2
-
-pub overflow_sub-b : goal.overflow_sub-b
-overflow_sub-b c = (two (goal.at.overflow_sub-b c).After-wide_two-b).2
-
-pub bounds-weights-a : goal.bounds-weights-a
-bounds-weights-a c = (spots (goal.at.bounds-weights-a c).After-wide_two-b).0
-
-pub bounds-marks-b : goal.bounds-marks-b
-bounds-marks-b c = (two (goal.at.bounds-marks-b c).After-wide_two-b).1
-
 pub overflow_add-weights : goal.overflow_add-weights
 overflow_add-weights c = let t = spots (goal.at.overflow_add-weights c).After-wide_two-b in omega (arith, t.2, first (goal.at.overflow_add-weights c).After-heft)
-
-pub bounds-weights-a-in-loop-k : goal.bounds-weights-a-in-loop-k
-bounds-weights-a-in-loop-k c = (spots (goal.at.bounds-weights-a-in-loop-k c).After-wide_two-b).0
-
-pub bounds-weights-b : goal.bounds-weights-b
-bounds-weights-b c = let t = spots (goal.at.bounds-weights-b c).After-wide_two-b in omega (arith, t.1, length-set c.loop-k.weights (c.wide_two-a.result - 1) (get_or c.loop-k.weights (c.wide_two-a.result - 1) 0 + c.heft.result))
-
-pub bounds-marks-a : goal.bounds-marks-a
-bounds-marks-a c = (one (goal.at.bounds-marks-a c).After-wide_two-a).1
 
 pub overflow_add-weights-in-loop-k : goal.overflow_add-weights-in-loop-k
 overflow_add-weights-in-loop-k c =
@@ -80,12 +59,6 @@ overflow_add-weights-in-loop-k c =
     let l = set_below w a b x 2000 t.0 (omega (arith, t.2)) (omega (arith, t.3)) in
     omega (arith, l, c.back.ensures, back_small a b (get_or c.args.marks.now a 0))
 
-pub bounds-weights-b-in-loop-k : goal.bounds-weights-b-in-loop-k
-bounds-weights-b-in-loop-k c =
-    let w = c.loop-k.weights in
-    let a = c.wide_two-a.result - 1 in
-    omega (arith, (spots (goal.at.bounds-weights-b-in-loop-k c).After-wide_two-b).1, length-set w a (get_or w a 0 + c.heft.result))
-
 pub loop-k-preserved : goal.loop-k-preserved
 loop-k-preserved c =
     let g = c.args in
@@ -97,9 +70,3 @@ loop-k-preserved c =
     let e = one (goal.at.loop-k-preserved c).After-wide_two-a in
     let f = two (goal.at.loop-k-preserved c).After-wide_two-b in
     (omega arith, weighed_more g.marks.now g.ones.now g.twos.now w c.loop-k.k a b x y e.1 f.1 (sym e.0) (sym f.0) (ap (λ n. get_or w a 0 + n) c.heft.ensures) (ap (λ n. get_or (set w a x) b 0 + n) c.back.ensures) c.loop-k.invariant.1)
-
-pub returns : goal.returns
-returns c =
-    let l = c.loop-k in
-    let a = c.args in
-    let e : l.k ≡ a.m = omega arith in rw e at l.invariant.1

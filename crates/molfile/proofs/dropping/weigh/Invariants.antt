@@ -5,6 +5,3 @@ use Rattle.molfile.proofs.dropping.weigh.Given as goal
 -- `weigh` meets its contract. The loop's invariant: the weights are those by the first k bonds.
 abbrev pub invariant-loop-k : goal.invariant-loop-k
 invariant-loop-k l = (l.k ≤ l.m) × Weighed l.marks l.ones l.twos l.k l.weights
-
-abbrev pub decreases-loop-k : goal.decreases-loop-k
-decreases-loop-k l = l.m - l.k

@@ -16,14 +16,14 @@ lists-passed-requires c =
     let m : c.args.x.two ≤ most = omega (arith, ap (λ (x : Numbers). x.two) c.requires.0, few.1) in
     (c.requires.0, n, n, m, m)
 
-pub returns-in-Refused : goal.returns-in-Refused
-returns-in-Refused c =
+pub returns-in-Err : goal.returns-in-Err
+returns-in-Err c =
     let d = c.args.text.now in
-    let e = lines_go_on d c.requires.1 ∙ walk_refused _ _ (sym c.lists-passed.ensures.reply ∙ c.in-Refused.is) in
+    let e = lines_go_on d c.requires.1 ∙ walk_refused _ _ (sym c.lists-passed.ensures.reply ∙ c.in-Err.is) in
     sym (ap (λ (m : Read (Unit {0})). rest_by m d) e)
 
-pub returns-in-At : goal.returns-in-At
-returns-in-At c =
+pub returns-in-Ok : goal.returns-in-Ok
+returns-in-Ok c =
     let d = c.args.text.now in
-    let w = walk-read _ _ (sym c.lists-passed.ensures.reply ∙ c.in-At.is) in
+    let w = walk-read _ _ (sym c.lists-passed.ensures.reply ∙ c.in-Ok.is) in
     sym w.1 ∙ sym (ap (λ (m : Read (Unit {0})). rest_by m d) (lines_go_on d c.requires.1 ∙ w.0))

@@ -1,4 +1,4 @@
-use Prim.Native.Nat.{ℕ, ◌+◌, ◌-◌, ◌/◌, ◌≤◌}
+use Prim.Native.Nat.{ℕ, ◌+◌, ◌/◌, ◌≤◌}
 use mathlib.Core.Path.{◌≡◌}
 use native.Mathlib.Nat.{le_refl}
 use native.Mathlib.Omega.{arith}
@@ -6,7 +6,7 @@ use lib.ListN.{length, get_or}
 use Rattle.block.specs.Block.{graph_of}
 use Rattle.block.specs.Numbered.{bond_at}
 use Rattle.block.specs.Lent.{filled_none, filled_store}
-use Rattle.shares.specs.Work.{full, at, carried, StartRows}
+use Rattle.shares.specs.Work.{full, carried, StartRows}
 use Rattle.shares.proofs.Flowing.{carried_low, there_fits, back_fits, flows}
 use Rattle.shares.proofs.flows.add_flows.Goals as goal
 use Rattle.shares.proofs.flows.add_flows.Goals.{After-passed-in-loop-k}

@@ -1,4 +1,4 @@
-use Prim.Native.Nat.{◌-◌, min, ◌≤◌}
+use Prim.Native.Nat.{min, ◌≤◌}
 use mathlib.Core.Path.{◌≡◌}
 use lib.ListN.{length}
 use Rattle.graph.specs.Paths.{path_count}
@@ -12,6 +12,3 @@ use Rattle.shares.proofs.flows.fill.Given as goal
 abbrev pub invariant-loop-i : goal.invariant-loop-i
 invariant-loop-i l =
     (l.i ≤ l.n) × (length l.out ≡ length l.initial.out) × (l.d ≡ min cap (lcm_starts l.n (path_count (graph_of l.n l.bonds)) l.i)) × (l.d ≤ most_denominator → Sofar l.n l.bonds l.i l.d l.out)
-
-abbrev pub decreases-loop-i : goal.decreases-loop-i
-decreases-loop-i l = l.n - l.i

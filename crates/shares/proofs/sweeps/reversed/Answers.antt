@@ -1,5 +1,5 @@
 use Prim.Native.Nat.{suc, ◌-◌}
-use mathlib.Core.Path.{refl, ◌∙◌}
+use mathlib.Core.Path.{◌≡◌, refl, ◌∙◌}
 use native.Mathlib.Omega.{arith}
 use lib.ListN.{length-set}
 use lib.Seq.{get_or-set_other}
@@ -24,7 +24,11 @@ loop-d-preserved c =
       λ k h. get_or-set_other l.back l.d k x 0 (omega arith) ∙ l.invariant.3 k (omega arith),
     )
 
-pub returns : goal.returns
-returns c n key L =
+pub returns-2 : goal.returns-2
+returns-2 c n key L =
     let l = c.loop-d in
-    turned n key _ _ _ (λ d h. l.invariant.2 d (omega arith)) (λ d h. l.invariant.3 d (omega arith)) L
+    let a = c.args in
+    let e : l.d ≡ a.top = omega arith in
+    let x = at a.sets.now (a.top - l.d) in
+    turned n key _ _ _ (λ d h. placed l.back l.d x (λ k. at a.sets.now (a.top - k)) (omega arith) l.invariant.2 refl d (omega arith))
+    (λ d h. get_or-set_other l.back l.d d x 0 (omega arith) ∙ l.invariant.3 d (omega arith)) L

@@ -8,6 +8,3 @@ use Rattle.shares.proofs.sweeps.reversed.Given as goal
 -- `reversed` meets its contract: the levels passed stand from the top down.
 abbrev pub invariant-loop-d : goal.invariant-loop-d
 invariant-loop-d l = (l.d ≤ l.top + 1) × (length l.back ≡ suc most_atoms) × ((k : ℕ) → k < l.d → at l.back k ≡ at l.sets (l.top - k)) × ((k : ℕ) → l.d ≤ k → at l.back k ≡ 0)
-
-abbrev pub decreases-loop-d : goal.decreases-loop-d
-decreases-loop-d l = l.top + 1 - l.d

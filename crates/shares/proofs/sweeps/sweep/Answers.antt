@@ -1,10 +1,9 @@
-use Prim.Native.Nat.{◌+◌, ◌-◌, ◌<◌}
+use Prim.Native.Nat.{◌+◌, ◌<◌}
 use mathlib.Core.Path.{refl, ◌∙◌}
 use native.Mathlib.Omega.{arith}
 use lib.ListN.{length, length-set}
 use Rattle.graph.specs.Lowest.{lowest_in, rest_less}
 use Rattle.block.specs.Block.{most_atoms}
-use Rattle.shares.specs.Work.{at}
 use Rattle.shares.proofs.Rows.{store_low}
 use Rattle.shares.proofs.Sweeping.{first, less, wide_set, asked_fits, sweeping_start, sweeping_level, sweeping_take, sweeping_done}
 use Rattle.shares.proofs.sweeps.sweep.Goals as goal

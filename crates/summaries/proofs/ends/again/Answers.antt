@@ -1,4 +1,3 @@
-use Prim.Native.Nat.{◌-◌}
 use native.Mathlib.Omega.{arith}
 use Rattle.summaries.proofs.Storing.{nowhere_more}
 use Rattle.summaries.proofs.ends.again.Goals as goal

@@ -1,4 +1,4 @@
-use Prim.Native.Nat.{◌+◌, ◌-◌, ◌≤◌}
+use Prim.Native.Nat.{◌+◌, ◌≤◌}
 use mathlib.Core.Path.{◌≡◌}
 use Rattle.summaries.specs.Ends.{Nowhere}
 use Rattle.summaries.proofs.ends.again.Given as goal
@@ -6,6 +6,3 @@ use Rattle.summaries.proofs.ends.again.Given as goal
 -- `summaries::ends::again` meets its contract. The loop's invariant: where none was counted, none of the ends from e to g is x. Assumes nothing.
 abbrev pub invariant-loop-g : goal.invariant-loop-g
 invariant-loop-g l = (l.total + l.e ≤ l.g) × (l.total ≡ 0 → Nowhere l.links l.x l.e l.g)
-
-abbrev pub decreases-loop-g : goal.decreases-loop-g
-decreases-loop-g l = l.f - l.g

@@ -1,7 +1,7 @@
 use Prim.Native.Nat.{ℕ, ◌+◌, ◌-◌, ◌%◌, ◌<◌}
 use mathlib.Core.List.{List}
 use mathlib.Core.Logic.{⊎_elim}
-use mathlib.Core.Path.{◌≡◌, sym, ◌∙◌, ap, subst⁻¹}
+use mathlib.Core.Path.{sym, ◌∙◌, ap, subst⁻¹}
 use native.Mathlib.Omega.{arith}
 use borrow.Author.Rules.{rules}
 use lib.ListN.{length, get_or, length-set}
@@ -13,14 +13,14 @@ use Rattle.summaries.specs.Ends.{Stepped}
 use Rattle.summaries.proofs.Ports.{fit}
 use Rattle.summaries.proofs.Storing.{step_none, step_past, step_put, steps_at}
 use Rattle.summaries.proofs.ends.stepped.Goals as goal
-use Rattle.summaries.proofs.ends.stepped.Goals.{After-end_at-site, In-loop-z}
+use Rattle.summaries.proofs.ends.stepped.Goals.{In-loop-z}
 
 pub loop-z-init : goal.loop-z-init
-loop-z-init c = (omega arith, search rules, step_none)
+loop-z-init c = (search rules, step_none)
 
 -- the placement at index z is joined, to an atom that is there
 joined : (c : In-loop-z) → Within (c.args.count - 1) c.loop-z.z
-joined c = let p = c.requires in omega (arith, p.1, c.loop-z.invariant.0, c.loop-z-test.true)
+joined c = let p = c.requires in omega (arith, p.1, c.loop-z-test.true)
 
 few : (c : In-loop-z) → c.loop-z.z < most_placements
 few c = omega (arith, c.requires.0.few, c.loop-z-test.true)
@@ -31,32 +31,8 @@ site c = omega (arith, (fit c.requires.0 (joined c)).site)
 pub parent_of-requires : goal.parent_of-requires
 parent_of-requires c = few (goal.at.parent_of-requires c).In-loop-z
 
-pub overflow_mul-z : goal.overflow_mul-z
-overflow_mul-z c = omega (arith, few (goal.at.overflow_mul-z c).In-loop-z)
-
-pub overflow_add-z : goal.overflow_add-z
-overflow_add-z c = omega (arith, few (goal.at.overflow_add-z c).In-loop-z)
-
-pub end_at-site-requires : goal.end_at-site-requires
-end_at-site-requires c = omega (arith, few (goal.at.end_at-site-requires c).In-loop-z)
-
-atom : (c : After-end_at-site) → c.end_at-site.result % 256 ≡ (joins_in c.args.links.now c.loop-z.z).site
-atom c = ap (λ (x : ℕ). x % 256) c.end_at-site.ensures.0
-
-pub overflow_sub-row : goal.overflow_sub-row
-overflow_sub-row c = omega (arith, atom (goal.at.overflow_sub-row c).After-end_at-site, site (goal.at.overflow_sub-row c).In-loop-z)
-
-pub bounds-from-site : goal.bounds-from-site
-bounds-from-site c = omega (arith, atom (goal.at.bounds-from-site c).After-end_at-site, site (goal.at.bounds-from-site c).In-loop-z)
-
 pub bounds-row-z : goal.bounds-row-z
 bounds-row-z c = few (goal.at.bounds-row-z c).In-loop-z
-
-pub overflow_add-z-in-loop-z : goal.overflow_add-z-in-loop-z
-overflow_add-z-in-loop-z c = omega (arith, few (goal.at.overflow_add-z-in-loop-z c).In-loop-z)
-
-pub loop-z-smaller : goal.loop-z-smaller
-loop-z-smaller c = omega (arith, c.loop-z-test.true)
 
 pub loop-z-preserved : goal.loop-z-preserved
 loop-z-preserved c =
@@ -64,18 +40,17 @@ loop-z-preserved c =
     let i = c.loop-z.invariant in
     let z = c.loop-z.z in
     let S : List ℕ → Type 0 = λ r. Stepped a.links.now (z + 1) a.from.now a.home a.old r in (
-      omega (arith, i.0),
-      ⊎_elim (λ p. ap length p.row-is ∙ length-set c.loop-z.row z _ ∙ i.1) (λ p. ap length p.row-is ∙ i.1) c.if-parent_of-home.branch-raw,
+      ⊎_elim (λ p. ap length p.row-is ∙ length-set c.loop-z.row z _ ∙ i.0) (λ p. ap length p.row-is ∙ i.0) c.if-parent_of-home.branch-raw,
       ⊎_elim
           (λ p.
           let v = ap (λ (x : ℕ). get_or a.from.now (x % 256 - 1) 0) p.end_at-site.ensures.0 ∙ sym (steps_at a.from.now _ (site (goal.at.loop-z-preserved c).In-loop-z)) in
-          subst⁻¹ S p.row-is (step_put z _ (omega (arith, i.1, few (goal.at.loop-z-preserved c).In-loop-z)) (sym c.parent_of.ensures.0 ∙ p.if-parent_of-home.true) v i.2))
-          (λ p. subst⁻¹ S p.row-is (step_past z (λ e. p.if-parent_of-home.false (c.parent_of.ensures.0 ∙ e)) i.2))
+          subst⁻¹ S p.row-is (step_put z _ (omega (arith, i.0, few (goal.at.loop-z-preserved c).In-loop-z)) (sym c.parent_of.ensures.0 ∙ p.if-parent_of-home.true) v i.1))
+          (λ p. subst⁻¹ S p.row-is (step_past z (λ e. p.if-parent_of-home.false (c.parent_of.ensures.0 ∙ e)) i.1))
           c.if-parent_of-home.branch-raw,
     )
 
 pub returns : goal.returns
 returns c =
     let a = c.args in
-    let s = c.loop-z.invariant.2 in
+    let s = c.loop-z.invariant.1 in
     record { here = λ z l h e. s.here z l (omega (arith, h, c.loop-z-test.false)) e; kept = s.kept }

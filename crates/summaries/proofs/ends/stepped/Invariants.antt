@@ -1,4 +1,3 @@
-use Prim.Native.Nat.{◌-◌, ◌≤◌}
 use mathlib.Core.Path.{◌≡◌}
 use lib.ListN.{length}
 use Rattle.assembly.specs.Placements.{most_placements}
@@ -7,7 +6,4 @@ use Rattle.summaries.proofs.ends.stepped.Given as goal
 
 -- `summaries::ends::stepped` meets its contract. The loop's invariant: the row is filled up to index z. Assumes nothing.
 abbrev pub invariant-loop-z : goal.invariant-loop-z
-invariant-loop-z l = (l.home ≤ l.z) × (length l.row ≡ most_placements) × Stepped l.links l.z l.from l.home l.initial.row l.row
-
-abbrev pub decreases-loop-z : goal.decreases-loop-z
-decreases-loop-z l = l.count - l.z
+invariant-loop-z l = (length l.row ≡ most_placements) × Stepped l.links l.z l.from l.home l.initial.row l.row

@@ -29,10 +29,10 @@ end_at-requires c = lit< tt
 pub loop-k-init : goal.loop-k-init
 unfolding six_in
 loop-k-init c =
-    (omega arith, omega arith, refl, c.fields_at.ensures ∙ ap (fields_of c.args.book.now) c.end_at.ensures.0, c.requires.2, refl)
+    (refl, c.fields_at.ensures ∙ ap (fields_of c.args.book.now) c.end_at.ensures.0, c.requires.2, refl)
 
 index : (c : In-loop-k) → Within (c.args.count - 1) c.loop-k.k
-index c = omega (arith, c.loop-k.invariant.0, c.loop-k-test.true)
+index c = omega (arith, c.loop-k-test.true)
 
 -- the placement at index k has a row
 row : (c : In-loop-k) → c.loop-k.k < most_placements
@@ -40,46 +40,19 @@ row c = small c.requires.0 (index c)
 
 -- and its ends have theirs
 long : (c : In-loop-k) → 2 * c.loop-k.k + 1 < length c.loop-k.counts
-long c = omega (arith, index c, c.loop-k.invariant.4.long)
+long c = omega (arith, index c, c.loop-k.invariant.2.long)
 
 pub core_of-core-requires : goal.core_of-core-requires
 core_of-core-requires c =
     let p = c.requires in
-    (p.0, index (goal.at.core_of-core-requires c).In-loop-k, p.1, c.loop-k.invariant.4, omega (arith, p.3, c.loop-k.invariant.5))
-
-pub overflow_mul-k : goal.overflow_mul-k
-overflow_mul-k c = omega (arith, row (goal.at.overflow_mul-k c).In-loop-k)
-
-pub core_at-own-requires : goal.core_at-own-requires
-core_at-own-requires c = omega (arith, long (goal.at.core_at-own-requires c).In-loop-k)
-
-pub overflow_mul-k-in-loop-k : goal.overflow_mul-k-in-loop-k
-overflow_mul-k-in-loop-k c = omega (arith, row (goal.at.overflow_mul-k-in-loop-k c).In-loop-k)
-
-pub end_at-requires-in-loop-k : goal.end_at-requires-in-loop-k
-end_at-requires-in-loop-k c = omega (arith, row (goal.at.end_at-requires-in-loop-k c).In-loop-k)
+    (p.0, index (goal.at.core_of-core-requires c).In-loop-k, p.1, c.loop-k.invariant.2, omega (arith, p.3, c.loop-k.invariant.3))
 
 pub row_of-requires : goal.row_of-requires
 row_of-requires c =
     subst⁻¹ SmallCounts c.core_of-core.ensures (from_small c.requires.0 c.loop-k.k c.loop-k.k (omega (arith, row (goal.at.row_of-requires c).In-loop-k)))
 
-pub overflow_mul-k-in-loop-k-2 : goal.overflow_mul-k-in-loop-k-2
-overflow_mul-k-in-loop-k-2 c = omega (arith, row (goal.at.overflow_mul-k-in-loop-k-2 c).In-loop-k)
-
-pub overflow_add-k : goal.overflow_add-k
-overflow_add-k c = omega (arith, row (goal.at.overflow_add-k c).In-loop-k)
-
-pub offset_bounds-counts-k : goal.offset_bounds-counts-k
-offset_bounds-counts-k c = omega (arith, row (goal.at.offset_bounds-counts-k c).In-loop-k)
-
 pub bounds-counts-k : goal.bounds-counts-k
 bounds-counts-k c = long (goal.at.bounds-counts-k c).In-loop-k
-
-pub overflow_add-k-in-loop-k : goal.overflow_add-k-in-loop-k
-overflow_add-k-in-loop-k c = omega (arith, row (goal.at.overflow_add-k-in-loop-k c).In-loop-k)
-
-pub loop-k-smaller : goal.loop-k-smaller
-loop-k-smaller c = omega (arith, index (goal.at.loop-k-smaller c).In-loop-k)
 
 pub loop-k-preserved : goal.loop-k-preserved
 loop-k-preserved c =
@@ -89,28 +62,26 @@ loop-k-preserved c =
     let k = c.loop-k.k in
     let l = c.args.links.now in
     let core = c.core_of-core.ensures in
-    let own = c.core_at-own.ensures ∙ i.4.own k w.low (omega (arith, w)) in
+    let own = c.core_at-own.ensures ∙ i.2.own k w.low (omega (arith, w)) in
     let e : k + 1 - 1 ≡ k = omega arith in (
-      omega arith,
-      omega (arith, w),
-      length-set c.loop-k.counts (2 * k + 1) c.row_of.result ∙ i.2,
+      length-set c.loop-k.counts (2 * k + 1) c.row_of.result ∙ i.0,
       rw e
           (c.joined-s.ensures
-          ∙ rw (i.3, c.fields_at-in-loop-k.ensures ∙ ap (fields_of c.args.book.now) c.end_at-in-loop-k.ensures.0, core, own)
+          ∙ rw (i.1, c.fields_at-in-loop-k.ensures ∙ ap (fields_of c.args.book.now) c.end_at-in-loop-k.ensures.0, core, own)
           (joined_small (six_room r (k - 1) (omega (arith, row (goal.at.loop-k-preserved c).In-loop-k))) (block_room r (place_in c.args.book.now l k)) (from_small r k k (omega (arith, row (goal.at.loop-k-preserved c).In-loop-k))) (own_small r (place_in c.args.book.now l k) (joins_in l k).own) ∙ six_next r w)),
-      made_more _ _ c.args.count k _ (omega (arith, w)) (ap sight_of_row c.row_of.ensures ∙ core) i.4,
-      c.far-1.given ∙ i.5,
+      made_more _ _ c.args.count k _ (omega (arith, w)) (ap sight_of_row c.row_of.ensures ∙ core) i.2,
+      c.far-1.given ∙ i.3,
     )
 
 pub shape_of-counts : goal.shape_of-counts
-shape_of-counts c = c.loop-k.invariant.2
+shape_of-counts c = c.loop-k.invariant.0
 
 pub shape_of-far : goal.shape_of-far
-shape_of-far c = c.loop-k.invariant.5
+shape_of-far c = c.loop-k.invariant.3
 
 pub returns : goal.returns
 returns c =
     let a = c.args in
     let i = c.loop-k.invariant in
-    let e : c.loop-k.k - 1 ≡ a.count - 1 = omega (arith, i.1, c.loop-k-test.false) in
-    i.3 ∙ ap (six_in (kept_in a.book.now a.links.now) (joins_in a.links.now)) e
+    let e : c.loop-k.k - 1 ≡ a.count - 1 = omega (arith, c.loop-k-test.false) in
+    i.1 ∙ ap (six_in (kept_in a.book.now a.links.now) (joins_in a.links.now)) e

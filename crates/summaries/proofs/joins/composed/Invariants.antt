@@ -1,4 +1,4 @@
-use Prim.Native.Nat.{◌-◌, ◌≤◌}
+use Prim.Native.Nat.{◌-◌}
 use mathlib.Core.Path.{◌≡◌}
 use lib.ListN.{length}
 use Rattle.joining.specs.Parts.{six_in}
@@ -7,8 +7,5 @@ use Rattle.summaries.proofs.joins.composed.Given as goal
 
 abbrev pub invariant-loop-k : goal.invariant-loop-k
 invariant-loop-k l =
-    (1 ≤ l.k) × (l.k - 1 ≤ l.count - 1) × (length l.counts ≡ length l.initial.counts) × (l.s.fields ≡ six_in (kept_in l.book l.links) (joins_in l.links) (l.k - 1)) × Counted l.book l.links l.counts l.count l.k
+    (length l.counts ≡ length l.initial.counts) × (l.s.fields ≡ six_in (kept_in l.book l.links) (joins_in l.links) (l.k - 1)) × Counted l.book l.links l.counts l.count l.k
     × (length l.far ≡ length l.initial.far)
-
-abbrev pub decreases-loop-k : goal.decreases-loop-k
-decreases-loop-k l = l.count - l.k

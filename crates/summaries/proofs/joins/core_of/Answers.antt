@@ -4,7 +4,6 @@ use native.Mathlib.Omega.{arith}
 use lib.ListN.{length, length-set}
 use Rattle.joining.specs.Small.{grown_small}
 use Rattle.graph.specs.Graph.{Within}
-use Rattle.assembly.specs.Placements.{most_placements}
 use Rattle.summaries.specs.Ready.{place_in, joins_in, sight_from}
 use Rattle.summaries.proofs.Ports.{small, earlier, own_small, from_small, between_small, from_next}
 use Rattle.summaries.proofs.Storing.{kept_more}
@@ -36,29 +35,14 @@ joined c = let p = c.requires in omega (arith, earlier p.0 p.1, p.1, c.loop-m.in
 place : (c : In-loop-m) → c.loop-m.m < length c.loop-m.far
 place c = let p = c.requires in omega (arith, joined c, p.4, c.loop-m.invariant.4)
 
-few : (c : In-loop-m) → c.loop-m.m < most_placements
-few c = small c.requires.0 (joined c)
-
 pub apart_kept-d-requires : goal.apart_kept-d-requires
 apart_kept-d-requires c =
     let p = c.requires in
     let i = c.loop-m.invariant in
     (p.0, joined (goal.at.apart_kept-d-requires c).In-loop-m, p.1, p.2, i.3, omega (arith, place (goal.at.apart_kept-d-requires c).In-loop-m), i.5)
 
-pub offset_bounds-far-m : goal.offset_bounds-far-m
-offset_bounds-far-m c = omega (arith, few (goal.at.offset_bounds-far-m c).In-loop-m)
-
 pub bounds-far-m : goal.bounds-far-m
 bounds-far-m c = place (goal.at.bounds-far-m c).In-loop-m
-
-pub overflow_mul-m : goal.overflow_mul-m
-overflow_mul-m c = omega (arith, few (goal.at.overflow_mul-m c).In-loop-m)
-
-pub core_at-requires : goal.core_at-requires
-core_at-requires c = omega (arith, joined (goal.at.core_at-requires c).In-loop-m, c.requires.3.long)
-
-pub overflow_add-m : goal.overflow_add-m
-overflow_add-m c = omega (arith, few (goal.at.overflow_add-m c).In-loop-m)
 
 pub loop-m-preserved : goal.loop-m-preserved
 loop-m-preserved c =

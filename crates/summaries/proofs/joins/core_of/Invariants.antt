@@ -1,4 +1,4 @@
-use Prim.Native.Nat.{◌-◌, ◌≤◌}
+use Prim.Native.Nat.{◌≤◌}
 use mathlib.Core.Path.{◌≡◌}
 use lib.ListN.{length}
 use Rattle.summaries.specs.Ready.{joins_in, sight_from, Kept}
@@ -9,6 +9,3 @@ use Rattle.summaries.proofs.joins.core_of.Given as goal
 abbrev pub invariant-loop-m : goal.invariant-loop-m
 invariant-loop-m l =
     ((joins_in l.links l.k).parent ≤ l.m) × (l.m ≤ l.k) × (l.v ≡ sight_from l.book l.links l.m l.k) × (l.p ≡ (joins_in l.links l.k).parent) × (length l.far ≡ length l.initial.far) × Kept l.book l.links l.far l.k l.m
-
-abbrev pub decreases-loop-m : goal.decreases-loop-m
-decreases-loop-m l = l.k - l.m

@@ -1,10 +1,6 @@
-use Prim.Native.Nat.{◌-◌, ◌≤◌}
 use Rattle.summaries.specs.Ready.{LinkedUpTo}
 use Rattle.summaries.proofs.links.links_of.Given as goal
 
 -- `summaries::links::links_of` meets its contract. The loop's invariant: the first k placements stand in the table. Assumes nothing.
 abbrev pub invariant-loop-k : goal.invariant-loop-k
-invariant-loop-k l = (l.k ≤ l.count) × LinkedUpTo l.xs l.links l.k
-
-abbrev pub decreases-loop-k : goal.decreases-loop-k
-decreases-loop-k l = l.count - l.k
+invariant-loop-k l = LinkedUpTo l.xs l.links l.k
