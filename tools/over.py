@@ -74,6 +74,8 @@ def main():
     if not words or words[0] not in of:
         sys.exit(__doc__)
     crate, real = words.pop(0), []
+    if words == ["--real"]:
+        sys.exit(__doc__)
     if words[:1] == ["--real"]:
         real, words = words[1].split(","), words[2:]
     specs = words == ["--specs"]
