@@ -2,7 +2,7 @@
 #![tactic(auto)]
 
 ghost use Rattle.std.specs.Prelude.{◌≡◌, cond, ltb, length};
-ghost use Rattle.reply.specs.Read.{refused, refusal, read, ◌then◌, as_result};
+ghost use Rattle.reply.specs.Read.{read, ◌then◌, as_result};
 ghost use Rattle.records.specs.Records.{payload_at, end_at};
 ghost use Rattle.queues.specs.Queues.{compose_told};
 ghost use Rattle.deck.specs.Deck.{longest_deck, moved, placement_place, end_reply};
@@ -15,15 +15,8 @@ use block::Indices;
 use deck::LONGEST;
 use queues::{Queue, TABLE};
 use records::{ASSEMBLY, HEAD, Sheet, le16_at, payload_at, record_at};
-use reply::{Refusal, Rule};
+use reply::{Refusal, Rule, refused};
 use sheets::{bytes_of, put_sheet};
-
-// A refusal at place 0.
-fn refused(number: usize) -> Result<(), Refusal>
-    ensures { result ≡ said_sheet_written (refused (refusal number 0)) }
-{
-    Err(Refusal { number, place: 0 })
-}
 
 // What is wrong before the record is read: 20 where it is too long, 9 where the output is too short for the sheet, or 0.
 fn fault(sheet: Sheet, long: usize, output: usize) -> usize
