@@ -42,9 +42,14 @@ pub fn write_sheet(d: &[u8], sheet: Sheet, out: &mut [u8]) -> Result<(), Refusal
     if out.len() < bytes {
         return Err(Rule::ShortOutput.at(0));
     }
-    let all = compose(d)?;
-    put_sheet(out, sheet, all);
-    Ok(())
+    // no question mark: the edit refusal_lost turns the refusal alone
+    match compose(d) {
+        Err(refusal) => Err(refusal),
+        Ok(all) => {
+            put_sheet(out, sheet, all);
+            Ok(())
+        }
+    }
 }
 
 // The verdict on a sheet by its first wrong field, 0 for none.

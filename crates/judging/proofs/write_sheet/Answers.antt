@@ -2,7 +2,6 @@ use mathlib.Core.Path.{sym, ◌∙◌, ap}
 use native.Mathlib.Omega.{arith}
 use lib.ListN.{length}
 use Rattle.std.specs.Prelude.{Err}
-use Rattle.std.proofs.lemmas.Result.{err_from_is_err_and}
 use Rattle.reply.specs.Read.{refused, read}
 use Rattle.judging.specs.Judging.{said_sheet_written, sheet_out}
 use Rattle.judging.proofs.Judging.{write_long, write_short, write_told}
@@ -21,15 +20,14 @@ returns-then-out-bytes c =
     let e = write_short a.sheet a.d.now (length a.out.now) c.if-d-gt-LONGEST.false (omega (arith, c.if-out-bytes.true, c.bytes_of-bytes.ensures)) in
     record { reply = ap Err c.at-then-out-bytes.ensures ∙ sym (ap said_sheet_written e); bytes = sym (ap (sheet_out a.sheet _) e) }
 
-pub returns-in_err-all : goal.returns-in_err-all
-returns-in_err-all c =
+pub returns-in-Err : goal.returns-in-Err
+returns-in-Err c =
     let a = c.args in
-    let e = write_told a.sheet a.d.now (length a.out.now) (refused _) c.if-d-gt-LONGEST.false (omega (arith, c.if-out-bytes.false, c.bytes_of-bytes.ensures)) (sym c.in_err-all.was ∙ c.compose.ensures) in
-    let p = err_from_is_err_and c.from_residual.result c.from_residual.ensures.1 in
-    record { reply = p.1 ∙ ap Err p.2 ∙ sym (ap said_sheet_written e); bytes = sym (ap (sheet_out a.sheet _) e) }
+    let e = write_told a.sheet a.d.now (length a.out.now) (refused _) c.if-d-gt-LONGEST.false (omega (arith, c.if-out-bytes.false, c.bytes_of-bytes.ensures)) (sym c.in-Err.is ∙ c.compose.ensures) in
+    record { reply = sym (ap said_sheet_written e); bytes = sym (ap (sheet_out a.sheet _) e) }
 
-pub returns : goal.returns
-returns c =
+pub returns-in-Ok : goal.returns-in-Ok
+returns-in-Ok c =
     let a = c.args in
-    let e = write_told a.sheet a.d.now (length a.out.now) (read _) c.if-d-gt-LONGEST.false (omega (arith, c.if-out-bytes.false, c.bytes_of-bytes.ensures)) (sym c.in_ok-all.was ∙ c.compose.ensures) in
+    let e = write_told a.sheet a.d.now (length a.out.now) (read _) c.if-d-gt-LONGEST.false (omega (arith, c.if-out-bytes.false, c.bytes_of-bytes.ensures)) (sym c.in-Ok.is ∙ c.compose.ensures) in
     record { reply = sym (ap said_sheet_written e); bytes = c.put_sheet.ensures ∙ sym (ap (sheet_out a.sheet _) e) }
