@@ -1,4 +1,4 @@
--- Definitions. What the C functions for SDFs answer: where a record stands and the next one begins, and where a data item's value stands. None is told as 254, which no refusal has.
+-- Definitions. What the C functions for SDFs answer: where a record stands and the next one begins, and where a data item's value stands. Done is told as 254, which no refusal has.
 use Rattle.std.specs.Prelude.{ℕ, List, [], ◌∷◌, Option, Some, None}
 use Rattle.reply.specs.Read.{Read, refused, read, refusal, ◌then◌}
 use Rattle.sdfile.specs.Sdf.{step_at, item_reply}

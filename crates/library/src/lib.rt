@@ -75,7 +75,8 @@ fn fields_at(
     stem.joined(arm)
 }
 
-// The fields of the product at a position of a library deck, or its refusal. Where the core is the deck's first block it is read once.
+// The fields of the product at a position of a library deck, or its refusal; `None` where all products are done: the position is at or past their number. Where
+// the core is the deck's first block it is read once.
 pub fn product(d: &[u8], position: usize) -> Result<Option<Indices>, Refusal>
     ensures { result ≡ said_product (product_reply d.now position) }
 {
@@ -91,8 +92,8 @@ pub fn product(d: &[u8], position: usize) -> Result<Option<Indices>, Refusal>
     Ok(Some(all))
 }
 
-// Writes the sheet of the product at a position into the first bytes of a buffer, and hands back the next position. A refusal, and a position at or past the
-// number of products, write nothing.
+// Writes the sheet of the product at a position into the first bytes of a buffer, and hands back the next position; or `None` where all products are done: the
+// position is at or past their number. That and a refusal write nothing.
 pub fn step(
     d: &[u8],
     sheet: Sheet,
@@ -163,7 +164,7 @@ fn run_read(d: &[u8], l: LibraryRead, position: usize, sheet: Sheet, out: &mut [
 }
 
 // Writes the sheets of the products from a position on, one after the other, as many whole ones as a buffer holds, and hands back the next position: what the
-// steps write, each into what the one before left. The blocks are read once.
+// steps write, each into what the one before left; or `None`, as a step does. The blocks are read once.
 pub fn run(
     d: &[u8],
     sheet: Sheet,

@@ -9,7 +9,7 @@
 -- | `is_no_name`                  | no byte, or more than sixteen <                                               | `is_name`                                                                     |
 -- | `HeaderAt`                  | a line behind M  END that is a header of a name                               | `one_header`: read where there is exactly one                                 |
 -- | `value_reply`, `item_reply`   | the line behind the only header, empty for a header, or refusal 38 or 39      | `item_value`, `item_none`, `item_twice`                                       |
--- | `said_value`, `span_of`       | how the code says it                                                          | `unique-record`, `unique-item`, `unique-item_part`                            |
+-- | `span_of`                    | the part of the record that is the value, empty at 0 where it is refused      | `unique-record`, `unique-item`, `unique-item_part`                            |
 pub mod Sdf
 pub mod Said
 pub mod Walk

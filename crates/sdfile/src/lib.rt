@@ -81,7 +81,7 @@ fn line_from(d: &[u8], from: usize, word: &[u8]) -> usize
     at
 }
 
-// The record that begins at a place.
+// The record that begins at a place; `None` where all are done: only blanks, tabs, CR and LF are left.
 pub fn record(text: &[u8], from: usize) -> Option<Piece>
     ensures { result ≡ step_at text.now from }
 {
