@@ -21584,7 +21584,7 @@ tteuyomal_write_sheet:                  // @tteuyomal_write_sheet
 	ldp	x0, x8, [sp, #8]
 	ldrb	w9, [sp]
 	cbz	w9, .LBB78_6
-// %bb.5:                               // %arm.8.i.i.i.i
+// %bb.5:                               // %arm.7.i.i.i.i
 	bfi	x0, x8, #8, #56
 	ldp	x20, x19, [sp, #80]             // 16-byte Folded Reload
 	ldp	x29, x30, [sp, #64]             // 16-byte Folded Reload
@@ -21666,7 +21666,7 @@ tteuyomal_write_six:                    // @tteuyomal_write_six
 	ldp	x0, x8, [sp, #8]
 	ldrb	w9, [sp]
 	cbz	w9, .LBB79_6
-// %bb.5:                               // %arm.8.i.i.i.i
+// %bb.5:                               // %arm.7.i.i.i.i
 	bfi	x0, x8, #8, #56
 	ldp	x20, x19, [sp, #80]             // 16-byte Folded Reload
 	ldp	x29, x30, [sp, #64]             // 16-byte Folded Reload
@@ -21680,8 +21680,8 @@ tteuyomal_write_six:                    // @tteuyomal_write_six
 	str	x8, [x9, #8]
 	ldp	x8, x10, [sp, #40]
 	str	w0, [x9, #4]
-	str	q0, [x9, #16]
 	mov	x0, xzr
+	str	q0, [x9, #16]
 	str	s1, [x9]
 	str	x8, [x9, #32]
 	str	w10, [x9, #40]

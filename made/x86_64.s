@@ -23114,13 +23114,13 @@ tteuyomal_write_sheet:                  # @tteuyomal_write_sheet
 	cmpb	$0, (%rsp)
 	movq	8(%rsp), %rcx
 	movq	16(%rsp), %rax
-	je	.LBB78_3
-# %bb.4:                                # %arm.8.i.i.i.i
+	je	.LBB78_4
+# %bb.3:                                # %arm.7.i.i.i.i
 	movzbl	%cl, %ecx
 	shlq	$8, %rax
 	orq	%rcx, %rax
 	jmp	.LBB78_5
-.LBB78_3:                               # %"sheets::put_five.exit.i.i.i.i.i.i"
+.LBB78_4:                               # %"sheets::put_five.exit.i.i.i.i.i.i"
 	movb	%bpl, %bl
 	shll	$12, %ebx
 	movq	40(%rsp), %rdx
@@ -23182,13 +23182,13 @@ tteuyomal_write_six:                    # @tteuyomal_write_six
 	cmpb	$0, (%rsp)
 	movq	8(%rsp), %rcx
 	movq	16(%rsp), %rax
-	je	.LBB79_3
-# %bb.4:                                # %arm.8.i.i.i.i
+	je	.LBB79_4
+# %bb.3:                                # %arm.7.i.i.i.i
 	movzbl	%cl, %ecx
 	shlq	$8, %rax
 	orq	%rcx, %rax
 	jmp	.LBB79_5
-.LBB79_3:                               # %then.4.i.i.i.i.i.i.i
+.LBB79_4:                               # %then.4.i.i.i.i.i.i.i
 	movb	%bpl, %bl
 	shll	$12, %ebx
 	movq	40(%rsp), %rdx
